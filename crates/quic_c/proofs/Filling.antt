@@ -10,8 +10,6 @@ use Rattle.quic_frames.specs.Walk.{Finds}
 use Rattle.quic_frames.specs.Padding.{PassesPadding, behind}
 use Rattle.quic_c.specs.declared.words.CFrame.{CFrame}
 use Rattle.quic_c.specs.Shown.{frame_kind_of, frame_words, IsExtension}
-use Rattle.quic_c.specs.Answers.{IsRefusedFrame}
-use Rattle.quic_frame_fields.specs.Reading.{Invalid}
 use Rattle.quic_c.specs.Filling.{GivesEntry, Shows, HasNoFrame, Fills, further}
 
 -- one entry more

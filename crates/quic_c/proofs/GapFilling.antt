@@ -1,5 +1,5 @@
 -- Ranges of an ACK that are filled as gap and length, one after the other.
-use Rattle.std.proofs.Common.{◌≡◌, ℕ, ◌+◌, ◌-◌, ◌<◌, ◌≤◌, Option, None, Some, Bool, true, false, List, [], ◌∷◌, ◌++◌, length, take, drop, set, refl, sym, ap, subst, ◌∙◌, append_assoc, arith}
+use Rattle.std.proofs.Common.{◌≡◌, ℕ, ◌+◌, ◌-◌, ◌<◌, ◌≤◌, Bool, true, false, List, [], ◌∷◌, ◌++◌, length, take, drop, set, refl, sym, ap, subst, ◌∙◌, append_assoc, arith}
 use Rattle.std.specs.Prelude.{Ok, Err, IsTrue, ◌↔◌, ◌==◌, nat_lt, if◌then◌else◌}
 use Rattle.std.proofs.lemmas.List.{take_more_set, drop-set-lt, take_at, length-append}
 use Rattle.std.proofs.Math.ListN.{length-set}
@@ -11,13 +11,11 @@ use Rattle.quic_frame_fields.specs.Field.{AreBelow, AreBlocks}
 use Rattle.quic_frame_fields.specs.Reading.{varint_at}
 use Rattle.quic_frame_fields.proofs.Steps.{ok_is, ok_is_not_err}
 use Rattle.quic_frame_fields.specs.declared.frame.ack.Ack.{Ack}
-use Rattle.quic_frame_fields.specs.declared.frame.ack.EcnCounts.{EcnCounts}
 use Rattle.quic_frame_fields.specs.Acks.{ranges_acked}
 use Rattle.quic_frame_fields.proofs.Blocks.{acked}
 use Rattle.quic_frame_fields.proofs.Varints.{varint_again, varint_some}
 use Rattle.quic_c.specs.declared.words.CGap.{CGap}
 use Rattle.quic_c.specs.Front.{gap_of, gaps_below, FillsGaps, more_flag}
-use Rattle.quic_c.specs.Shown.{counts_flag}
 
 -- the least number of the last range
 abbrev pub lowest : ℕ → List (ℕ × ℕ) → ℕ

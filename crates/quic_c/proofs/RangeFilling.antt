@@ -1,5 +1,5 @@
 -- Ranges that are filled one after the other.
-use Rattle.std.proofs.Common.{◌≡◌, ℕ, ◌+◌, ◌-◌, ◌<◌, ◌≤◌, List, ◌∷◌, ◌++◌, length, take, drop, set, refl, sym, ap, ◌∙◌, inr, arith}
+use Rattle.std.proofs.Common.{◌≡◌, ℕ, ◌+◌, ◌-◌, ◌<◌, ◌≤◌, List, ◌∷◌, ◌++◌, length, take, drop, set, sym, ap, ◌∙◌, inr, arith}
 use Rattle.std.specs.Prelude.{◌⊎◌, ◌^◌, [], Ok, Err, slice_range}
 use Rattle.quic_frame_fields.specs.declared.frame.fault.Fault.{Fault}
 use Rattle.quic_frame_fields.specs.Reading.{first_range_at, ranges_of, blocks_left, IsBlocks}
@@ -8,10 +8,10 @@ use Rattle.std.proofs.Math.ListN.{length-set}
 use Rattle.std.proofs.lemmas.Grind.{drop_more_same}
 use Rattle.quic_c.specs.declared.words.CRange.{CRange}
 use Rattle.quic_c.specs.declared.words.CRangeIter.{CRangeIter}
-use Rattle.quic_c.specs.Answers.{GivesRange, IsWithin, LacksRange}
+use Rattle.quic_c.specs.Answers.{GivesRange, LacksRange}
 use Rattle.quic_c.specs.Filling.{Shows, FillsRanges, StepsOver, HasNoRange}
 use Rattle.quic_c.proofs.Filling.{shows-append}
-use Rattle.quic_c.proofs.Places.{length-part, part_of_part, range_given, range_words}
+use Rattle.quic_c.proofs.Places.{part_of_part, range_given, range_words}
 
 abbrev pub blocks_at : ℕ → ℕ → ℕ → CRangeIter
 blocks_at begin end largest = record { begin = begin; end = end; largest = largest }

@@ -49,7 +49,8 @@ inner_of : (kind : ℕ) (last : Bool) → IsCounted kind last → (kind ≡ 0x06
 inner_of kind last (inl e) other = absurd (other e)
 inner_of kind last (inr e) other = e
 
-datagram_parts : (last : Bool) (d : Datagram) → shortest_frame last (meaning_of (frames.Datagram d)) ≡ data_header_by 0x30 0 (0 ∷ 0 ∷ 0 ∷ 0 ∷ 0 ∷ []) (length d.bytes.now) last ++ d.bytes.now
+datagram_parts : (last : Bool) (d : Datagram)
+    → shortest_frame last (meaning_of (frames.Datagram d)) ≡ data_header_by 0x30 0 (0 ∷ 0 ∷ 0 ∷ 0 ∷ 0 ∷ []) (length d.bytes.now) last ++ d.bytes.now
 datagram_parts true d = datagram_open d.bytes.now
 datagram_parts false d = datagram_counted d.bytes.now
 

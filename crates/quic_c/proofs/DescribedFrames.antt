@@ -30,7 +30,8 @@ cut_data_describe_none words bytes last lacks frame can =
 pub unknown_kind_describes_none : (words : CFrame) (bytes : List ℕ) (last : Bool) → shape_of words.kind ≡ None → DescribesNoFrame words bytes last
 unknown_kind_describes_none words bytes last none frame can = (keeps frame can.kind).known (sym (ap shape_of can.described.kind) ∙ none)
 
-pub built_has_words : (words : CFrame) (bytes front token : List ℕ) (built frame : Frame) → AreDataAndToken words bytes front token → FillsShape words.kind (words.flags == 1) words.numbers front token built
+pub built_has_words : (words : CFrame) (bytes front token : List ℕ) (built frame : Frame) → AreDataAndToken words bytes front token
+    → FillsShape words.kind (words.flags == 1) words.numbers front token built
     → IsNoAck frame → DescribesFrame words bytes frame → IsShown words built
 built_has_words words bytes front token built frame p f here s =
     let k = keeps frame here in
@@ -60,7 +61,8 @@ kept_whole : (shape : Option Shape) (bytes : List ℕ) → length (kept_data sha
 kept_whole None bytes e = empty bytes e
 kept_whole (Some s) bytes e = kept_by s.has_data bytes e
 
-pub built_is_described : (words : CFrame) (bytes front token : List ℕ) (frame : Frame) → AreDataAndToken words bytes front token → FillsShape words.kind (words.flags == 1) words.numbers front token frame
+pub built_is_described : (words : CFrame) (bytes front token : List ℕ) (frame : Frame) → AreDataAndToken words bytes front token
+    → FillsShape words.kind (words.flags == 1) words.numbers front token frame
     → IsShown words frame → DescribesFrame words bytes frame
 built_is_described words bytes front token frame p f s =
     let whole : kept_data (shape_of words.kind) front ≡ front = kept_whole (shape_of words.kind) front (sym (ap length f.content) ∙ s.count ∙ sym p.width) in
@@ -123,7 +125,8 @@ no_tail words bytes last frame none can = elim (cases_eq (frame_kind_of frame) 0
   | inr other ↦ (keeps frame can.kind).tail ∙ no_room (frame_kind_of frame) other
 ]
 
-pub writable_with_other_bytes : (words : CFrame) (bytes others : List ℕ) (last : Bool) (frame : Frame) → LacksData words → CanWriteFrame words bytes last frame → CanWriteFrame words others last frame
+pub writable_with_other_bytes : (words : CFrame) (bytes others : List ℕ) (last : Bool) (frame : Frame) → LacksData words
+    → CanWriteFrame words bytes last frame → CanWriteFrame words others last frame
 writable_with_other_bytes words bytes others last frame lacks can =
     let s = can.described in
     let none : words.data_len ≡ 0 = no_data words bytes last frame lacks can in

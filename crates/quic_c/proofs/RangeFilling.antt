@@ -57,11 +57,14 @@ ranges_go_on old payload before left largest after count rest next entry s room 
       all = simp length-set s.all;
       ends = s.ends;
       short = omega arith;
-      stands = sym (ap (λ (n : ℕ). slice_range payload n old.end) k) ∙ sym (part_of_part payload (old.end - length left) old.end (length left - length rest) (omega arith)) ∙ ap (drop (length left - length rest)) s.stands ∙ tail;
+      stands = sym (ap (λ (n : ℕ). slice_range payload n old.end) k)
+          ∙ sym (part_of_part payload (old.end - length left) old.end (length left - length rest) (omega arith))
+          ∙ ap (drop (length left - length rest)) s.stands ∙ tail;
       shows = rw front (shows-append (StepsOver payload) old (take count after) (left_at old.end left largest) entry (left_at old.end rest next) s.shows gives);
       kept = drop-set-lt (count + 1) after count entry (omega arith) ∙ drop_more_same after before count s.kept;
     }
 
-pub ranges_end : (old : CRangeIter) (payload : List ℕ) (before : List CRange) (left : List ℕ) (largest : ℕ) (after : List CRange) (count : ℕ) → RangeFilling old payload before left largest after count
+pub ranges_end : (old : CRangeIter) (payload : List ℕ) (before : List CRange) (left : List ℕ) (largest : ℕ) (after : List CRange) (count : ℕ)
+    → RangeFilling old payload before left largest after count
     → (count ≡ length before) ⊎ HasNoRange (left_at old.end left largest) payload → FillsRanges old payload before (left_at old.end left largest) after count
 ranges_end old payload before left largest after count s full = record { few = rw (← s.all) s.few; shows = s.shows; kept = s.kept; full = full }

@@ -9,13 +9,15 @@ use Rattle.quic_frames.specs.Walk.{left, first_of, resumed}
 use Rattle.quic_c.specs.Front.{moved_by, reported_behind}
 
 -- with places that count from bytes before
-items_moved : (strict : Bool) (n count start : ℕ) (before : Option ℕ) (bytes : List ℕ) → items_from strict n (count + start) before bytes ≡ map (moved_by count) (items_from strict n start before bytes)
+items_moved : (strict : Bool) (n count start : ℕ) (before : Option ℕ) (bytes : List ℕ)
+    → items_from strict n (count + start) before bytes ≡ map (moved_by count) (items_from strict n start before bytes)
 unfolding items_from
 items_moved strict zero count start before bytes = refl
 items_moved strict (suc n) count start before [] = refl
 items_moved strict (suc n) count start before (b ∷ bytes) = by_found (λ m type rest. items_moved strict n count m type rest) (found_at strict before (b ∷ bytes))
   where
-    by_found : ((m : ℕ) (type : Option ℕ) (rest : List ℕ) → items_from strict n (count + m) type rest ≡ map (moved_by count) (items_from strict n m type rest)) → (read : Result (TypedFrame × List ℕ) Invalid)
+    by_found : ((m : ℕ) (type : Option ℕ) (rest : List ℕ) → items_from strict n (count + m) type rest ≡ map (moved_by count) (items_from strict n m type rest))
+        → (read : Result (TypedFrame × List ℕ) Invalid)
         → items_after (items_from strict n) (count + start) (length (b ∷ bytes)) read ≡ map (moved_by count) (items_after (items_from strict n) start (length (b ∷ bytes)) read)
     by_found again (Err reported) = refl
     by_found again (Ok x) =

@@ -8,7 +8,8 @@ loop-count-preserved c =
     let here = c.loop-count in
     let facts = c.in-Ok.ensures in
     let s = here.invariant in
-    let given = range_of_left c.args.payload.now c.args.from.end here.largest c.in-Ok.least c.in-Ok.next here.left.now c.in-Ok.rest.now (omega arith) s.short s.ends c.if-largest.true s.stands facts.gives facts.shorter facts.left facts.first facts.valid in
+    let given = range_of_left c.args.payload.now c.args.from.end here.largest c.in-Ok.least c.in-Ok.next here.left.now c.in-Ok.rest.now (omega arith) s.short s.ends
+    c.if-largest.true s.stands facts.gives facts.shorter facts.left facts.first facts.valid in
     ranges_go_on c.args.from c.args.payload.now c.args.out.now here.left.now here.largest here.out here.count c.in-Ok.rest.now c.in-Ok.next _ s c.loop-count-test.true facts.shorter facts.left given
 
 pub returns-in_default : goal.returns-in_default

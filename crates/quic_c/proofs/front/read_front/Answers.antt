@@ -18,7 +18,8 @@ pub returns-in-Some-Err : goal.returns-in-Some-Err
 returns-in-Some-Err g c =
     let s = subst (λ f. Advances c.in-Some.iter (Some f) c.next.new.self) c.in-Some-Err.field-0-is c.in-Some-Err.ensures.steps in
     let first : left (first_of c.args.strict c.args.payload.now) ≡ Broken (invalid_of c.in-Some-Err.invalid) ∷ [] = rw c.in-Some.ensures.state at s.0 in
-    let reports : ReportsNone c.args.strict c.args.basic c.args.payload.now c.show_invalid-in-Some-Err.result = record { reported = invalid_of c.in-Some-Err.invalid; first = inl first; is = c.show_invalid-in-Some-Err.ensures } in
+    let reports : ReportsNone c.args.strict c.args.basic c.args.payload.now c.show_invalid-in-Some-Err.result =
+    record { reported = invalid_of c.in-Some-Err.invalid; first = inl first; is = c.show_invalid-in-Some-Err.ensures } in
     record {
       answers = inr (inl refl);
       empty = search rules;

@@ -35,36 +35,35 @@ fn fill<const COPY: usize>(
 {
     let mut count = 0;
     let mut end = iter.offset();
+    let mut last = iter.last_type();
     while count < out.len() {
-        let last = iter.last_type();
-        match iter.next() {
-            Some(Ok(frame)) => {
-                if is_unknown(basic, &frame) {
-                    if count == 0 {
-                        return Err(unknown(parts_of(&frame).kind));
-                    }
-                    return Ok(Filled { count, end, last });
-                }
-                let ty = type_read(iter);
-                let parts = parts_of(&frame);
-                if parts.kind == 0 {
-                    iter.pass_padding();
-                }
-                let begin = end;
-                end = iter.offset();
-                out[count] = show_parts(begin, end, ty as u16, parts);
-                count += 1;
-            }
+        let frame = match iter.next() {
+            Some(Ok(frame)) => frame,
             Some(Err(invalid)) => {
                 if count == 0 {
                     return Err(invalid);
                 }
-                return Ok(Filled { count, end, last });
+                break;
             }
-            None => return Ok(Filled { count, end, last }),
+            None => break,
+        };
+        if is_unknown(basic, &frame) {
+            if count == 0 {
+                return Err(unknown(parts_of(&frame).kind));
+            }
+            break;
         }
+        let ty = type_read(iter);
+        let parts = parts_of(&frame);
+        if parts.kind == 0 {
+            iter.pass_padding();
+        }
+        let begin = end;
+        end = iter.offset();
+        last = iter.last_type();
+        out[count] = show_parts(begin, end, ty as u16, parts);
+        count += 1;
     }
-    let last = iter.last_type();
     Ok(Filled { count, end, last })
 }
 

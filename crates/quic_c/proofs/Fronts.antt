@@ -17,7 +17,7 @@ use Rattle.quic_frame_fields.proofs.Varints.{varint_takes, varint_read, varint_c
 use Rattle.quic_frame_fields.proofs.Blocks.{blocks_valid}
 use Rattle.quic_c.specs.declared.words.CFrame.{CFrame}
 use Rattle.quic_c.specs.Answers.{GivesFront, GivesPlace, IsWholeAck, ack_front_at, frame_of_words}
-use Rattle.quic_c.proofs.Places.{at_place, place_given, stands_in}
+use Rattle.quic_c.proofs.Places.{at_place, place_given, blocks_placed}
 
 -- what follows a number is at the end, and is bytes
 behind : (bytes : List ℕ) (n : ℕ) (rest : List ℕ) (P : Type 0) → AreBytes bytes → varint_at bytes ≡ Ok (n, rest)
@@ -30,9 +30,9 @@ behind bytes n rest P fits e k =
 pub plain_type : (bytes rest : List ℕ) (ty : ℕ) → ty ≡ 2 → Takes (Encodes ty) bytes rest → varint_at bytes ≡ Ok (2, rest)
 plain_type bytes rest ty is takes = subst (λ (n : ℕ). varint_at bytes ≡ Ok (n, rest)) is (varint_read ty bytes rest takes)
 
-pub front_stands : (bytes a b c d : List ℕ) (ty largest delay count : ℕ) → AreBytes bytes → varint_at bytes ≡ Ok (ty, a) → varint_at a ≡ Ok (largest, b) → varint_at b ≡ Ok (delay, c)
+pub front_before_blocks : (bytes a b c d : List ℕ) (ty largest delay count : ℕ) → AreBytes bytes → varint_at bytes ≡ Ok (ty, a) → varint_at a ≡ Ok (largest, b) → varint_at b ≡ Ok (delay, c)
     → varint_at c ≡ Ok (count, d) → (front : List ℕ) × (bytes ≡ front ++ d)
-front_stands bytes a b c d ty largest delay count fits one two three four =
+front_before_blocks bytes a b c d ty largest delay count fits one two three four =
     behind bytes ty a _ fits one (λ f e fits1. behind a largest b _ fits1 two (λ g h fits2. behind b delay c _ fits2 three (λ i j fits3. behind c count d _ fits3 four (λ k l fits4.
     let third : b ≡ (i ++ k) ++ d = j ∙ ap (λ (m : List ℕ). i ++ m) l ∙ sym (append_assoc i k d) in
     let second : a ≡ (g ++ (i ++ k)) ++ d = h ∙ ap (λ (m : List ℕ). g ++ m) third ∙ sym (append_assoc g (i ++ k) d) in
@@ -116,8 +116,8 @@ pub front_given : (payload : List ℕ) (frame : CFrame) (largest : ℕ) (blocks 
     → largest < 2 ^ 62 → (front : List ℕ) × (frame_of_words frame payload ≡ front ++ blocks)
     → IsWholeAck (frame_of_words frame payload) largest blocks → GivesFront frame payload (at_place (frame.end - length blocks) frame.end largest)
 front_given payload frame largest blocks ordered within reads small parts is_whole =
-    let stand : frame_of_words frame payload ≡ parts.0 ++ (blocks ++ []) = parts.1 ∙ ap (λ (l : List ℕ). parts.0 ++ l) (sym (append-nil blocks)) in
-    let s = stands_in payload frame.begin frame.end parts.0 blocks [] ordered within stand in
+    let parts_are : frame_of_words frame payload ≡ parts.0 ++ (blocks ++ []) = parts.1 ∙ ap (λ (l : List ℕ). parts.0 ++ l) (sym (append-nil blocks)) in
+    let s = blocks_placed payload frame.begin frame.end parts.0 blocks [] ordered within parts_are in
     let sum = s.0 in
     let no_more : frame.end - length {A = ℕ} [] ≡ frame.end = omega arith in
     let are : slice_range payload (frame.end - length blocks) frame.end ≡ blocks = subst (λ (n : ℕ). slice_range payload (n - length blocks) n ≡ blocks) no_more s.1 in
@@ -130,5 +130,5 @@ front_given payload frame largest blocks ordered within reads small parts is_who
       begins = omega arith;
       small = small;
       ack = λ greatest others e. let is = is_whole greatest others e in subst (λ (n : ℕ). GivesPlace frame payload (at_place (n - length blocks) n largest)) no_more
-          (place_given payload frame largest blocks [] ordered within is.0 small is.1 (parts.0, stand));
+          (place_given payload frame largest blocks [] ordered within is.0 small is.1 (parts.0, parts_are));
     }

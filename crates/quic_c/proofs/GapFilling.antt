@@ -144,17 +144,17 @@ gaps_end least ranges before left after count s full =
     }
 
 -- no number is cut off if there is a gap or a block
-pub gap_stands : (least : ℕ) (ranges : List (ℕ × ℕ)) (before : List CGap) (left : List ℕ) (after : List CGap) (count : ℕ) (e : Fault)
+pub gap_is_there : (least : ℕ) (ranges : List (ℕ × ℕ)) (before : List CGap) (left : List ℕ) (after : List CGap) (count : ℕ) (e : Fault)
     → GapFilling least ranges before left after count → 0 < length left
     → varint_at left ≡ Err e → ⊥
-gap_stands least ranges before left after count e s some h =
+gap_is_there least ranges before left after count e s some h =
     let n = next_gap (lowest least s.done) s.others left some s.encoded in
     ok_is_not_err (sym n.gap ∙ h)
 
-pub len_stands : (least : ℕ) (ranges : List (ℕ × ℕ)) (before : List CGap) (left : List ℕ) (after : List CGap) (count gap : ℕ) (behind : List ℕ) (e : Fault)
+pub len_is_there : (least : ℕ) (ranges : List (ℕ × ℕ)) (before : List CGap) (left : List ℕ) (after : List CGap) (count gap : ℕ) (behind : List ℕ) (e : Fault)
     → GapFilling least ranges before left after count → 0 < length left
     → varint_at left ≡ Ok (gap, behind) → varint_at behind ≡ Err e → ⊥
-len_stands least ranges before left after count gap behind e s some one h =
+len_is_there least ranges before left after count gap behind e s some one h =
     let n = next_gap (lowest least s.done) s.others left some s.encoded in
     let first : ◌≡◌ {A = ℕ × List ℕ} (lowest least s.done - (n.range.1 + 2), n.behind) (gap, behind) =
     ok_is (lowest least s.done - (n.range.1 + 2), n.behind) (gap, behind) (sym n.gap ∙ one) in
@@ -234,8 +234,8 @@ first_reads ack bytes n rest e fits h =
       encoded = subst (AreBelow f.least f.below) (ap (λ (x : ℕ × List ℕ). x.1) same) f.encoded;
     }
 
-pub first_stands : (ack : Ack) (bytes : List ℕ) (reason : Fault) → bytes ≡ ack.additional.now → AreBytes bytes → varint_at bytes ≡ Err reason → ⊥
-first_stands ack bytes reason e fits h =
+pub first_is_there : (ack : Ack) (bytes : List ℕ) (reason : Fault) → bytes ≡ ack.additional.now → AreBytes bytes → varint_at bytes ≡ Err reason → ⊥
+first_is_there ack bytes reason e fits h =
     let f = first_gap ack (subst AreBytes e fits) in
     ok_is_not_err (sym f.len ∙ ap varint_at (sym e) ∙ h)
 

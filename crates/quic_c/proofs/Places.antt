@@ -51,9 +51,9 @@ range_given payload begin end largest least next rest some within small step sho
     }
 
 -- bytes in a part, before what ends it
-pub stands_in : (payload : List ℕ) (begin end : ℕ) (front blocks rest : List ℕ) → begin ≤ end → end ≤ length payload → slice_range payload begin end ≡ front ++ (blocks ++ rest)
+pub blocks_placed : (payload : List ℕ) (begin end : ℕ) (front blocks rest : List ℕ) → begin ≤ end → end ≤ length payload → slice_range payload begin end ≡ front ++ (blocks ++ rest)
     → (begin + (length front + (length blocks + length rest)) ≡ end) × (slice_range payload (end - length rest - length blocks) (end - length rest) ≡ blocks)
-stands_in payload begin end front blocks rest ordered within parts =
+blocks_placed payload begin end front blocks rest ordered within parts =
     let len = length-part payload begin end within in
     let sizes : length (slice_range payload begin end) ≡ length front + (length blocks + length rest) =
     ap length parts ∙ length-append front (blocks ++ rest) ∙ ap (λ (n : ℕ). length front + n) (length-append blocks rest) in
@@ -73,7 +73,7 @@ pub place_given : (payload : List ℕ) (frame : CFrame) (largest : ℕ) (blocks 
     → largest < 2 ^ 62 → IsBlocks largest blocks → (front : List ℕ) × (frame_of_words frame payload ≡ front ++ (blocks ++ rest))
     → GivesPlace frame payload (at_place (frame.end - length rest - length blocks) (frame.end - length rest) largest)
 place_given payload frame largest blocks rest ordered within reads small valid parts =
-    let s = stands_in payload frame.begin frame.end parts.0 blocks rest ordered within parts.1 in
+    let s = blocks_placed payload frame.begin frame.end parts.0 blocks rest ordered within parts.1 in
     let all = s.0 in
     record {
       ordered = ordered;

@@ -1,6 +1,6 @@
 use Rattle.std.proofs.Common.{length, arith}
 use Rattle.quic_frame_fields.proofs.Blocks.{some_of}
-use Rattle.quic_c.proofs.GapFilling.{gaps_begin, gap_stands, len_stands, gaps_go_on, gaps_end, gaps_whole, gaps_full}
+use Rattle.quic_c.proofs.GapFilling.{gaps_begin, gap_is_there, len_is_there, gaps_go_on, gaps_end, gaps_whole, gaps_full}
 use Rattle.quic_c.proofs.front.fill_gaps.Goals as goal
 use Rattle.quic_c.proofs.front.fill_gaps.Goals.{then-loop-count-test+else-not-is_empty, else-loop-count-test}
 
@@ -11,14 +11,14 @@ pub unreachable-requires : goal.unreachable-requires
 unreachable-requires c =
     let here = c.loop-count in
     let asked = c.requires in
-    gap_stands asked.0 asked.1 c.args.gaps.now here.left.now here.gaps here.count _ (here.invariant asked.0 asked.1 asked.2)
+    gap_is_there asked.0 asked.1 c.args.gaps.now here.left.now here.gaps here.count _ (here.invariant asked.0 asked.1 asked.2)
     (some_of (length here.left.now) c.if-not-is_empty.ensures) c.in_default.ensures
 
 pub unreachable-requires-in_default-number : goal.unreachable-requires-in_default-number
 unreachable-requires-in_default-number c =
     let here = c.loop-count in
     let asked = c.requires in
-    len_stands asked.0 asked.1 c.args.gaps.now here.left.now here.gaps here.count c.in-Ok.gap c.in-Ok.behind.now _ (here.invariant asked.0 asked.1 asked.2)
+    len_is_there asked.0 asked.1 c.args.gaps.now here.left.now here.gaps here.count c.in-Ok.gap c.in-Ok.behind.now _ (here.invariant asked.0 asked.1 asked.2)
     (some_of (length here.left.now) c.if-not-is_empty.ensures) c.in-Ok.ensures c.in_default-number.ensures
 
 pub loop-count-preserved : goal.loop-count-preserved

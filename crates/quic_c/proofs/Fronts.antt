@@ -30,7 +30,8 @@ behind bytes n rest P fits e k =
 pub plain_type : (bytes rest : List ℕ) (ty : ℕ) → ty ≡ 2 → Takes (Encodes ty) bytes rest → varint_at bytes ≡ Ok (2, rest)
 plain_type bytes rest ty is takes = subst (λ (n : ℕ). varint_at bytes ≡ Ok (n, rest)) is (varint_read ty bytes rest takes)
 
-pub front_before_blocks : (bytes a b c d : List ℕ) (ty largest delay count : ℕ) → AreBytes bytes → varint_at bytes ≡ Ok (ty, a) → varint_at a ≡ Ok (largest, b) → varint_at b ≡ Ok (delay, c)
+pub front_before_blocks : (bytes a b c d : List ℕ) (ty largest delay count : ℕ) → AreBytes bytes → varint_at bytes ≡ Ok (ty, a)
+    → varint_at a ≡ Ok (largest, b) → varint_at b ≡ Ok (delay, c)
     → varint_at c ≡ Ok (count, d) → (front : List ℕ) × (bytes ≡ front ++ d)
 front_before_blocks bytes a b c d ty largest delay count fits one two three four =
     behind bytes ty a _ fits one (λ f e fits1. behind a largest b _ fits1 two (λ g h fits2. behind b delay c _ fits2 three (λ i j fits3. behind c count d _ fits3 four (λ k l fits4.

@@ -16,7 +16,7 @@ use Rattle.quic_frame_fields.specs.Sets.{ack_type, count_numbers}
 use Rattle.quic_frame_fields.specs.Shortest.{shortest_below, shortest_frame}
 use Rattle.quic_c.specs.declared.words.CFrame.{CFrame}
 use Rattle.quic_c.specs.declared.words.CGap.{CGap}
-use Rattle.quic_c.specs.AckGaps.{ack_bytes, ack_said, behind_type, counts_list, counts_said, delay_in, front_numbers, gap_numbers, greatest_of_words, AreUnder, Fit, IsAck, DescribesAck}
+use Rattle.quic_c.specs.AckGaps.{ack_bytes, ack_described, behind_type, counts_list, counts_described, delay_in, front_numbers, gap_numbers, greatest_of_words, AreUnder, Fit, IsAck, DescribesAck}
 use Rattle.quic_c.specs.Front.{gap_of, gaps_below}
 
 -- ---- the ranges that gaps describe
@@ -62,37 +62,40 @@ many_below low [] = refl
 many_below low (r ∷ ranges) = omega (arith, many_below r.0 ranges)
 
 type_by : (flags a b c : ℕ) → (flags ≡ 0) ⊎ (flags ≡ 2)
-    → ack_type (counts_said (if flags == 2 then a ∷ b ∷ c ∷ [] else [])) ≡ (if flags == 2 then 0x03 else 0x02)
+    → ack_type (counts_described (if flags == 2 then a ∷ b ∷ c ∷ [] else [])) ≡ (if flags == 2 then 0x03 else 0x02)
 type_by flags a b c e = elim e [
-  | inl none ↦ subst (λ (f : ℕ). ack_type (counts_said (if f == 2 then a ∷ b ∷ c ∷ [] else [])) ≡ (if f == 2 then 0x03 else 0x02)) (sym none) refl
-  | inr some ↦ subst (λ (f : ℕ). ack_type (counts_said (if f == 2 then a ∷ b ∷ c ∷ [] else [])) ≡ (if f == 2 then 0x03 else 0x02)) (sym some) refl
+  | inl none ↦ subst (λ (f : ℕ). ack_type (counts_described (if f == 2 then a ∷ b ∷ c ∷ [] else [])) ≡ (if f == 2 then 0x03 else 0x02)) (sym none) refl
+  | inr some ↦ subst (λ (f : ℕ). ack_type (counts_described (if f == 2 then a ∷ b ∷ c ∷ [] else [])) ≡ (if f == 2 then 0x03 else 0x02)) (sym some) refl
 ]
 
 counts_by : (flags a b c : ℕ) → (flags ≡ 0) ⊎ (flags ≡ 2)
-    → count_numbers (counts_said (if flags == 2 then a ∷ b ∷ c ∷ [] else [])) ≡ (if flags == 2 then a ∷ b ∷ c ∷ [] else [])
+    → count_numbers (counts_described (if flags == 2 then a ∷ b ∷ c ∷ [] else [])) ≡ (if flags == 2 then a ∷ b ∷ c ∷ [] else [])
 counts_by flags a b c e = elim e [
-  | inl none ↦ subst (λ (f : ℕ). count_numbers (counts_said (if f == 2 then a ∷ b ∷ c ∷ [] else [])) ≡ (if f == 2 then a ∷ b ∷ c ∷ [] else [])) (sym none) refl
-  | inr some ↦ subst (λ (f : ℕ). count_numbers (counts_said (if f == 2 then a ∷ b ∷ c ∷ [] else [])) ≡ (if f == 2 then a ∷ b ∷ c ∷ [] else [])) (sym some) refl
+  | inl none ↦ subst (λ (f : ℕ). count_numbers (counts_described (if f == 2 then a ∷ b ∷ c ∷ [] else [])) ≡ (if f == 2 then a ∷ b ∷ c ∷ [] else [])) (sym none) refl
+  | inr some ↦ subst (λ (f : ℕ). count_numbers (counts_described (if f == 2 then a ∷ b ∷ c ∷ [] else [])) ≡ (if f == 2 then a ∷ b ∷ c ∷ [] else [])) (sym some) refl
 ]
 
 -- the bytes of the ACK that words and gaps describe
 pub whole : (last : Bool) (words : CFrame) (gaps : List CGap) (low : ℕ) (below : List (ℕ × ℕ)) → DescribesAck words gaps low below
-    → shortest_frame last (ack_said words low below) ≡ ack_bytes words gaps
+    → shortest_frame last (ack_described words low below) ≡ ack_bytes words gaps
 whole last words gaps low below s =
     let g : ℕ = greatest_of_words words in
     let d : ℕ = delay_in words in
     let counts : List ℕ = counts_list words in
-    let parts = ack_parts last g d (low, g) below (counts_said counts) in
-    let type : ack_type (counts_said counts) ≡ (if words.flags == 2 then 0x03 else 0x02) = type_by words.flags (slice_index words.numbers 2) (slice_index words.numbers 3) (slice_index words.numbers 4) s.flags in
-    let numbers : count_numbers (counts_said counts) ≡ counts = counts_by words.flags (slice_index words.numbers 2) (slice_index words.numbers 3) (slice_index words.numbers 4) s.flags in
+    let parts = ack_parts last g d (low, g) below (counts_described counts) in
+    let type : ack_type (counts_described counts) ≡ (if words.flags == 2 then 0x03 else 0x02) =
+    type_by words.flags (slice_index words.numbers 2) (slice_index words.numbers 3) (slice_index words.numbers 4) s.flags in
+    let numbers : count_numbers (counts_described counts) ≡ counts = counts_by words.flags (slice_index words.numbers 2) (slice_index words.numbers 3) (slice_index words.numbers 4) s.flags in
     let count : length below ≡ length gaps = many_below low below ∙ ap length (sym s.gaps_are) in
     let first : g - low ≡ words.data_len = (let e = s.first in omega (arith, e)) in
     let bytes : shortest_below low below ≡ shortest_varints (gap_numbers gaps) = bytes_below low below ∙ ap (λ (x : List CGap). shortest_varints (gap_numbers x)) (sym s.gaps_are) in
     parts
-    ∙ ap (λ (t : ℕ). shortest_varints (t ∷ g ∷ d ∷ length below ∷ (g - low) ∷ []) ++ (shortest_below low below ++ shortest_varints (count_numbers (counts_said counts)))) type
-    ∙ ap (λ (n : ℕ). shortest_varints ((if words.flags == 2 then 0x03 else 0x02) ∷ g ∷ d ∷ n ∷ (g - low) ∷ []) ++ (shortest_below low below ++ shortest_varints (count_numbers (counts_said counts)))) count
-    ∙ ap (λ (n : ℕ). shortest_varints ((if words.flags == 2 then 0x03 else 0x02) ∷ g ∷ d ∷ length gaps ∷ n ∷ []) ++ (shortest_below low below ++ shortest_varints (count_numbers (counts_said counts)))) first
-    ∙ ap (λ (l : List ℕ). shortest_varints (front_numbers words gaps) ++ (l ++ shortest_varints (count_numbers (counts_said counts)))) bytes
+    ∙ ap (λ (t : ℕ). shortest_varints (t ∷ g ∷ d ∷ length below ∷ (g - low) ∷ []) ++ (shortest_below low below ++ shortest_varints (count_numbers (counts_described counts)))) type
+    ∙ ap (λ (n : ℕ). shortest_varints ((if words.flags == 2 then 0x03 else 0x02) ∷ g ∷ d ∷ n ∷ (g - low) ∷ [])
+    ++ (shortest_below low below ++ shortest_varints (count_numbers (counts_described counts)))) count
+    ∙ ap (λ (n : ℕ). shortest_varints ((if words.flags == 2 then 0x03 else 0x02) ∷ g ∷ d ∷ length gaps ∷ n ∷ [])
+    ++ (shortest_below low below ++ shortest_varints (count_numbers (counts_described counts)))) first
+    ∙ ap (λ (l : List ℕ). shortest_varints (front_numbers words gaps) ++ (l ++ shortest_varints (count_numbers (counts_described counts)))) bytes
     ∙ ap (λ (l : List ℕ). shortest_varints (front_numbers words gaps) ++ (shortest_varints (gap_numbers gaps) ++ shortest_varints l)) numbers
 
 pub is_of : (words : CFrame) (gaps : List CGap) (low : ℕ) (below : List (ℕ × ℕ)) → DescribesAck words gaps low below → IsAck words gaps
@@ -109,8 +112,8 @@ is_of words gaps low below s =
       counts = s.counts;
     }
 
-pub says_of : (words : CFrame) (gaps : List CGap) → IsAck words gaps → (low : ℕ) × (below : List (ℕ × ℕ)) × DescribesAck words gaps low below
-says_of words gaps i =
+pub ack_of_words : (words : CFrame) (gaps : List CGap) → IsAck words gaps → (low : ℕ) × (below : List (ℕ × ℕ)) × DescribesAck words gaps low below
+ack_of_words words gaps i =
     let low : ℕ = greatest_of_words words - words.data_len in
     let f = i.first in (
       low,
@@ -238,7 +241,8 @@ stored_two a b old one new at place end x y =
 pub stored_front : (g d n f : ℕ) (old one two new : List ℕ) (place stop end : ℕ) → Stores (shortest_varint g) 1 old place one → Stores (shortest_varint d) place one stop two
     → Stores (shortest_varints (n ∷ f ∷ [])) stop two end new → Stores (shortest_varints (g ∷ d ∷ n ∷ f ∷ [])) 1 old end new
 stored_front g d n f old one two new place stop end x y z =
-    stores_more (shortest_varint g) (shortest_varints (d ∷ n ∷ f ∷ [])) old one new 1 place end x (stores_more (shortest_varint d) (shortest_varints (n ∷ f ∷ [])) one two new place stop end y z)
+    stores_more (shortest_varint g) (shortest_varints (d ∷ n ∷ f ∷ [])) old one new 1 place end x
+    (stores_more (shortest_varint d) (shortest_varints (n ∷ f ∷ [])) one two new place stop end y z)
 
 pub stored_counts : (words : CFrame) (old one new : List ℕ) (at place end : ℕ) → words.flags ≡ 2
     → Stores (shortest_varint (slice_index words.numbers 2)) at old place one → Stores (shortest_varints (slice_index words.numbers 3 ∷ slice_index words.numbers 4 ∷ [])) place one end new
@@ -259,7 +263,9 @@ first_byte words gaps two = subst (λ (f : ℕ). shortest_varints ((if f == 2 th
 
 pub first_without : (words : CFrame) (gaps : List CGap) → words.flags ≡ 0 → shortest_varints (front_numbers words gaps) ≡ 0x02 ∷ shortest_varints (behind_type words gaps)
 unfolding shortest_varint
-first_without words gaps none = subst (λ (f : ℕ). shortest_varints ((if f == 2 then 0x03 else 0x02) ∷ behind_type words gaps) ≡ 0x02 ∷ shortest_varints (behind_type words gaps)) (sym none) refl
+first_without words gaps none =
+    subst (λ (f : ℕ). shortest_varints ((if f == 2 then 0x03 else 0x02) ∷ behind_type words gaps) ≡ 0x02 ∷ shortest_varints (behind_type words gaps))
+    (sym none) refl
 
 pub no_counts : (words : CFrame) → words.flags ≡ 0 → counts_list words ≡ []
 no_counts words none =
@@ -301,7 +307,8 @@ typed t bytes old mid new end first le x one front back =
     }
 
 -- the numbers after the type, the gaps, the type and the counts were written, one after the other
-pub stored_ack : (t : ℕ) (behind middle end old front mid one new : List ℕ) (place at stop first : ℕ) → 1 ≤ length old → Stores behind 1 old place front → Stores middle place front at mid
+pub stored_ack : (t : ℕ) (behind middle end old front mid one new : List ℕ) (place at stop first : ℕ) → 1 ≤ length old
+    → Stores behind 1 old place front → Stores middle place front at mid
     → first ≡ 0 + 1 → take first one ≡ take 0 mid ++ (t ∷ []) → drop first one ≡ drop first mid → Stores end at one stop new
     → Stores ((t ∷ behind) ++ (middle ++ end)) 0 old stop new
 stored_ack t behind middle end old front mid one new place at stop first le x y a b c z =

@@ -49,13 +49,14 @@ inner_of : (kind : ℕ) (last : Bool) → IsCounted kind last → (kind ≡ 0x06
 inner_of kind last (inl e) other = absurd (other e)
 inner_of kind last (inr e) other = e
 
-datagram_parts : (last : Bool) (d : Datagram) → shortest_frame last (meaning_of (frames.Datagram d)) ≡ data_header_by 0x30 0 (0 ∷ 0 ∷ 0 ∷ 0 ∷ 0 ∷ []) (length d.bytes.now) last ++ d.bytes.now
+datagram_parts : (last : Bool) (d : Datagram)
+    → shortest_frame last (meaning_of (frames.Datagram d)) ≡ data_header_by 0x30 0 (0 ∷ 0 ∷ 0 ∷ 0 ∷ 0 ∷ []) (length d.bytes.now) last ++ d.bytes.now
 datagram_parts true d = datagram_open d.bytes.now
 datagram_parts false d = datagram_counted d.bytes.now
 
 pub header_and : (words : CFrame) (bytes : List ℕ) (last : Bool) (frame : Frame) → IsHeaded words.kind → CanWriteFrame words bytes last frame → IsCut words last frame
 header_and words bytes last (frames.Crypto x) h can =
-    let s = can.said in
+    let s = can.described in
     let same : data_header_bytes words last ≡ data_header_by 0x06 0 (0 ∷ x.offset ∷ 0 ∷ 0 ∷ 0 ∷ []) (length x.bytes.now) last = rw (s.kind, s.numbers, s.count) refl in
     let has : HasHeader words last = record {
       kind = h;
@@ -68,7 +69,7 @@ header_and words bytes last (frames.Crypto x) h can =
     } in
     (has, crypto_parts last x.offset x.bytes.now ∙ ap (λ (l : List ℕ). l ++ x.bytes.now) (sym same))
 header_and words bytes last (frames.Stream x) h can =
-    let s = can.said in
+    let s = can.described in
     let fin : ◌≡◌ {A = Bool} (words.flags == 1) x.fin = ap (λ (n : ℕ). n == 1) s.flags ∙ fin_is x.fin in
     let same : data_header_bytes words last ≡ stream_header x.id x.offset x.fin (if last then None else Some (length x.bytes.now)) = rw (fin, s.kind, s.numbers, s.count) refl in
     let has : HasHeader words last = record {
@@ -82,7 +83,7 @@ header_and words bytes last (frames.Stream x) h can =
     } in
     (has, sym (stream_parts last x.fin x.id x.offset x.bytes.now) ∙ ap (λ (l : List ℕ). l ++ x.bytes.now) (sym same))
 header_and words bytes last (frames.Datagram x) h can =
-    let s = can.said in
+    let s = can.described in
     let same : data_header_bytes words last ≡ data_header_by 0x30 0 (0 ∷ 0 ∷ 0 ∷ 0 ∷ 0 ∷ []) (length x.bytes.now) last = rw (s.kind, s.count) refl in
     let has : HasHeader words last = record {
       kind = h;
@@ -94,26 +95,26 @@ header_and words bytes last (frames.Datagram x) h can =
       flags = inl s.flags;
     } in
     (has, datagram_parts last x ∙ ap (λ (l : List ℕ). l ++ x.bytes.now) (sym same))
-header_and words bytes last frames.Padding h can = absurd (never words.kind 0x00 h can.said.kind refl)
-header_and words bytes last frames.Ping h can = absurd (never words.kind 0x01 h can.said.kind refl)
-header_and words bytes last (frames.Ack a) h can = absurd (never words.kind 0x02 h can.said.kind refl)
-header_and words bytes last (frames.ResetStream r) h can = absurd (never words.kind 0x04 h can.said.kind refl)
-header_and words bytes last (frames.StopSending x) h can = absurd (never words.kind 0x05 h can.said.kind refl)
-header_and words bytes last (frames.NewToken t) h can = absurd (never words.kind 0x07 h can.said.kind refl)
-header_and words bytes last (frames.MaxData n) h can = absurd (never words.kind 0x10 h can.said.kind refl)
-header_and words bytes last (frames.MaxStreamData id offset) h can = absurd (never words.kind 0x11 h can.said.kind refl)
-header_and words bytes last (frames.MaxStreams dirs.Bi count) h can = absurd (never words.kind 0x12 h can.said.kind refl)
-header_and words bytes last (frames.MaxStreams dirs.Uni count) h can = absurd (never words.kind 0x13 h can.said.kind refl)
-header_and words bytes last (frames.DataBlocked offset) h can = absurd (never words.kind 0x14 h can.said.kind refl)
-header_and words bytes last (frames.StreamDataBlocked id offset) h can = absurd (never words.kind 0x15 h can.said.kind refl)
-header_and words bytes last (frames.StreamsBlocked dirs.Bi limit) h can = absurd (never words.kind 0x16 h can.said.kind refl)
-header_and words bytes last (frames.StreamsBlocked dirs.Uni limit) h can = absurd (never words.kind 0x17 h can.said.kind refl)
-header_and words bytes last (frames.NewConnectionId n) h can = absurd (never words.kind 0x18 h can.said.kind refl)
-header_and words bytes last (frames.RetireConnectionId sequence) h can = absurd (never words.kind 0x19 h can.said.kind refl)
-header_and words bytes last (frames.PathChallenge n) h can = absurd (never words.kind 0x1a h can.said.kind refl)
-header_and words bytes last (frames.PathResponse n) h can = absurd (never words.kind 0x1b h can.said.kind refl)
-header_and words bytes last (frames.Close (closes.Connection x)) h can = absurd (never words.kind 0x1c h can.said.kind refl)
-header_and words bytes last (frames.Close (closes.Application x)) h can = absurd (never words.kind 0x1d h can.said.kind refl)
-header_and words bytes last (frames.AckFrequency f) h can = absurd (never words.kind 0xaf h can.said.kind refl)
-header_and words bytes last frames.ImmediateAck h can = absurd (never words.kind 0x1f h can.said.kind refl)
-header_and words bytes last frames.HandshakeDone h can = absurd (never words.kind 0x1e h can.said.kind refl)
+header_and words bytes last frames.Padding h can = absurd (never words.kind 0x00 h can.described.kind refl)
+header_and words bytes last frames.Ping h can = absurd (never words.kind 0x01 h can.described.kind refl)
+header_and words bytes last (frames.Ack a) h can = absurd (never words.kind 0x02 h can.described.kind refl)
+header_and words bytes last (frames.ResetStream r) h can = absurd (never words.kind 0x04 h can.described.kind refl)
+header_and words bytes last (frames.StopSending x) h can = absurd (never words.kind 0x05 h can.described.kind refl)
+header_and words bytes last (frames.NewToken t) h can = absurd (never words.kind 0x07 h can.described.kind refl)
+header_and words bytes last (frames.MaxData n) h can = absurd (never words.kind 0x10 h can.described.kind refl)
+header_and words bytes last (frames.MaxStreamData id offset) h can = absurd (never words.kind 0x11 h can.described.kind refl)
+header_and words bytes last (frames.MaxStreams dirs.Bi count) h can = absurd (never words.kind 0x12 h can.described.kind refl)
+header_and words bytes last (frames.MaxStreams dirs.Uni count) h can = absurd (never words.kind 0x13 h can.described.kind refl)
+header_and words bytes last (frames.DataBlocked offset) h can = absurd (never words.kind 0x14 h can.described.kind refl)
+header_and words bytes last (frames.StreamDataBlocked id offset) h can = absurd (never words.kind 0x15 h can.described.kind refl)
+header_and words bytes last (frames.StreamsBlocked dirs.Bi limit) h can = absurd (never words.kind 0x16 h can.described.kind refl)
+header_and words bytes last (frames.StreamsBlocked dirs.Uni limit) h can = absurd (never words.kind 0x17 h can.described.kind refl)
+header_and words bytes last (frames.NewConnectionId n) h can = absurd (never words.kind 0x18 h can.described.kind refl)
+header_and words bytes last (frames.RetireConnectionId sequence) h can = absurd (never words.kind 0x19 h can.described.kind refl)
+header_and words bytes last (frames.PathChallenge n) h can = absurd (never words.kind 0x1a h can.described.kind refl)
+header_and words bytes last (frames.PathResponse n) h can = absurd (never words.kind 0x1b h can.described.kind refl)
+header_and words bytes last (frames.Close (closes.Connection x)) h can = absurd (never words.kind 0x1c h can.described.kind refl)
+header_and words bytes last (frames.Close (closes.Application x)) h can = absurd (never words.kind 0x1d h can.described.kind refl)
+header_and words bytes last (frames.AckFrequency f) h can = absurd (never words.kind 0xaf h can.described.kind refl)
+header_and words bytes last frames.ImmediateAck h can = absurd (never words.kind 0x1f h can.described.kind refl)
+header_and words bytes last frames.HandshakeDone h can = absurd (never words.kind 0x1e h can.described.kind refl)

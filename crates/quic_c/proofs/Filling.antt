@@ -9,13 +9,12 @@ use Rattle.quic_frames.specs.IterState.{IterState}
 use Rattle.quic_frames.specs.Walk.{Finds}
 use Rattle.quic_frames.specs.Padding.{PassesPadding, behind}
 use Rattle.quic_c.specs.declared.words.CFrame.{CFrame}
-use Rattle.quic_c.specs.Shown.{frame_kind_of, shown, IsExtension}
-use Rattle.quic_c.specs.Answers.{IsRefusedFrame}
-use Rattle.quic_frame_fields.specs.Reading.{Invalid}
+use Rattle.quic_c.specs.Shown.{frame_kind_of, frame_words, IsExtension}
 use Rattle.quic_c.specs.Filling.{GivesEntry, Shows, HasNoFrame, Fills, further}
 
 -- one entry more
-pub shows-append : {P E : Type 0} (step : P → E → P → Type 0) (old : P) (entries : List E) (here : P) (entry : E) (new : P) → Shows step old entries here → step here entry new → Shows step old (entries ++ entry ∷ []) new
+pub shows-append : {P E : Type 0} (step : P → E → P → Type 0) (old : P) (entries : List E) (here : P) (entry : E) (new : P)
+    → Shows step old entries here → step here entry new → Shows step old (entries ++ entry ∷ []) new
 shows-append step old [] here entry new s gives = (new, subst (λ w. step w entry new) (sym s) gives, refl)
 shows-append step old (first ∷ entries) here entry new s gives = (s.0, s.1, shows-append step s.0 entries here entry new s.2 gives)
 
@@ -55,19 +54,24 @@ pub kinds : (n : ℕ) → (n ≡ 0) ⊎ (0 < n)
 kinds zero = inl refl
 kinds (suc n) = inr (omega arith)
 
-next_further : (here next new : IterState) (frame : Frame) → Finds here frame next → (frame_kind_of frame ≡ 0 → (more : ℕ) × PassesPadding next more new) → (0 < frame_kind_of frame → new ≡ next) → IsFurther here new
+next_further : (here next new : IterState) (frame : Frame) → Finds here frame next
+    → (frame_kind_of frame ≡ 0 → (more : ℕ) × PassesPadding next more new) → (0 < frame_kind_of frame → new ≡ next) → IsFurther here new
 next_further here next new frame f run one =
     elim (kinds (frame_kind_of frame)) [
       | inl is ↦ let p = run is in further_on here next new (found_further here next frame f) (passed_further next new p.0 p.1)
       | inr is ↦ subst (λ (w : IterState). IsFurther here w) (sym (one is)) (found_further here next frame f)
     ]
 
-pub filling_goes_on : (basic : Bool) (old : IterState) (before : List CFrame) (here : IterState) (after : List CFrame) (count end : ℕ) (next new : IterState) (frame : Frame) (entry : CFrame) (stop type : ℕ)
-    → Filling basic old before here after count end → count < length after → (finds : Finds here frame next) → ((basic ≡ true) × IsExtension (frame_kind_of frame) → ⊥) → (frame_kind_of frame ≡ 0 → (more : ℕ) × PassesPadding next more new) → (0 < frame_kind_of frame → new ≡ next)
-    → stop ≡ new.offset → type ≡ finds.found.type → entry ≡ shown end stop type frame → Filling basic old before new (set after count entry) (count + 1) stop
+pub filling_goes_on : (basic : Bool) (old : IterState) (before : List CFrame) (here : IterState) (after : List CFrame) (count end : ℕ)
+    (next new : IterState) (frame : Frame) (entry : CFrame) (stop type : ℕ)
+    → Filling basic old before here after count end → count < length after → (finds : Finds here frame next)
+    → ((basic ≡ true) × IsExtension (frame_kind_of frame) → ⊥) → (frame_kind_of frame ≡ 0 → (more : ℕ) × PassesPadding next more new)
+    → (0 < frame_kind_of frame → new ≡ next)
+    → stop ≡ new.offset → type ≡ finds.found.type → entry ≡ frame_words end stop type frame → Filling basic old before new (set after count entry) (count + 1) stop
 filling_goes_on basic old before here after count end next new frame entry stop type s room f known run one e begins words =
-    let same_words : entry ≡ shown here.offset new.offset f.found.type frame =
-    words ∙ ap (λ (n : ℕ). shown n stop type frame) (sym s.place) ∙ ap (λ (n : ℕ). shown here.offset n type frame) e ∙ ap (λ (n : ℕ). shown here.offset new.offset n frame) begins in
+    let same_words : entry ≡ frame_words here.offset new.offset f.found.type frame =
+    words ∙ ap (λ (n : ℕ). frame_words n stop type frame) (sym s.place) ∙ ap (λ (n : ℕ). frame_words here.offset n type frame) e
+    ∙ ap (λ (n : ℕ). frame_words here.offset new.offset n frame) begins in
     let gives : GivesEntry basic here entry new = record { frame = frame; next = next; finds = f; known = known; run = run; one = one; words = same_words } in
     let front : take (count + 1) (set after count entry) ≡ take count after ++ entry ∷ [] = take_more_set after count entry room in
     record {
@@ -80,7 +84,8 @@ filling_goes_on basic old before here after count end next new frame entry stop 
     }
 
 -- where it ends
-pub filling_ends : (basic : Bool) (old : IterState) (before : List CFrame) (here : IterState) (after : List CFrame) (count end : ℕ) (last : Option ℕ) → Filling basic old before here after count end → last ≡ here.last
+pub filling_ends : (basic : Bool) (old : IterState) (before : List CFrame) (here : IterState) (after : List CFrame) (count end : ℕ) (last : Option ℕ)
+    → Filling basic old before here after count end → last ≡ here.last
     → (count ≡ length before) ⊎ HasNoFrame basic here → Fills basic old before (further old end last) after count
 filling_ends basic old before here after count end last s e full =
     let is : here ≡ further old end last = s.comes ∙ ap (λ (n : ℕ). further old n here.last) s.place ∙ ap (further old end) (sym e) in

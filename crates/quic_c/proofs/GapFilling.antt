@@ -1,5 +1,5 @@
 -- Ranges of an ACK that are filled as gap and length, one after the other.
-use Rattle.std.proofs.Common.{◌≡◌, ℕ, ◌+◌, ◌-◌, ◌<◌, ◌≤◌, Option, None, Some, Bool, true, false, List, [], ◌∷◌, ◌++◌, length, take, drop, set, refl, sym, ap, subst, ◌∙◌, append_assoc, arith}
+use Rattle.std.proofs.Common.{◌≡◌, ℕ, ◌+◌, ◌-◌, ◌<◌, ◌≤◌, Bool, true, false, List, [], ◌∷◌, ◌++◌, length, take, drop, set, refl, sym, ap, subst, ◌∙◌, append_assoc, arith}
 use Rattle.std.specs.Prelude.{Ok, Err, IsTrue, ◌↔◌, ◌==◌, nat_lt, if◌then◌else◌}
 use Rattle.std.proofs.lemmas.List.{take_more_set, drop-set-lt, take_at, length-append}
 use Rattle.std.proofs.Math.ListN.{length-set}
@@ -11,13 +11,11 @@ use Rattle.quic_frame_fields.specs.Field.{AreBelow, AreBlocks}
 use Rattle.quic_frame_fields.specs.Reading.{varint_at}
 use Rattle.quic_frame_fields.proofs.Steps.{ok_is, ok_is_not_err}
 use Rattle.quic_frame_fields.specs.declared.frame.ack.Ack.{Ack}
-use Rattle.quic_frame_fields.specs.declared.frame.ack.EcnCounts.{EcnCounts}
 use Rattle.quic_frame_fields.specs.Acks.{ranges_acked}
 use Rattle.quic_frame_fields.proofs.Blocks.{acked}
 use Rattle.quic_frame_fields.proofs.Varints.{varint_again, varint_some}
 use Rattle.quic_c.specs.declared.words.CGap.{CGap}
 use Rattle.quic_c.specs.Front.{gap_of, gaps_below, FillsGaps, more_flag}
-use Rattle.quic_c.specs.Shown.{counts_flag}
 
 -- the least number of the last range
 abbrev pub lowest : ℕ → List (ℕ × ℕ) → ℕ
@@ -86,11 +84,14 @@ pub gaps_go_on : (least : ℕ) (ranges : List (ℕ × ℕ)) (before : List CGap)
     → GapFilling least ranges before rest (set after count (record { gap = gap; len = len })) (count + 1)
 gaps_go_on least ranges before left after count gap len behind rest s room some one two =
     let n = next_gap (lowest least s.done) s.others left some s.encoded in
-    let first : ◌≡◌ {A = ℕ × List ℕ} (lowest least s.done - (n.range.1 + 2), n.behind) (gap, behind) = ok_is (lowest least s.done - (n.range.1 + 2), n.behind) (gap, behind) (sym n.gap ∙ one) in
+    let first : ◌≡◌ {A = ℕ × List ℕ} (lowest least s.done - (n.range.1 + 2), n.behind) (gap, behind) =
+    ok_is (lowest least s.done - (n.range.1 + 2), n.behind) (gap, behind) (sym n.gap ∙ one) in
     let again : varint_at n.behind ≡ Ok (len, rest) = ap varint_at (ap (λ (x : ℕ × List ℕ). x.1) first) ∙ two in
     let second : ◌≡◌ {A = ℕ × List ℕ} (n.range.1 - n.range.0, n.rest) (len, rest) = ok_is (n.range.1 - n.range.0, n.rest) (len, rest) (sym n.len ∙ again) in
     let entry : CGap = record { gap = gap; len = len } in
-    let is : gap_of (lowest least s.done) n.range ≡ entry = ap (λ (x : ℕ). record { gap = x; len = n.range.1 - n.range.0 }) (ap (λ (x : ℕ × List ℕ). x.0) first) ∙ ap (λ (x : ℕ). record { gap = gap; len = x }) (ap (λ (x : ℕ × List ℕ). x.0) second) in
+    let is : gap_of (lowest least s.done) n.range ≡ entry =
+    ap (λ (x : ℕ). record { gap = x; len = n.range.1 - n.range.0 }) (ap (λ (x : ℕ × List ℕ). x.0) first)
+    ∙ ap (λ (x : ℕ). record { gap = gap; len = x }) (ap (λ (x : ℕ × List ℕ). x.0) second) in
     let front : take (count + 1) (set after count entry) ≡ take count after ++ entry ∷ [] = take_more_set after count entry room in
     let below : AreBelow n.range.0 n.ranges rest = subst (AreBelow n.range.0 n.ranges) (ap (λ (x : ℕ × List ℕ). x.1) second) n.encoded in
     record {
@@ -120,11 +121,13 @@ sizes : (least : ℕ) (ranges : List (ℕ × ℕ)) (before : List CGap) (left : 
     → length ranges ≡ count + length s.others
 sizes least ranges before left after count s = ap length s.parts ∙ length-append s.done s.others ∙ ap (λ (k : ℕ). k + length s.others) s.counted
 
-pub all_filled : (least : ℕ) (ranges : List (ℕ × ℕ)) (before : List CGap) (left : List ℕ) (after : List CGap) (count : ℕ) → GapFilling least ranges before left after count → length left ≡ 0 → count ≡ length ranges
+pub all_filled : (least : ℕ) (ranges : List (ℕ × ℕ)) (before : List CGap) (left : List ℕ) (after : List CGap) (count : ℕ)
+    → GapFilling least ranges before left after count → length left ≡ 0 → count ≡ length ranges
 all_filled least ranges before left after count s none =
     omega (arith, sizes least ranges before left after count s, none_left (lowest least s.done) s.others left s.encoded none)
 
-pub some_unfilled : (least : ℕ) (ranges : List (ℕ × ℕ)) (before : List CGap) (left : List ℕ) (after : List CGap) (count : ℕ) → GapFilling least ranges before left after count → 0 < length left → count < length ranges
+pub some_unfilled : (least : ℕ) (ranges : List (ℕ × ℕ)) (before : List CGap) (left : List ℕ) (after : List CGap) (count : ℕ)
+    → GapFilling least ranges before left after count → 0 < length left → count < length ranges
 some_unfilled least ranges before left after count s some =
     omega (arith, sizes least ranges before left after count s, some_left (lowest least s.done) s.others left s.encoded some)
 
@@ -141,17 +144,20 @@ gaps_end least ranges before left after count s full =
     }
 
 -- no number is cut off if there is a gap or a block
-pub gap_stands : (least : ℕ) (ranges : List (ℕ × ℕ)) (before : List CGap) (left : List ℕ) (after : List CGap) (count : ℕ) (e : Fault) → GapFilling least ranges before left after count → 0 < length left
+pub gap_is_there : (least : ℕ) (ranges : List (ℕ × ℕ)) (before : List CGap) (left : List ℕ) (after : List CGap) (count : ℕ) (e : Fault)
+    → GapFilling least ranges before left after count → 0 < length left
     → varint_at left ≡ Err e → ⊥
-gap_stands least ranges before left after count e s some h =
+gap_is_there least ranges before left after count e s some h =
     let n = next_gap (lowest least s.done) s.others left some s.encoded in
     ok_is_not_err (sym n.gap ∙ h)
 
-pub len_stands : (least : ℕ) (ranges : List (ℕ × ℕ)) (before : List CGap) (left : List ℕ) (after : List CGap) (count gap : ℕ) (behind : List ℕ) (e : Fault) → GapFilling least ranges before left after count → 0 < length left
+pub len_is_there : (least : ℕ) (ranges : List (ℕ × ℕ)) (before : List CGap) (left : List ℕ) (after : List CGap) (count gap : ℕ) (behind : List ℕ) (e : Fault)
+    → GapFilling least ranges before left after count → 0 < length left
     → varint_at left ≡ Ok (gap, behind) → varint_at behind ≡ Err e → ⊥
-len_stands least ranges before left after count gap behind e s some one h =
+len_is_there least ranges before left after count gap behind e s some one h =
     let n = next_gap (lowest least s.done) s.others left some s.encoded in
-    let first : ◌≡◌ {A = ℕ × List ℕ} (lowest least s.done - (n.range.1 + 2), n.behind) (gap, behind) = ok_is (lowest least s.done - (n.range.1 + 2), n.behind) (gap, behind) (sym n.gap ∙ one) in
+    let first : ◌≡◌ {A = ℕ × List ℕ} (lowest least s.done - (n.range.1 + 2), n.behind) (gap, behind) =
+    ok_is (lowest least s.done - (n.range.1 + 2), n.behind) (gap, behind) (sym n.gap ∙ one) in
     ok_is_not_err (sym n.len ∙ ap varint_at (ap (λ (x : ℕ × List ℕ). x.1) first) ∙ h)
 
 zero_of : (n : ℕ) → true ≡ (n == 0) → n ≡ 0
@@ -161,7 +167,8 @@ zero_test : (n : ℕ) → n ≡ 0 → true ≡ (n == 0)
 zero_test n e = grind (arith, nat_tests)
 
 -- whether all were filled
-pub gaps_whole : (least : ℕ) (ranges : List (ℕ × ℕ)) (before : List CGap) (left : List ℕ) (after : List CGap) (count : ℕ) (is_empty : Bool) → GapFilling least ranges before left after count
+pub gaps_whole : (least : ℕ) (ranges : List (ℕ × ℕ)) (before : List CGap) (left : List ℕ) (after : List CGap) (count : ℕ) (is_empty : Bool)
+    → GapFilling least ranges before left after count
     → is_empty ≡ (length left == 0) → IsTrue is_empty ↔ (count ≡ length ranges)
 gaps_whole least ranges before [] after count is_empty s e =
     let all : count ≡ length ranges = all_filled least ranges before [] after count s refl in
@@ -171,7 +178,8 @@ gaps_whole least ranges before (b ∷ left) after count is_empty s e =
     (λ t. absurd (omega (arith, zero_of (length (b ∷ left)) (sym (sym e ∙ t)))), λ same. absurd (omega (arith, fewer, same)))
 
 -- where no byte is left, no range is
-pub gaps_full : (least : ℕ) (ranges : List (ℕ × ℕ)) (before : List CGap) (left : List ℕ) (after : List CGap) (count : ℕ) → GapFilling least ranges before left after count → true ≡ (length left == 0) → count < length ranges
+pub gaps_full : (least : ℕ) (ranges : List (ℕ × ℕ)) (before : List CGap) (left : List ℕ) (after : List CGap) (count : ℕ)
+    → GapFilling least ranges before left after count → true ≡ (length left == 0) → count < length ranges
     → count ≡ length before
 gaps_full least ranges before [] after count s e fewer = absurd (omega (arith, fewer, all_filled least ranges before [] after count s refl))
 gaps_full least ranges before (b ∷ left) after count s e fewer = absurd (omega (arith, zero_of (length (b ∷ left)) e))
@@ -226,8 +234,8 @@ first_reads ack bytes n rest e fits h =
       encoded = subst (AreBelow f.least f.below) (ap (λ (x : ℕ × List ℕ). x.1) same) f.encoded;
     }
 
-pub first_stands : (ack : Ack) (bytes : List ℕ) (reason : Fault) → bytes ≡ ack.additional.now → AreBytes bytes → varint_at bytes ≡ Err reason → ⊥
-first_stands ack bytes reason e fits h =
+pub first_is_there : (ack : Ack) (bytes : List ℕ) (reason : Fault) → bytes ≡ ack.additional.now → AreBytes bytes → varint_at bytes ≡ Err reason → ⊥
+first_is_there ack bytes reason e fits h =
     let f = first_gap ack (subst AreBytes e fits) in
     ok_is_not_err (sym f.len ∙ ap varint_at (sym e) ∙ h)
 
@@ -242,7 +250,8 @@ above_test n m e = grind (arith, nat_tests)
 less : (n m : ℕ) → n ≤ m → (n ≡ m → ⊥) → n < m
 less n m le other = grind (arith, nat_tests)
 
-pub more_is : (count : ℕ) (ranges : List (ℕ × ℕ)) (is_whole : Bool) (more : ℕ) → count ≤ length ranges → IsTrue is_whole ↔ (count ≡ length ranges) → more ≡ (if is_whole then 0 else 4) → more ≡ more_flag count ranges
+pub more_is : (count : ℕ) (ranges : List (ℕ × ℕ)) (is_whole : Bool) (more : ℕ) → count ≤ length ranges → IsTrue is_whole ↔ (count ≡ length ranges)
+    → more ≡ (if is_whole then 0 else 4) → more ≡ more_flag count ranges
 more_is count ranges true more few whole e = e ∙ ap (λ (t : Bool). if t then 4 else 0) (above_test count (length ranges) (whole.0 refl))
 more_is count ranges false more few whole e =
     let fewer : count < length ranges = less count (length ranges) few (λ same. let t : ◌≡◌ {A = Bool} false true = whole.1 same in cc) in

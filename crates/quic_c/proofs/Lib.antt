@@ -1,6 +1,6 @@
 pub mod Places
 mod Shapes
-mod Said
+mod DescribedFrames
 mod Meanings
 mod Filling
 mod Fronts

@@ -26,8 +26,8 @@ fourth_in (a ∷ b ∷ c ∷ d ∷ numbers) = d
 fourth_in numbers = 0
 
 -- the meaning of a frame of any kind but ACK, by its words, its data and its token
-said_by : ℕ → ℕ → List ℕ → List ℕ → List ℕ → Meaning
-said_by kind flags ns bytes token =
+meaning_by : ℕ → ℕ → List ℕ → List ℕ → List ℕ → Meaning
+meaning_by kind flags ns bytes token =
     if kind == 0x00 then frame_of names.Padding []
     else if kind == 0x01 then frame_of names.Ping []
     else if kind == 0x04 then frame_of names.ResetStream (Number (first_in ns) ∷ Number (second_in ns) ∷ Number (third_in ns) ∷ [])
@@ -56,36 +56,36 @@ said_by kind flags ns bytes token =
 
 -- the same of a frame
 abbrev parts_by : Frame → Meaning
-parts_by frame = said_by (frame_kind_of frame) (flags_of frame) (frame_numbers_of frame) (data_of frame) (token_of frame)
+parts_by frame = meaning_by (frame_kind_of frame) (flags_of frame) (frame_numbers_of frame) (data_of frame) (token_of frame)
 
-said_is : (frame : Frame) → IsNoAck frame → meaning_of frame ≡ parts_by frame
-unfolding said_by
-said_is frames.Padding here = refl
-said_is (frames.Ack _) here = elim here [ ]
-said_is frames.Ping here = refl
-said_is (frames.ResetStream r) here = refl
-said_is (frames.StopSending s) here = refl
-said_is (frames.Crypto x) here = refl
-said_is (frames.NewToken t) here = refl
-said_is (frames.Stream s) here = refl
-said_is (frames.MaxData n) here = refl
-said_is (frames.MaxStreamData id offset) here = refl
-said_is (frames.MaxStreams dirs.Bi count) here = refl
-said_is (frames.MaxStreams dirs.Uni count) here = refl
-said_is (frames.DataBlocked offset) here = refl
-said_is (frames.StreamDataBlocked id offset) here = refl
-said_is (frames.StreamsBlocked dirs.Bi limit) here = refl
-said_is (frames.StreamsBlocked dirs.Uni limit) here = refl
-said_is (frames.NewConnectionId n) here = refl
-said_is (frames.RetireConnectionId sequence) here = refl
-said_is (frames.PathChallenge n) here = refl
-said_is (frames.PathResponse n) here = refl
-said_is (frames.Close (closes.Connection x)) here = refl
-said_is (frames.Close (closes.Application x)) here = refl
-said_is (frames.Datagram d) here = refl
-said_is (frames.AckFrequency f) here = refl
-said_is frames.ImmediateAck here = refl
-said_is frames.HandshakeDone here = refl
+meaning_is : (frame : Frame) → IsNoAck frame → meaning_of frame ≡ parts_by frame
+unfolding meaning_by
+meaning_is frames.Padding here = refl
+meaning_is (frames.Ack _) here = elim here [ ]
+meaning_is frames.Ping here = refl
+meaning_is (frames.ResetStream r) here = refl
+meaning_is (frames.StopSending s) here = refl
+meaning_is (frames.Crypto x) here = refl
+meaning_is (frames.NewToken t) here = refl
+meaning_is (frames.Stream s) here = refl
+meaning_is (frames.MaxData n) here = refl
+meaning_is (frames.MaxStreamData id offset) here = refl
+meaning_is (frames.MaxStreams dirs.Bi count) here = refl
+meaning_is (frames.MaxStreams dirs.Uni count) here = refl
+meaning_is (frames.DataBlocked offset) here = refl
+meaning_is (frames.StreamDataBlocked id offset) here = refl
+meaning_is (frames.StreamsBlocked dirs.Bi limit) here = refl
+meaning_is (frames.StreamsBlocked dirs.Uni limit) here = refl
+meaning_is (frames.NewConnectionId n) here = refl
+meaning_is (frames.RetireConnectionId sequence) here = refl
+meaning_is (frames.PathChallenge n) here = refl
+meaning_is (frames.PathResponse n) here = refl
+meaning_is (frames.Close (closes.Connection x)) here = refl
+meaning_is (frames.Close (closes.Application x)) here = refl
+meaning_is (frames.Datagram d) here = refl
+meaning_is (frames.AckFrequency f) here = refl
+meaning_is frames.ImmediateAck here = refl
+meaning_is frames.HandshakeDone here = refl
 
 same_parts : (f : ℕ → ℕ → List ℕ → List ℕ → List ℕ → Meaning) (a a' b b' : ℕ) (c c' d d' e e' : List ℕ) → a ≡ a' → b ≡ b' → c ≡ c' → d ≡ d' → e ≡ e'
     → f a b c d e ≡ f a' b' c' d' e'
@@ -94,11 +94,11 @@ same_parts f a a' b b' c c' d d' e e' p q r s t = cc
 pub one_meaning : (words : CFrame) (bytes : List ℕ) (last : Bool) (one other : Frame) → CanWriteFrame words bytes last one → CanWriteFrame words bytes last other
     → meaning_of one ≡ meaning_of other
 one_meaning words bytes last one other a b =
-    let kinds : frame_kind_of one ≡ frame_kind_of other = sym a.said.kind ∙ b.said.kind in
+    let kinds : frame_kind_of one ≡ frame_kind_of other = sym a.described.kind ∙ b.described.kind in
     let tails : tail_of one ≡ tail_of other = (keeps one a.kind).tail ∙ ap token_room kinds ∙ sym (keeps other b.kind).tail in
     let behind : List ℕ = drop words.data_len (drop words.data_offset bytes) in
-    let tokens : token_of one ≡ token_of other = sym a.said.token ∙ ap (λ (n : ℕ). take n behind) tails ∙ b.said.token in
-    said_is one a.kind
-    ∙ same_parts said_by (frame_kind_of one) (frame_kind_of other) (flags_of one) (flags_of other) (frame_numbers_of one) (frame_numbers_of other) (data_of one) (data_of other)
-    (token_of one) (token_of other) kinds (sym a.said.flags ∙ b.said.flags) (sym a.said.numbers ∙ b.said.numbers) (sym a.said.content ∙ b.said.content) tokens
-    ∙ sym (said_is other b.kind)
+    let tokens : token_of one ≡ token_of other = sym a.described.token ∙ ap (λ (n : ℕ). take n behind) tails ∙ b.described.token in
+    meaning_is one a.kind
+    ∙ same_parts meaning_by (frame_kind_of one) (frame_kind_of other) (flags_of one) (flags_of other) (frame_numbers_of one) (frame_numbers_of other) (data_of one) (data_of other)
+    (token_of one) (token_of other) kinds (sym a.described.flags ∙ b.described.flags) (sym a.described.numbers ∙ b.described.numbers) (sym a.described.content ∙ b.described.content) tokens
+    ∙ sym (meaning_is other b.kind)

@@ -36,7 +36,8 @@ pub range_given : (payload : List ℕ) (begin end largest least next : ℕ) (res
 range_given payload begin end largest least next rest some within small step shorter tail first valid =
     let len = length-part payload begin end within in
     let k : begin + (length (slice_range payload begin end) - length rest) ≡ end - length rest = omega arith in
-    let left : slice_range payload (end - length rest) end ≡ rest = sym (ap (λ (n : ℕ). slice_range payload n end) k) ∙ sym (part_of_part payload begin end (length (slice_range payload begin end) - length rest) (omega arith)) ∙ tail in
+    let left : slice_range payload (end - length rest) end ≡ rest =
+    sym (ap (λ (n : ℕ). slice_range payload n end) k) ∙ sym (part_of_part payload begin end (length (slice_range payload begin end) - length rest) (omega arith)) ∙ tail in
     record {
       some = some;
       small = small;
@@ -50,25 +51,29 @@ range_given payload begin end largest least next rest some within small step sho
     }
 
 -- bytes in a part, before what ends it
-pub stands_in : (payload : List ℕ) (begin end : ℕ) (front blocks rest : List ℕ) → begin ≤ end → end ≤ length payload → slice_range payload begin end ≡ front ++ (blocks ++ rest)
+pub blocks_placed : (payload : List ℕ) (begin end : ℕ) (front blocks rest : List ℕ) → begin ≤ end → end ≤ length payload → slice_range payload begin end ≡ front ++ (blocks ++ rest)
     → (begin + (length front + (length blocks + length rest)) ≡ end) × (slice_range payload (end - length rest - length blocks) (end - length rest) ≡ blocks)
-stands_in payload begin end front blocks rest ordered within parts =
+blocks_placed payload begin end front blocks rest ordered within parts =
     let len = length-part payload begin end within in
-    let sizes : length (slice_range payload begin end) ≡ length front + (length blocks + length rest) = ap length parts ∙ length-append front (blocks ++ rest) ∙ ap (λ (n : ℕ). length front + n) (length-append blocks rest) in
+    let sizes : length (slice_range payload begin end) ≡ length front + (length blocks + length rest) =
+    ap length parts ∙ length-append front (blocks ++ rest) ∙ ap (λ (n : ℕ). length front + n) (length-append blocks rest) in
     let all : begin + (length front + (length blocks + length rest)) ≡ end = omega arith in
     let start : end - length rest - length blocks ≡ begin + length front = omega arith in
     let width : end - length rest - (begin + length front) ≡ length blocks = omega arith in
-    let behind : slice_range payload (begin + length front) end ≡ blocks ++ rest = sym (part_of_part payload begin end (length front) (omega arith)) ∙ ap (drop (length front)) parts ∙ drop_at front (blocks ++ rest) (length front) refl in
+    let behind : slice_range payload (begin + length front) end ≡ blocks ++ rest =
+    sym (part_of_part payload begin end (length front) (omega arith)) ∙ ap (drop (length front)) parts ∙ drop_at front (blocks ++ rest) (length front) refl in
     let room : length blocks ≤ end - (begin + length front) = omega arith in
     let cut : take (length blocks) (drop (begin + length front) payload) ≡ blocks =
     sym (take-take (length blocks) (end - (begin + length front)) (drop (begin + length front) payload) room) ∙ ap (take (length blocks)) behind ∙ take_at blocks rest (length blocks) refl in
     (all, ap (λ (n : ℕ). slice_range payload n (end - length rest)) start ∙ ap (λ (n : ℕ). take n (drop (begin + length front) payload)) width ∙ cut)
 
 -- the facts about the words of an ACK, whose blocks are in it
-pub place_given : (payload : List ℕ) (frame : CFrame) (largest : ℕ) (blocks rest : List ℕ) → frame.begin ≤ frame.end → frame.end ≤ length payload → ack_at (frame_of_words frame payload) ≡ Ok (largest, blocks, rest)
-    → largest < 2 ^ 62 → IsBlocks largest blocks → (front : List ℕ) × (frame_of_words frame payload ≡ front ++ (blocks ++ rest)) → GivesPlace frame payload (at_place (frame.end - length rest - length blocks) (frame.end - length rest) largest)
+pub place_given : (payload : List ℕ) (frame : CFrame) (largest : ℕ) (blocks rest : List ℕ) → frame.begin ≤ frame.end → frame.end ≤ length payload
+    → ack_at (frame_of_words frame payload) ≡ Ok (largest, blocks, rest)
+    → largest < 2 ^ 62 → IsBlocks largest blocks → (front : List ℕ) × (frame_of_words frame payload ≡ front ++ (blocks ++ rest))
+    → GivesPlace frame payload (at_place (frame.end - length rest - length blocks) (frame.end - length rest) largest)
 place_given payload frame largest blocks rest ordered within reads small valid parts =
-    let s = stands_in payload frame.begin frame.end parts.0 blocks rest ordered within parts.1 in
+    let s = blocks_placed payload frame.begin frame.end parts.0 blocks rest ordered within parts.1 in
     let all = s.0 in
     record {
       ordered = ordered;

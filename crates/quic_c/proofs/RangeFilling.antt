@@ -1,5 +1,5 @@
 -- Ranges that are filled one after the other.
-use Rattle.std.proofs.Common.{◌≡◌, ℕ, ◌+◌, ◌-◌, ◌<◌, ◌≤◌, List, ◌∷◌, ◌++◌, length, take, drop, set, refl, sym, ap, ◌∙◌, inr, arith}
+use Rattle.std.proofs.Common.{◌≡◌, ℕ, ◌+◌, ◌-◌, ◌<◌, ◌≤◌, List, ◌∷◌, ◌++◌, length, take, drop, set, sym, ap, ◌∙◌, inr, arith}
 use Rattle.std.specs.Prelude.{◌⊎◌, ◌^◌, [], Ok, Err, slice_range}
 use Rattle.quic_frame_fields.specs.declared.frame.fault.Fault.{Fault}
 use Rattle.quic_frame_fields.specs.Reading.{first_range_at, ranges_of, blocks_left, IsBlocks}
@@ -8,10 +8,10 @@ use Rattle.std.proofs.Math.ListN.{length-set}
 use Rattle.std.proofs.lemmas.Grind.{drop_more_same}
 use Rattle.quic_c.specs.declared.words.CRange.{CRange}
 use Rattle.quic_c.specs.declared.words.CRangeIter.{CRangeIter}
-use Rattle.quic_c.specs.Answers.{GivesRange, IsWithin, LacksRange}
+use Rattle.quic_c.specs.Answers.{GivesRange, LacksRange}
 use Rattle.quic_c.specs.Filling.{Shows, FillsRanges, StepsOver, HasNoRange}
 use Rattle.quic_c.proofs.Filling.{shows-append}
-use Rattle.quic_c.proofs.Places.{length-part, part_of_part, range_given, range_words}
+use Rattle.quic_c.proofs.Places.{part_of_part, range_given, range_words}
 
 abbrev pub blocks_at : ℕ → ℕ → ℕ → CRangeIter
 blocks_at begin end largest = record { begin = begin; end = end; largest = largest }
@@ -26,7 +26,7 @@ pub record RangeFilling (old : CRangeIter) (payload : List ℕ) (before : List C
   pub all : length after ≡ length before
   pub ends : old.end ≤ length payload
   pub short : length left ≤ old.end
-  pub stands : slice_range payload (old.end - length left) old.end ≡ left
+  pub is_slice : slice_range payload (old.end - length left) old.end ≡ left
   pub shows : Shows (StepsOver payload) old (take count after) (left_at old.end left largest)
   pub kept : drop count after ≡ drop count before
 
@@ -35,14 +35,14 @@ pub range_of_left : (payload : List ℕ) (end largest least next : ℕ) (left re
     → slice_range payload (end - length left) end ≡ left → first_range_at largest left ≡ Ok (least, next, rest) → length rest < length left → drop (length left - length rest) left ≡ rest
     → (IsBlocks largest left → ranges_of largest left ≡ (least, largest) ∷ ranges_of next rest) → (IsBlocks largest left → blocks_left next rest ≡ Ok [])
     → GivesRange (left_at end left largest) payload (left_at end rest next) (range_words least (largest + 1))
-range_of_left payload end largest least next left rest some short within small stands step shorter tail first valid =
-    range_given payload (end - length left) end largest least next rest (omega arith) within small (rw stands step) (rw stands shorter) (rw stands tail) (rw stands first) (rw stands valid)
+range_of_left payload end largest least next left rest some short within small is_slice step shorter tail first valid =
+    range_given payload (end - length left) end largest least next rest (omega arith) within small (rw is_slice step) (rw is_slice shorter) (rw is_slice tail) (rw is_slice first) (rw is_slice valid)
 
 -- the bytes that are left don't begin with a range
 pub none_of_left : (payload : List ℕ) (end largest : ℕ) (left : List ℕ) (reason : Fault) → 0 < length left → length left ≤ end → slice_range payload (end - length left) end ≡ left
     → first_range_at largest left ≡ Err reason → (IsBlocks largest left → ⊥) → HasNoRange (left_at end left largest) payload
-none_of_left payload end largest left reason some short stands step refused =
-    let lacks : LacksRange (left_at end left largest) payload = record { some = omega arith; reason = reason; step = rw stands step; refused = rw stands refused } in
+none_of_left payload end largest left reason some short is_slice step refused =
+    let lacks : LacksRange (left_at end left largest) payload = record { some = omega arith; reason = reason; step = rw is_slice step; refused = rw is_slice refused } in
     inr (inr (inr (inr lacks)))
 
 pub ranges_go_on : (old : CRangeIter) (payload : List ℕ) (before : List CRange) (left : List ℕ) (largest : ℕ) (after : List CRange) (count : ℕ) (rest : List ℕ) (next : ℕ) (entry : CRange)
@@ -57,11 +57,14 @@ ranges_go_on old payload before left largest after count rest next entry s room 
       all = simp length-set s.all;
       ends = s.ends;
       short = omega arith;
-      stands = sym (ap (λ (n : ℕ). slice_range payload n old.end) k) ∙ sym (part_of_part payload (old.end - length left) old.end (length left - length rest) (omega arith)) ∙ ap (drop (length left - length rest)) s.stands ∙ tail;
+      is_slice = sym (ap (λ (n : ℕ). slice_range payload n old.end) k)
+          ∙ sym (part_of_part payload (old.end - length left) old.end (length left - length rest) (omega arith))
+          ∙ ap (drop (length left - length rest)) s.is_slice ∙ tail;
       shows = rw front (shows-append (StepsOver payload) old (take count after) (left_at old.end left largest) entry (left_at old.end rest next) s.shows gives);
       kept = drop-set-lt (count + 1) after count entry (omega arith) ∙ drop_more_same after before count s.kept;
     }
 
-pub ranges_end : (old : CRangeIter) (payload : List ℕ) (before : List CRange) (left : List ℕ) (largest : ℕ) (after : List CRange) (count : ℕ) → RangeFilling old payload before left largest after count
+pub ranges_end : (old : CRangeIter) (payload : List ℕ) (before : List CRange) (left : List ℕ) (largest : ℕ) (after : List CRange) (count : ℕ)
+    → RangeFilling old payload before left largest after count
     → (count ≡ length before) ⊎ HasNoRange (left_at old.end left largest) payload → FillsRanges old payload before (left_at old.end left largest) after count
 ranges_end old payload before left largest after count s full = record { few = rw (← s.all) s.few; shows = s.shows; kept = s.kept; full = full }

@@ -6,17 +6,19 @@ use Rattle.quic_frame_fields.specs.declared.frame.fault.Fault.TheVariants.{LongT
 use Rattle.quic_frame_fields.specs.Payload.{Meaning, TypedFrame}
 use Rattle.quic_frame_fields.specs.Reading.{Invalid, invalid, Item, Whole, varint_at, frame_at, found_at, at_type, after_type, is_long_type, items_after, items_from, items_of}
 use Rattle.quic_frames.specs.Walk.{left, first_of, resumed}
-use Rattle.quic_c.specs.Front.{behind, reported_behind}
+use Rattle.quic_c.specs.Front.{moved_by, reported_behind}
 
 -- with places that count from bytes before
-items_behind : (strict : Bool) (n count start : ℕ) (before : Option ℕ) (bytes : List ℕ) → items_from strict n (count + start) before bytes ≡ map (behind count) (items_from strict n start before bytes)
+items_moved : (strict : Bool) (n count start : ℕ) (before : Option ℕ) (bytes : List ℕ)
+    → items_from strict n (count + start) before bytes ≡ map (moved_by count) (items_from strict n start before bytes)
 unfolding items_from
-items_behind strict zero count start before bytes = refl
-items_behind strict (suc n) count start before [] = refl
-items_behind strict (suc n) count start before (b ∷ bytes) = by_found (λ m type rest. items_behind strict n count m type rest) (found_at strict before (b ∷ bytes))
+items_moved strict zero count start before bytes = refl
+items_moved strict (suc n) count start before [] = refl
+items_moved strict (suc n) count start before (b ∷ bytes) = by_found (λ m type rest. items_moved strict n count m type rest) (found_at strict before (b ∷ bytes))
   where
-    by_found : ((m : ℕ) (type : Option ℕ) (rest : List ℕ) → items_from strict n (count + m) type rest ≡ map (behind count) (items_from strict n m type rest)) → (read : Result (TypedFrame × List ℕ) Invalid)
-        → items_after (items_from strict n) (count + start) (length (b ∷ bytes)) read ≡ map (behind count) (items_after (items_from strict n) start (length (b ∷ bytes)) read)
+    by_found : ((m : ℕ) (type : Option ℕ) (rest : List ℕ) → items_from strict n (count + m) type rest ≡ map (moved_by count) (items_from strict n m type rest))
+        → (read : Result (TypedFrame × List ℕ) Invalid)
+        → items_after (items_from strict n) (count + start) (length (b ∷ bytes)) read ≡ map (moved_by count) (items_after (items_from strict n) start (length (b ∷ bytes)) read)
     by_found again (Err reported) = refl
     by_found again (Ok x) =
         let len = length (b ∷ bytes) - length x.1 in
@@ -51,10 +53,10 @@ items_reported strict (suc n) start before (b ∷ bytes) = by_type (varint_at (b
     by_type (Err e) = refl
 
 pub reads_on : (strict : Bool) (offset : ℕ) (before : Option ℕ) (payload : List ℕ)
-    → left (resumed payload offset before strict) ≡ reported_behind before (map (behind offset) (left (first_of strict (drop offset payload))))
+    → left (resumed payload offset before strict) ≡ reported_behind before (map (moved_by offset) (left (first_of strict (drop offset payload))))
 unfolding items_of
 reads_on strict offset before payload =
     let rest = drop offset payload in
     let here : offset ≡ offset + 0 = omega arith in
     items_reported strict (length rest) offset before rest
-    ∙ ap (reported_behind before) (ap (λ (m : ℕ). items_from strict (length rest) m None rest) here ∙ items_behind strict (length rest) offset 0 None rest)
+    ∙ ap (reported_behind before) (ap (λ (m : ℕ). items_from strict (length rest) m None rest) here ∙ items_moved strict (length rest) offset 0 None rest)

@@ -8,7 +8,7 @@ use Rattle.quic_frames.specs.declared.frame.Frame.{Frame}
 use Rattle.quic_frames.specs.declared.frame.Frame.TheVariants as frames
 use Rattle.quic_frames.specs.InRange.{IsNoAck, IsTypedFrame, InRange, open_data}
 use Rattle.quic_c.specs.Shown.{frame_kind_of, flags_of, frame_numbers_of, data_of, tail_of}
-use Rattle.quic_c.specs.Shapes.{IsSound, Shape, shape, bare_shape, first_shape, second_shape, both_shape, shape_of, masked, kept_numbers, kept_data, token_room}
+use Rattle.quic_c.specs.Shapes.{IsSound, Shape, shape, bare_shape, first_shape, second_shape, both_shape, shape_of, kept_by_mask, kept_numbers, kept_data, token_room}
 
 zero_fits : 0 < 2 ^ 62
 zero_fits = omega arith
@@ -30,7 +30,13 @@ sound (frames.ResetStream r) here typed ok = plain _ _ _ (four _ _ _ 0 typed.0 t
 sound (frames.StopSending s) here typed ok = plain _ _ _ (two _ _ typed.0 typed.1.0) (zero_fits) (λ e. absurd (omega arith))
 sound (frames.Crypto x) here typed ok = plain _ _ _ (two 0 _ zero_fits ok.0) (ok.1.0) (λ e. absurd (omega arith))
 sound (frames.NewToken t) here typed ok = plain _ _ _ (two 0 0 zero_fits zero_fits) (ok) (λ e. absurd (omega arith))
-sound (frames.Stream s) here typed ok = record { numeric = λ _. two _ _ typed ok; counted = λ e. cc; ordered = λ e. absurd (omega arith); some = λ e. absurd (omega arith); few = λ e. absurd (omega arith) }
+sound (frames.Stream s) here typed ok = record {
+  numeric = λ _. two _ _ typed ok;
+  counted = λ e. cc;
+  ordered = λ e. absurd (omega arith);
+  some = λ e. absurd (omega arith);
+  few = λ e. absurd (omega arith);
+}
 sound (frames.MaxData n) here typed ok = plain _ _ _ (two 0 _ zero_fits typed) (zero_fits) (λ e. absurd (omega arith))
 sound (frames.MaxStreamData id offset) here typed ok = plain _ _ _ (two _ _ typed ok) (zero_fits) (λ e. absurd (omega arith))
 sound (frames.MaxStreams dirs.Bi count) here typed ok = plain _ _ _ (two 0 _ zero_fits ok) (zero_fits) (λ e. absurd (omega arith))
@@ -42,11 +48,29 @@ sound (frames.StreamsBlocked dirs.Uni limit) here typed ok = plain _ _ _ (two 0 
 sound (frames.NewConnectionId n) here typed ok =
     record { numeric = λ _. two _ _ ok.0.0 ok.0.1.0; counted = λ _. omega (arith, ok.3); ordered = λ _. ok.1; some = λ _. ok.2; few = λ _. ok.3 }
 sound (frames.RetireConnectionId sequence) here typed ok = plain _ _ _ (two _ 0 ok zero_fits) (zero_fits) (λ e. absurd (omega arith))
-sound (frames.PathChallenge n) here typed ok = record { numeric = λ e. cc; counted = λ _. zero_fits; ordered = λ e. absurd (omega arith); some = λ e. absurd (omega arith); few = λ e. absurd (omega arith) }
-sound (frames.PathResponse n) here typed ok = record { numeric = λ e. cc; counted = λ _. zero_fits; ordered = λ e. absurd (omega arith); some = λ e. absurd (omega arith); few = λ e. absurd (omega arith) }
+sound (frames.PathChallenge n) here typed ok = record {
+  numeric = λ e. cc;
+  counted = λ _. zero_fits;
+  ordered = λ e. absurd (omega arith);
+  some = λ e. absurd (omega arith);
+  few = λ e. absurd (omega arith);
+}
+sound (frames.PathResponse n) here typed ok = record {
+  numeric = λ e. cc;
+  counted = λ _. zero_fits;
+  ordered = λ e. absurd (omega arith);
+  some = λ e. absurd (omega arith);
+  few = λ e. absurd (omega arith);
+}
 sound (frames.Close (closes.Connection x)) here typed ok = plain _ _ _ (two _ _ typed.0 typed.1.0) (ok.1) (λ e. absurd (omega arith))
 sound (frames.Close (closes.Application x)) here typed ok = plain _ _ _ (two _ 0 typed zero_fits) (ok) (λ e. absurd (omega arith))
-sound (frames.Datagram d) here typed ok = record { numeric = λ _. two 0 0 zero_fits zero_fits; counted = λ e. cc; ordered = λ e. absurd (omega arith); some = λ e. absurd (omega arith); few = λ e. absurd (omega arith) }
+sound (frames.Datagram d) here typed ok = record {
+  numeric = λ _. two 0 0 zero_fits zero_fits;
+  counted = λ e. cc;
+  ordered = λ e. absurd (omega arith);
+  some = λ e. absurd (omega arith);
+  few = λ e. absurd (omega arith);
+}
 sound (frames.AckFrequency f) here typed ok = plain _ _ _ (four _ _ _ _ typed.0 typed.1.0 typed.1.1.0 typed.1.1.1.0) (zero_fits) (λ e. absurd (omega arith))
 sound frames.ImmediateAck here typed ok = plain _ _ _ (two 0 0 zero_fits zero_fits) (zero_fits) (λ e. absurd (omega arith))
 sound frames.HandshakeDone here typed ok = plain _ _ _ (two 0 0 zero_fits zero_fits) (zero_fits) (λ e. absurd (omega arith))
@@ -67,7 +91,8 @@ fin_kept false = refl
 none_some : (s : Shape) → ◌≡◌ {A = Option Shape} (Some s) None → ⊥
 none_some s e = cc
 
-kept_by : (frame : Frame) (s : Shape) → shape_of (frame_kind_of frame) ≡ Some s → masked s.numbers (frame_numbers_of frame) ≡ frame_numbers_of frame → (if s.has_data then data_of frame else []) ≡ data_of frame
+kept_by : (frame : Frame) (s : Shape) → shape_of (frame_kind_of frame) ≡ Some s
+    → kept_by_mask s.numbers (frame_numbers_of frame) ≡ frame_numbers_of frame → (if s.has_data then data_of frame else []) ≡ data_of frame
     → ◌≡◌ {A = ℕ} (if frame_kind_of frame == 0x08 && flags_of frame == 1 then 1 else 0) (flags_of frame) → tail_of frame ≡ token_room (frame_kind_of frame) → Keeps frame
 kept_by frame s e numbers content flags tail = record {
   known = λ none. none_some s (sym e ∙ none);

@@ -14,7 +14,7 @@ use Rattle.quic_frames.specs.Walk.{first_of, Finds}
 use Rattle.quic_c.specs.declared.words.CFrame.{CFrame}
 use Rattle.quic_c.specs.declared.words.CFrameIter.{CFrameIter}
 use Rattle.quic_c.specs.declared.words.CGap.{CGap}
-use Rattle.quic_c.specs.Shown.{frame_kind_of, shown, type_in, state_of, IsExtension}
+use Rattle.quic_c.specs.Shown.{frame_kind_of, frame_words, type_in, state_of, IsExtension}
 use Rattle.quic_c.specs.Answers.{GivesFrameWords, IsRefusedFrame, unknown_type}
 use Rattle.quic_c.specs.Filling.{further}
 use Rattle.quic_c.specs.Front.{ReadsFront, ShowsFront}
@@ -64,7 +64,8 @@ word_back : (t : ℕ) → t < 2 ^ 16 → type_in t ≡ Some t
 word_back t small = grind (arith, nat_tests)
 
 -- where an iterator is after a frame, by its end and its type
-pub behind_frame : (here next : IterState) (frame : Frame) (finds : Finds here frame next) (stop type : ℕ) → stop ≡ next.offset → type ≡ finds.found.type → type < 2 ^ 16 → further here stop (type_in type) ≡ next
+pub behind_frame : (here next : IterState) (frame : Frame) (finds : Finds here frame next) (stop type : ℕ) → stop ≡ next.offset
+    → type ≡ finds.found.type → type < 2 ^ 16 → further here stop (type_in type) ≡ next
 behind_frame here next frame finds stop type ends begins small =
     ap (λ (n : ℕ). further here n (type_in type)) ends ∙ ap (λ (l : Option ℕ). further here next.offset l) (word_back type small ∙ ap (λ (n : ℕ). Some n) begins) ∙ sym finds.comes
 
@@ -74,21 +75,35 @@ found_between here next old new frame finds p q =
     subst (λ (w : IterState). (f : Finds w frame new) × (f.found ≡ finds.found)) p (subst (λ (w : IterState). (f : Finds here frame w) × (f.found ≡ finds.found)) q (finds, refl))
 
 pub gives_frame : (basic : Bool) (old new : CFrameIter) (payload : List ℕ) (out : CFrame) (here next : IterState) (frame : Frame) (type : ℕ) (finds : Finds here frame next)
-    → ((basic ≡ true) × IsExtension (frame_kind_of frame) → ⊥) → state_of old payload ≡ here → state_of new payload ≡ next → type ≡ finds.found.type → out ≡ shown old.offset new.offset type frame → GivesFrameWords basic old payload new out
+    → ((basic ≡ true) × IsExtension (frame_kind_of frame) → ⊥) → state_of old payload ≡ here → state_of new payload ≡ next → type ≡ finds.found.type
+    → out ≡ frame_words old.offset new.offset type frame → GivesFrameWords basic old payload new out
 gives_frame basic old new payload out here next frame type finds known is_here is_next begins words =
     let f = found_between here next (state_of old payload) (state_of new payload) frame finds (sym is_here) (sym is_next) in
-    record { frame = frame; finds = f.0; known = known; words = words ∙ ap (λ (n : ℕ). shown old.offset new.offset n frame) (begins ∙ ap (λ (x : TypedFrame). x.type) (sym f.1)) }
+    record { frame = frame; finds = f.0; known = known; words = words ∙ ap (λ (n : ℕ). frame_words old.offset new.offset n frame) (begins ∙ ap (λ (x : TypedFrame). x.type) (sym f.1)) }
 
 -- if a test finds that a frame isn't one of the extension, and these have unknown types
-pub is_kept : (basic test : Bool) (frame : Frame) → IsTrue test ↔ (basic ≡ true) × IsExtension (frame_kind_of frame) → test ≡ false → (basic ≡ true) × IsExtension (frame_kind_of frame) → ⊥
+pub is_kept : (basic test : Bool) (frame : Frame) → IsTrue test ↔ (basic ≡ true) × IsExtension (frame_kind_of frame) → test ≡ false
+    → (basic ≡ true) × IsExtension (frame_kind_of frame) → ⊥
 is_kept basic test frame tests e x = false≢true (sym e ∙ tests.1 x)
 
 -- a frame of the extension is refused if these have unknown types
-pub unknown_refused : (basic : Bool) (here next : IterState) (frame : Frame) (reported : Invalid) → Finds here frame next → (basic ≡ true) × IsExtension (frame_kind_of frame) → reported ≡ unknown_type (frame_kind_of frame) → IsRefusedFrame basic here reported
-unknown_refused basic here next frame reported finds is tells = inr (is.0, record { frame = frame; next = next; finds = finds; extension = is.1; is = tells })
+pub unknown_refused : (basic : Bool) (here next : IterState) (frame : Frame) (reported : Invalid) → Finds here frame next
+    → (basic ≡ true) × IsExtension (frame_kind_of frame) → reported ≡ unknown_type (frame_kind_of frame) → IsRefusedFrame basic here reported
+unknown_refused basic here next frame reported finds is reports = inr (is.0, record { frame = frame; next = next; finds = finds; extension = is.1; is = reports })
 
 pub reads_front : (strict basic : Bool) (payload : List ℕ) (before : List CGap) (stop : ℕ) (words : CFrame) (after : List CGap) (frame : Frame) (next rest : IterState) (type : ℕ)
-    → (finds : Finds (first_of strict payload) frame next) → ((basic ≡ true) × IsExtension (frame_kind_of frame) → ⊥) → (frame_kind_of frame ≡ 0 → (more : ℕ) × PassesPadding next more rest) → (0 < frame_kind_of frame → rest ≡ next)
+    → (finds : Finds (first_of strict payload) frame next) → ((basic ≡ true) × IsExtension (frame_kind_of frame) → ⊥)
+    → (frame_kind_of frame ≡ 0 → (more : ℕ) × PassesPadding next more rest) → (0 < frame_kind_of frame → rest ≡ next)
     → stop ≡ rest.offset → type ≡ finds.found.type → ShowsFront stop type frame before words after → ReadsFront strict basic payload before stop words after
 reads_front strict basic payload before stop words after frame next rest type finds known run one ends begins shows =
-    record { frame = frame; next = next; rest = rest; finds = finds; known = known; run = run; one = one; ends = ends; shows = subst (λ (t : ℕ). ShowsFront stop t frame before words after) begins shows }
+    record {
+      frame = frame;
+      next = next;
+      rest = rest;
+      finds = finds;
+      known = known;
+      run = run;
+      one = one;
+      ends = ends;
+      shows = subst (λ (t : ℕ). ShowsFront stop t frame before words after) begins shows;
+    }

@@ -24,9 +24,9 @@ counts_list words =
     then slice_index words.numbers 2 ∷ slice_index words.numbers 3 ∷ slice_index words.numbers 4 ∷ []
     else []
 
-abbrev pub counts_said : List ℕ → Option EcnCounts
-counts_said (ect0 ∷ ect1 ∷ ce ∷ []) = Some (record { ect0 = ect0; ect1 = ect1; ce = ce })
-counts_said counts = None
+abbrev pub counts_described : List ℕ → Option EcnCounts
+counts_described (ect0 ∷ ect1 ∷ ce ∷ []) = Some (record { ect0 = ect0; ect1 = ect1; ce = ce })
+counts_described counts = None
 
 -- ranges one below the other, and all below one whose least number is low: at least one number is between two of them
 abbrev pub AreUnder : ℕ → List (ℕ × ℕ) → Type 0
@@ -45,10 +45,10 @@ pub record DescribesAck (words : CFrame) (gaps : List CGap) (low : ℕ) (below :
   pub counts : AreNumeric (counts_list words)
 
 -- the ACK
-abbrev pub ack_said : CFrame → ℕ → List (ℕ × ℕ) → Meaning
-ack_said words low below =
+abbrev pub ack_described : CFrame → ℕ → List (ℕ × ℕ) → Meaning
+ack_described words low below =
     frame_of Ack (Number (greatest_of_words words) ∷ Number (delay_in words)
-    ∷ Ranges ((low, greatest_of_words words) ∷ below) ∷ counts_of (counts_said (counts_list words)))
+    ∷ Ranges ((low, greatest_of_words words) ∷ below) ∷ counts_of (counts_described (counts_list words)))
 
 -- ---- No public clause cites what follows.
 

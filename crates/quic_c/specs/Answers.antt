@@ -1,7 +1,6 @@
 -- What the calls answer.
-use Rattle.std.specs.Prelude.{◌≡◌, ◌==◌, ℕ, ◌+◌, ◌<◌, ◌≤◌, ◌^◌, ◌⊎◌, ◌↔◌, ℤ, pos, negsuc, slice_range, Result, Ok, Err, IsErr, length, List, [], ◌∷◌, Bool, true, Some, codes, if◌then◌else◌}
+use Rattle.std.specs.Prelude.{◌≡◌, ◌==◌, ℕ, ◌+◌, ◌<◌, ◌≤◌, ◌^◌, ◌⊎◌, ◌↔◌, ℤ, pos, negsuc, slice_range, Result, Ok, Err, IsErr, length, List, [], ◌∷◌, Bool, true, Some, codes, nat_eq, if◌then◌else◌}
 use Rattle.std.specs.Cmp.Lexicographic.{pointwise}
-use Rattle.std.specs.Prelude.{nat_eq}
 use Rattle.quic_frames.specs.declared.frame.Frame.{Frame}
 use Rattle.quic_frame_fields.specs.declared.frame.fault.Fault.{Fault}
 use Rattle.quic_frame_fields.specs.AckPlace.{ack_at}
@@ -14,7 +13,7 @@ use Rattle.quic_c.specs.declared.words.CFrameIter.{CFrameIter}
 use Rattle.quic_c.specs.declared.words.CFrame.{CFrame}
 use Rattle.quic_c.specs.declared.words.CRange.{CRange}
 use Rattle.quic_c.specs.declared.words.CRangeIter.{CRangeIter}
-use Rattle.quic_c.specs.Shown.{state_of, type_word, shown, shown_invalid, frame_kind_of, IsExtension}
+use Rattle.quic_c.specs.Shown.{state_of, type_word, frame_words, invalid_words, frame_kind_of, IsExtension}
 
 -- the number of a reason: 1 unexpected end, 2 invalid frame ID, 3 malformed, 4 frame type not in shortest form
 abbrev pub reason_in : List ℕ → ℕ
@@ -46,7 +45,7 @@ pub record GivesFrameWords (basic : Bool) (old : CFrameIter) (payload : List ℕ
   pub frame : Frame
   pub finds : Finds (state_of old payload) frame (state_of new payload)
   pub known : (basic ≡ true) × IsExtension (frame_kind_of frame) → ⊥
-  pub words : out ≡ shown old.offset new.offset finds.found.type frame
+  pub words : out ≡ frame_words old.offset new.offset finds.found.type frame
 
 -- The next frame isn't given, and the reason is reported; nothing is left.
 pub record GivesInvalid (basic : Bool) (old : CFrameIter) (payload : List ℕ) (new : CFrameIter)
@@ -54,7 +53,7 @@ pub record GivesInvalid (basic : Bool) (old : CFrameIter) (payload : List ℕ) (
   pub reported : Invalid
   pub first : IsRefusedFrame basic (state_of old payload) reported
   pub over : new ≡ record old { ended = 1 }
-  pub words : out ≡ shown_invalid old.offset (type_word reported.type) (reason_in reported.reason)
+  pub words : out ≡ invalid_words old.offset (type_word reported.type) (reason_in reported.reason)
 
 -- What a call for the next frame answers and leaves; if `basic` is true, frames of that extension have unknown types. 1
 -- with the frame; 0 if none is left; -3 with what is reported of a frame that isn't given; -1 exactly if the place is

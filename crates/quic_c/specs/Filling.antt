@@ -7,7 +7,7 @@ use Rattle.quic_frames.specs.Walk.{left, Finds}
 use Rattle.quic_frames.specs.Padding.{PassesPadding}
 use Rattle.quic_c.specs.declared.words.CFrameIter.{CFrameIter}
 use Rattle.quic_c.specs.declared.words.CFrame.{CFrame}
-use Rattle.quic_c.specs.Shown.{state_of, frame_kind_of, shown, IsExtension}
+use Rattle.quic_c.specs.Shown.{state_of, frame_kind_of, frame_words, IsExtension}
 use Rattle.quic_c.specs.declared.words.CRange.{CRange}
 use Rattle.quic_c.specs.declared.words.CRangeIter.{CRangeIter}
 use Rattle.quic_c.specs.Answers.{GivesInvalid, GivesRange, IsRefusedFrame, NamesNone}
@@ -21,7 +21,7 @@ pub record GivesEntry (basic : Bool) (old : IterState) (entry : CFrame) (new : I
   pub known : (basic ≡ true) × IsExtension (frame_kind_of frame) → ⊥
   pub run : frame_kind_of frame ≡ 0 → (more : ℕ) × PassesPadding next more new
   pub one : 0 < frame_kind_of frame → new ≡ next
-  pub words : entry ≡ shown old.offset new.offset finds.found.type frame
+  pub words : entry ≡ frame_words old.offset new.offset finds.found.type frame
 
 -- The entries describe all frames between two places, each by one step from where the one before it ends.
 abbrev pub Shows : {P E : Type 0} → (P → E → P → Type 0) → P → List E → P → Type 0
@@ -42,7 +42,7 @@ pub record Fills (basic : Bool) (old : IterState) (before : List CFrame) (new : 
   pub full : (count ≡ length before) ⊎ HasNoFrame basic new
 
 -- The next frame isn't given: the first entry reports that, and the others don't change.
-pub record TellsInvalid (basic : Bool) (old : CFrameIter) (payload : List ℕ) (before : List CFrame) (new : CFrameIter)
+pub record ReportsInvalid (basic : Bool) (old : CFrameIter) (payload : List ℕ) (before : List CFrame) (new : CFrameIter)
     (after : List CFrame) : Type 0 where
   pub entry : CFrame
   pub invalid : GivesInvalid basic old payload new entry
@@ -58,7 +58,7 @@ pub record AnswersFill (basic : Bool) (old : CFrameIter) (payload : List ℕ) (b
   pub frames : answer ≡ pos 1
       → (0 < count) × Fills basic (state_of old payload) before (state_of new payload) after count
   pub end : answer ≡ pos 0 → left (state_of old payload) ≡ []
-  pub invalid : answer ≡ negsuc 2 → TellsInvalid basic old payload before new after
+  pub invalid : answer ≡ negsuc 2 → ReportsInvalid basic old payload before new after
   pub room : (answer ≡ negsuc 3) ↔ ((old.offset ≤ length payload) × (before ≡ []))
   pub outside : (answer ≡ negsuc 0) ↔ (length payload < old.offset)
   pub same : (answer ≡ pos 1) ⊎ (answer ≡ negsuc 2) ⊎ ((new ≡ old) × (after ≡ before))

@@ -11,7 +11,7 @@ use Rattle.quic_frames.specs.Walk.{first_of, Finds}
 use Rattle.quic_c.specs.declared.words.CFrame.{CFrame}
 use Rattle.quic_c.specs.declared.words.CGap.{CGap}
 use Rattle.quic_c.specs.Answers.{IsRefusedFrame, reason_in}
-use Rattle.quic_c.specs.Shown.{frame_kind_of, shown, shown_invalid, type_word, counts_flag, IsExtension}
+use Rattle.quic_c.specs.Shown.{frame_kind_of, frame_words, invalid_words, type_word, counts_flag, IsExtension}
 
 -- a range, by its least and its greatest number, below one whose least number is low: the count of numbers between the
 -- two, less one, and the count of its own, less one (RFC 9000, section 19.3.1)
@@ -45,13 +45,13 @@ pub record ShowsAck (stop type : ℕ) (ack : Ack) (before : List CGap) (words : 
   pub first : least + words.data_len ≡ ack.largest
   pub gaps : FillsGaps least below before after words.data_offset
   pub flags : words.flags ≡ counts_flag ack.ecn + more_flag words.data_offset below
-  pub others : words ≡ record (shown 0 stop type (frames.Ack ack))
+  pub others : words ≡ record (frame_words 0 stop type (frames.Ack ack))
       { flags = words.flags; data_offset = words.data_offset; data_len = words.data_len }
 
 -- The words of a frame of this type up to a place; only an ACK fills entries.
 abbrev pub ShowsFront : ℕ → ℕ → Frame → List CGap → CFrame → List CGap → Type 0
 ShowsFront stop type (frames.Ack a) before words after = ShowsAck stop type a before words after
-ShowsFront stop type frame before words after = (words ≡ shown 0 stop type frame) × (after ≡ before)
+ShowsFront stop type frame before words after = (words ≡ frame_words 0 stop type frame) × (after ≡ before)
 
 -- The frame at the front is given as the iterator over the payload gives it; if `basic` is true, it is a frame of RFC
 -- 9000 or DATAGRAM. A frame of PADDING (RFC 9000, section 19.1) includes the PADDING that follows, each byte of which
@@ -70,10 +70,10 @@ pub record ReadsFront (strict basic : Bool) (payload : List ℕ) (before : List 
 
 -- The bytes don't begin with a valid frame, or only with one of that extension and `basic` is true, and that is
 -- reported.
-pub record TellsNone (strict basic : Bool) (payload : List ℕ) (words : CFrame) : Type 0 where
+pub record ReportsNone (strict basic : Bool) (payload : List ℕ) (words : CFrame) : Type 0 where
   pub reported : Invalid
   pub first : IsRefusedFrame basic (first_of strict payload) reported
-  pub is : words ≡ shown_invalid 0 (type_word reported.type) (reason_in reported.reason)
+  pub is : words ≡ invalid_words 0 (type_word reported.type) (reason_in reported.reason)
 
 -- What a call for the frame at the front answers and leaves: where the frame ends, with its words; -2 exactly if there
 -- is no byte, and nothing changes; -3 with what is reported of a frame that isn't given, and no entry changes.
@@ -82,16 +82,16 @@ pub record AnswersRead (strict basic : Bool) (payload : List ℕ) (before : CFra
   pub answers : (answer ≡ negsuc 1) ⊎ (answer ≡ negsuc 2)
       ⊎ ((stop : ℕ) × (answer ≡ pos stop) × ReadsFront strict basic payload room stop after gaps)
   pub empty : (answer ≡ negsuc 1) ↔ (payload ≡ [])
-  pub invalid : answer ≡ negsuc 2 → TellsNone strict basic payload after
+  pub invalid : answer ≡ negsuc 2 → ReportsNone strict basic payload after
   pub same : answer ≡ negsuc 1 → after ≡ before
   pub kept : (answer ≡ negsuc 1) ⊎ (answer ≡ negsuc 2) → gaps ≡ room
 
 -- ---- reading on after a frame
 
 -- an item whose places count from so many bytes before it
-abbrev pub behind : ℕ → Item → Item
-behind count (Whole start stop found) = Whole (count + start) (count + stop) found
-behind count (Broken reported) = Broken reported
+abbrev pub moved_by : ℕ → Item → Item
+moved_by count (Whole start stop found) = Whole (count + start) (count + stop) found
+moved_by count (Broken reported) = Broken reported
 
 abbrev pub or_else : Option ℕ → Option ℕ → Option ℕ
 or_else None before = before

@@ -53,14 +53,14 @@ shows_data (Some s) = s.has_data
 abbrev pub LacksData : CFrame → Type 0
 LacksData words = (words.data_len ≡ 0) ⊎ (shows_data (shape_of words.kind) ≡ false)
 
-abbrev pub masked : List Bool → List ℕ → List ℕ
-masked (is_kept ∷ mask) (n ∷ ns) = (if is_kept then n else 0) ∷ masked mask ns
-masked mask ns = []
+abbrev pub kept_by_mask : List Bool → List ℕ → List ℕ
+kept_by_mask (is_kept ∷ mask) (n ∷ ns) = (if is_kept then n else 0) ∷ kept_by_mask mask ns
+kept_by_mask mask ns = []
 
 -- the numbers that a kind has, and 0 for the others
 abbrev pub kept_numbers : Option Shape → List ℕ → List ℕ
 kept_numbers None numbers = []
-kept_numbers (Some s) numbers = masked s.numbers numbers
+kept_numbers (Some s) numbers = kept_by_mask s.numbers numbers
 
 abbrev pub kept_data : Option Shape → List ℕ → List ℕ
 kept_data None bytes = []
@@ -104,7 +104,7 @@ pub record FillsShape (type : ℕ) (is_fin : Bool) (given bytes behind : List �
   pub in_range : InRange frame
 
 -- The bytes and the token are at the place in the words; if there are neither, that may be any place.
-pub record HasPieces (words : CFrame) (payload bytes behind : List ℕ) : Type 0 where
+pub record AreDataAndToken (words : CFrame) (payload bytes behind : List ℕ) : Type 0 where
   pub within : 0 < words.data_len + token_room words.kind
       → words.data_offset + words.data_len + token_room words.kind ≤ length payload
   pub content : bytes ≡ take words.data_len (drop words.data_offset payload)
@@ -114,7 +114,7 @@ pub record HasPieces (words : CFrame) (payload bytes behind : List ℕ) : Type 0
       ≡ take (token_room words.kind) (drop words.data_len (drop words.data_offset payload))
 
 -- The words describe data or a token, and the payload ends before these do.
-pub record LacksPieces (words : CFrame) (payload : List ℕ) : Type 0 where
+pub record LacksDataOrToken (words : CFrame) (payload : List ℕ) : Type 0 where
   pub some : 0 < words.data_len + token_room words.kind
   pub past : length payload < words.data_offset + words.data_len + token_room words.kind
 

@@ -121,8 +121,8 @@ data_of (frames.Close (closes.Application c)) = c.reason.now
 data_of frame = []
 
 -- the words of a frame that goes from start to stop in a payload and begins with this type
-abbrev pub shown : ℕ → ℕ → ℕ → Frame → CFrame
-shown start stop type frame = record {
+abbrev pub frame_words : ℕ → ℕ → ℕ → Frame → CFrame
+frame_words start stop type frame = record {
   kind = frame_kind_of frame;
   ty = type;
   flags = flags_of frame;
@@ -134,8 +134,8 @@ shown start stop type frame = record {
 }
 
 -- the words for an error, with the last type and the number of its reason, at the end of the last frame
-abbrev pub shown_invalid : ℕ → ℕ → ℕ → CFrame
-shown_invalid start ty reason = record {
+abbrev pub invalid_words : ℕ → ℕ → ℕ → CFrame
+invalid_words start ty reason = record {
   kind = 2 ^ 16 - 1;
   ty = 0;
   flags = reason;

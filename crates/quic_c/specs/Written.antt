@@ -26,7 +26,7 @@ pub record DescribesFrame (words : CFrame) (bytes : List ℕ) (frame : Frame) : 
 
 -- The words describe a frame that can be written there, as the last of its payload or not, and that is no ACK.
 pub record CanWriteFrame (words : CFrame) (bytes : List ℕ) (last : Bool) (frame : Frame) : Type 0 where
-  pub said : DescribesFrame words bytes frame
+  pub described : DescribesFrame words bytes frame
   pub kind : IsNoAck frame
   pub typed : IsTypedFrame frame
   pub stands : CanStand last frame

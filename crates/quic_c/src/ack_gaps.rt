@@ -4,7 +4,7 @@ ghost use Rattle.quic_base.specs.Varint.{shortest_varint};
 ghost use Rattle.quic_frame_fields.specs.Numbers.{AreNumeric, shortest_varints};
 ghost use Rattle.quic_frame_fields.specs.Putting.{Stores, Puts};
 ghost use Rattle.quic_frame_fields.specs.Shortest.{shortest_frame};
-ghost use Rattle.quic_c.specs.AckGaps.{ack_bytes, ack_said, behind_type, counts_list, delay_in, gap_numbers, greatest_of_words, Fit, IsAck, DescribesAck};
+ghost use Rattle.quic_c.specs.AckGaps.{ack_bytes, ack_described, behind_type, counts_list, delay_in, gap_numbers, greatest_of_words, Fit, IsAck, DescribesAck};
 
 use crate::words::{CFrame, CGap};
 use quic_base::coding::store_array;
@@ -214,7 +214,7 @@ fn are_numeric(ack: &CFrame) -> bool
 #[inline(never)]
 fn write_counted(ack: &CFrame, gaps: &[CGap], out: &mut [u8], written: &mut usize) -> i32
     ensures answers { (result ≡ pos 0) ⊎ (result ≡ negsuc 3) ⊎ (result ≡ negsuc 0) }
-    ensures says { (result ≡ negsuc 0) ⊎ IsAck ack.now gaps.now }
+    ensures described { (result ≡ negsuc 0) ⊎ IsAck ack.now gaps.now }
     ensures wrote { result ≡ pos 0 → Puts (Ok written.new) (ack_bytes ack.now gaps.now) out.old out.new }
     ensures room { result ≡ negsuc 3 → Puts (Err written.new) (ack_bytes ack.now gaps.now) out.old out.new }
     ensures refused { result ≡ negsuc 0 → IsAck ack.now gaps.now → ⊥ }
@@ -249,11 +249,11 @@ pub extern "C" fn quic_wire_ack_gaps_write_(
     ensures answers { (result ≡ pos 0) ⊎ (result ≡ negsuc 3) ⊎ (result ≡ negsuc 0) }
     ensures wrote { result ≡ pos 0 → (last : Bool) (low : ℕ) (below : List (ℕ × ℕ))
         → DescribesAck ack.now gaps.now low below
-        → Puts (Ok written.new) (shortest_frame last (ack_said ack.now low below)) out.old out.new }
+        → Puts (Ok written.new) (shortest_frame last (ack_described ack.now low below)) out.old out.new }
     ensures room { result ≡ negsuc 3 → (last : Bool) (low : ℕ) (below : List (ℕ × ℕ))
         → DescribesAck ack.now gaps.now low below
-        → Puts (Err written.new) (shortest_frame last (ack_said ack.now low below)) out.old out.new }
-    ensures says { (result ≡ negsuc 0)
+        → Puts (Err written.new) (shortest_frame last (ack_described ack.now low below)) out.old out.new }
+    ensures described { (result ≡ negsuc 0)
         ⊎ ((low : ℕ) × (below : List (ℕ × ℕ)) × DescribesAck ack.now gaps.now low below) }
     ensures refused { result ≡ negsuc 0 → (low : ℕ) (below : List (ℕ × ℕ))
         → DescribesAck ack.now gaps.now low below → ⊥ }

@@ -73,7 +73,7 @@ fn split_front(bytes: &[u8]) -> Option<(u64, &[u8])>
     ensures none { IsNone result → IsErr (ack_front_at bytes.now) }
     ensures gives { IfSome result (λ x. ack_front_at bytes.now ≡ Ok (x.0, x.1.now)) }
     ensures bound { IfSome result (λ x. x.0 < 2 ^ 62) }
-    ensures stands { IfSome result (λ x. (front : List ℕ) × (bytes.now ≡ front ++ x.1.now)) }
+    ensures suffix { IfSome result (λ x. (front : List ℕ) × (bytes.now ≡ front ++ x.1.now)) }
     ensures ack { IfSome result (λ x. IsWholeAck bytes.now x.0 x.1.now) }
 {
     let (ty, behind_type) = split_var(bytes)?;

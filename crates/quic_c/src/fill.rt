@@ -3,7 +3,7 @@ ghost use Rattle.std.specs.Prelude.{◌≡◌, ◌<◌, ◌≤◌, ◌↔◌, �
 ghost use Rattle.quic_frames.specs.Walk.{left, first_of, invalid_of};
 ghost use Rattle.quic_c.specs.Shown.{state_of, at_front};
 ghost use Rattle.quic_c.specs.Answers.{IsRefusedFrame};
-ghost use Rattle.quic_c.specs.Filling.{AnswersFill, Fills, TellsInvalid, further};
+ghost use Rattle.quic_c.specs.Filling.{AnswersFill, Fills, ReportsInvalid, further};
 
 use crate::frames::{is_unknown, show_invalid, type_in, type_read, type_word, unknown};
 use crate::show::{parts_of, show_parts};
@@ -35,36 +35,35 @@ fn fill<const COPY: usize>(
 {
     let mut count = 0;
     let mut end = iter.offset();
+    let mut last = iter.last_type();
     while count < out.len() {
-        let last = iter.last_type();
-        match iter.next() {
-            Some(Ok(frame)) => {
-                if is_unknown(basic, &frame) {
-                    if count == 0 {
-                        return Err(unknown(parts_of(&frame).kind));
-                    }
-                    return Ok(Filled { count, end, last });
-                }
-                let ty = type_read(iter);
-                let parts = parts_of(&frame);
-                if parts.kind == 0 {
-                    iter.pass_padding();
-                }
-                let begin = end;
-                end = iter.offset();
-                out[count] = show_parts(begin, end, ty as u16, parts);
-                count += 1;
-            }
+        let frame = match iter.next() {
+            Some(Ok(frame)) => frame,
             Some(Err(invalid)) => {
                 if count == 0 {
                     return Err(invalid);
                 }
-                return Ok(Filled { count, end, last });
+                break;
             }
-            None => return Ok(Filled { count, end, last }),
+            None => break,
+        };
+        if is_unknown(basic, &frame) {
+            if count == 0 {
+                return Err(unknown(parts_of(&frame).kind));
+            }
+            break;
         }
+        let ty = type_read(iter);
+        let parts = parts_of(&frame);
+        if parts.kind == 0 {
+            iter.pass_padding();
+        }
+        let begin = end;
+        end = iter.offset();
+        last = iter.last_type();
+        out[count] = show_parts(begin, end, ty as u16, parts);
+        count += 1;
     }
-    let last = iter.last_type();
     Ok(Filled { count, end, last })
 }
 
@@ -155,7 +154,7 @@ pub extern "C" fn quic_wire_frames_first_(
         → (0 < count.new)
         × Fills false (first_of false payload.now) out.old (state_of frames.new payload.now) out.new count.new }
     ensures empty { (result ≡ negsuc 1) ↔ (payload.now ≡ []) }
-    ensures invalid { result ≡ negsuc 2 → TellsInvalid false (at_front 0) payload.now out.old frames.new out.new }
+    ensures invalid { result ≡ negsuc 2 → ReportsInvalid false (at_front 0) payload.now out.old frames.new out.new }
     ensures room { (result ≡ negsuc 3) ↔ ((0 < length payload.now) × (out.old ≡ [])) }
     ensures same { (result ≡ pos 1) ⊎ (result ≡ negsuc 2) ⊎ ((frames.new ≡ frames.old) × (out.new ≡ out.old)) }
     ensures counted { (result ≡ pos 1) ⊎ (count.new ≡ count.old) }

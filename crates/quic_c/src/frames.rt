@@ -4,7 +4,7 @@ ghost use Rattle.quic_frames.specs.declared.frame.Frame.{Frame};
 ghost use Rattle.quic_frame_fields.specs.Reading.{Invalid, Broken, invalid};
 ghost use Rattle.quic_frames.specs.IterState.{IterState};
 ghost use Rattle.quic_frames.specs.Walk.{first_of, invalid_of, Finds};
-ghost use Rattle.quic_c.specs.Shown.{state_of, at_front, is_strict, frame_kind_of, type_in, type_word, shown, shown_invalid, IsExtension};
+ghost use Rattle.quic_c.specs.Shown.{state_of, at_front, is_strict, frame_kind_of, type_in, type_word, frame_words, invalid_words, IsExtension};
 ghost use Rattle.quic_c.specs.Answers.{AnswersNext, reason_in, unknown_type};
 
 use crate::show::{parts_of, show};
@@ -129,7 +129,7 @@ pub extern "C" fn quic_wire_frames_init_strict_(frames: &mut CFrameIter, payload
 
 // An error as words.
 pub(crate) fn show_invalid(begin: usize, invalid: &InvalidFrame) -> CFrame
-    ensures { result ≡ shown_invalid begin (type_word invalid.now.ty) (reason_in invalid.now.reason.now) }
+    ensures { result ≡ invalid_words begin (type_word invalid.now.ty) (reason_in invalid.now.reason.now) }
 {
     CFrame {
         kind: u16::MAX,
@@ -148,7 +148,7 @@ pub(crate) fn show_invalid(begin: usize, invalid: &InvalidFrame) -> CFrame
 fn refuse(begin: usize, invalid: &InvalidFrame, frames: &mut CFrameIter, out: &mut CFrame) -> i32
     ensures answer { result ≡ negsuc 2 }
     ensures over { frames.new ≡ record frames.old { ended = 1 } }
-    ensures words { out.new ≡ shown_invalid begin (type_word invalid.now.ty) (reason_in invalid.now.reason.now) }
+    ensures words { out.new ≡ invalid_words begin (type_word invalid.now.ty) (reason_in invalid.now.reason.now) }
 {
     frames.ended = 1;
     *out = show_invalid(begin, invalid);

@@ -5,8 +5,8 @@ ghost use Rattle.quic_frame_fields.specs.Reading.{Gives, varint_at};
 ghost use Rattle.quic_frames.specs.declared.frame.Frame.TheVariants as frames;
 ghost use Rattle.quic_frames.specs.Padding.{PassesPadding};
 ghost use Rattle.quic_frames.specs.Walk.{left, first_of, resumed};
-ghost use Rattle.quic_c.specs.Shown.{frame_kind_of, shown, is_strict};
-ghost use Rattle.quic_c.specs.Front.{AnswersRead, FillsGaps, ShowsAck, ShowsFront, behind, reported_behind};
+ghost use Rattle.quic_c.specs.Shown.{frame_kind_of, frame_words, is_strict};
+ghost use Rattle.quic_c.specs.Front.{AnswersRead, FillsGaps, ShowsAck, ShowsFront, moved_by, reported_behind};
 
 use crate::frames::{is_unknown, show_invalid, type_read, unknown};
 use crate::show::{parts_of, show};
@@ -70,7 +70,7 @@ fn more_flag(is_whole: bool) -> u32
 // The words of an ACK at the front, and as many of the ranges below its first as there are entries.
 #[inline(always)]
 fn show_ack(words: CFrame, ack: &Ack<'_>, gaps: &mut [CGap]) -> CFrame
-    requires { words ≡ shown 0 words.end words.ty (frames.Ack ack.now) }
+    requires { words ≡ frame_words 0 words.end words.ty (frames.Ack ack.now) }
     ensures { ShowsAck words.end words.ty ack.now gaps.old result gaps.new }
 {
     let blocks = ack.additional();
@@ -225,5 +225,5 @@ pub extern "C" fn quic_wire_frame_read_basic_(
 pub fn read_on()
     ensures { (strict : Bool) (offset : ℕ) (before : Option ℕ) (payload : List ℕ)
         → left (resumed payload offset before strict)
-        ≡ reported_behind before (map (behind offset) (left (first_of strict (drop offset payload)))) }
+        ≡ reported_behind before (map (moved_by offset) (left (first_of strict (drop offset payload)))) }
 {}

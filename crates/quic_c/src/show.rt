@@ -1,12 +1,14 @@
 //! Frames as words.
-ghost use Rattle.std.specs.Prelude.{◌≡◌, ◌-◌, length};
-ghost use Rattle.quic_c.specs.Shown.{frame_kind_of, flags_of, frame_numbers_of, data_of, tail_of, shown};
+ghost use Rattle.std.specs.Prelude.{◌≡◌, ◌+◌, ◌-◌, ◌<◌, ◌^◌, [], ◌∷◌, length, if◌then◌else◌};
+ghost use Rattle.quic_base.specs.Ids.{dir_number};
+ghost use Rattle.quic_frames.specs.declared.frame.Frame.TheVariants as frames;
+ghost use Rattle.quic_c.specs.Shown.{frame_kind_of, flags_of, frame_numbers_of, data_of, tail_of, frame_words, counts_flag, counts_numbers};
 
 use crate::words::CFrame;
 use quic_base::ids::Dir;
-use quic_frames::frame::{Close, Frame};
+use quic_frames::frame::{Ack, AckFrequency, Close, Frame, NewConnectionId};
 
-// The words that depend on the frame alone, found with one match on its kind.
+// The words that depend on the frame alone.
 #[derive(Clone, Copy)]
 pub(crate) struct Parts {
     pub(crate) kind: u16,
@@ -29,6 +31,14 @@ fn without_data(kind: u16, numbers: [u64; 5]) -> Parts
     }
 }
 
+// A kind that has the first two numbers alone.
+#[inline(always)]
+fn both(kind: u16, a: u64, b: u64) -> Parts
+    ensures { result ≡ record { kind = kind; flags = 0; tail = 0; data_len = 0; numbers = a ∷ b ∷ 0 ∷ 0 ∷ 0 ∷ [] } }
+{
+    without_data(kind, [a, b, 0, 0, 0])
+}
+
 #[inline(always)]
 fn with_data(kind: u16, flags: u32, numbers: [u64; 5], bytes: &[u8]) -> Parts
     ensures { result ≡ record { kind = kind; flags = flags; tail = 0; data_len = length bytes.now; numbers = numbers } }
@@ -42,6 +52,114 @@ fn with_data(kind: u16, flags: u32, numbers: [u64; 5], bytes: &[u8]) -> Parts
     }
 }
 
+// A kind with the second number alone, of which there is one for each direction.
+#[inline(always)]
+fn by_dir(bi: u16, dir: Dir, n: u64) -> Parts
+    requires { bi < 2 ^ 8 }
+    ensures { result ≡ record {
+      kind = bi + dir_number dir;
+      flags = 0;
+      tail = 0;
+      data_len = 0;
+      numbers = 0 ∷ n ∷ 0 ∷ 0 ∷ 0 ∷ [];
+    } }
+{
+    match dir {
+        Dir::Bi => without_data(bi, [0, n, 0, 0, 0]),
+        Dir::Uni => without_data(bi + 1, [0, n, 0, 0, 0]),
+    }
+}
+
+#[inline(always)]
+fn of_ack(ack: &Ack<'_>) -> Parts
+    ensures { result ≡ record {
+      kind = 0x02;
+      flags = counts_flag ack.now.ecn;
+      tail = 0;
+      data_len = 0;
+      numbers = ack.now.largest ∷ ack.now.delay ∷ counts_numbers ack.now.ecn;
+    } }
+{
+    match ack.ecn() {
+        Some(e) => Parts {
+            kind: 0x02,
+            flags: 2,
+            tail: 0,
+            data_len: 0,
+            numbers: [ack.largest(), ack.delay(), e.ect0, e.ect1, e.ce],
+        },
+        None => both(0x02, ack.largest(), ack.delay()),
+    }
+}
+
+#[inline(always)]
+fn of_new_connection_id(n: &NewConnectionId) -> Parts
+    ensures { result ≡ record {
+      kind = 0x18;
+      flags = 0;
+      tail = 16;
+      data_len = length n.now.id;
+      numbers = n.now.sequence ∷ n.now.retire_prior_to ∷ 0 ∷ 0 ∷ 0 ∷ [];
+    } }
+{
+    Parts {
+        kind: 0x18,
+        flags: 0,
+        tail: 16,
+        data_len: n.id.as_slice().len(),
+        numbers: [n.sequence, n.retire_prior_to, 0, 0, 0],
+    }
+}
+
+#[inline(always)]
+fn of_close(close: &Close<'_>) -> Parts
+    ensures { result ≡ record {
+      kind = frame_kind_of (frames.Close close.now);
+      flags = 0;
+      tail = 0;
+      data_len = length (data_of (frames.Close close.now));
+      numbers = frame_numbers_of (frames.Close close.now);
+    } }
+{
+    match close {
+        Close::Connection(c) => {
+            let ty = match c.frame_type {
+                Some(ty) => ty.into_inner(),
+                None => 0,
+            };
+            with_data(0x1c, 0, [c.error_code.into(), ty, 0, 0, 0], c.reason)
+        }
+        Close::Application(c) => with_data(
+            0x1d,
+            0,
+            [c.error_code.into_inner(), 0, 0, 0, 0],
+            c.reason,
+        ),
+    }
+}
+
+#[inline(always)]
+fn of_ack_frequency(f: &AckFrequency) -> Parts
+    ensures { result ≡ record {
+      kind = 0xaf;
+      flags = 0;
+      tail = 0;
+      data_len = 0;
+      numbers = frame_numbers_of (frames.AckFrequency f.now);
+    } }
+{
+    let (sequence, threshold) = (
+        f.sequence.into_inner(),
+        f.ack_eliciting_threshold.into_inner(),
+    );
+    let (delay, reordering) = (
+        f.request_max_ack_delay.into_inner(),
+        f.reordering_threshold.into_inner(),
+    );
+    without_data(0xaf, [sequence, threshold, delay, reordering, 0])
+}
+
+// One match finds them all: one for each of them costs more instructions in the calls that read frames.
 #[inline(always)]
 pub(crate) fn parts_of(frame: &Frame<'_>) -> Parts
     ensures { result ≡ record {
@@ -55,23 +173,12 @@ pub(crate) fn parts_of(frame: &Frame<'_>) -> Parts
     match frame {
         Frame::Padding => without_data(0x00, [0; 5]),
         Frame::Ping => without_data(0x01, [0; 5]),
-        Frame::Ack(a) => match a.ecn() {
-            Some(e) => Parts {
-                kind: 0x02,
-                flags: 2,
-                tail: 0,
-                data_len: 0,
-                numbers: [a.largest(), a.delay(), e.ect0, e.ect1, e.ce],
-            },
-            None => without_data(0x02, [a.largest(), a.delay(), 0, 0, 0]),
-        },
+        Frame::Ack(a) => of_ack(a),
         Frame::ResetStream(r) => {
             let (code, size) = (r.error_code.into_inner(), r.final_offset.into_inner());
             without_data(0x04, [u64::from(r.id), code, size, 0, 0])
         }
-        Frame::StopSending(s) => {
-            without_data(0x05, [u64::from(s.id), s.error_code.into_inner(), 0, 0, 0])
-        }
+        Frame::StopSending(s) => both(0x05, u64::from(s.id), s.error_code.into_inner()),
         Frame::Crypto(c) => with_data(0x06, 0, [0, c.offset, 0, 0, 0], c.bytes),
         Frame::NewToken(t) => with_data(0x07, 0, [0; 5], t.token),
         Frame::Stream(s) => {
@@ -79,65 +186,18 @@ pub(crate) fn parts_of(frame: &Frame<'_>) -> Parts
             with_data(0x08, fin, [u64::from(s.id), s.offset, 0, 0, 0], s.bytes)
         }
         Frame::MaxData(n) => without_data(0x10, [0, n.into_inner(), 0, 0, 0]),
-        Frame::MaxStreamData { id, offset } => without_data(
-            0x11,
-            [u64::from(*id), *offset, 0, 0, 0],
-        ),
-        Frame::MaxStreams {
-            dir: Dir::Bi,
-            count,
-        } => without_data(0x12, [0, *count, 0, 0, 0]),
-        Frame::MaxStreams {
-            dir: Dir::Uni,
-            count,
-        } => without_data(0x13, [0, *count, 0, 0, 0]),
+        Frame::MaxStreamData { id, offset } => both(0x11, u64::from(*id), *offset),
+        Frame::MaxStreams { dir, count } => by_dir(0x12, *dir, *count),
         Frame::DataBlocked { offset } => without_data(0x14, [0, *offset, 0, 0, 0]),
-        Frame::StreamDataBlocked { id, offset } => {
-            without_data(0x15, [u64::from(*id), *offset, 0, 0, 0])
-        }
-        Frame::StreamsBlocked {
-            dir: Dir::Bi,
-            limit,
-        } => without_data(0x16, [0, *limit, 0, 0, 0]),
-        Frame::StreamsBlocked {
-            dir: Dir::Uni,
-            limit,
-        } => without_data(0x17, [0, *limit, 0, 0, 0]),
-        Frame::NewConnectionId(n) => Parts {
-            kind: 0x18,
-            flags: 0,
-            tail: 16,
-            data_len: n.id.as_slice().len(),
-            numbers: [n.sequence, n.retire_prior_to, 0, 0, 0],
-        },
+        Frame::StreamDataBlocked { id, offset } => both(0x15, u64::from(*id), *offset),
+        Frame::StreamsBlocked { dir, limit } => by_dir(0x16, *dir, *limit),
+        Frame::NewConnectionId(n) => of_new_connection_id(n),
         Frame::RetireConnectionId { sequence } => without_data(0x19, [*sequence, 0, 0, 0, 0]),
         Frame::PathChallenge(n) => without_data(0x1a, [*n, 0, 0, 0, 0]),
         Frame::PathResponse(n) => without_data(0x1b, [*n, 0, 0, 0, 0]),
-        Frame::Close(Close::Connection(c)) => {
-            let ty = match c.frame_type {
-                Some(ty) => ty.into_inner(),
-                None => 0,
-            };
-            with_data(0x1c, 0, [c.error_code.into(), ty, 0, 0, 0], c.reason)
-        }
-        Frame::Close(Close::Application(c)) => {
-            with_data(0x1d, 0, [c.error_code.into_inner(), 0, 0, 0, 0], c.reason)
-        }
+        Frame::Close(close) => of_close(close),
         Frame::Datagram(d) => with_data(0x30, 0, [0; 5], d.bytes),
-        Frame::AckFrequency(f) => {
-            let (sequence, threshold) = (f.sequence.into_inner(), f.ack_eliciting_threshold);
-            let (delay, reordering) = (f.request_max_ack_delay, f.reordering_threshold);
-            without_data(
-                0xaf,
-                [
-                    sequence,
-                    threshold.into_inner(),
-                    delay.into_inner(),
-                    reordering.into_inner(),
-                    0,
-                ],
-            )
-        }
+        Frame::AckFrequency(f) => of_ack_frequency(f),
         Frame::ImmediateAck => without_data(0x1f, [0; 5]),
         Frame::HandshakeDone => without_data(0x1e, [0; 5]),
     }
@@ -175,7 +235,7 @@ pub(crate) fn show_parts(begin: usize, end: usize, ty: u16, of_frame: Parts) -> 
 /// The words of a frame of this type, which in a payload goes from `begin` to `end`.
 #[inline(always)]
 pub(crate) fn show(begin: usize, end: usize, ty: u16, frame: &Frame<'_>) -> CFrame
-    ensures { result ≡ shown begin end ty frame.now }
+    ensures { result ≡ frame_words begin end ty frame.now }
 {
     show_parts(begin, end, ty, parts_of(frame))
 }

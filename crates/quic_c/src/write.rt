@@ -5,7 +5,7 @@ ghost use Rattle.quic_frames.specs.declared.frame.Frame.{Frame};
 ghost use Rattle.quic_frames.specs.declared.frame.Frame.TheVariants as frames;
 ghost use Rattle.quic_frames.specs.Meaning.{meaning_of};
 ghost use Rattle.quic_frame_fields.specs.declared.frame.close.Close.TheVariants as closes;
-ghost use Rattle.quic_c.specs.Shapes.{IsSound, FillsShape, HasPieces, IsShown, LacksData, LacksPieces, shape_of, token_room};
+ghost use Rattle.quic_c.specs.Shapes.{IsSound, FillsShape, AreDataAndToken, IsShown, LacksData, LacksDataOrToken, shape_of, token_room};
 ghost use Rattle.quic_c.specs.Written.{CanWriteFrame, DescribesNoFrame, WroteFrame, FrameNeedsMore, IsAnswer, flag_of};
 ghost use Rattle.quic_c.specs.declared.words.CFrame.{CFrame};
 
@@ -254,9 +254,9 @@ fn token_room(kind: u16) -> usize
 
 // The data at the place in the words, and the reset token after them, which only a NEW_CONNECTION_ID has. If there are
 // neither, `data` isn't looked at.
-fn pieces<'a>(words: &CFrame, data: &'a [u8]) -> Option<(&'a [u8], &'a [u8])>
-    ensures some { IfSome result (λ p. HasPieces words.now data.now p.0.now p.1.now) }
-    ensures none { IsNone result → LacksPieces words.now data.now }
+fn data_and_token<'a>(words: &CFrame, data: &'a [u8]) -> Option<(&'a [u8], &'a [u8])>
+    ensures some { IfSome result (λ p. AreDataAndToken words.now data.now p.0.now p.1.now) }
+    ensures none { IsNone result → LacksDataOrToken words.now data.now }
 {
     let (offset, len) = (words.data_offset, words.data_len);
     let room = token_room(words.kind);
@@ -284,7 +284,7 @@ fn is_shown(frame: &Frame<'_>, words: &CFrame) -> bool
 }
 
 // The frame that the words describe, if it can be written.
-fn said<'a>(words: &CFrame, data: &'a [u8], last: bool) -> Option<Frame<'a>>
+fn described<'a>(words: &CFrame, data: &'a [u8], last: bool) -> Option<Frame<'a>>
     ensures some { IfSome result (CanWriteFrame words.now data.now last) }
     ensures none { IsNone result → DescribesNoFrame words.now data.now last }
 {
@@ -293,7 +293,7 @@ fn said<'a>(words: &CFrame, data: &'a [u8], last: bool) -> Option<Frame<'a>>
     if !is_sound(kind, numbers, len) || !last && len >= 1 << 62 {
         return None;
     }
-    let Some((bytes, token)) = pieces(words, data) else {
+    let Some((bytes, token)) = data_and_token(words, data) else {
         return None;
     };
     let Some(frame) = frame_of(kind, words.flags == 1, numbers, bytes, token) else {
@@ -331,7 +331,7 @@ pub extern "C" fn quic_wire_frame_write_(
         → IsAnswer frame.now others (flag_of last) result out.old out.new written.new }
 {
     let last = last != 0;
-    let Some(frame) = said(frame, data, last) else {
+    let Some(frame) = described(frame, data, last) else {
         return -1;
     };
     match frame.encode_into(last, out) {

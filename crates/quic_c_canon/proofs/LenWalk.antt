@@ -27,7 +27,8 @@ pub record LenWalk (payload : List ℕ) (total start : ℕ) (state : IterState) 
   pub low : total ≤ start
   pub sums : (found : List TypedFrame) → AreFrames false found payload → Sums payload total start state found
 
-pub len_begins : (payload : List ℕ) (state : IterState) → state ≡ first_of false payload → IsEither false None payload → GivesFrames false payload state → GivesBroken false payload state → LenWalk payload 0 0 state
+pub len_begins : (payload : List ℕ) (state : IterState) → state ≡ first_of false payload → IsEither false None payload
+    → GivesFrames false payload state → GivesBroken false payload state → LenWalk payload 0 0 state
 len_begins payload state first e whole broken = record {
   walks = walk_begins payload state first e whole broken;
   low = omega arith;
@@ -35,7 +36,8 @@ len_begins payload state first e whole broken = record {
 }
 
 -- one more frame
-pub len_on : (payload : List ℕ) (total start stop n : ℕ) (state next : IterState) (frame : Frame) → BeginsNone → OneShortest → LenWalk payload total start state → Finds state frame next → stop ≡ next.offset
+pub len_on : (payload : List ℕ) (total start stop n : ℕ) (state next : IterState) (frame : Frame) → BeginsNone → OneShortest
+    → LenWalk payload total start state → Finds state frame next → stop ≡ next.offset
     → n ≡ length (shortest_frame (eqb stop (length payload)) (meaning_of frame)) → LenWalk payload (total + n) stop next
 len_on payload total start stop n state next frame begins one w f at counted =
     let size = length payload in
@@ -61,7 +63,8 @@ len_on payload total start stop n state next frame begins one w f at counted =
     subst (λ (k : ℕ). LenWalk payload (total + n) k next) (sym at) on
 
 -- each frame of PADDING is one byte more
-all_counted : (payload : List ℕ) (total start count k : ℕ) (state : IterState) → BeginsNone → OneShortest → LenWalk payload total start state → EachPads count state → k ≤ count → LenWalk payload (total + k) (start + k) (behind k state)
+all_counted : (payload : List ℕ) (total start count k : ℕ) (state : IterState) → BeginsNone → OneShortest → LenWalk payload total start state
+    → EachPads count state → k ≤ count → LenWalk payload (total + k) (start + k) (behind k state)
 all_counted payload total start count zero state begins one w each le =
     subst (λ (n : ℕ). LenWalk payload n (start + 0) state) (omega arith) (subst (λ (n : ℕ). LenWalk payload total n state) (omega arith) w)
 all_counted payload total start count (suc k) state begins one w each le =
@@ -72,12 +75,14 @@ all_counted payload total start count (suc k) state begins one w each le =
     subst (λ (n : ℕ). LenWalk payload n (start + suc k) (behind (suc k) state)) (omega arith)
     (len_on payload (total + k) (start + k) (start + suc k) 1 (behind k state) (behind (suc k) state) frames.Padding begins one so_far (each k (omega arith)) at counted)
 
-pub len_passed : (payload : List ℕ) (total start count : ℕ) (state next : IterState) → BeginsNone → OneShortest → LenWalk payload total start state → PassesPadding state count next → LenWalk payload (total + count) (start + count) next
+pub len_passed : (payload : List ℕ) (total start count : ℕ) (state next : IterState) → BeginsNone → OneShortest → LenWalk payload total start state
+    → PassesPadding state count next → LenWalk payload (total + count) (start + count) next
 len_passed payload total start count state next begins one w p =
     subst (LenWalk payload (total + count) (start + count)) (sym p.comes) (all_counted payload total start count count state begins one w p.each (omega arith))
 
 -- by other names
-pub len_as : (payload : List ℕ) (total sum start later : ℕ) (state there : IterState) → LenWalk payload total start state → sum ≡ total → there ≡ state → later ≡ there.offset → LenWalk payload sum later there
+pub len_as : (payload : List ℕ) (total sum start later : ℕ) (state there : IterState) → LenWalk payload total start state → sum ≡ total
+    → there ≡ state → later ≡ there.offset → LenWalk payload sum later there
 len_as payload total sum start later state there w sum-is is at =
     let here : LenWalk payload sum start there = subst (λ (n : ℕ). LenWalk payload n start there) (sym sum-is) (subst (LenWalk payload total start) (sym is) w) in
     subst (λ (n : ℕ). LenWalk payload sum n there) (sym here.walks.start_is ∙ sym at) here
@@ -99,7 +104,8 @@ error_is [] i j e = cc
 error_is (f ∷ rest) i j e = absurd cc
 
 -- nothing is left
-pub len_done : (payload : List ℕ) (total start : ℕ) (state : IterState) → payload ≢ [] → IsEither false None payload → LenWalk payload total start state → left state ≡ [] → HasLength payload total
+pub len_done : (payload : List ℕ) (total start : ℕ) (state : IterState) → payload ≢ [] → IsEither false None payload
+    → LenWalk payload total start state → left state ≡ [] → HasLength payload total
 len_done payload total start state some (inl a) w none =
     let s = w.sums a.0 a.1 in
     let rest = none_given s.rest (sym (ap (map unplaced) none) ∙ s.left_are) in
@@ -113,7 +119,8 @@ len_done payload total start state some (inr b) w none =
     let r = w.walks.broken b.0 b.1 b.2 b.3 in absurd (not_empty r.0 (invalid b.1 b.2) (sym (ap (map unplaced) none) ∙ r.1))
 
 -- an invalid frame
-pub len_fails : (payload : List ℕ) (total start : ℕ) (state : IterState) (i : Invalid) → IsEither false None payload → LenWalk payload total start state → left state ≡ Broken i ∷ [] → IsReportedOf payload i
+pub len_fails : (payload : List ℕ) (total start : ℕ) (state : IterState) (i : Invalid) → IsEither false None payload
+    → LenWalk payload total start state → left state ≡ Broken i ∷ [] → IsReportedOf payload i
 len_fails payload total start state i (inl a) w is =
     let s = w.sums a.0 a.1 in absurd (no_error s.rest i (sym (ap (map unplaced) is) ∙ s.left_are))
 len_fails payload total start state i (inr b) w is =

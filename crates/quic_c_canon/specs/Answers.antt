@@ -42,7 +42,7 @@ pub record IsReportedOf (payload : List ℕ) (reported : Invalid) : Type 0 where
   pub reported_is : reported ≡ invalid type reason
 
 -- Something in the payload is no frame, and that is reported.
-pub record TellsInvalidPayload (payload : List ℕ) (old new : CCanonical) : Type 0 where
+pub record ReportsInvalidPayload (payload : List ℕ) (old new : CCanonical) : Type 0 where
   pub reported : Invalid
   pub of_it : IsReportedOf payload reported
   pub words : new ≡ record old { last_type = type_word reported.type; reason = reason_word reported.reason }

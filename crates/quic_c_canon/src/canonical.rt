@@ -6,7 +6,7 @@ ghost use Rattle.quic_frames.specs.InRange.{CanStand};
 ghost use Rattle.quic_frames.specs.Least.{frame_in, shortest_frames};
 ghost use Rattle.quic_frames.specs.Meaning.{meaning_of};
 ghost use Rattle.quic_frames.specs.Walk.{invalid_of, first_of, GivesFrames, GivesBroken};
-ghost use Rattle.quic_c_canon.specs.Answers.{type_word, reason_word, GivesLeastLen, LeastNeedsMore, IsReportedOf, TellsInvalidPayload, HasLength};
+ghost use Rattle.quic_c_canon.specs.Answers.{type_word, reason_word, GivesLeastLen, LeastNeedsMore, IsReportedOf, ReportsInvalidPayload, HasLength};
 
 use crate::words::CCanonical;
 use quic_canon::laws::one_least;
@@ -63,7 +63,7 @@ fn begin(payload: &[u8]) -> Result<Iter<'_>, ()>
     Ok(iter)
 }
 
-// Reads all of a payload, and tells how many bytes its frames take in their shortest encodings.
+// Reads all of a payload, and counts how many bytes its frames take in their shortest encodings.
 fn shortest_len(payload: &[u8]) -> Result<usize, InvalidFrame>
     requires { payload.now ≢ [] }
     ensures ok { IfOk result (λ n. HasLength payload.now n) }
@@ -179,7 +179,7 @@ pub extern "C" fn quic_wire_canonical_(payload: &[u8], dest: &mut [u8], out: &mu
     ensures least { result ≡ pos 0 → GivesLeastLen payload.now dest.old dest.new out.old out.new }
     ensures room { result ≡ negsuc 3 → LeastNeedsMore payload.now dest.old out.old out.new }
     ensures empty { (result ≡ negsuc 1) ↔ (payload.now ≡ []) }
-    ensures invalid { result ≡ negsuc 2 → TellsInvalidPayload payload.now out.old out.new }
+    ensures invalid { result ≡ negsuc 2 → ReportsInvalidPayload payload.now out.old out.new }
     ensures same { (result ≡ pos 0) ⊎ (dest.new ≡ dest.old) }
     ensures kept { result ≡ negsuc 1 → out.new ≡ out.old }
 {

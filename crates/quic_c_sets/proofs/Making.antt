@@ -1,5 +1,5 @@
 -- A change of the runs in an array, made by one move and a write.
-use Rattle.std.proofs.Common.{◌≡◌, ℕ, ◌+◌, ◌-◌, ◌<◌, ◌≤◌, Bool, List, ◌++◌, length, take, drop, sym, ap, ◌∙◌, append_assoc, arith}
+use Rattle.std.proofs.Common.{◌≡◌, ℕ, ◌+◌, ◌-◌, ◌≤◌, Bool, List, ◌++◌, length, take, drop, sym, ap, ◌∙◌, append_assoc, arith}
 use Rattle.std.specs.List.{copy_within}
 use Rattle.std.proofs.Math.Seq.{take-append_seam, drop-append_seam}
 use Rattle.std.proofs.lemmas.List.{length-append, length-take, length-drop, take-append-drop, take-append-le, take-take, drop-take, drop-drop}
@@ -57,7 +57,18 @@ module _ (old ys new vs : List CRange) (before from to after : ℕ) (some : befo
       ∙ ap (λ (k : ℕ). (take from old ++ (vs ++ take (before - to) (drop to old))) ++ drop k old) (sym count)
 
   long : after ≡ length (take from old ++ (vs ++ take (before - to) (drop to old)))
-  long = omega (arith, count, some, ordered, within, length-append (take from old) (vs ++ take (before - to) (drop to old)), length-append vs (take (before - to) (drop to old)), length-take from old, length-take (before - to) (drop to old), length-drop to old)
+  long = omega (
+    arith,
+    count,
+    some,
+    ordered,
+    within,
+    length-append (take from old) (vs ++ take (before - to) (drop to old)),
+    length-append vs (take (before - to) (drop to old)),
+    length-take from old,
+    length-take (before - to) (drop to old),
+    length-drop to old,
+  )
 
   moved_runs : take after new ≡ take from (take before old) ++ (vs ++ drop to (take before old))
   moved_runs =
@@ -91,7 +102,8 @@ made old ys new before after more change some fits more_is count room moved is =
 
 -- ---- what the calls answer
 
-pub becomes : (test : ℕ → Bool) (old new : List CRange) (before after : ℕ) (change : Splice) → IsSet old before → Plans test (take before old) change → Made old before change new after → Becomes test old before new after
+pub becomes : (test : ℕ → Bool) (old new : List CRange) (before after : ℕ) (change : Splice) → IsSet old before → Plans test (take before old) change
+    → Made old before change new after → Becomes test old before new after
 becomes test old new before after change set plan made = record {
   set = set;
   runs = rw made.runs plan.runs;
@@ -99,7 +111,8 @@ becomes test old new before after change set plan made = record {
   behind = made.behind;
 }
 
-pub lacks_room : (test : ℕ → Bool) (old : List CRange) (before : ℕ) (change : Splice) → IsSet old before → Plans test (take before old) change → SetNeedsMore old before change → LacksRoom test old before
+pub lacks_room : (test : ℕ → Bool) (old : List CRange) (before : ℕ) (change : Splice) → IsSet old before → Plans test (take before old) change
+    → SetNeedsMore old before change → LacksRoom test old before
 lacks_room test old before change set plan needs = record {
   set = set;
   full = needs.full;

@@ -25,7 +25,8 @@ after_ranges words s =
     ∙ ap (λ (l : List (Range ℕ)). runs_of (take s.from words) ++ l) (map-append range_of (words_of s.by) (drop s.to words))
     ∙ rw (take-map range_of s.from words, drop-map range_of s.to words) refl
 
-plans : (test : ℕ → Bool) (words : List CRange) (s : Splice) → FitsRoom words s → BecomesRunsOf test (runs_of words) (take s.from (runs_of words) ++ (runs_of (words_of s.by) ++ drop s.to (runs_of words))) → Plans test words s
+plans : (test : ℕ → Bool) (words : List CRange) (s : Splice) → FitsRoom words s
+    → BecomesRunsOf test (runs_of words) (take s.from (runs_of words) ++ (runs_of (words_of s.by) ++ drop s.to (runs_of words))) → Plans test words s
 plans test words s fits runs = record { fits = fits; runs = subst (BecomesRunsOf test (runs_of words)) (sym (after_ranges words s)) runs }
 
 -- ---- insertions
@@ -68,14 +69,16 @@ becomes_touching rs x d i j start end h lt ei ej le es ee out =
           out (at c).0 (at c).1;
     }
 
-pub plan_plain : (words : List CRange) (x : CRange) (i j : ℕ) → IsMaximalRuns (runs_of words) → x.start < x.end → i ≡ ends_below (runs_of words) x.start → j ≡ starts_upto (runs_of words) x.end → j ≤ i
+pub plan_plain : (words : List CRange) (x : CRange) (i j : ℕ) → IsMaximalRuns (runs_of words) → x.start < x.end
+    → i ≡ ends_below (runs_of words) x.start → j ≡ starts_upto (runs_of words) x.end → j ≤ i
     → Plans (in_union (runs_of words) (range_of x)) words (record { from = i; to = i; by = One x })
 plan_plain words x i j h lt ei ej le =
     let within = ends_below-length x.start (runs_of words) in
     plans _ words (record { from = i; to = i; by = One x }) (record { ordered = omega arith; within = omega (arith, ei, within, many words); one_more = omega arith })
     (becomes_plain (runs_of words) (range_of x) i j h lt ei ej le)
 
-pub plan_touching : (words : List CRange) (x : CRange) (i j start end : ℕ) → IsMaximalRuns (runs_of words) → x.start < x.end → i ≡ ends_below (runs_of words) x.start → j ≡ starts_upto (runs_of words) x.end → i < j
+pub plan_touching : (words : List CRange) (x : CRange) (i j start end : ℕ) → IsMaximalRuns (runs_of words) → x.start < x.end
+    → i ≡ ends_below (runs_of words) x.start → j ≡ starts_upto (runs_of words) x.end → i < j
     → start ≡ min x.start (get_or words i nowhere).start → end ≡ max x.end (get_or words (j - 1) nowhere).end
     → ((get_or words i nowhere).start ≤ x.start → x.end ≤ (get_or words i nowhere).end → ⊥)
     → Plans (in_union (runs_of words) (range_of x)) words (record { from = i; to = j; by = One (record { start = start; end = end }) })
@@ -103,7 +106,8 @@ difference_at : (rs ss : List (Range ℕ)) (x : Range ℕ) → IsMaximalRuns rs 
 difference_at rs ss x h lt e = let P : List (Range ℕ) → Type 0 = IsRunsOf (in_difference rs x) in subst P e (IsRunsOf-removed x.start x.end rs h lt)
 
 -- a removal from the runs from i to below j
-becomes_less : (rs left : List (Range ℕ)) (x d : Range ℕ) (i j first_start last_end : ℕ) → IsMaximalRuns rs → x.start < x.end → i ≡ ends_below rs (x.start + 1) → j ≡ starts_upto rs (x.end - 1) → i < j
+becomes_less : (rs left : List (Range ℕ)) (x d : Range ℕ) (i j first_start last_end : ℕ) → IsMaximalRuns rs → x.start < x.end
+    → i ≡ ends_below rs (x.start + 1) → j ≡ starts_upto rs (x.end - 1) → i < j
     → first_start ≡ (get_or rs i d).start → last_end ≡ (get_or rs (j - 1) d).end → left ≡ as_runs first_start x.start ++ as_runs x.end last_end
     → BecomesRunsOf (in_difference rs x) rs (take i rs ++ (left ++ drop j rs))
 becomes_less rs left x d i j first_start last_end h lt ei ej le es ee eb =
@@ -130,7 +134,8 @@ most Nothing = omega arith
 most (One run) = omega arith
 most (Two front back) = omega arith
 
-pub plan_removal : (words : List CRange) (x : CRange) (i j start end : ℕ) (by : Substitute) → IsMaximalRuns (runs_of words) → x.start < x.end → i ≡ ends_below (runs_of words) (x.start + 1) → j ≡ starts_upto (runs_of words) (x.end - 1)
+pub plan_removal : (words : List CRange) (x : CRange) (i j start end : ℕ) (by : Substitute) → IsMaximalRuns (runs_of words) → x.start < x.end
+    → i ≡ ends_below (runs_of words) (x.start + 1) → j ≡ starts_upto (runs_of words) (x.end - 1)
     → i < j → start ≡ (get_or words i nowhere).start → end ≡ (get_or words (j - 1) nowhere).end → runs_of (words_of by) ≡ as_runs start x.start ++ as_runs x.end end
     → Plans (in_difference (runs_of words) (range_of x)) words (record { from = i; to = j; by = by })
 plan_removal words x i j start end by h lt ei ej le es ee eb =

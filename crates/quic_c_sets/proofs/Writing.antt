@@ -112,10 +112,19 @@ pub record CountedBelow (words : List CRange) (first : CRange) (len left : ℕ) 
 
 two_long : (a b : ℕ) (rest : List ℕ) → length (shortest_varints (a ∷ b ∷ []) ++ rest) ≡ size a + size b + length rest
 two_long a b rest =
-    omega (arith, length-append (shortest_varints (a ∷ b ∷ [])) rest, length-append (shortest_varint a) (shortest_varint b ++ []), length-append (shortest_varint b) [], length-short a, length-short b)
+    omega (
+      arith,
+      length-append (shortest_varints (a ∷ b ∷ [])) rest,
+      length-append (shortest_varint a) (shortest_varint b ++ []),
+      length-append (shortest_varint b)
+          [],
+      length-short a,
+      length-short b,
+    )
 
 pub counted_more : (words : List CRange) (first above : CRange) (len left next : ℕ) → left ≡ next + 1 → CountedBelow words first len left above
-    → CountedBelow words first (len + (size (above.start - (get_or words next nowhere).end - 1) + size ((get_or words next nowhere).end - 1 - (get_or words next nowhere).start))) next (get_or words next nowhere)
+    → CountedBelow words first (len + (size (above.start - (get_or words next nowhere).end - 1)
+    + size ((get_or words next nowhere).end - 1 - (get_or words next nowhere).start))) next (get_or words next nowhere)
 counted_more words first above len left next e h =
     let run = get_or words next nowhere in
     let x = next_below words left next above e h.below in
@@ -168,19 +177,22 @@ room_below words first above at left next end old one e h =
 -- ---- whether there is an ACK
 
 -- the greatest run of a set, and those below it
-pub whole_set : (words : List CRange) (count : ℕ) → count ≤ length words → 0 < count → first_runs count words ≡ runs_of (take (count - 1) words) ++ range_of (get_or words (count - 1) nowhere) ∷ []
+pub whole_set : (words : List CRange) (count : ℕ) → count ≤ length words → 0 < count
+    → first_runs count words ≡ runs_of (take (count - 1) words) ++ range_of (get_or words (count - 1) nowhere) ∷ []
 whole_set words count within some =
     let last : count ≡ count - 1 + 1 = omega (arith, some) in
     ap (λ (n : ℕ). runs_of (take n words)) last ∙ last_run words (count - 1) (omega (arith, within, some))
 
-pub all_small : (words : List CRange) (count : ℕ) → IsSet words count → 0 < count → (get_or words (count - 1) nowhere).end ≤ 2 ^ 62 → (n : ℕ) → member (first_runs count words) n ≡ true → n < 2 ^ 62
+pub all_small : (words : List CRange) (count : ℕ) → IsSet words count → 0 < count → (get_or words (count - 1) nowhere).end ≤ 2 ^ 62 → (n : ℕ)
+    → member (first_runs count words) n ≡ true → n < 2 ^ 62
 all_small words count set some le n e =
     let last = IsGreatest-last (range_of (get_or words (count - 1) nowhere)) (runs_of (take (count - 1) words)) (first_runs count words) (whole_set words count set.within some) set.maximal in
     let most = last.1.greatest n e in
     let nonempty = last.0 in
     omega (arith, most, nonempty, le)
 
-pub last_small : (words : List CRange) (count : ℕ) → IsSet words count → 0 < count → ((n : ℕ) → member (first_runs count words) n ≡ true → n < 2 ^ 62) → (get_or words (count - 1) nowhere).end ≤ 2 ^ 62
+pub last_small : (words : List CRange) (count : ℕ) → IsSet words count → 0 < count → ((n : ℕ) → member (first_runs count words) n ≡ true → n < 2 ^ 62)
+    → (get_or words (count - 1) nowhere).end ≤ 2 ^ 62
 last_small words count set some all =
     let last = IsGreatest-last (range_of (get_or words (count - 1) nowhere)) (runs_of (take (count - 1) words)) (first_runs count words) (whole_set words count set.within some) set.maximal in
     let greatest = all ((get_or words (count - 1) nowhere).end - 1) last.1.present in
@@ -191,9 +203,9 @@ pub last_some : (words : List CRange) (count : ℕ) → IsSet words count → 0 
 last_some words count set some =
     (IsGreatest-last (range_of (get_or words (count - 1) nowhere)) (runs_of (take (count - 1) words)) (first_runs count words) (whole_set words count set.within some) set.maximal).0
 
-pub says_ack_of : (delay : ℕ) (words : List CRange) (count : ℕ) (counts : List ℕ) → IsSet words count → 0 < count → (get_or words (count - 1) nowhere).end ≤ 2 ^ 62 → delay < 2 ^ 62
+pub described_ack : (delay : ℕ) (words : List CRange) (count : ℕ) (counts : List ℕ) → IsSet words count → 0 < count → (get_or words (count - 1) nowhere).end ≤ 2 ^ 62 → delay < 2 ^ 62
     → (length counts ≡ 0) ⊎ (length counts ≡ 3) → AreNumeric counts → DescribesSetAck delay words count counts
-says_ack_of delay words count counts set some le delayed three counted = record {
+described_ack delay words count counts set some le delayed three counted = record {
   set = set;
   some = some;
   short = all_small words count set some le;
@@ -206,19 +218,21 @@ says_ack_of delay words count counts set some le delayed three counted = record 
 
 pub ack_parts_of : (delay : ℕ) (words : List CRange) (count : ℕ) (counts : List ℕ) (ty : ℕ) → DescribesSetAck delay words count counts → ty ≡ ack_type (counts_in counts)
     → SetParts delay (first_runs count words) (runs_of (take (count - 1) words)) (range_of (get_or words (count - 1) nowhere)) (counts_in counts) ty (count - 1)
-ack_parts_of delay words count counts ty says ty_is =
-    let within = says.set.within in
+ack_parts_of delay words count counts ty described ty_is =
+    let within = described.set.within in
     let size_is : count ≡ length (first_runs count words) = omega (arith, within, many (take count words), length-take count words) in
-    set_parts delay (first_runs count words) (runs_of (take (count - 1) words)) (range_of (get_or words (count - 1) nowhere)) (counts_in counts) ty count (whole_set words count within says.some) ty_is size_is
-    says.delayed says.set.maximal says.short
+    set_parts delay (first_runs count words) (runs_of (take (count - 1) words)) (range_of (get_or words (count - 1) nowhere)) (counts_in counts) ty count
+    (whole_set words count within described.some) ty_is size_is
+    described.delayed described.set.maximal described.short
 
 -- the bytes of an ACK: its numbers, those of the runs below the first, and its counts
 pub whole_ack : (delay : ℕ) (words : List CRange) (count : ℕ) (counts : List ℕ) (ty : ℕ) → DescribesSetAck delay words count counts → ty ≡ ack_type (counts_in counts) → (last : Bool)
     → shortest_frame last (ack_of delay (first_runs count words) (counts_in counts))
-    ≡ shortest_varints (ty ∷ ((get_or words (count - 1) nowhere).end - 1) ∷ delay ∷ (count - 1) ∷ ((get_or words (count - 1) nowhere).end - 1 - (get_or words (count - 1) nowhere).start) ∷ [])
+    ≡ shortest_varints (ty ∷ ((get_or words (count - 1) nowhere).end - 1) ∷ delay ∷ (count - 1)
+    ∷ ((get_or words (count - 1) nowhere).end - 1 - (get_or words (count - 1) nowhere).start) ∷ [])
     ++ (shortest_below (get_or words (count - 1) nowhere).start (ranges_in (runs_of (take (count - 1) words))) ++ shortest_varints counts)
-whole_ack delay words count counts ty says ty_is last =
+whole_ack delay words count counts ty described ty_is last =
     let run = get_or words (count - 1) nowhere in
     let head = shortest_varints (ty ∷ (run.end - 1) ∷ delay ∷ (count - 1) ∷ (run.end - 1 - run.start) ∷ []) in
     let below = shortest_below run.start (ranges_in (runs_of (take (count - 1) words))) in
-    (ack_parts_of delay words count counts ty says ty_is).parts last ∙ ap (λ (l : List ℕ). head ++ (below ++ shortest_varints l)) (numbers_counted counts says.three)
+    (ack_parts_of delay words count counts ty described ty_is).parts last ∙ ap (λ (l : List ℕ). head ++ (below ++ shortest_varints l)) (numbers_counted counts described.three)

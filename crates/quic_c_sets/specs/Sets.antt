@@ -16,7 +16,7 @@ range_of words = record { start = words.start; end = words.end }
 abbrev pub runs_of : List CRange → List (Range ℕ)
 runs_of words = map range_of words
 
--- the ranges that the first words of an array say, so many
+-- the ranges that the first words of an array describe, so many
 abbrev pub first_runs : ℕ → List CRange → List (Range ℕ)
 first_runs count words = runs_of (take count words)
 

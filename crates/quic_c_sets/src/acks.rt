@@ -26,7 +26,7 @@ fn are_numeric(numbers: &[u64]) -> bool
 }
 
 // Whether the words describe an ACK.
-fn says_ack(delay: u64, runs: &[CRange], count: usize, counts: &[u64]) -> bool
+fn describes_ack(delay: u64, runs: &[CRange], count: usize, counts: &[u64]) -> bool
     ensures { IsTrue result ↔ DescribesSetAck delay runs.now count counts.now }
 {
     if !is_set(runs, count) || count == 0 || delay >= 1 << 62 {
@@ -146,7 +146,7 @@ pub extern "C" fn quic_wire_ack_write_(
     written: &mut usize,
 ) -> i32
     ensures answers { (result ≡ pos 0) ⊎ (result ≡ negsuc 3) ⊎ (result ≡ negsuc 0) }
-    ensures says { (result ≡ negsuc 0) ⊎ DescribesSetAck delay runs.now count counts.now }
+    ensures described { (result ≡ negsuc 0) ⊎ DescribesSetAck delay runs.now count counts.now }
     ensures wrote { result ≡ pos 0 → (last : Bool)
         → Puts (Ok written.new) (shortest_frame last
         (ack_of delay (first_runs count runs.now) (counts_in counts.now))) dest.old dest.new }
@@ -156,7 +156,7 @@ pub extern "C" fn quic_wire_ack_write_(
     ensures refused { (result ≡ negsuc 0) ↔ (DescribesSetAck delay runs.now count counts.now → ⊥) }
     ensures same { (result ≡ negsuc 0) → (written.new ≡ written.old) × (dest.new ≡ dest.old) }
 {
-    if !says_ack(delay, runs, count, counts) {
+    if !describes_ack(delay, runs, count, counts) {
         return -1;
     }
     match store_ack(delay, runs, count, counts, dest) {

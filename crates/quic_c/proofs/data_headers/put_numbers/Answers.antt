@@ -24,5 +24,6 @@ loop-number-preserved c =
     record {
       near = omega (arith, c.loop-number.invariant.near, stores.count, length-short n, size_small n);
       len = c.store-at.ensures.len ∙ c.loop-number.invariant.len;
-      stores = rw (add-one, all_short-at ns i c.loop-number-test.true) (stores_more (shortest_varints (take i ns)) (shortest_varint n) c.args.dest.now c.loop-number.dest c.store-at.new.dest 0 c.loop-number.at c.store-at.result c.loop-number.invariant.stores stores);
+      stores = rw (add-one, all_short-at ns i c.loop-number-test.true) (stores_more (shortest_varints (take i ns)) (shortest_varint n) c.args.dest.now
+          c.loop-number.dest c.store-at.new.dest 0 c.loop-number.at c.store-at.result c.loop-number.invariant.stores stores);
     }

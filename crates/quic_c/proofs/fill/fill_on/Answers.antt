@@ -15,7 +15,8 @@ returns-in-Err g c =
     let ty = c.type_in.ensures in
     let ended = c.if-frames-ne0.false in
     let state : state_of c.args.frames.now c.args.payload.now ≡ c.in-Some.iter = search rules in
-    let first : IsRefusedFrame c.args.basic (state_of c.args.frames.now c.args.payload.now) (invalid_of c.in-Err.invalid) = subst (λ (w : IterState). IsRefusedFrame c.args.basic w (invalid_of c.in-Err.invalid)) (sym state) here in
+    let first : IsRefusedFrame c.args.basic (state_of c.args.frames.now c.args.payload.now) (invalid_of c.in-Err.invalid) =
+    subst (λ (w : IterState). IsRefusedFrame c.args.basic w (invalid_of c.in-Err.invalid)) (sym state) here in
     let some : 0 < length c.args.out.now = search rules in
     let reported = c.show_invalid.result in
     record {

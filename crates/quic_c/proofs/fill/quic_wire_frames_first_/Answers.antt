@@ -12,16 +12,16 @@ use Rattle.quic_c.proofs.fill.quic_wire_frames_first_.Goals as goal
 pub returns-in-Ok-clause-frames : goal.returns-in-Ok-clause-frames
 returns-in-Ok-clause-frames c =
     let front = c.in-Some.ensures.state in
-    let said = c.in-Ok.ensures in
+    let facts = c.in-Ok.ensures in
     let room : 0 < length c.args.out.now = search rules in
     let some : 0 < c.in-Ok.filled.count = elim (kinds c.in-Ok.filled.count) [
       | inl none ↦
-          let over : left (first_of false c.args.payload.now) ≡ [] = rw front at (said.none none room) in
+          let over : left (first_of false c.args.payload.now) ≡ [] = rw front at (facts.none none room) in
           let nothing : c.args.payload.now ≡ [] = all_read false 0 None c.args.payload.now (λ i. (c.type_inv.payload i).fits) over in
           absurd (search rules)
       | inr some ↦ some
     ] in
-    λ _. (some, rw c.type_word.ensures.back (rw front at said.filled))
+    λ _. (some, rw c.type_word.ensures.back (rw front at facts.filled))
 
 pub returns-in-Err-clause-invalid : goal.returns-in-Err-clause-invalid
 returns-in-Err-clause-invalid c =

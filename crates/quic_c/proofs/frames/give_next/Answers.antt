@@ -45,7 +45,8 @@ returns-else-is_unknown g c =
     let known = is_kept c.args.basic _ frame c.is_unknown.ensures c.if-is_unknown.false in
     record {
       answers = inl refl;
-      frame = λ _. gives_frame c.args.basic _ _ _ _ c.args.iter.now c.next.new.self frame type finds known c.requires.state (ap (λ (w : IterState). further w stop (type_in type)) c.requires.state ∙ on) begins c.show.ensures;
+      frame = λ _. gives_frame c.args.basic _ _ _ _ c.args.iter.now c.next.new.self frame type finds known c.requires.state
+          (ap (λ (w : IterState). further w stop (type_in type)) c.requires.state ∙ on) begins c.show.ensures;
       end = search rules;
       invalid = search rules;
       outside = grind (arith, common_steps);
@@ -57,10 +58,13 @@ returns-then-is_unknown g c =
     let frame = c.in-Some-Ok.frame in
     let reported = invalid_of c.unknown.result in
     let finds : Finds c.args.iter.now frame c.next.new.self = subst (λ f. Advances c.args.iter.now (Some f) c.next.new.self) c.in-Some-Ok.field-0-is c.in-Some-Ok.ensures.steps in
-    let tells : reported ≡ unknown_type (frame_kind_of frame) = c.unknown.ensures ∙ ap (λ p. unknown_type p.kind) c.parts_of.ensures in
-    let here : IsRefusedFrame c.args.basic c.args.iter.now reported = unknown_refused c.args.basic c.args.iter.now c.next.new.self frame reported finds (c.is_unknown.ensures.0 c.if-is_unknown.true) tells in
-    let first : IsRefusedFrame c.args.basic (state_of c.args.frames.now c.args.iter.now.payload) reported = subst (λ (w : IterState). IsRefusedFrame c.args.basic w reported) (sym c.requires.state) here in
-    let gives : GivesInvalid c.args.basic c.args.frames.now c.args.iter.now.payload c.refuse.new.frames c.refuse.new.out = record { reported = reported; first = first; over = c.refuse.ensures.over; words = c.refuse.ensures.words } in
+    let reports : reported ≡ unknown_type (frame_kind_of frame) = c.unknown.ensures ∙ ap (λ p. unknown_type p.kind) c.parts_of.ensures in
+    let here : IsRefusedFrame c.args.basic c.args.iter.now reported =
+    unknown_refused c.args.basic c.args.iter.now c.next.new.self frame reported finds (c.is_unknown.ensures.0 c.if-is_unknown.true) reports in
+    let first : IsRefusedFrame c.args.basic (state_of c.args.frames.now c.args.iter.now.payload) reported =
+    subst (λ (w : IterState). IsRefusedFrame c.args.basic w reported) (sym c.requires.state) here in
+    let gives : GivesInvalid c.args.basic c.args.frames.now c.args.iter.now.payload c.refuse.new.frames c.refuse.new.out =
+    record { reported = reported; first = first; over = c.refuse.ensures.over; words = c.refuse.ensures.words } in
     record {
       answers = search rules;
       frame = search rules;

@@ -1,6 +1,6 @@
 use Rattle.std.proofs.Common.{length, arith}
 use Rattle.quic_frame_fields.proofs.UncountedBlocks.{some_of}
-use Rattle.quic_c.proofs.GapFilling.{gaps_begin, gap_stands, len_stands, gaps_go_on, gaps_end, gaps_whole, gaps_full}
+use Rattle.quic_c.proofs.GapFilling.{gaps_begin, gap_is_there, len_is_there, gaps_go_on, gaps_end, gaps_whole, gaps_full}
 use Rattle.quic_c.proofs.front.fill_gaps.Goals as goal
 use Rattle.quic_c.proofs.front.fill_gaps.Goals.{then-loop-count-test+else-not-is_empty, else-loop-count-test}
 
@@ -11,19 +11,22 @@ pub unreachable-requires : goal.unreachable-requires
 unreachable-requires c =
     let here = c.loop-count in
     let asked = c.requires in
-    gap_stands asked.0 asked.1 c.args.gaps.now here.left.now here.gaps here.count _ (here.invariant asked.0 asked.1 asked.2) (some_of (length here.left.now) c.if-not-is_empty.ensures) c.in_default.ensures
+    gap_is_there asked.0 asked.1 c.args.gaps.now here.left.now here.gaps here.count _ (here.invariant asked.0 asked.1 asked.2)
+    (some_of (length here.left.now) c.if-not-is_empty.ensures) c.in_default.ensures
 
 pub unreachable-requires-in_default-number : goal.unreachable-requires-in_default-number
 unreachable-requires-in_default-number c =
     let here = c.loop-count in
     let asked = c.requires in
-    len_stands asked.0 asked.1 c.args.gaps.now here.left.now here.gaps here.count c.in-Ok.gap c.in-Ok.behind.now _ (here.invariant asked.0 asked.1 asked.2) (some_of (length here.left.now) c.if-not-is_empty.ensures) c.in-Ok.ensures c.in_default-number.ensures
+    len_is_there asked.0 asked.1 c.args.gaps.now here.left.now here.gaps here.count c.in-Ok.gap c.in-Ok.behind.now _ (here.invariant asked.0 asked.1 asked.2)
+    (some_of (length here.left.now) c.if-not-is_empty.ensures) c.in-Ok.ensures c.in_default-number.ensures
 
 pub loop-count-preserved : goal.loop-count-preserved
 loop-count-preserved c = λ least ranges are.
     let here = c.loop-count in
     let some = some_of (length here.left.now) c.if-not-is_empty.ensures in
-    gaps_go_on least ranges c.args.gaps.now here.left.now here.gaps here.count c.in-Ok.gap c.in-Ok-number.len c.in-Ok.behind.now c.in-Ok-number.rest.now (here.invariant least ranges are) c.loop-count-test.true some
+    gaps_go_on least ranges c.args.gaps.now here.left.now here.gaps here.count c.in-Ok.gap c.in-Ok-number.len c.in-Ok.behind.now c.in-Ok-number.rest.now
+    (here.invariant least ranges are) c.loop-count-test.true some
     c.in-Ok.ensures c.in-Ok-number.ensures
 
 pub returns-clause-fills : goal.returns-clause-fills
@@ -31,7 +34,8 @@ returns-clause-fills c = λ least ranges are.
     let here = c.loop-count in
     let s = here.invariant least ranges are in
     elim c.loop-count-test.branch [
-      | then-loop-count-test+else-not-is_empty w ↦ gaps_end least ranges c.args.gaps.now here.left.now here.gaps here.count s (λ fewer. gaps_full least ranges c.args.gaps.now here.left.now here.gaps here.count s w.if-not-is_empty.ensures fewer)
+      | then-loop-count-test+else-not-is_empty w ↦ gaps_end least ranges c.args.gaps.now here.left.now here.gaps here.count s
+          (λ fewer. gaps_full least ranges c.args.gaps.now here.left.now here.gaps here.count s w.if-not-is_empty.ensures fewer)
       | else-loop-count-test w ↦ gaps_end least ranges c.args.gaps.now here.left.now here.gaps here.count s (λ fewer. omega (arith, s.few, s.all, w.loop-count-test.false))
     ]
 

@@ -4,7 +4,7 @@ use Rattle.quic_frames.proofs.Items.{all_read}
 use Rattle.quic_frames.specs.Walk.{invalid_of, left, first_of, Advances, Finds}
 use Rattle.quic_c.specs.Shown.{frame_kind_of}
 use Rattle.quic_c.specs.Answers.{unknown_type}
-use Rattle.quic_c.specs.Front.{TellsNone}
+use Rattle.quic_c.specs.Front.{ReportsNone}
 use Rattle.quic_c.proofs.Types.{is_kept, reads_front, unknown_refused}
 use Rattle.quic_c.proofs.front.read_front.Goals as goal
 
@@ -18,11 +18,12 @@ pub returns-in-Some-Err : goal.returns-in-Some-Err
 returns-in-Some-Err g c =
     let s = subst (λ f. Advances c.in-Some.iter (Some f) c.next.new.self) c.in-Some-Err.field-0-is c.in-Some-Err.ensures.steps in
     let first : left (first_of c.args.strict c.args.payload.now) ≡ Broken (invalid_of c.in-Some-Err.invalid) ∷ [] = rw c.in-Some.ensures.state at s.0 in
-    let tells : TellsNone c.args.strict c.args.basic c.args.payload.now c.show_invalid-in-Some-Err.result = record { reported = invalid_of c.in-Some-Err.invalid; first = inl first; is = c.show_invalid-in-Some-Err.ensures } in
+    let reports : ReportsNone c.args.strict c.args.basic c.args.payload.now c.show_invalid-in-Some-Err.result =
+    record { reported = invalid_of c.in-Some-Err.invalid; first = inl first; is = c.show_invalid-in-Some-Err.ensures } in
     record {
       answers = inr (inl refl);
       empty = search rules;
-      invalid = λ _. tells;
+      invalid = λ _. reports;
       same = search rules;
       kept = λ _. refl;
     }
@@ -54,13 +55,13 @@ returns-then-is_unknown g c =
     let reported = invalid_of c.unknown.result in
     let steps : Finds c.in-Some.iter frame c.next.new.self = subst (λ f. Advances c.in-Some.iter (Some f) c.next.new.self) c.in-Some-Ok.field-0-is c.in-Some-Ok.ensures.steps in
     let finds : Finds (first_of c.args.strict c.args.payload.now) frame c.next.new.self = subst (λ w. Finds w frame c.next.new.self) c.in-Some.ensures.state steps in
-    let says : reported ≡ unknown_type (frame_kind_of frame) = c.unknown.ensures ∙ ap (λ p. unknown_type p.kind) c.parts_of.ensures in
-    let first = unknown_refused c.args.basic (first_of c.args.strict c.args.payload.now) c.next.new.self frame reported finds (c.is_unknown.ensures.0 c.if-is_unknown.true) says in
-    let tells : TellsNone c.args.strict c.args.basic c.args.payload.now c.show_invalid.result = record { reported = reported; first = first; is = c.show_invalid.ensures } in
+    let is_unknown : reported ≡ unknown_type (frame_kind_of frame) = c.unknown.ensures ∙ ap (λ p. unknown_type p.kind) c.parts_of.ensures in
+    let first = unknown_refused c.args.basic (first_of c.args.strict c.args.payload.now) c.next.new.self frame reported finds (c.is_unknown.ensures.0 c.if-is_unknown.true) is_unknown in
+    let reports : ReportsNone c.args.strict c.args.basic c.args.payload.now c.show_invalid.result = record { reported = reported; first = first; is = c.show_invalid.ensures } in
     record {
       answers = inr (inl refl);
       empty = search rules;
-      invalid = λ _. tells;
+      invalid = λ _. reports;
       same = search rules;
       kept = λ _. refl;
     }

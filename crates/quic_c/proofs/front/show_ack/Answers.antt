@@ -1,11 +1,11 @@
 use Rattle.std.proofs.Common.{◌≡◌, ◌+◌, ap, arith}
 use Rattle.quic_c.specs.declared.words.CFrame.{CFrame}
 use Rattle.quic_c.specs.Shown.{counts_flag}
-use Rattle.quic_c.proofs.GapFilling.{first_reads, first_stands, more_is}
+use Rattle.quic_c.proofs.GapFilling.{first_reads, first_is_there, more_is}
 use Rattle.quic_c.proofs.front.show_ack.Goals as goal
 
 pub unreachable-requires : goal.unreachable-requires
-unreachable-requires c = first_stands c.args.ack.now c.additional-blocks.result.now _ c.additional-blocks.ensures c.are_bytes.ensures c.in_default.ensures
+unreachable-requires c = first_is_there c.args.ack.now c.additional-blocks.result.now _ c.additional-blocks.ensures c.are_bytes.ensures c.in_default.ensures
 
 pub fill_gaps-count-requires : goal.fill_gaps-count-requires
 fill_gaps-count-requires c =

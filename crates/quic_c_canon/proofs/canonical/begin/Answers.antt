@@ -13,7 +13,8 @@ returns-clause-frames c = λ found s. ap (λ (w : IterState). map unplaced (left
 
 pub returns-clause-broken : goal.returns-clause-broken
 returns-clause-broken c = λ found type reason s.
-    ap (λ (w : IterState). map unplaced (left w)) c.in-Some.ensures.state ∙ c.read_from_a_place.ensures.broken false c.args.payload.now 0 None found type reason (λ i. (c.type_inv.payload i).fits) s
+    ap (λ (w : IterState). map unplaced (left w)) c.in-Some.ensures.state
+    ∙ c.read_from_a_place.ensures.broken false c.args.payload.now 0 None found type reason (λ i. (c.type_inv.payload i).fits) s
 
 pub returns-then-is_empty-clause-either : goal.returns-then-is_empty-clause-either
 returns-then-is_empty-clause-either c = grind (arith, common_steps)

@@ -17,21 +17,25 @@ returns-in-Err-clause-err c =
 pub frame_len-len-requires-clause-stands : goal.frame_len-len-requires-clause-stands
 frame_len-len-requires-clause-stands c =
     let f = finds_ok c.loop-item.iter c.next.new.self c.in-Some.item c.in-Ok-item.frame c.in-Ok-item.is c.in-Some.ensures.steps in
-    stands_at c.args.payload.now c.loop-item.start c.offset-stop.result c.loop-item.iter c.next.new.self c.in-Ok-item.frame c.read_back.ensures.exact c.loop-item.invariant.walks f c.offset-stop.ensures.value
+    stands_at c.args.payload.now c.loop-item.start c.offset-stop.result c.loop-item.iter c.next.new.self c.in-Ok-item.frame c.read_back.ensures.exact
+    c.loop-item.invariant.walks f c.offset-stop.ensures.value
 
 pub frame_len-len-requires-clause-small : goal.frame_len-len-requires-clause-small
 frame_len-len-requires-clause-small c =
     let f = finds_ok c.loop-item.iter c.next.new.self c.in-Some.item c.in-Ok-item.frame c.in-Ok-item.is c.in-Some.ensures.steps in
-    small_at c.args.payload.now c.loop-item.start c.offset-stop.result c.loop-item.iter c.next.new.self c.in-Ok-item.frame c.least_encoding.ensures.least c.loop-item.invariant.walks f c.offset-stop.ensures.value
+    small_at c.args.payload.now c.loop-item.start c.offset-stop.result c.loop-item.iter c.next.new.self c.in-Ok-item.frame c.least_encoding.ensures.least
+    c.loop-item.invariant.walks f c.offset-stop.ensures.value
 
 pub loop-item-preserved : goal.loop-item-preserved
 loop-item-preserved c =
     let f = finds_ok c.loop-item.iter c.next.new.self c.in-Some.item c.in-Ok-item.frame c.in-Ok-item.is c.in-Some.ensures.steps in
     let begins = c.one_reading.ensures.begins_none false in
     let one = c.least_encoding.ensures.least in
-    let w = len_on c.args.payload.now c.loop-item.total c.loop-item.start c.offset-stop.result c.frame_len-len.result c.loop-item.iter c.next.new.self c.in-Ok-item.frame begins one c.loop-item.invariant f c.offset-stop.ensures.value c.frame_len-len.ensures in
+    let w = len_on c.args.payload.now c.loop-item.total c.loop-item.start c.offset-stop.result c.frame_len-len.result c.loop-item.iter c.next.new.self
+    c.in-Ok-item.frame begins one c.loop-item.invariant f c.offset-stop.ensures.value c.frame_len-len.ensures in
     elim c.if-stop-start-eq1.branch [
-      | then-stop-start-eq1 v ↦ len_as _ _ _ _ _ _ _ (len_passed _ _ _ v.pass_padding-count.result _ v.pass_padding-count.new.self begins one w v.pass_padding-count.ensures) v.total-is v.iter-is c.offset-start.ensures.value
+      | then-stop-start-eq1 v ↦ len_as _ _ _ _ _ _ _ (len_passed _ _ _ v.pass_padding-count.result _ v.pass_padding-count.new.self begins one w
+          v.pass_padding-count.ensures) v.total-is v.iter-is c.offset-start.ensures.value
       | else-stop-start-eq1 v ↦ len_as _ _ _ _ _ _ _ w v.total-is v.iter-is c.offset-start.ensures.value
     ]
 
@@ -39,7 +43,8 @@ pub loop-item-smaller : goal.loop-item-smaller
 loop-item-smaller c =
     let f = finds_ok c.loop-item.iter c.next.new.self c.in-Some.item c.in-Ok-item.frame c.in-Ok-item.is c.in-Some.ensures.steps in
     elim c.if-stop-start-eq1.branch [
-      | then-stop-start-eq1 v ↦ padding_goes_on_as v.pass_padding-count.result c.loop-item.iter c.next.new.self v.pass_padding-count.new.self c.if-stop-start-eq1.iter c.in-Ok-item.frame f v.pass_padding-count.ensures v.iter-is
+      | then-stop-start-eq1 v ↦ padding_goes_on_as v.pass_padding-count.result c.loop-item.iter c.next.new.self v.pass_padding-count.new.self
+          c.if-stop-start-eq1.iter c.in-Ok-item.frame f v.pass_padding-count.ensures v.iter-is
       | else-stop-start-eq1 v ↦ frame_goes_on c.loop-item.iter c.next.new.self c.if-stop-start-eq1.iter c.in-Ok-item.frame f v.iter-is
     ]
 
@@ -50,7 +55,8 @@ returns-clause-ok c =
 pub overflow_add-total : goal.overflow_add-total
 overflow_add-total c =
     let f = finds_ok c.loop-item.iter c.next.new.self c.in-Some.item c.in-Ok-item.frame c.in-Ok-item.is c.in-Some.ensures.steps in
-    let small = small_at c.args.payload.now c.loop-item.start c.offset-stop.result c.loop-item.iter c.next.new.self c.in-Ok-item.frame c.least_encoding.ensures.least c.loop-item.invariant.walks f c.offset-stop.ensures.value in
+    let small = small_at c.args.payload.now c.loop-item.start c.offset-stop.result c.loop-item.iter c.next.new.self c.in-Ok-item.frame c.least_encoding.ensures.least
+    c.loop-item.invariant.walks f c.offset-stop.ensures.value in
     omega (arith, small, c.frame_len-len.ensures, c.loop-item.invariant.low, c.loop-item.invariant.walks.within)
 
 pub overflow_add-total-then-stop-start-eq1 : goal.overflow_add-total-then-stop-start-eq1

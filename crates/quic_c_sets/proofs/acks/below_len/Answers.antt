@@ -19,4 +19,5 @@ size_of-requires-in-loop-left c = (next_below c.args.runs.now c.loop-left.left (
 
 pub loop-left-preserved : goal.loop-left-preserved
 loop-left-preserved c =
-    rw (c.size_of.ensures.value, c.size_of-in-loop-left.ensures.value) (counted_more c.args.runs.now c.args.above c.loop-left.above c.loop-left.len c.loop-left.left (c.loop-left.left - 1) (omega arith) c.loop-left.invariant)
+    rw (c.size_of.ensures.value, c.size_of-in-loop-left.ensures.value) (counted_more c.args.runs.now c.args.above c.loop-left.above c.loop-left.len c.loop-left.left
+    (c.loop-left.left - 1) (omega arith) c.loop-left.invariant)

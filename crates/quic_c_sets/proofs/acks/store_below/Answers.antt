@@ -19,11 +19,13 @@ numbers_at-at-requires-clause-numeric c = (next_below c.args.runs.now c.loop-lef
 
 pub numbers_at-at-requires-clause-room : goal.numbers_at-at-requires-clause-room
 numbers_at-at-requires-clause-room c =
-    let room = room_below c.args.runs.now c.args.above c.loop-left.above c.args.at c.loop-left.left (c.loop-left.left - 1) c.loop-left.at c.args.dest.now c.loop-left.dest (omega arith) c.loop-left.invariant in
+    let room = room_below c.args.runs.now c.args.above c.loop-left.above c.args.at c.loop-left.left (c.loop-left.left - 1) c.loop-left.at c.args.dest.now
+    c.loop-left.dest (omega arith) c.loop-left.invariant in
     let all = ap length (all_below c.args.runs.now c.args.above) in
     omega (arith, room, all, c.requires.room)
 
 pub loop-left-preserved : goal.loop-left-preserved
 loop-left-preserved c =
-    stored_more c.args.runs.now c.args.above c.loop-left.above c.args.at c.loop-left.left (c.loop-left.left - 1) c.loop-left.at c.numbers_at-at.result c.args.dest.now c.loop-left.dest c.numbers_at-at.new.dest (omega arith) c.loop-left.invariant
+    stored_more c.args.runs.now c.args.above c.loop-left.above c.args.at c.loop-left.left (c.loop-left.left - 1) c.loop-left.at c.numbers_at-at.result
+    c.args.dest.now c.loop-left.dest c.numbers_at-at.new.dest (omega arith) c.loop-left.invariant
     c.numbers_at-at.ensures.stores

@@ -5,7 +5,8 @@ use Rattle.quic_c_sets.proofs.change.insertion.Goals.{else-first-x-via-then-firs
 
 pub returns-then-from-to-clause-some : goal.returns-then-from-to-clause-some
 returns-then-from-to-clause-some c =
-    plan_plain c.args.runs.now c.args.x c.count_ends_below-from.result c.count_starts_upto-to.result c.requires (omega arith) c.count_ends_below-from.ensures.count c.count_starts_upto-to.ensures.count (omega arith)
+    plan_plain c.args.runs.now c.args.x c.count_ends_below-from.result c.count_starts_upto-to.result c.requires (omega arith) c.count_ends_below-from.ensures.count
+    c.count_starts_upto-to.ensures.count (omega arith)
 
 pub returns-then-x-first-clause-none : goal.returns-then-x-first-clause-none
 returns-then-x-first-clause-none c =

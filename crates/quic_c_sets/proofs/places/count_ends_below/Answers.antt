@@ -7,7 +7,8 @@ use Rattle.quic_c_sets.proofs.places.count_ends_below.Goals.{then-runs-len-2, el
 
 pub returns-clause-count : goal.returns-clause-count
 returns-clause-count c =
-    let point = IsPartitionPoint-from_clause (λ (w : CRange). ltb w.end c.args.x) _ _ c.partition_point.ensures.partitioned (ends_ordered c.args.x c.args.runs.now c.requires) (λ a r q k. search rules) in
+    let point = IsPartitionPoint-from_clause (λ (w : CRange). ltb w.end c.args.x) _ _ c.partition_point.ensures.partitioned
+    (ends_ordered c.args.x c.args.runs.now c.requires) (λ a r q k. search rules) in
     sym (ends_place c.args.x c.partition_point.result c.args.runs.now c.partition_point.ensures.bound point)
 
 pub returns-then-runs-len-clause-count : goal.returns-then-runs-len-clause-count

@@ -6,7 +6,8 @@ use Rattle.quic_c_sets.proofs.places.count_starts_upto.Goals as goal
 
 pub returns-clause-count : goal.returns-clause-count
 returns-clause-count c =
-    let point = IsPartitionPoint-from_clause (λ (w : CRange). leb w.start c.args.x) _ _ c.partition_point.ensures.partitioned (starts_ordered c.args.x c.args.runs.now c.requires) (λ a r q k. search rules) in
+    let point = IsPartitionPoint-from_clause (λ (w : CRange). leb w.start c.args.x) _ _ c.partition_point.ensures.partitioned
+    (starts_ordered c.args.x c.args.runs.now c.requires) (λ a r q k. search rules) in
     sym (starts_place c.args.x c.partition_point.result c.args.runs.now c.partition_point.ensures.bound point)
 
 pub returns-then-runs-len-clause-count : goal.returns-then-runs-len-clause-count

@@ -52,10 +52,8 @@ pub(crate) fn seal<H: HeaderKey, P: PacketKey>(
         (λ e. IsRefusedPacket (⟦<SpaceKeys<H, P> as PairsOfKeys>⟧.pairs keys.now) packet.now e) }
 {
     let keys = keys.of(packet.header.space());
-    match seal_packet(packet.header, packet.number, packet.frames, keys, out) {
-        Ok(_) => Ok(()),
-        Err(e) => Err(e),
-    }
+    let _ = seal_packet(packet.header, packet.number, packet.frames, keys, out)?;
+    Ok(())
 }
 
 // The datagram of both packets.

@@ -1,6 +1,6 @@
-//! Scripts of calls on both sets. A script begins at `new`; a call is what is called and its numbers. A last
-//! number of `replace` says how many pieces are taken; the letters of `iter` and `elts` say whether the next run
-//! or member is taken from the front (`F`) or the back (`B`).
+//! Scripts of calls on both sets. A script begins at `new`; a call is what is called and its numbers. The
+//! last number of `replace` is how many of the given ranges are taken; the letters of `iter` and `elts` take the next
+//! run or member from the front (`F`) or the back (`B`).
 mod answers;
 mod printing;
 mod set_calls;
@@ -11,8 +11,8 @@ use set_calls::SetCalls;
 use std::alloc::{AllocError, Global};
 use std::test::Fail;
 
-// Most functions here borrow the sets, and the text that they fill, so that their ways out have nothing to drop. A text
-// is empty before.
+// Most functions here borrow the sets, and the text that they fill, so that an early return has nothing to
+// drop. A text is empty before.
 
 // Writes what each call answers on either set, and the runs that the set then has.
 pub(crate) fn replay(rt: &HostRuntime, lines: &str) -> Result<(), Fail> {

@@ -138,7 +138,7 @@ pub(super) fn answer<S: SetCalls>(
     reported(text, set, name, words)
 }
 
-// The pieces that are taken, so many at most.
+// The ranges that `replace` gives, at most `limit`.
 fn take(text: &mut String, pieces: &mut Replace<'_>, limit: u64) -> Result<(), AllocError> {
     for _ in 0..limit {
         let Some(piece) = pieces.next() else {
@@ -149,7 +149,7 @@ fn take(text: &mut String, pieces: &mut Replace<'_>, limit: u64) -> Result<(), A
     or_none(text)
 }
 
-// A third number says how many pieces are taken.
+// A third number is how many ranges are taken.
 fn replace(text: &mut String, set: &mut RangeSet, numbers: &[u64]) -> Result<(), Fail> {
     let limit = match numbers {
         [_, _, limit] => *limit,

@@ -96,7 +96,8 @@ pub fn sealed_and_opened<C: ConnectionIdParser, H: HeaderKey, P: PacketKey>(
     requires second { CanBeSealed second.now }
     requires expected { AreExpected expected.now }
     requires front { (rest : List ℕ) → IsFoundAgain
-        (⟦<SpaceKeys<H, P> as OpeningKeys<C>>⟧.opening keys.now parser.now versions.now false expected.now) first.now rest }
+        (⟦<SpaceKeys<H, P> as OpeningKeys<C>>⟧.opening keys.now parser.now versions.now false expected.now)
+        first.now rest }
     requires back { IsFoundAgain
         (⟦<SpaceKeys<H, P> as OpeningKeys<C>>⟧.opening keys.now parser.now versions.now false expected.now)
         second.now [] }

@@ -65,7 +65,8 @@ fn print_record(
     params: &TransportParameters,
     text: &mut String,
 ) -> Result<(), AllocError>
-    ensures { OnOk result (string_bytes text.new ≡ string_bytes text.old ++ flat_map line_bytes (record_lines params.now)) }
+    ensures { OnOk result
+        (string_bytes text.new ≡ string_bytes text.old ++ flat_map line_bytes (record_lines params.now)) }
 {
     for id in TransportParameterId::SUPPORTED {
         print_parameter(alloc, id, params, text)?;

@@ -10,4 +10,4 @@ returns-clause-frames g c = IfOk-weaker c.run.result _ _
 pub returns-clause-broken : goal.returns-clause-broken
 returns-clause-broken g c = IfOk-weaker c.run.result _ _
     (λ clean text placed bytes type reason some fit are.
-      prints _ bytes _ _ _ _ _ clean text (c.frames_printed.ensures.broken placed bytes type reason some fit are)) c.run.ensures.text
+    prints _ bytes _ _ _ _ _ clean text (c.frames_printed.ensures.broken placed bytes type reason some fit are)) c.run.ensures.text

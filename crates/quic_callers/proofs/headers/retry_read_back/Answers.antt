@@ -16,7 +16,8 @@ returns-clause-back g c =
     let src : length c.args.ids.1 ≤ 20 = omega (arith, c.as_slice-src.ensures.short, ap length c.as_slice-src.ensures.value) in
     let h : ProtectedHeader = head.Retry c.args.ids.0 c.args.ids.1 c.args.version in
     let is = c.written.ensures.retry context (length c.in-Some.datagram.items) c.args.version c.args.ids.0 c.args.ids.1 c.args.behind.now (omega (arith, c.ranges.version.fits)) (c.requires.some, c.requires.known) dst src in
-    packet_of _ _ _ _ _ (c.cut_alone.ensures h (header_bytes (header.Retry c.args.ids.0 c.args.ids.1 c.args.version)) c.args.behind.now c.in-Some.ensures refl (subst (λ (bytes : List ℕ). HeaderAt context (length c.in-Some.datagram.items) bytes h c.args.behind.now) (sym c.in-Some.ensures) is))
+    let there = subst (λ (bytes : List ℕ). HeaderAt context (length c.in-Some.datagram.items) bytes h c.args.behind.now) (sym c.in-Some.ensures) is in
+    packet_of _ _ _ _ _ (c.cut_alone.ensures h (header_bytes (header.Retry c.args.ids.0 c.args.ids.1 c.args.version)) c.args.behind.now c.in-Some.ensures refl there)
 
 pub returns-clause-refused : goal.returns-clause-refused
 returns-clause-refused g c =
@@ -25,4 +26,5 @@ returns-clause-refused g c =
     let src : length c.args.ids.1 ≤ 20 = omega (arith, c.as_slice-src.ensures.short, ap length c.as_slice-src.ensures.value) in
     let h : ProtectedHeader = head.Retry c.args.ids.0 c.args.ids.1 c.args.version in
     let is = c.written.ensures.retry context (length c.in-Some.datagram.items) c.args.version c.args.ids.0 c.args.ids.1 c.args.behind.now (omega (arith, c.ranges.version.fits)) (c.requires.some, c.requires.known) dst src in
-    refusal_of _ _ _ _ _ (c.cut_alone.ensures h (header_bytes (header.Retry c.args.ids.0 c.args.ids.1 c.args.version)) c.args.behind.now c.in-Some.ensures refl (subst (λ (bytes : List ℕ). HeaderAt context (length c.in-Some.datagram.items) bytes h c.args.behind.now) (sym c.in-Some.ensures) is))
+    let there = subst (λ (bytes : List ℕ). HeaderAt context (length c.in-Some.datagram.items) bytes h c.args.behind.now) (sym c.in-Some.ensures) is in
+    refusal_of _ _ _ _ _ (c.cut_alone.ensures h (header_bytes (header.Retry c.args.ids.0 c.args.ids.1 c.args.version)) c.args.behind.now c.in-Some.ensures refl there)

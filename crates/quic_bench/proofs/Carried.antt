@@ -32,7 +32,8 @@ contents_of packet payload = record { header = packet.header.now; number = packe
 abbrev pub IsSealed : Opening → Outgoing → List ℕ → Type 0
 IsSealed opening packet bytes = SealedFrames (opening.keys (space_in packet.header.now)) packet.header.now packet.number packet.frames.now bytes
 
-pub begins : (opening : Opening) (packet : Outgoing) (bytes front rest : List ℕ) → (s : IsSealed opening packet front) → IsFoundAgain opening packet rest → bytes ≡ front ++ rest
+pub begins : (opening : Opening) (packet : Outgoing) (bytes front rest : List ℕ) → (s : IsSealed opening packet front)
+    → IsFoundAgain opening packet rest → bytes ≡ front ++ rest
     → BeginsSealed opening bytes (contents_of packet s.payload) rest
 begins opening packet bytes front rest s found text = record { packet = front; sealed = s.sealed; read = found.head; number = found.number; text = text }
 
@@ -44,7 +45,8 @@ given_back {opening} {bytes} {opened} {left} answer packet front rest s found te
     answer.sealed (contents_of packet s.payload) rest (begins opening packet bytes front rest s found text)
 
 pub not_given : {opening : Opening} {bytes : List ℕ} {e : OpenError} → PacketAnswer opening bytes (Err e)
-    → (packet : Outgoing) (front rest : List ℕ) → IsSealed opening packet front → IsFoundAgain opening packet rest → bytes ≡ front ++ rest → e ≡ error.OutOfMemory
+    → (packet : Outgoing) (front rest : List ℕ) → IsSealed opening packet front → IsFoundAgain opening packet rest → bytes ≡ front ++ rest
+    → e ≡ error.OutOfMemory
 not_given {opening} {bytes} {e} answer packet front rest s found text =
     answer.sealed (contents_of packet s.payload) rest (begins opening packet bytes front rest s found text)
 

@@ -31,17 +31,21 @@ one_opened opening packet payload old new (opened ∷ []) is are appended =
 one_opened opening packet payload old new (opened ∷ other ∷ others) is are appended = absurd cc
 
 -- a datagram of one sealed packet
-row_of_one : (opening : Opening) (packet : Outgoing) (bytes : List ℕ) → (s : IsSealed opening packet bytes) → IsFoundAgain opening packet [] → SealedRow opening (contents_of packet s.payload ∷ []) bytes
+row_of_one : (opening : Opening) (packet : Outgoing) (bytes : List ℕ) → (s : IsSealed opening packet bytes) → IsFoundAgain opening packet []
+    → SealedRow opening (contents_of packet s.payload ∷ []) bytes
 row_of_one opening packet bytes s found = last (contents_of packet s.payload) bytes (begins opening packet bytes bytes [] s found (sym (append-nil bytes)))
 
 -- what is given of it is that packet
-pub opened_one : {X : Type 0} {opening : Opening} {bytes : List ℕ} {x : X} {old new : List Opened} → DatagramAnswer opening bytes (Ok x) old new → (packet : Outgoing) (sealed : List ℕ)
-    → IsSealed opening packet sealed → IsFoundAgain opening packet [] → bytes ≡ sealed → (opened : Opened) × (new ≡ old ++ (opened ∷ [])) × Carries opened packet
+pub opened_one : {X : Type 0} {opening : Opening} {bytes : List ℕ} {x : X} {old new : List Opened} → DatagramAnswer opening bytes (Ok x) old new
+    → (packet : Outgoing) (sealed : List ℕ)
+    → IsSealed opening packet sealed → IsFoundAgain opening packet [] → bytes ≡ sealed
+    → (opened : Opened) × (new ≡ old ++ (opened ∷ [])) × Carries opened packet
 opened_one {X} {opening} {bytes} {x} {old} {new} answer packet sealed s found is =
     let back = answer.sealed (contents_of packet s.payload ∷ []) (subst (SealedRow opening (contents_of packet s.payload ∷ [])) (sym is) (row_of_one opening packet sealed s found)) in
     one_opened opening packet s.payload old new back.0 s.is_payload back.1 back.2
 
-pub one_refused : {X : Type 0} {opening : Opening} {bytes : List ℕ} {e : OpenError} {old new : List Opened} → DatagramAnswer {X = X} opening bytes (Err e) old new → (packet : Outgoing) (sealed : List ℕ)
+pub one_refused : {X : Type 0} {opening : Opening} {bytes : List ℕ} {e : OpenError} {old new : List Opened}
+    → DatagramAnswer {X = X} opening bytes (Err e) old new → (packet : Outgoing) (sealed : List ℕ)
     → IsSealed opening packet sealed → IsFoundAgain opening packet [] → bytes ≡ sealed → e ≡ error.OutOfMemory
 one_refused {X} {opening} {bytes} {e} {old} {new} answer packet sealed s found is =
     (answer.sealed (contents_of packet s.payload ∷ []) (subst (SealedRow opening (contents_of packet s.payload ∷ [])) (sym is) (row_of_one opening packet sealed s found))).0
@@ -50,7 +54,8 @@ one_refused {X} {opening} {bytes} {e} {old} {new} answer packet sealed s found i
 pub sealed_same : (keys : KeyPair) (h : Header) (n : ℕ) (frames : List Frame) (one other : List ℕ)
     → ((payload : List ℕ) (a b : List ℕ) → SealedOf keys h n payload a → SealedOf keys h n payload b → a ≡ b)
     → ((a b : List ℕ) → IsPayload frames a → IsPayload frames b → a ≡ b)
-    → (before before' : List ℕ) → before ≡ before' → IsAppended (SealedFrames keys h n frames) before one → IsAppended (SealedFrames keys h n frames) before' other → one ≡ other
+    → (before before' : List ℕ) → before ≡ before' → IsAppended (SealedFrames keys h n frames) before one
+    → IsAppended (SealedFrames keys h n frames) before' other → one ≡ other
 sealed_same keys h n frames one other packets payloads before before' start a b =
     let first = a.1 in
     let second = b.1 in

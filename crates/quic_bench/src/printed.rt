@@ -39,10 +39,7 @@ pub fn packets_printed<R: Source, W: Sink>(
 {
     laws::packets_printed();
     one_row_of_packets();
-    match run(alloc, Mode::Datagram(len), source, sink) {
-        Ok(clean) => Ok(clean),
-        Err(e) => Err(e),
-    }
+    run(alloc, Mode::Datagram(len), source, sink)
 }
 
 /// Of a payload the lines of its frames are printed, and the line of its error.
@@ -61,10 +58,7 @@ pub fn frames_printed<R: Source, W: Sink>(
         (R.given source.old) (R.given source.new) (W.taken sink.old) (W.taken sink.new)) }
 {
     laws::frames_printed();
-    match run(alloc, Mode::Frames, source, sink) {
-        Ok(clean) => Ok(clean),
-        Err(e) => Err(e),
-    }
+    run(alloc, Mode::Frames, source, sink)
 }
 
 /// The same where types must be in their shortest encodings.
@@ -79,10 +73,7 @@ pub fn strict_printed<R: Source, W: Sink>(
         (R.given source.old) (R.given source.new) (W.taken sink.old) (W.taken sink.new)) }
 {
     laws::strict_printed();
-    match run(alloc, Mode::Strict, source, sink) {
-        Ok(clean) => Ok(clean),
-        Err(e) => Err(e),
-    }
+    run(alloc, Mode::Strict, source, sink)
 }
 
 /// Of a valid payload the digits of the shortest payload with the same meaning are printed.
@@ -96,10 +87,7 @@ pub fn least_printed<R: Source, W: Sink>(
         (R.given source.old) (R.given source.new) (W.taken sink.old) (W.taken sink.new)) }
 {
     laws::canonical_printed();
-    match run(alloc, Mode::Canon, source, sink) {
-        Ok(clean) => Ok(clean),
-        Err(e) => Err(e),
-    }
+    run(alloc, Mode::Canon, source, sink)
 }
 
 /// Of a list of parameters the lines of its one answer are printed.
@@ -115,8 +103,5 @@ pub fn parameters_printed<R: Source, W: Sink>(
         (R.given source.old) (R.given source.new) (W.taken sink.old) (W.taken sink.new)) }
 {
     laws::parameter_lines();
-    match run(alloc, Mode::Params(side), source, sink) {
-        Ok(clean) => Ok(clean),
-        Err(e) => Err(e),
-    }
+    run(alloc, Mode::Params(side), source, sink)
 }

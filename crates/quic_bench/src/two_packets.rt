@@ -52,10 +52,8 @@ pub(crate) fn seal<H: HeaderKey, P: PacketKey>(
         (λ e. IsRefusedPacket (⟦<SpaceKeys<H, P> as PairsOfKeys>⟧.pairs keys.now) packet.now e) }
 {
     let keys = keys.of(packet.header.space());
-    match seal_packet(packet.header, packet.number, packet.frames, keys, out) {
-        Ok(_) => Ok(()),
-        Err(e) => Err(e),
-    }
+    let _ = seal_packet(packet.header, packet.number, packet.frames, keys, out)?;
+    Ok(())
 }
 
 // The datagram of both packets.
@@ -98,7 +96,8 @@ pub fn sealed_and_opened<C: ConnectionIdParser, H: HeaderKey, P: PacketKey>(
     requires second { CanBeSealed second.now }
     requires expected { AreExpected expected.now }
     requires front { (rest : List ℕ) → IsFoundAgain
-        (⟦<SpaceKeys<H, P> as OpeningKeys<C>>⟧.opening keys.now parser.now versions.now false expected.now) first.now rest }
+        (⟦<SpaceKeys<H, P> as OpeningKeys<C>>⟧.opening keys.now parser.now versions.now false expected.now)
+        first.now rest }
     requires back { IsFoundAgain
         (⟦<SpaceKeys<H, P> as OpeningKeys<C>>⟧.opening keys.now parser.now versions.now false expected.now)
         second.now [] }

@@ -29,7 +29,8 @@ or_true false true c e = refl
 or_true false false c e = absurd cc
 
 -- the greatest number of the next range is in the set
-pub greatest_fits : (set again : List (Range ℕ)) (least greatest : ℕ) (others : List (ℕ × ℕ)) → IsUnderWay set again ((least, greatest) ∷ others) → ((n : ℕ) → member set n ≡ true → n < 2 ^ 62) → greatest < 2 ^ 62
+pub greatest_fits : (set again : List (Range ℕ)) (least greatest : ℕ) (others : List (ℕ × ℕ)) → IsUnderWay set again ((least, greatest) ∷ others)
+    → ((n : ℕ) → member set n ≡ true → n < 2 ^ 62) → greatest < 2 ^ 62
 greatest_fits set again least greatest others w small =
     let there = or_true (member again greatest) (nat_le least greatest && nat_le greatest greatest) (is_in others greatest) (within least greatest (apart_rest (least, greatest) others w.apart).0) in
     small greatest (sym (w.same greatest) ∙ there)
@@ -48,7 +49,8 @@ or_first true b c = refl
 or_first false b c = refl
 
 -- a range was put into the set
-pub goes_on : (set again after : List (Range ℕ)) (least greatest : ℕ) (others : List (ℕ × ℕ)) → IsUnderWay set again ((least, greatest) ∷ others) → IsRunsOf (in_union again (record { start = least; end = greatest + 1 })) after
+pub goes_on : (set again after : List (Range ℕ)) (least greatest : ℕ) (others : List (ℕ × ℕ)) → IsUnderWay set again ((least, greatest) ∷ others)
+    → IsRunsOf (in_union again (record { start = least; end = greatest + 1 })) after
     → IsUnderWay set after others
 goes_on set again after least greatest others w put = record {
   same = λ n.
@@ -63,5 +65,7 @@ or_false true = refl
 or_false false = refl
 
 -- no range is left
-pub is_again : (set again : List (Range ℕ)) → IsUnderWay set again [] → ((rs ss : List (Range ℕ)) → IsMaximalRuns rs → IsMaximalRuns ss → ((y : ℕ) → member rs y ≡ member ss y) → rs ≡ ss) → IsMaximalRuns set → again ≡ set
+pub is_again : (set again : List (Range ℕ)) → IsUnderWay set again []
+    → ((rs ss : List (Range ℕ)) → IsMaximalRuns rs → IsMaximalRuns ss → ((y : ℕ) → member rs y ≡ member ss y) → rs ≡ ss) → IsMaximalRuns set
+    → again ≡ set
 is_again set again w unique maximal = unique again set w.maximal maximal (λ n. sym (or_false (member again n)) ∙ w.same n)

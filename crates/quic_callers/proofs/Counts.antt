@@ -35,17 +35,20 @@ other_len (frames.Close (closes.Connection c)) other = refl
 other_len (frames.Close (closes.Application c)) other = refl
 other_len frame other = refl
 
-more : (found : List TypedFrame) (one : TypedFrame) (n m len : ℕ) → n ≡ min (streams_len found) most → stream_len one ≡ len → m ≡ min (n + len) most → m ≡ min (streams_len (found ++ one ∷ [])) most
+more : (found : List TypedFrame) (one : TypedFrame) (n m len : ℕ) → n ≡ min (streams_len found) most → stream_len one ≡ len → m ≡ min (n + len) most
+    → m ≡ min (streams_len (found ++ one ∷ [])) most
 more found one n m len so_far is then = omega (arith, so_far, is, then, sum_by_push stream_len found one)
 
-pub counted_other : (payload : List ℕ) (state next : IterState) (frame : Frame) (n : ℕ) → IsCounted payload state n → Finds state frame next → ((s : Stream) → frame ≡ frames.Stream s → ⊥) → IsCounted payload next n
+pub counted_other : (payload : List ℕ) (state next : IterState) (frame : Frame) (n : ℕ) → IsCounted payload state n → Finds state frame next
+    → ((s : Stream) → frame ≡ frames.Stream s → ⊥) → IsCounted payload next n
 unfolding on_the_way_next
 counted_other payload state next frame n w f other = record {
   came = on_the_way_next payload state next frame w.came f;
   count = more w.came.found f.found n n 0 w.count (came_len f.found frame f.says ∙ other_len frame other) (omega (arith, w.count));
 }
 
-pub counted_stream : (payload : List ℕ) (state next : IterState) (frame : Frame) (s : Stream) (n m : ℕ) → IsCounted payload state n → Finds state frame next → frame ≡ frames.Stream s
+pub counted_stream : (payload : List ℕ) (state next : IterState) (frame : Frame) (s : Stream) (n m : ℕ) → IsCounted payload state n
+    → Finds state frame next → frame ≡ frames.Stream s
     → m ≡ min (n + length s.bytes.now) most → IsCounted payload next m
 unfolding on_the_way_next
 counted_stream payload state next frame s n m w f is then = record {
@@ -55,7 +58,8 @@ counted_stream payload state next frame s n m w f is then = record {
 }
 
 -- nothing is left, and no frame was invalid: all data were counted
-pub all_counted : (payload : List ℕ) (start state : IterState) (n : ℕ) → start ≡ first_of false payload → IsCounted payload state n → left state ≡ [] → IsEither false None payload → GivesFrames false payload start
+pub all_counted : (payload : List ℕ) (start state : IterState) (n : ℕ) → start ≡ first_of false payload → IsCounted payload state n → left state ≡ []
+    → IsEither false None payload → GivesFrames false payload start
     → GivesBroken false payload start → (found : List TypedFrame) × AreFrames false found payload × (n ≡ min (streams_len found) most)
 all_counted payload start state n first w none either frames broken =
     (w.came.found, those_frames payload start state first w.came none either frames broken, w.count)

@@ -1,5 +1,5 @@
 -- Headers that are written and read again.
-use Rattle.std.specs.Prelude.{◌≡◌, ℕ, ◌+◌, ◌/◌, ◌%◌, ◌<◌, ◌≤◌, ◌⊎◌, ◌||◌, Bool, true, false, nat_eq, IsTrue, List, ◌++◌, length, Option, None, Result, Ok, Err, IsErrOf, MatchOption}
+use Rattle.std.specs.Prelude.{◌≡◌, ℕ, ◌+◌, ◌/◌, ◌%◌, ◌<◌, ◌≤◌, ◌⊎◌, ◌||◌, Bool, true, false, nat_eq, IsTrue, List, ◌++◌, length, Option, None, Result, Ok, Err, IfOk, IfErr, IsErrOf, MatchOption, MatchResult}
 use Rattle.std.proofs.Common.{sym, ap, ◌∙◌, arith, refl, subst, inl, inr, length-append}
 use Rattle.quic_header_decode.specs.declared.decode_error.PacketDecodeError.{PacketDecodeError}
 use Rattle.quic_header_decode.specs.declared.decode_error.PacketDecodeError.TheVariants as error
@@ -9,7 +9,8 @@ use Rattle.quic_header_decode.specs.Reading.{DecodeOptions, len_in}
 use Rattle.quic_header_decode.specs.Refusal.{Refusal, RefusesHeader}
 
 -- a header without a length, and all that follows, are one packet
-pub alone : (context : DecodeOptions) (bytes front rest : List ℕ) (h : ProtectedHeader) → bytes ≡ front ++ rest → HeaderAt context (length bytes) bytes h rest → len_in h ≡ None
+pub alone : (context : DecodeOptions) (bytes front rest : List ℕ) (h : ProtectedHeader) → bytes ≡ front ++ rest
+    → HeaderAt context (length bytes) bytes h rest → len_in h ≡ None
     → Cut context bytes h (length front) (length bytes)
 alone context bytes front rest h parts is none =
     let whole : length front + length rest ≡ length bytes = sym (ap length parts ∙ length-append front rest) in
@@ -17,11 +18,21 @@ alone context bytes front rest h parts is none =
     subst (λ (o : Option ℕ). MatchOption o (length bytes ≡ length bytes) (λ len. length bytes ≡ length front + len)) (sym none) refl in
     (rest, is, whole, end, omega arith)
 
+-- where a first fact of a cut packet or of its refusal is known, as the caller wants it
+pub packet_of : {T E : Type 0} (r : Result T E) (P R : T → Type 0) (Q S : E → Type 0) → MatchResult r (λ x. P x × R x) (λ e. Q e × S e) → IfOk r P
+packet_of (Ok x) P R Q S both = both.0
+packet_of (Err e) P R Q S both = tt
+
+pub refusal_of : {T E : Type 0} (r : Result T E) (P R : T → Type 0) (Q S : E → Type 0) → MatchResult r (λ x. P x × R x) (λ e. Q e × S e) → IfErr r Q
+refusal_of (Ok x) P R Q S both = tt
+refusal_of (Err e) P R Q S both = both.0
+
 ok_same : (one other : ProtectedHeader × ℕ × ℕ) → (let r : Result (ProtectedHeader × ℕ × ℕ) Refusal = Ok one in r) ≡ Ok other → one ≡ other
 ok_same one other same = cc
 
 -- where such a packet was cut, it is this one
-pub is_alone : (h got : ProtectedHeader) (p end p' len : ℕ) → (let r : Result (ProtectedHeader × ℕ × ℕ) Refusal = Ok (h, p, end) in r) ≡ Ok (got, p', len) → (got ≡ h) × (len ≡ end)
+pub is_alone : (h got : ProtectedHeader) (p end p' len : ℕ)
+    → (let r : Result (ProtectedHeader × ℕ × ℕ) Refusal = Ok (h, p, end) in r) ≡ Ok (got, p', len) → (got ≡ h) × (len ≡ end)
 is_alone h got p end p' len same =
     let parts = ok_same (h, p, end) (got, p', len) same in
     (sym (ap (λ x. x.0) parts), sym (ap (λ x. x.2) parts))
@@ -38,7 +49,8 @@ as_reported {T} e same = ap (λ (x : PacketDecodeError). let r : Result T Packet
 
 -- which is the parser's, since nothing follows the packet
 pub parsers_memory : (context : DecodeOptions) (takes : Bool) (bytes : List ℕ) (h : ProtectedHeader) (p : ℕ)
-    → ((one other : Result (ProtectedHeader × ℕ × ℕ) Refusal) → CutAnswer context bytes one → CutAnswer context bytes other → one ≡ other) → Cut context bytes h p (length bytes)
+    → ((one other : Result (ProtectedHeader × ℕ × ℕ) Refusal) → CutAnswer context bytes one → CutAnswer context bytes other → one ≡ other)
+    → Cut context bytes h p (length bytes)
     → IsTrue takes ⊎ ((g : ProtectedHeader) × (a : ℕ) × (q : ℕ) × Cut context bytes g a q × (q < length bytes)) → IsTrue takes
 parsers_memory context takes bytes h p same cut (inl is) = is
 parsers_memory context takes bytes h p same cut (inr (g, a, q, other, less)) =

@@ -35,7 +35,8 @@ number_came old new x first fewer on =
     ∙ ap (λ (n : ℕ). n ∷ left_in new) (sym first)
 
 -- the numbers that were added and those that are left, after another one
-pub added : (total sum_so_far x others : ℕ) (old new : RangeInclusive ℕ) → left_in old ≡ x ∷ left_in new → total ≡ sum_so_far + (sum (left_in old) + others) → total ≡ (sum_so_far + x) + (sum (left_in new) + others)
+pub added : (total sum_so_far x others : ℕ) (old new : RangeInclusive ℕ) → left_in old ≡ x ∷ left_in new
+    → total ≡ sum_so_far + (sum (left_in old) + others) → total ≡ (sum_so_far + x) + (sum (left_in new) + others)
 added total sum_so_far x others old new step all =
     let first : sum (left_in old) ≡ x + sum (left_in new) = ap sum step ∙ sum_by-cons (λ n. n) x (left_in new) in
     omega (arith, first, all)

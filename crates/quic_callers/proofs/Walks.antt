@@ -23,11 +23,13 @@ pub record IsOnTheWay (payload : List ℕ) (state : IterState) : Type 0 where
 unfoldable pub on_the_way_first : (payload : List ℕ) (state : IterState) → state ≡ first_of false payload → IsOnTheWay payload state
 on_the_way_first payload state e = record { found = []; items = ap (λ (w : IterState). map unplaced (left w)) (sym e) }
 
-pub push : (found : List TypedFrame) (one : TypedFrame) (rest : List (Result TypedFrame Invalid)) → map given found ++ given one ∷ rest ≡ map given (found ++ one ∷ []) ++ rest
+pub push : (found : List TypedFrame) (one : TypedFrame) (rest : List (Result TypedFrame Invalid))
+    → map given found ++ given one ∷ rest ≡ map given (found ++ one ∷ []) ++ rest
 push [] one rest = refl
 push (first ∷ found) one rest = ap (λ (l : List (Result TypedFrame Invalid)). given first ∷ l) (push found one rest)
 
-unfoldable pub on_the_way_next : (payload : List ℕ) (state next : IterState) (frame : Frame) → IsOnTheWay payload state → Finds state frame next → IsOnTheWay payload next
+unfoldable pub on_the_way_next : (payload : List ℕ) (state next : IterState) (frame : Frame) → IsOnTheWay payload state → Finds state frame next
+    → IsOnTheWay payload next
 on_the_way_next payload state next frame w f = record {
   found = w.found ++ f.found ∷ [];
   items = w.items ∙ ap (λ l. map given w.found ++ map unplaced l) f.first ∙ push w.found f.found (map unplaced (left next));
@@ -55,7 +57,8 @@ pub record IsMet (payload : List ℕ) (i : Invalid) : Type 0 where
   pub broken : IsBroken false None found payload type reason
   pub reported : invalid type reason ≡ i
 
-pub met : (payload : List ℕ) (start state : IterState) (i : Invalid) → start ≡ first_of false payload → IsOnTheWay payload state → left state ≡ Broken i ∷ [] → IsEither false None payload
+pub met : (payload : List ℕ) (start state : IterState) (i : Invalid) → start ≡ first_of false payload → IsOnTheWay payload state
+    → left state ≡ Broken i ∷ [] → IsEither false None payload
     → GivesFrames false payload start → GivesBroken false payload start → IsMet payload i
 met payload start state i first w here either frames broken = by_case either
   where
@@ -79,7 +82,8 @@ tells payload i error m e = inr (m.found, m.type, m.reason, m.broken, subst (λ 
 -- What follows can't mend what the walk met, where it was reported for another reason than the end of the bytes.
 pub lost : (front : List ℕ) (i : InvalidFrame)
     → ((strict : Bool) (found others : List TypedFrame) (bytes more : List ℕ) (type : Option ℕ) (reason : Fault) → AreBytes (bytes ++ more) → AreFrames strict found (bytes ++ more) → IsBroken strict None others bytes type reason → reason ≡ UnexpectedEnd)
-    → IsMet front (invalid_of i) → i.reason.now ≢ codes "unexpected end" → (more : List ℕ) (found : List TypedFrame) → AreBytes (front ++ more) → AreFrames false found (front ++ more) → ⊥
+    → IsMet front (invalid_of i) → i.reason.now ≢ codes "unexpected end" → (more : List ℕ) (found : List TypedFrame) → AreBytes (front ++ more)
+    → AreFrames false found (front ++ more) → ⊥
 lost front i last m final more found fits frames =
     let cut : m.reason ≡ UnexpectedEnd = last false found m.found front more m.type m.reason fits frames m.broken in
     let text : reason_text m.reason ≡ i.reason.now = ap (λ (x : Invalid). x.reason) m.reported in
@@ -107,7 +111,8 @@ same_frames (first ∷ found) (other ∷ others) e =
     cc
 
 -- nothing is left, and no frame was invalid: the frames that came are those of the payload
-pub those_frames : (payload : List ℕ) (start state : IterState) → start ≡ first_of false payload → (w : IsOnTheWay payload state) → left state ≡ [] → IsEither false None payload → GivesFrames false payload start
+pub those_frames : (payload : List ℕ) (start state : IterState) → start ≡ first_of false payload → (w : IsOnTheWay payload state) → left state ≡ []
+    → IsEither false None payload → GivesFrames false payload start
     → GivesBroken false payload start → AreFrames false w.found payload
 those_frames payload start state first w none either frames broken = by_case either
   where
@@ -119,7 +124,8 @@ those_frames payload start state first w none either frames broken = by_case eit
     by_case (inr s) = no_error w.found s.0 (invalid s.1 s.2) (sym items ∙ broken s.0 s.1 s.2 s.3)
 
 -- nothing is left, and no frame was invalid
-pub all_frames : (payload : List ℕ) (start state : IterState) → start ≡ first_of false payload → IsOnTheWay payload state → left state ≡ [] → IsEither false None payload → GivesBroken false payload start
+pub all_frames : (payload : List ℕ) (start state : IterState) → start ≡ first_of false payload → IsOnTheWay payload state → left state ≡ []
+    → IsEither false None payload → GivesBroken false payload start
     → (found : List TypedFrame) × AreFrames false found payload
 all_frames payload start state first w none either broken = by_case either
   where

@@ -94,10 +94,7 @@ pub fn retry_read_back<C: ConnectionIdParser>(
     let Some(datagram) = datagram_of(alloc, &header, behind) else {
         return Err(PacketDecodeError::OutOfMemory);
     };
-    match cut_alone(datagram, parser, versions, grease) {
-        Ok(packet) => Ok(packet),
-        Err(e) => Err(e),
-    }
+    cut_alone(datagram, parser, versions, grease)
 }
 
 /// The same for a version negotiation. The caller must give the first byte without its highest bit; it must have the
@@ -128,10 +125,7 @@ pub fn negotiation_read_back<C: ConnectionIdParser>(
     let Some(datagram) = datagram_of(alloc, &header, behind) else {
         return Err(PacketDecodeError::OutOfMemory);
     };
-    match cut_alone(datagram, parser, versions, grease) {
-        Ok(packet) => Ok(packet),
-        Err(e) => Err(e),
-    }
+    cut_alone(datagram, parser, versions, grease)
 }
 
 /// Cuts two datagrams of the same bytes, and answers whether both packets have the same length: they have, unless

@@ -60,14 +60,8 @@ pub fn kept_twice(
     ensures { OnOk result (Resumes first.now third.now) }
 {
     laws::resumption();
-    match second.validate_resumption_from(first) {
-        Ok(()) => {}
-        Err(e) => return Err(e),
-    }
-    match third.validate_resumption_from(second) {
-        Ok(()) => Ok(()),
-        Err(e) => Err(e),
-    }
+    second.validate_resumption_from(first)?;
+    third.validate_resumption_from(second)
 }
 
 /// Parameters keep what is remembered of themselves.

@@ -22,7 +22,8 @@ pub length-slice_range : (payload : List ℕ) (start stop : ℕ) → start ≤ s
 length-slice_range payload start stop le within = omega (arith, length-take (stop - start) (drop start payload), length-drop start payload, le, within)
 
 -- the first bytes, and those up to a later place
-pub take_on : (payload : List ℕ) (start stop : ℕ) → start ≤ stop → stop ≤ length payload → take start payload ++ slice_range payload start stop ≡ take stop payload
+pub take_on : (payload : List ℕ) (start stop : ℕ) → start ≤ stop → stop ≤ length payload
+    → take start payload ++ slice_range payload start stop ≡ take stop payload
 take_on payload start stop le within =
     let here = slice_range payload start stop in
     let whole : (take start payload ++ here) ++ drop stop payload ≡ take stop payload ++ drop stop payload =
@@ -31,7 +32,8 @@ take_on payload start stop le within =
     omega (arith, length-append (take start payload) here, length-take start payload, length-take stop payload, length-slice_range payload start stop le within, le, within) in
     same_front (take start payload ++ here) (take stop payload) (drop stop payload) (drop stop payload) sizes whole
 
-pub slice_on : (payload : List ℕ) (from start stop : ℕ) → from ≤ start → start ≤ stop → stop ≤ length payload → slice_range payload from start ++ slice_range payload start stop ≡ slice_range payload from stop
+pub slice_on : (payload : List ℕ) (from start stop : ℕ) → from ≤ start → start ≤ stop → stop ≤ length payload
+    → slice_range payload from start ++ slice_range payload start stop ≡ slice_range payload from stop
 slice_on payload from start stop low le within =
     let a = slice_range payload from start in
     let b = slice_range payload start stop in

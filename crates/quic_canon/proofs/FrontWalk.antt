@@ -29,7 +29,8 @@ pub record FrontWalk (payload : List ℕ) (front start : ℕ) (state : IterState
   pub in_front : (found : List TypedFrame) → AreFrames false found payload → InFront payload front state found
 
 -- where the walk begins
-pub front_begins : (payload : List ℕ) (state : IterState) (found : List TypedFrame) → state ≡ first_of false payload → map unplaced (left state) ≡ map given found → AreFrames false found payload → InFront payload 0 state found
+pub front_begins : (payload : List ℕ) (state : IterState) (found : List TypedFrame) → state ≡ first_of false payload
+    → map unplaced (left state) ≡ map given found → AreFrames false found payload → InFront payload 0 state found
 front_begins payload state found first are s = record {
   others = found;
   cut = record { back = s; parts = refl; within = omega arith };
@@ -38,7 +39,8 @@ front_begins payload state found first are s = record {
   is_there = inl (sym (ap (λ (w : IterState). w.offset) first), refl);
 }
 
-pub front_walk_begins : (payload : List ℕ) (state : IterState) → state ≡ first_of false payload → IsEither false None payload → GivesFrames false payload state → GivesBroken false payload state
+pub front_walk_begins : (payload : List ℕ) (state : IterState) → state ≡ first_of false payload → IsEither false None payload
+    → GivesFrames false payload state → GivesBroken false payload state
     → FrontWalk payload 0 0 state
 front_walk_begins payload state first e whole broken = record {
   walks = walk_begins payload state first e whole broken;
@@ -47,7 +49,8 @@ front_walk_begins payload state first e whole broken = record {
 }
 
 -- the frames that are left where all before are in their shortest encodings
-all_so_far : (payload : List ℕ) (n : ℕ) (state : IterState) (found : List TypedFrame) → (f : InFront payload n state found) → n ≡ state.offset → f.rest ≡ f.others
+all_so_far : (payload : List ℕ) (n : ℕ) (state : IterState) (found : List TypedFrame) → (f : InFront payload n state found) → n ≡ state.offset
+    → f.rest ≡ f.others
 all_so_far payload n state found f e = is f.is_there
   where
     is : ((n ≡ state.offset) × (f.rest ≡ f.others)) ⊎ ((n < state.offset) × (length (shortest_frames (map frame_in f.others)) < length payload - n)) → f.rest ≡ f.others
@@ -55,7 +58,8 @@ all_so_far payload n state found f e = is f.is_there
     is (inr a) = let lt = a.0 in absurd (omega (arith, lt, e))
 
 -- one more frame in its shortest encoding
-pub front_grows : (payload : List ℕ) (start size : ℕ) (old new : IterState) (frame : Frame) (b : Bool) → BeginsNone → OneShortest → size ≡ length payload → FrontWalk payload start start old → Finds old frame new → Tested b frame start new.offset size → b ≡ true
+pub front_grows : (payload : List ℕ) (start size : ℕ) (old new : IterState) (frame : Frame) (b : Bool) → BeginsNone → OneShortest
+    → size ≡ length payload → FrontWalk payload start start old → Finds old frame new → Tested b frame start new.offset size → b ≡ true
     → FrontWalk payload new.offset new.offset new
 front_grows payload start size old new frame b begins one len w f tested e =
     let stop = new.offset in
@@ -85,7 +89,8 @@ front_grows payload start size old new frame b begins one len w f tested e =
     }
 
 -- the first frame that isn't
-pub front_ends : (payload : List ℕ) (start size : ℕ) (old new : IterState) (frame : Frame) (b : Bool) → BeginsNone → OneShortest → Shortest → size ≡ length payload → FrontWalk payload start start old → Finds old frame new → Tested b frame start new.offset size → b ≡ false
+pub front_ends : (payload : List ℕ) (start size : ℕ) (old new : IterState) (frame : Frame) (b : Bool) → BeginsNone → OneShortest → Shortest
+    → size ≡ length payload → FrontWalk payload start start old → Finds old frame new → Tested b frame start new.offset size → b ≡ false
     → FrontWalk payload start new.offset new
 front_ends payload start size old new frame b begins one all len w f tested e =
     let stop = new.offset in
@@ -112,7 +117,8 @@ front_ends payload start size old new frame b begins one all len w f tested e =
     }
 
 -- the frames after that
-pub front_stays : (payload : List ℕ) (front start : ℕ) (old new : IterState) (frame : Frame) → front ≢ start → FrontWalk payload front start old → Finds old frame new → FrontWalk payload front new.offset new
+pub front_stays : (payload : List ℕ) (front start : ℕ) (old new : IterState) (frame : Frame) → front ≢ start → FrontWalk payload front start old
+    → Finds old frame new → FrontWalk payload front new.offset new
 front_stays payload front start old new frame differs w f =
     let h = here payload start old new frame w.walks f in
     let some = h.stands.some in
@@ -142,7 +148,8 @@ not_empty [] i e = cc
 not_empty (f ∷ found) i e = cc
 
 -- nothing is left
-pub front_done : (payload : List ℕ) (front start : ℕ) (state : IterState) → payload ≢ [] → IsEither false None payload → FrontWalk payload front start state → left state ≡ [] → IsFront payload front
+pub front_done : (payload : List ℕ) (front start : ℕ) (state : IterState) → payload ≢ [] → IsEither false None payload
+    → FrontWalk payload front start state → left state ≡ [] → IsFront payload front
 front_done payload front start state some (inl a) w none =
     let f = w.in_front a.0 a.1 in
     let at = w.walks.done none in
@@ -163,7 +170,8 @@ front_done payload front start state some (inr b) w none =
     let r = w.walks.broken b.0 b.1 b.2 b.3 in absurd (not_empty r.0 (invalid b.1 b.2) (sym (ap (map unplaced) none) ∙ r.1))
 
 -- an invalid frame
-pub front_fails : (payload : List ℕ) (front start : ℕ) (state : IterState) (i : Invalid) → IsEither false None payload → FrontWalk payload front start state → left state ≡ Broken i ∷ []
+pub front_fails : (payload : List ℕ) (front start : ℕ) (state : IterState) (i : Invalid) → IsEither false None payload
+    → FrontWalk payload front start state → left state ≡ Broken i ∷ []
     → (found : List TypedFrame) × (type : Option ℕ) × (reason : Fault) × IsBroken false None found payload type reason × (i ≡ invalid type reason)
 front_fails payload front start state i (inl a) w is =
     let f = w.in_front a.0 a.1 in absurd (no_error f.rest i (sym (ap (map unplaced) is) ∙ f.left_are))
@@ -178,14 +186,16 @@ front_fails payload front start state i (inr b) w is =
     error_is [] i j e = cc
     error_is (f ∷ rest) i j e = absurd cc
 
-pub grows_to : (payload : List ℕ) (front start stop : ℕ) (old new : IterState) (frame : Frame) (b : Bool) → BeginsNone → OneShortest → front ≡ start → FrontWalk payload front start old → Finds old frame new → stop ≡ new.offset
+pub grows_to : (payload : List ℕ) (front start stop : ℕ) (old new : IterState) (frame : Frame) (b : Bool) → BeginsNone → OneShortest → front ≡ start
+    → FrontWalk payload front start old → Finds old frame new → stop ≡ new.offset
     → Tested b frame start stop (length payload) → b ≡ true → FrontWalk payload stop stop new
 grows_to payload front start stop old new frame b begins one same w f at tested e =
     let v = subst (λ (n : ℕ). FrontWalk payload n start old) same w in
     let t = subst (λ (n : ℕ). Tested b frame start n (length payload)) at tested in
     subst (λ (n : ℕ). FrontWalk payload n n new) (sym at) (front_grows payload start (length payload) old new frame b begins one refl v f t e)
 
-pub ends_at : (payload : List ℕ) (front start stop : ℕ) (old new : IterState) (frame : Frame) (b : Bool) → BeginsNone → OneShortest → Shortest → front ≡ start → FrontWalk payload front start old → Finds old frame new → stop ≡ new.offset
+pub ends_at : (payload : List ℕ) (front start stop : ℕ) (old new : IterState) (frame : Frame) (b : Bool) → BeginsNone → OneShortest → Shortest
+    → front ≡ start → FrontWalk payload front start old → Finds old frame new → stop ≡ new.offset
     → Tested b frame start stop (length payload) → b ≡ false → FrontWalk payload front stop new
 ends_at payload front start stop old new frame b begins one all same w f at tested e =
     let v = subst (λ (n : ℕ). FrontWalk payload n start old) same w in
@@ -193,10 +203,12 @@ ends_at payload front start stop old new frame b begins one all same w f at test
     let ended = front_ends payload start (length payload) old new frame b begins one all refl v f t e in
     subst (λ (n : ℕ). FrontWalk payload n stop new) (sym same) (subst (λ (n : ℕ). FrontWalk payload start n new) (sym at) ended)
 
-pub stays_at : (payload : List ℕ) (front start stop : ℕ) (old new : IterState) (frame : Frame) → front ≢ start → FrontWalk payload front start old → Finds old frame new → stop ≡ new.offset → FrontWalk payload front stop new
+pub stays_at : (payload : List ℕ) (front start stop : ℕ) (old new : IterState) (frame : Frame) → front ≢ start → FrontWalk payload front start old
+    → Finds old frame new → stop ≡ new.offset → FrontWalk payload front stop new
 stays_at payload front start stop old new frame differs w f at =
     subst (λ (n : ℕ). FrontWalk payload front n new) (sym at) (front_stays payload front start old new frame differs w f)
 
 -- by another name of the place
-pub front_is : (payload : List ℕ) (front same start : ℕ) (state : IterState) → same ≡ front → FrontWalk payload front start state → FrontWalk payload same start state
+pub front_is : (payload : List ℕ) (front same start : ℕ) (state : IterState) → same ≡ front → FrontWalk payload front start state
+    → FrontWalk payload same start state
 front_is payload front same start state e w = subst (λ (n : ℕ). FrontWalk payload n start state) (sym e) w

@@ -83,7 +83,8 @@ no_bytes l e = none l (from_test (length l) 0 e)
     none (x ∷ l) e = absurd (omega (arith, e))
 
 -- what was written in two parts, and in one
-pub appends_two : (old mid new payload front back : List ℕ) (n : ℕ) → HasLeast → IsFront payload n → front ≡ take n payload → back ≡ drop n payload → mid ≡ old ++ front
+pub appends_two : (old mid new payload front back : List ℕ) (n : ℕ) → HasLeast → IsFront payload n → front ≡ take n payload → back ≡ drop n payload
+    → mid ≡ old ++ front
     → ((found : List TypedFrame) → AreFrames false found back → new ≡ mid ++ shortest_frames (map frame_in found)) → AppendsLeast old new payload
 appends_two old mid new payload front back n has f is is_back copied written =
     let others = shortest_frames (map frame_in f.others) in
@@ -94,7 +95,8 @@ appends_two old mid new payload front back n has f is is_back copied written =
       appended = wrote ∙ ap (λ (l : List ℕ). l ++ others) (copied ∙ ap (λ (l : List ℕ). old ++ l) is) ∙ append_assoc old (take n payload) others;
     }
 
-pub appends_one : (old new payload front back : List ℕ) (n : ℕ) → HasLeast → IsFront payload n → front ≡ take n payload → back ≡ drop n payload → new ≡ old ++ front → back ≡ [] → AppendsLeast old new payload
+pub appends_one : (old new payload front back : List ℕ) (n : ℕ) → HasLeast → IsFront payload n → front ≡ take n payload → back ≡ drop n payload
+    → new ≡ old ++ front → back ≡ [] → AppendsLeast old new payload
 appends_one old new payload front back n has f is is_back copied none = record {
   least = take n payload;
   is_least = front_whole payload n has f (sym is_back ∙ none);

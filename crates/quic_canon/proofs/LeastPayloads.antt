@@ -17,7 +17,8 @@ abbrev pub Shortest : Type 0
 Shortest = (found : List TypedFrame) (bytes : List ℕ) → AreFrames false found bytes → AreOrExceed bytes (shortest_frames (map frame_in found))
 
 abbrev pub Encoded : Type 0
-Encoded = (strict : Bool) (found : List TypedFrame) (bytes : List ℕ) → AreFrames false found bytes → AreFrames strict (all_written (map frame_in found)) (shortest_frames (map frame_in found))
+Encoded =
+    (strict : Bool) (found : List TypedFrame) (bytes : List ℕ) → AreFrames false found bytes → AreFrames strict (all_written (map frame_in found)) (shortest_frames (map frame_in found))
 
 abbrev pub Written : Type 0
 Written = (frames : List Meaning) → map frame_in (all_written frames) ≡ frames
@@ -32,7 +33,8 @@ along payload other found one s f =
     let same = frames_same s.frames s.others payload other s.encoded s.other_encoded s.same in
     (s.frames, s.encoded, same ∙ ap (map frame_in) are)
 
-make_same : (payload other : List ℕ) (frames others : List TypedFrame) → payload ≢ [] → AreFrames false frames payload → AreFrames false others other → map frame_in frames ≡ map frame_in others → IsSame payload other
+make_same : (payload other : List ℕ) (frames others : List TypedFrame) → payload ≢ [] → AreFrames false frames payload → AreFrames false others other
+    → map frame_in frames ≡ map frame_in others → IsSame payload other
 make_same payload other frames others some s t e = record {
   some = some;
   frames = frames;
@@ -51,7 +53,8 @@ no_frame found bytes f none =
     let some = (encoded_bound found.type f.type_bytes f.type_encoded.encoded).1 in
     absurd (omega (arith, some, ap length (front_nil f.type_bytes f.field_bytes (sym f.parts ∙ none))))
 
-filled : (frames others : List TypedFrame) (payload other : List ℕ) → payload ≢ [] → AreFrames false frames payload → AreFrames false others other → AreSameFrames (map frame_in frames) (map frame_in others) → other ≢ []
+filled : (frames others : List TypedFrame) (payload other : List ℕ) → payload ≢ [] → AreFrames false frames payload → AreFrames false others other
+    → AreSameFrames (map frame_in frames) (map frame_in others) → other ≢ []
 filled [] others payload other some s t same none = some s
 filled (f ∷ frames) [] payload other some s t same none = absurd same
 filled (f ∷ frames) (g ∷ others) payload other some s t same none = no_frame g t.0 t.3 (front_nil t.0 t.1 (sym t.2 ∙ none))
@@ -78,7 +81,8 @@ some_encoded : (frames : List TypedFrame) (payload : List ℕ) → map frame_in 
 some_encoded [] payload some s none = some refl
 some_encoded (f ∷ frames) payload some s none = no_frame f s.0 s.3 (front_nil s.0 s.1 (sym s.2 ∙ none))
 
-pub has_least : (found : List TypedFrame) (payload : List ℕ) → OneReading → Shortest → Encoded → Written → payload ≢ [] → AreFrames false found payload → IsLeast (shortest_frames (map frame_in found)) payload
+pub has_least : (found : List TypedFrame) (payload : List ℕ) → OneReading → Shortest → Encoded → Written → payload ≢ []
+    → AreFrames false found payload → IsLeast (shortest_frames (map frame_in found)) payload
 has_least found payload one shortest encoded written some s =
     let frames = map frame_in found in
     let least = shortest_frames frames in
@@ -118,7 +122,8 @@ pub least_of_least : (payload least : List ℕ) → OneReading → IsLeast least
 least_of_least payload least one l = least_along least payload least one l (flip least payload l.same)
 
 -- Its types are in their least widths.
-pub least_is_strict : (payload least : List ℕ) → OneReading → Shortest → Encoded → Written → IsLeast least payload → (found : List TypedFrame) × AreFrames true found least × AreFrames false found least
+pub least_is_strict : (payload least : List ℕ) → OneReading → Shortest → Encoded → Written → IsLeast least payload
+    → (found : List TypedFrame) × AreFrames true found least × AreFrames false found least
 least_is_strict payload least one shortest encoded written l =
     let s = l.same in
     let found = s.others in

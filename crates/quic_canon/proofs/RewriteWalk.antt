@@ -31,7 +31,8 @@ pub record RewriteWalk (old new : Vec ℕ Global) (payload : List ℕ) (from sta
   pub capacity : vec_capacity old ≤ vec_capacity new
   pub rewrites : (found : List TypedFrame) → AreFrames false found payload → Rewrites old new payload from start state found
 
-pub rewrite_walk_begins : (old : Vec ℕ Global) (payload : List ℕ) (state : IterState) → state ≡ first_of false payload → IsEither false None payload → GivesFrames false payload state → GivesBroken false payload state
+pub rewrite_walk_begins : (old : Vec ℕ Global) (payload : List ℕ) (state : IterState) → state ≡ first_of false payload → IsEither false None payload
+    → GivesFrames false payload state → GivesBroken false payload state
     → RewriteWalk old old payload 0 0 state
 rewrite_walk_begins old payload state first e whole broken = record {
   walks = walk_begins payload state first e whole broken;
@@ -51,31 +52,38 @@ no_error : (rest : List TypedFrame) (i : Invalid) → Err i ∷ [] ≡ map given
 no_error [] i e = cc
 no_error (f ∷ rest) i e = cc
 
-pub never_fails : (old new : Vec ℕ Global) (payload : List ℕ) (from start : ℕ) (state next : IterState) (item : Result Frame InvalidFrame) (i : InvalidFrame) → ((found : List TypedFrame) × AreFrames false found payload) → RewriteWalk old new payload from start state
+pub never_fails : (old new : Vec ℕ Global) (payload : List ℕ) (from start : ℕ) (state next : IterState) (item : Result Frame InvalidFrame) (i : InvalidFrame)
+    → ((found : List TypedFrame) × AreFrames false found payload) → RewriteWalk old new payload from start state
     → item ≡ Err i → Advances state (Some item) next → ⊥
 never_fails old new payload from start state next item i s w e a =
     let r = w.rewrites s.0 s.1 in
     no_error r.rest (invalid_of i) (sym (ap (map unplaced) (fails_err state next item i e a)) ∙ r.left_are)
 
 -- the bytes so far are no more than the payload has
-few_bytes : (old new : Vec ℕ Global) (payload : List ℕ) (from start : ℕ) (state : IterState) (found : List TypedFrame) → Shortest → AreFrames false found payload → (r : Rewrites old new payload from start state found)
+few_bytes : (old new : Vec ℕ Global) (payload : List ℕ) (from start : ℕ) (state : IterState) (found : List TypedFrame) → Shortest
+    → AreFrames false found payload → (r : Rewrites old new payload from start state found)
     → length r.bytes + length (shortest_frames (map frame_in r.rest)) ≤ length payload
 few_bytes old new payload from start state found all s r =
     let fewer = at_most payload (shortest_frames (map frame_in found)) (all found payload s) in
     omega (arith, fewer, ap length r.parts, length-append r.bytes (shortest_frames (map frame_in r.rest)))
 
-stand_len : (old new : Vec ℕ Global) (payload : List ℕ) (from start : ℕ) (state : IterState) (found : List TypedFrame) → (r : Rewrites old new payload from start state found) → vec_len new + length (slice_range payload from start) ≡ vec_len old + length r.bytes
+stand_len : (old new : Vec ℕ Global) (payload : List ℕ) (from start : ℕ) (state : IterState) (found : List TypedFrame)
+    → (r : Rewrites old new payload from start state found) → vec_len new + length (slice_range payload from start) ≡ vec_len old + length r.bytes
 stand_len old new payload from start state found r =
     omega (arith, ap length r.wrote, length-append new.items (slice_range payload from start), length-append old.items r.bytes, old.ok.0, new.ok.0)
 
-pub room_to_copy : (old new : Vec ℕ Global) (payload : List ℕ) (from start : ℕ) (state : IterState) → Shortest → ((found : List TypedFrame) × AreFrames false found payload) → RewriteWalk old new payload from start state → vec_len old + length payload ≤ vec_capacity old
+pub room_to_copy : (old new : Vec ℕ Global) (payload : List ℕ) (from start : ℕ) (state : IterState) → Shortest
+    → ((found : List TypedFrame) × AreFrames false found payload) → RewriteWalk old new payload from start state
+    → vec_len old + length payload ≤ vec_capacity old
     → vec_len new + length (slice_range payload from start) ≤ vec_capacity new
 room_to_copy old new payload from start state all s w room =
     let r = w.rewrites s.0 s.1 in
     omega (arith, stand_len old new payload from start state s.0 r, few_bytes old new payload from start state s.0 all s.1 r, room, w.capacity)
 
-pub room_to_write : (old new mid : Vec ℕ Global) (payload : List ℕ) (from start stop : ℕ) (state next : IterState) (frame : Frame) → BeginsNone → Shortest → ((found : List TypedFrame) × AreFrames false found payload) → RewriteWalk old new payload from start state
-    → vec_len old + length payload ≤ vec_capacity old → Finds state frame next → stop ≡ next.offset → mid.items ≡ new.items ++ slice_range payload from start → vec_capacity new ≤ vec_capacity mid
+pub room_to_write : (old new mid : Vec ℕ Global) (payload : List ℕ) (from start stop : ℕ) (state next : IterState) (frame : Frame) → BeginsNone
+    → Shortest → ((found : List TypedFrame) × AreFrames false found payload) → RewriteWalk old new payload from start state
+    → vec_len old + length payload ≤ vec_capacity old → Finds state frame next → stop ≡ next.offset
+    → mid.items ≡ new.items ++ slice_range payload from start → vec_capacity new ≤ vec_capacity mid
     → vec_len mid + length (shortest_frame (eqb stop (length payload)) (meaning_of frame)) ≤ vec_capacity mid
 room_to_write old new mid payload from start stop state next frame begins all s w room f at copied capacity =
     let r = w.rewrites s.0 s.1 in
@@ -88,12 +96,14 @@ room_to_write old new mid payload from start stop state next frame begins all s 
     omega (arith, here, same, is, stand_len old new payload from start state s.0 r, few_bytes old new payload from start state s.0 all s.1 r, room, w.capacity, capacity, ap length copied, length-append new.items (slice_range payload from start), new.ok.0, mid.ok.0)
 
 -- the same by other names
-pub walk_as : (old new out : Vec ℕ Global) (payload : List ℕ) (from place start : ℕ) (state : IterState) → out ≡ new → place ≡ from → RewriteWalk old new payload from start state → RewriteWalk old out payload place start state
+pub walk_as : (old new out : Vec ℕ Global) (payload : List ℕ) (from place start : ℕ) (state : IterState) → out ≡ new → place ≡ from
+    → RewriteWalk old new payload from start state → RewriteWalk old out payload place start state
 walk_as old new out payload from place start state out-is place-is w =
     subst (λ (n : ℕ). RewriteWalk old out payload n start state) (sym place-is) (subst (λ (v : Vec ℕ Global). RewriteWalk old v payload from start state) (sym out-is) w)
 
 -- the frame that was found stands as it is
-pub rewrite_keeps : (old new : Vec ℕ Global) (payload : List ℕ) (from start stop : ℕ) (state next : IterState) (frame : Frame) (b : Bool) → BeginsNone → OneShortest → RewriteWalk old new payload from start state → Finds state frame next → stop ≡ next.offset
+pub rewrite_keeps : (old new : Vec ℕ Global) (payload : List ℕ) (from start stop : ℕ) (state next : IterState) (frame : Frame) (b : Bool) → BeginsNone
+    → OneShortest → RewriteWalk old new payload from start state → Finds state frame next → stop ≡ next.offset
     → Tested b frame start stop (length payload) → b ≡ true → RewriteWalk old new payload from stop next
 rewrite_keeps old new payload from start stop state next frame b begins one w f at tested e =
     let size = length payload in
@@ -126,8 +136,10 @@ rewrite_keeps old new payload from start stop state next frame b begins one w f 
     subst (λ (n : ℕ). RewriteWalk old new payload from n next) (sym at) kept
 
 -- the frame that was found is written
-pub rewrite_writes : (old new mid out : Vec ℕ Global) (payload : List ℕ) (from start stop : ℕ) (state next : IterState) (frame : Frame) → BeginsNone → RewriteWalk old new payload from start state → Finds state frame next → stop ≡ next.offset
-    → mid.items ≡ new.items ++ slice_range payload from start → vec_capacity new ≤ vec_capacity mid → out.items ≡ mid.items ++ shortest_frame (eqb stop (length payload)) (meaning_of frame) → vec_capacity mid ≤ vec_capacity out
+pub rewrite_writes : (old new mid out : Vec ℕ Global) (payload : List ℕ) (from start stop : ℕ) (state next : IterState) (frame : Frame) → BeginsNone
+    → RewriteWalk old new payload from start state → Finds state frame next → stop ≡ next.offset
+    → mid.items ≡ new.items ++ slice_range payload from start → vec_capacity new ≤ vec_capacity mid
+    → out.items ≡ mid.items ++ shortest_frame (eqb stop (length payload)) (meaning_of frame) → vec_capacity mid ≤ vec_capacity out
     → RewriteWalk old out payload stop stop next
 rewrite_writes old new mid out payload from start stop state next frame begins w f at copied capacity wrote capacity' =
     let size = length payload in
@@ -160,7 +172,8 @@ no_rest [] e = refl
 no_rest (f ∷ rest) e = absurd cc
 
 -- all is written
-pub rewrite_done : (old new out : Vec ℕ Global) (payload : List ℕ) (from start : ℕ) (state : IterState) → RewriteWalk old new payload from start state → left state ≡ [] → out.items ≡ new.items ++ slice_range payload from (length payload)
+pub rewrite_done : (old new out : Vec ℕ Global) (payload : List ℕ) (from start : ℕ) (state : IterState) → RewriteWalk old new payload from start state
+    → left state ≡ [] → out.items ≡ new.items ++ slice_range payload from (length payload)
     → (found : List TypedFrame) → AreFrames false found payload → out.items ≡ old.items ++ shortest_frames (map frame_in found)
 rewrite_done old new out payload from start state w none copied found s =
     let r = w.rewrites found s in
@@ -168,7 +181,9 @@ rewrite_done old new out payload from start state w none copied found s =
     let whole : shortest_frames (map frame_in found) ≡ r.bytes = r.parts ∙ ap (λ (l : List TypedFrame). r.bytes ++ shortest_frames (map frame_in l)) rest ∙ append-nil r.bytes in
     copied ∙ ap (λ (n : ℕ). new.items ++ slice_range payload from n) (sym (w.walks.done none)) ∙ r.wrote ∙ ap (λ (l : List ℕ). old.items ++ l) (sym whole)
 
-pub room_to_end : (old new : Vec ℕ Global) (payload : List ℕ) (from start : ℕ) (state : IterState) → Shortest → ((found : List TypedFrame) × AreFrames false found payload) → RewriteWalk old new payload from start state → left state ≡ [] → vec_len old + length payload ≤ vec_capacity old
+pub room_to_end : (old new : Vec ℕ Global) (payload : List ℕ) (from start : ℕ) (state : IterState) → Shortest
+    → ((found : List TypedFrame) × AreFrames false found payload) → RewriteWalk old new payload from start state → left state ≡ []
+    → vec_len old + length payload ≤ vec_capacity old
     → vec_len new + length (slice_range payload from (length payload)) ≤ vec_capacity new
 room_to_end old new payload from start state all s w none room =
     subst (λ (n : ℕ). vec_len new + length (slice_range payload from n) ≤ vec_capacity new) (w.walks.done none) (room_to_copy old new payload from start state all s w room)

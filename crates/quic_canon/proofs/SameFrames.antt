@@ -3,8 +3,7 @@ use Rattle.std.proofs.Common.{◌≡◌, ℕ, ◌≤◌, eqb, Bool, true, false,
 use Rattle.std.specs.Prelude.{⊤, ◌⊎◌, ◌||◌, ◌&&◌, not, if◌then◌else◌}
 use Rattle.std.specs.Map.{lookup}
 use Rattle.std.proofs.lemmas.List.{append-nil}
-use Rattle.quic_frame_fields.specs.Field.{Value, Number, Bytes, Ranges, Field, AreApart, AreBelow, AreBlocks, IsField, AreFields, greatest_of}
-use Rattle.quic_frame_fields.specs.Field as kinds
+use Rattle.quic_frame_fields.specs.Field.{Value, Number, Bytes, Ranges, Field, Varint, Counted, Id, Uint64, Bytes16, Blocks, Rest, Implied, Ordered, AreApart, AreBelow, AreBlocks, IsField, AreFields, greatest_of}
 use Rattle.quic_frame_fields.specs.Table.{Name, Row, rows, row_of}
 use Rattle.quic_frame_fields.specs.Payload.{Meaning, TypedFrame, IsFrame, AreFrames}
 use Rattle.quic_frames.specs.Least.{frame_in}
@@ -38,19 +37,20 @@ one_down : (value : Value) (values : List Value) → values ≡ value ∷ [] →
 one_down value values e h = subst AreDown (sym e) (h, tt)
 
 field_down : (field : Field) (before values : List Value) (bytes : List ℕ) → IsField field before values bytes → AreDown values
-field_down kinds.Varint before values bytes s = one_down (Number s.0) values s.1 tt
-field_down kinds.Counted before values bytes s = one_down (Bytes s.1) values s.2 tt
-field_down kinds.Id before values bytes s = one_down (Bytes s.0) values s.1 tt
-field_down kinds.Uint64 before values bytes s = one_down (Number s.0) values s.1 tt
-field_down kinds.Bytes16 before values bytes s = one_down (Bytes bytes) values s.0 tt
-field_down kinds.Blocks before values bytes s = one_down (Ranges (s.2 ∷ s.3)) values s.4 (blocks_apart _ (s.2 ∷ s.3) s.1 s.7)
-field_down kinds.Rest before values bytes s = one_down (Bytes bytes) values s tt
-field_down (kinds.Implied n) before values bytes s = one_down (Number n) values s.0 tt
-field_down kinds.Ordered before values bytes s = subst AreDown (sym s.0) tt
+field_down Varint before values bytes s = one_down (Number s.0) values s.1 tt
+field_down Counted before values bytes s = one_down (Bytes s.1) values s.2 tt
+field_down Id before values bytes s = one_down (Bytes s.0) values s.1 tt
+field_down Uint64 before values bytes s = one_down (Number s.0) values s.1 tt
+field_down Bytes16 before values bytes s = one_down (Bytes bytes) values s.0 tt
+field_down Blocks before values bytes s = one_down (Ranges (s.2 ∷ s.3)) values s.4 (blocks_apart _ (s.2 ∷ s.3) s.1 s.7)
+field_down Rest before values bytes s = one_down (Bytes bytes) values s tt
+field_down (Implied n) before values bytes s = one_down (Number n) values s.0 tt
+field_down Ordered before values bytes s = subst AreDown (sym s.0) tt
 
 fields_down : (fields : List Field) (before after : List Value) (bytes : List ℕ) → AreDown before → AreFields fields before after bytes → AreDown after
 fields_down [] before after bytes h s = subst AreDown (sym s.0) h
-fields_down (field ∷ fields) before after bytes h s = fields_down fields (before ++ s.0) after s.2 (down_join before s.0 h (field_down field before s.0 s.1 s.4)) s.5
+fields_down (field ∷ fields) before after bytes h s =
+    fields_down fields (before ++ s.0) after s.2 (down_join before s.0 h (field_down field before s.0 s.1 s.4)) s.5
 
 -- ---- such values that mean the same are equal
 
@@ -81,11 +81,11 @@ down_drop (value ∷ values) h = h.1
 -- ---- the greatest number of an ACK is the end of its first range
 
 abbrev is_varint : Field → Bool
-is_varint kinds.Varint = true
+is_varint Varint = true
 is_varint field = false
 
 abbrev is_blocks : Field → Bool
-is_blocks kinds.Blocks = true
+is_blocks Blocks = true
 is_blocks field = false
 
 abbrev are_acks : List Field → Bool
@@ -125,7 +125,8 @@ or_second : (b c : Bool) → (not b || c) ≡ true → b ≡ true → c ≡ true
 or_second true c h e = h
 or_second false c h e = absurd cc
 
-grows : (fields : List Field) (before after : List Value) (bytes : List ℕ) → AreFields fields before after bytes → (more : List Value) × (after ≡ before ++ more)
+grows : (fields : List Field) (before after : List Value) (bytes : List ℕ) → AreFields fields before after bytes
+    → (more : List Value) × (after ≡ before ++ more)
 grows [] before after bytes s = ([], s.0 ∙ sym (append-nil before))
 grows (field ∷ fields) before after bytes s =
     let g = grows fields (before ++ s.0) after s.2 s.5 in
@@ -140,29 +141,29 @@ record IsAckOf (values : List Value) : Type 0 where
   are : values ≡ Number greatest ∷ delay ∷ Ranges (range ∷ ranges) ∷ counts
   top : range.1 ≡ greatest
 
-varint_is : (field : Field) → is_varint field ≡ true → field ≡ kinds.Varint
-varint_is kinds.Varint e = refl
-varint_is kinds.Counted e = absurd cc
-varint_is kinds.Id e = absurd cc
-varint_is kinds.Uint64 e = absurd cc
-varint_is kinds.Bytes16 e = absurd cc
-varint_is kinds.Blocks e = absurd cc
-varint_is kinds.Rest e = absurd cc
-varint_is (kinds.Implied n) e = absurd cc
-varint_is kinds.Ordered e = absurd cc
+varint_is : (field : Field) → is_varint field ≡ true → field ≡ Varint
+varint_is Varint e = refl
+varint_is Counted e = absurd cc
+varint_is Id e = absurd cc
+varint_is Uint64 e = absurd cc
+varint_is Bytes16 e = absurd cc
+varint_is Blocks e = absurd cc
+varint_is Rest e = absurd cc
+varint_is (Implied n) e = absurd cc
+varint_is Ordered e = absurd cc
 
-blocks_is : (field : Field) → is_blocks field ≡ true → field ≡ kinds.Blocks
-blocks_is kinds.Varint e = absurd cc
-blocks_is kinds.Counted e = absurd cc
-blocks_is kinds.Id e = absurd cc
-blocks_is kinds.Uint64 e = absurd cc
-blocks_is kinds.Bytes16 e = absurd cc
-blocks_is kinds.Blocks e = refl
-blocks_is kinds.Rest e = absurd cc
-blocks_is (kinds.Implied n) e = absurd cc
-blocks_is kinds.Ordered e = absurd cc
+blocks_is : (field : Field) → is_blocks field ≡ true → field ≡ Blocks
+blocks_is Varint e = absurd cc
+blocks_is Counted e = absurd cc
+blocks_is Id e = absurd cc
+blocks_is Uint64 e = absurd cc
+blocks_is Bytes16 e = absurd cc
+blocks_is Blocks e = refl
+blocks_is Rest e = absurd cc
+blocks_is (Implied n) e = absurd cc
+blocks_is Ordered e = absurd cc
 
-acks_are : (fields : List Field) → are_acks fields ≡ true → (more : List Field) × (fields ≡ kinds.Varint ∷ kinds.Varint ∷ kinds.Blocks ∷ more)
+acks_are : (fields : List Field) → are_acks fields ≡ true → (more : List Field) × (fields ≡ Varint ∷ Varint ∷ Blocks ∷ more)
 acks_are [] e = absurd cc
 acks_are (first ∷ []) e = absurd cc
 acks_are (first ∷ second ∷ []) e = absurd cc
@@ -171,7 +172,7 @@ acks_are (first ∷ second ∷ third ∷ fields) e =
     let two = both_of (is_varint second) (is_blocks third) one.1 in
     (fields, cc (varint_is first one.0, varint_is second two.0, blocks_is third two.1))
 
-ack_fields : (fields : List Field) (values : List Value) (bytes : List ℕ) → AreFields (kinds.Varint ∷ kinds.Varint ∷ kinds.Blocks ∷ fields) [] values bytes → IsAckOf values
+ack_fields : (fields : List Field) (values : List Value) (bytes : List ℕ) → AreFields (Varint ∷ Varint ∷ Blocks ∷ fields) [] values bytes → IsAckOf values
 ack_fields fields values bytes s =
     let two = s.5 in
     let three = two.5 in
@@ -208,7 +209,8 @@ frame_known found bytes f = record {
       ack_fields are.0 found.frame.values f.field_bytes (subst (λ (l : List Field). AreFields l [] found.frame.values f.field_bytes) are.1 f.fields);
 }
 
-first_range : (n m : ℕ) (range other : ℕ × ℕ) (some others : List (ℕ × ℕ)) (delay delay' : Value) (counts counts' : List Value) → delay ∷ Ranges (range ∷ some) ∷ counts ≡ delay' ∷ Ranges (other ∷ others) ∷ counts' → range ≡ other
+first_range : (n m : ℕ) (range other : ℕ × ℕ) (some others : List (ℕ × ℕ)) (delay delay' : Value) (counts counts' : List Value)
+    → delay ∷ Ranges (range ∷ some) ∷ counts ≡ delay' ∷ Ranges (other ∷ others) ∷ counts' → range ≡ other
 first_range n m range other some others delay delay' counts counts' e = cc
 
 drop_first : (n : ℕ) (values rest : List Value) → values ≡ Number n ∷ rest → drop 1 values ≡ rest
@@ -225,11 +227,14 @@ acks_same values others a b e =
 
 values_same : (b : Bool) (values others : List Value) → AreDown values → AreDown others → (b ≡ true → IsAckOf values) → (b ≡ true → IsAckOf others)
     → AreSameValues (if b then drop 1 values else values) (if b then drop 1 others else others) → values ≡ others
-values_same true values others h k acks acks' same = acks_same values others (acks refl) (acks' refl) (values_are (drop 1 values) (drop 1 others) (down_drop values h) (down_drop others k) same)
+values_same true values others h k acks acks' same =
+    acks_same values others (acks refl) (acks' refl) (values_are (drop 1 values) (drop 1 others) (down_drop values h) (down_drop others k) same)
 values_same false values others h k acks acks' same = values_are values others h k same
 
 meaning_is : (frame other : Meaning) → frame.name ≡ other.name → frame.values ≡ other.values → frame ≡ other
-meaning_is frame other e f = ap (λ (n : Name). let m : Meaning = record { name = n; values = frame.values } in m) e ∙ ap (λ (l : List Value). let m : Meaning = record { name = other.name; values = l } in m) f
+meaning_is frame other e f =
+    ap (λ (n : Name). let m : Meaning = record { name = n; values = frame.values } in m) e
+    ∙ ap (λ (l : List Value). let m : Meaning = record { name = other.name; values = l } in m) f
 
 frame_same : (frame other : Meaning) → IsKnown frame → IsKnown other → IsSameFrame frame other → frame ≡ other
 frame_same frame other h k s =
@@ -239,7 +244,8 @@ frame_same frame other h k s =
     meaning_is frame other s.name (values_same (is_ack frame.name) frame.values other.values h.down k.down h.acks (λ e. k.acks (ack ∙ e)) reported)
 
 -- Payloads that mean the same are the same frames.
-pub frames_same : (found others : List TypedFrame) (payload other : List ℕ) → AreFrames false found payload → AreFrames false others other → AreSameFrames (map frame_in found) (map frame_in others)
+pub frames_same : (found others : List TypedFrame) (payload other : List ℕ) → AreFrames false found payload → AreFrames false others other
+    → AreSameFrames (map frame_in found) (map frame_in others)
     → map frame_in found ≡ map frame_in others
 frames_same [] [] payload other s t same = refl
 frames_same [] (g ∷ others) payload other s t same = absurd same

@@ -77,11 +77,13 @@ not_here range ranges n h lt gt e =
 abbrev AreSameNumbers : List (ℕ × ℕ) → List (ℕ × ℕ) → Type 0
 AreSameNumbers some others = (n : ℕ) → is_in some n ≡ is_in others n
 
-top_at_most : (range other : ℕ × ℕ) (ranges others : List (ℕ × ℕ)) → AreApart (range ∷ ranges) → AreApart (other ∷ others) → AreSameNumbers (range ∷ ranges) (other ∷ others) → range.1 ≤ other.1
+top_at_most : (range other : ℕ × ℕ) (ranges others : List (ℕ × ℕ)) → AreApart (range ∷ ranges) → AreApart (other ∷ others)
+    → AreSameNumbers (range ∷ ranges) (other ∷ others) → range.1 ≤ other.1
 top_at_most range other ranges others h k same =
     at_most other others range.1 k (sym (same range.1) ∙ is_here range ranges range.1 (ordered range ranges h) (omega arith))
 
-low_at_most : (range other : ℕ × ℕ) (ranges others : List (ℕ × ℕ)) → AreApart (range ∷ ranges) → AreApart (other ∷ others) → AreSameNumbers (range ∷ ranges) (other ∷ others) → range.1 ≡ other.1 → range.0 < other.0 → ⊥
+low_at_most : (range other : ℕ × ℕ) (ranges others : List (ℕ × ℕ)) → AreApart (range ∷ ranges) → AreApart (other ∷ others)
+    → AreSameNumbers (range ∷ ranges) (other ∷ others) → range.1 ≡ other.1 → range.0 < other.0 → ⊥
 low_at_most range other ranges others h k same top lt =
     not_here other others (other.0 - 1) k (omega (arith, lt)) (omega (arith, lt))
     (sym (same (other.0 - 1)) ∙ is_here range ranges (other.0 - 1) (omega (arith, lt)) (omega (arith, lt, top, ordered other others k)))
@@ -93,7 +95,8 @@ none_of range ranges n h le =
       | inr e ↦ e
     ]
 
-same_below : (range other : ℕ × ℕ) (ranges others : List (ℕ × ℕ)) → AreApart (range ∷ ranges) → AreApart (other ∷ others) → AreSameNumbers (range ∷ ranges) (other ∷ others) → range.0 ≡ other.0 → AreSameNumbers ranges others
+same_below : (range other : ℕ × ℕ) (ranges others : List (ℕ × ℕ)) → AreApart (range ∷ ranges) → AreApart (other ∷ others)
+    → AreSameNumbers (range ∷ ranges) (other ∷ others) → range.0 ≡ other.0 → AreSameNumbers ranges others
 same_below range other ranges others h k same low n =
     elim (cases_bool (leb range.0 n)) [
       | inl e ↦

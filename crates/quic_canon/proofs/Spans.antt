@@ -25,5 +25,6 @@ shortest_some last frame =
     let t = written_type last frame.name frame.values in
     omega (arith, length-append (shortest_varint t) (shortest_row (row_of t) frame.values), length-short t, size_some t)
 
-pub one_byte : (last : Bool) (frame : Meaning) (len : ℕ) → len ≡ 1 → length (shortest_frame last frame) ≤ len → true ≡ eqb (length (shortest_frame last frame)) len
+pub one_byte : (last : Bool) (frame : Meaning) (len : ℕ) → len ≡ 1 → length (shortest_frame last frame) ≤ len
+    → true ≡ eqb (length (shortest_frame last frame)) len
 one_byte last frame len e le = let some = shortest_some last frame in grind (arith, nat_tests)

@@ -21,13 +21,16 @@ use Rattle.quic_canon.proofs.Cuts.{cut_there, length-slice_range, split_front, c
 
 -- what is used of the laws of payloads, beside those
 abbrev pub BeginsNone : Type 0
-BeginsNone = (one other : TypedFrame) (bytes longer rest : List ℕ) → is_open one.type ≡ false → IsFrame false one bytes → IsFrame false other longer → longer ≡ bytes ++ rest → bytes ≡ longer
+BeginsNone =
+    (one other : TypedFrame) (bytes longer rest : List ℕ) → is_open one.type ≡ false → IsFrame false one bytes → IsFrame false other longer → longer ≡ bytes ++ rest → bytes ≡ longer
 
 abbrev pub OneShortest : Type 0
-OneShortest = (last : Bool) (found : TypedFrame) (bytes : List ℕ) → IsFrame false found bytes → (is_open found.type ≡ true → last ≡ true) → AreOrExceed bytes (shortest_frame last found.frame)
+OneShortest =
+    (last : Bool) (found : TypedFrame) (bytes : List ℕ) → IsFrame false found bytes → (is_open found.type ≡ true → last ≡ true) → AreOrExceed bytes (shortest_frame last found.frame)
 
 abbrev pub Exact : Type 0
-Exact = (last : Bool) (t : ℕ) (frame : Frame) (bytes : List ℕ) → HasNoTypeZero frame → IsFrame false (found_as t frame) bytes → (is_open t ≡ true → last ≡ true) → CanStand last frame
+Exact =
+    (last : Bool) (t : ℕ) (frame : Frame) (bytes : List ℕ) → HasNoTypeZero frame → IsFrame false (found_as t frame) bytes → (is_open t ≡ true → last ≡ true) → CanStand last frame
 
 -- ---- a frame that was found can be written
 
@@ -37,7 +40,8 @@ meaning_is frame found e = ap (λ (m : Meaning). let f : TypedFrame = record { t
 at_end : (m n : ℕ) → m ≡ n → eqb m n ≡ true
 at_end m n e = grind (arith, nat_tests)
 
-pub can_stand : (old new : IterState) (frame : Frame) (size : ℕ) → Exact → old.strict ≡ false → size ≡ length old.payload → Finds old frame new → CanStand (eqb new.offset size) frame
+pub can_stand : (old new : IterState) (frame : Frame) (size : ℕ) → Exact → old.strict ≡ false → size ≡ length old.payload → Finds old frame new
+    → CanStand (eqb new.offset size) frame
 can_stand old new frame size exact any len f =
     let s = subst (λ (x : TypedFrame). IsFrame false x (slice_range old.payload old.offset new.offset)) (meaning_is frame f.found f.says) (subst (λ (b : Bool). IsFrame b f.found (slice_range old.payload old.offset new.offset)) any f.stands.encoded) in
     exact (eqb new.offset size) f.found.type frame (slice_range old.payload old.offset new.offset) f.distinct s (λ opens. at_end new.offset size (f.ends opens ∙ sym len))
@@ -57,7 +61,8 @@ pub record Walks (payload : List ℕ) (start : ℕ) (state : IterState) : Type 0
   pub done : left state ≡ [] → start ≡ length payload
 
 -- One frame has one encoding at the front of bytes.
-front_is : (f : TypedFrame) (a b c d : List ℕ) → BeginsNone → a ++ b ≡ c ++ d → IsFrame false f a → IsFrame false f c → (is_open f.type ≡ true → b ≡ []) → (is_open f.type ≡ true → d ≡ []) → a ≡ c
+front_is : (f : TypedFrame) (a b c d : List ℕ) → BeginsNone → a ++ b ≡ c ++ d → IsFrame false f a → IsFrame false f c
+    → (is_open f.type ≡ true → b ≡ []) → (is_open f.type ≡ true → d ≡ []) → a ≡ c
 front_is f a b c d begins e one other opens opens' =
     elim (cases_bool (is_open f.type)) [
       | inl open_type ↦
@@ -81,7 +86,8 @@ pub record Here (payload : List ℕ) (start stop : ℕ) (found : TypedFrame) (ol
   pub first : map unplaced (left old) ≡ Ok found ∷ map unplaced (left new)
   pub done : (left new ≡ []) ↔ (stop ≡ length payload)
 
-pub here : (payload : List ℕ) (start : ℕ) (old new : IterState) (frame : Frame) → Walks payload start old → (f : Finds old frame new) → Here payload start new.offset f.found old new
+pub here : (payload : List ℕ) (start : ℕ) (old new : IterState) (frame : Frame) → Walks payload start old → (f : Finds old frame new)
+    → Here payload start new.offset f.found old new
 here payload start old new frame w f = record {
   stands = subst (λ (l : List ℕ). Stands false l start new.offset f.found) w.payload_is (subst (λ (n : ℕ). Stands false old.payload n new.offset f.found) w.start_is (subst (λ (b : Bool). Stands b old.payload old.offset new.offset f.found) w.strict_is f.stands));
   opens = λ e. f.ends e ∙ ap length w.payload_is;
@@ -89,18 +95,21 @@ here payload start old new frame w f = record {
   done = ((λ e. f.is_done.0 e ∙ ap length w.payload_is), (λ e. f.is_done.1 (e ∙ sym (ap length w.payload_is))));
 }
 
-pub given_on : (found : TypedFrame) (items : List Reported) (rest : List TypedFrame) → Ok found ∷ items ≡ map given rest → (more : List TypedFrame) × (rest ≡ found ∷ more) × (items ≡ map given more)
+pub given_on : (found : TypedFrame) (items : List Reported) (rest : List TypedFrame) → Ok found ∷ items ≡ map given rest
+    → (more : List TypedFrame) × (rest ≡ found ∷ more) × (items ≡ map given more)
 given_on found items [] e = absurd cc
 given_on found items (r ∷ rest) e =
     let head : found ≡ r = cc in
     let tails : items ≡ map given rest = cc in
     (rest, ap (λ (f : TypedFrame). f ∷ rest) (sym head), tails)
 
-broken_on : (found : TypedFrame) (i : Invalid) (items : List Reported) (rest : List TypedFrame) → Ok found ∷ items ≡ map given rest ++ Err i ∷ [] → (more : List TypedFrame) × (items ≡ map given more ++ Err i ∷ [])
+broken_on : (found : TypedFrame) (i : Invalid) (items : List Reported) (rest : List TypedFrame) → Ok found ∷ items ≡ map given rest ++ Err i ∷ []
+    → (more : List TypedFrame) × (items ≡ map given more ++ Err i ∷ [])
 broken_on found i items [] e = absurd cc
 broken_on found i items (r ∷ rest) e = let tails : items ≡ map given rest ++ Err i ∷ [] = cc in (rest, tails)
 
-pub walk_on : (payload : List ℕ) (start : ℕ) (old new : IterState) (frame : Frame) → Walks payload start old → Finds old frame new → Walks payload new.offset new
+pub walk_on : (payload : List ℕ) (start : ℕ) (old new : IterState) (frame : Frame) → Walks payload start old → Finds old frame new
+    → Walks payload new.offset new
 walk_on payload start old new frame w f =
     let h = here payload start old new frame w f in
     record {
@@ -118,7 +127,8 @@ nothing_left : (items : List Item) → map unplaced items ≡ [] → items ≡ [
 nothing_left [] e = refl
 nothing_left (i ∷ items) e = absurd cc
 
-end_if : (more : List TypedFrame) (new : IterState) (b : Bool) → map unplaced (left new) ≡ map given more → (left new ≡ [] → b ≡ true) → (b ≡ true → left new ≡ []) → is_end (map frame_in more) ≡ b
+end_if : (more : List TypedFrame) (new : IterState) (b : Bool) → map unplaced (left new) ≡ map given more → (left new ≡ [] → b ≡ true)
+    → (b ≡ true → left new ≡ []) → is_end (map frame_in more) ≡ b
 end_if [] new b e to from = sym (to (nothing_left (left new) e))
 end_if (m ∷ more) new true e to from = absurd (let none : map unplaced (left new) ≡ [] = ap (map unplaced) (from refl) in cc (none, e))
 end_if (m ∷ more) new false e to from = refl
@@ -134,7 +144,8 @@ pub record Next (payload : List ℕ) (start stop size : ℕ) (new : IterState) (
 pub from_test : (m n : ℕ) → eqb m n ≡ true → m ≡ n
 from_test m n e = grind (arith, nat_tests)
 
-pub next_frame : (payload : List ℕ) (start size : ℕ) (old new : IterState) (frame : Frame) (rest : List TypedFrame) → BeginsNone → size ≡ length payload → Walks payload start old → (f : Finds old frame new)
+pub next_frame : (payload : List ℕ) (start size : ℕ) (old new : IterState) (frame : Frame) (rest : List TypedFrame) → BeginsNone
+    → size ≡ length payload → Walks payload start old → (f : Finds old frame new)
     → map unplaced (left old) ≡ map given rest → AreFrames false rest (drop start payload) → Next payload start new.offset size new f.found rest
 next_frame payload start size old new frame rest begins len w f are s =
     let h = here payload start old new frame w f in
@@ -164,14 +175,17 @@ next_frame payload start size old new frame rest begins len w f are s =
 -- ---- the frames at the front that are in their shortest encodings
 
 -- a span of the length of the shortest encoding is that
-span_is : (last : Bool) (found : TypedFrame) (bytes : List ℕ) → OneShortest → IsFrame false found bytes → (is_open found.type ≡ true → last ≡ true) → length (shortest_frame last found.frame) ≡ length bytes → bytes ≡ shortest_frame last found.frame
+span_is : (last : Bool) (found : TypedFrame) (bytes : List ℕ) → OneShortest → IsFrame false found bytes → (is_open found.type ≡ true → last ≡ true)
+    → length (shortest_frame last found.frame) ≡ length bytes → bytes ≡ shortest_frame last found.frame
 span_is last found bytes one f opens len = is (one last found bytes f opens)
   where
     is : AreOrExceed bytes (shortest_frame last found.frame) → bytes ≡ shortest_frame last found.frame
     is (inl e) = e
     is (inr lt) = absurd (omega (arith, lt, len))
 
-span_exceeds : (last : Bool) (found : TypedFrame) (bytes : List ℕ) → OneShortest → IsFrame false found bytes → (is_open found.type ≡ true → last ≡ true) → length (shortest_frame last found.frame) ≢ length bytes → length (shortest_frame last found.frame) < length bytes
+span_exceeds : (last : Bool) (found : TypedFrame) (bytes : List ℕ) → OneShortest → IsFrame false found bytes
+    → (is_open found.type ≡ true → last ≡ true) → length (shortest_frame last found.frame) ≢ length bytes
+    → length (shortest_frame last found.frame) < length bytes
 span_exceeds last found bytes one f opens len = is (one last found bytes f opens)
   where
     is : AreOrExceed bytes (shortest_frame last found.frame) → length (shortest_frame last found.frame) < length bytes
@@ -190,7 +204,8 @@ pub record Span (payload : List ℕ) (start stop size : ℕ) (found : TypedFrame
   pub encoded : IsFrame false found (slice_range payload start stop)
   pub last : is_open found.type ≡ true → eqb stop size ≡ true
 
-pub span_of : (payload : List ℕ) (start size : ℕ) (old new : IterState) (frame : Frame) → size ≡ length payload → Walks payload start old → (f : Finds old frame new) → Span payload start new.offset size f.found
+pub span_of : (payload : List ℕ) (start size : ℕ) (old new : IterState) (frame : Frame) → size ≡ length payload → Walks payload start old
+    → (f : Finds old frame new) → Span payload start new.offset size f.found
 span_of payload start size old new frame len w f =
     let h = here payload start old new frame w f in
     let some = h.stands.some in
@@ -206,10 +221,12 @@ span_of payload start size old new frame len w f =
 abbrev pub Tested : Bool → Frame → ℕ → ℕ → ℕ → Type 0
 Tested b frame start stop size = b ≡ eqb (length (shortest_frame (eqb stop size) (meaning_of frame))) (stop - start)
 
-pub frame_length : (frame : Frame) (found : TypedFrame) (last : Bool) → found.frame ≡ meaning_of frame → length (shortest_frame last (meaning_of frame)) ≡ length (shortest_frame last found.frame)
+pub frame_length : (frame : Frame) (found : TypedFrame) (last : Bool) → found.frame ≡ meaning_of frame
+    → length (shortest_frame last (meaning_of frame)) ≡ length (shortest_frame last found.frame)
 frame_length frame found last e = ap (λ (m : Meaning). length (shortest_frame last m)) (sym e)
 
-pub shortest_there : (payload : List ℕ) (start size : ℕ) (old new : IterState) (frame : Frame) (b : Bool) → OneShortest → size ≡ length payload → Walks payload start old → (f : Finds old frame new) → Tested b frame start new.offset size → b ≡ true
+pub shortest_there : (payload : List ℕ) (start size : ℕ) (old new : IterState) (frame : Frame) (b : Bool) → OneShortest → size ≡ length payload
+    → Walks payload start old → (f : Finds old frame new) → Tested b frame start new.offset size → b ≡ true
     → slice_range payload start new.offset ≡ shortest_frame (eqb new.offset size) f.found.frame
 shortest_there payload start size old new frame b one len w f tested e =
     let s = span_of payload start size old new frame len w f in
@@ -217,7 +234,8 @@ shortest_there payload start size old new frame b one len w f tested e =
     let same = from_test (length (shortest_frame last (meaning_of frame))) (new.offset - start) (sym tested ∙ e) in
     span_is last f.found (slice_range payload start new.offset) one s.encoded s.last (sym (frame_length frame f.found last f.says) ∙ same ∙ sym s.len)
 
-pub longer_there : (payload : List ℕ) (start size : ℕ) (old new : IterState) (frame : Frame) (b : Bool) → OneShortest → size ≡ length payload → Walks payload start old → (f : Finds old frame new) → Tested b frame start new.offset size → b ≡ false
+pub longer_there : (payload : List ℕ) (start size : ℕ) (old new : IterState) (frame : Frame) (b : Bool) → OneShortest → size ≡ length payload
+    → Walks payload start old → (f : Finds old frame new) → Tested b frame start new.offset size → b ≡ false
     → length (shortest_frame (eqb new.offset size) f.found.frame) < new.offset - start
 longer_there payload start size old new frame b one len w f tested e =
     let s = span_of payload start size old new frame len w f in
@@ -247,7 +265,8 @@ not_done payload state (inr a) whole broken none = absurd (some a.0 (invalid a.1
     some [] i e = cc
     some (f ∷ found) i e = cc
 
-pub walk_begins : (payload : List ℕ) (state : IterState) → state ≡ first_of false payload → IsEither false None payload → GivesFrames false payload state → GivesBroken false payload state
+pub walk_begins : (payload : List ℕ) (state : IterState) → state ≡ first_of false payload → IsEither false None payload
+    → GivesFrames false payload state → GivesBroken false payload state
     → Walks payload 0 state
 walk_begins payload state first e whole broken = record {
   strict_is = ap (λ (w : IterState). w.strict) first;
@@ -263,15 +282,18 @@ walk_begins payload state first e whole broken = record {
 pub finds_ok : (old new : IterState) (item : Result Frame InvalidFrame) (frame : Frame) → item ≡ Ok frame → Advances old (Some item) new → Finds old frame new
 finds_ok old new item frame e a = subst (λ (r : Result Frame InvalidFrame). Advances old (Some r) new) e a
 
-pub fails_err : (old new : IterState) (item : Result Frame InvalidFrame) (i : InvalidFrame) → item ≡ Err i → Advances old (Some item) new → left old ≡ Broken (invalid_of i) ∷ []
+pub fails_err : (old new : IterState) (item : Result Frame InvalidFrame) (i : InvalidFrame) → item ≡ Err i → Advances old (Some item) new
+    → left old ≡ Broken (invalid_of i) ∷ []
 fails_err old new item i e a = (subst (λ (r : Result Frame InvalidFrame). Advances old (Some r) new) e a).0
 
 -- the same by the number that the code holds
-pub stands_at : (payload : List ℕ) (start stop : ℕ) (old new : IterState) (frame : Frame) → Exact → Walks payload start old → Finds old frame new → stop ≡ new.offset → CanStand (eqb stop (length payload)) frame
+pub stands_at : (payload : List ℕ) (start stop : ℕ) (old new : IterState) (frame : Frame) → Exact → Walks payload start old → Finds old frame new
+    → stop ≡ new.offset → CanStand (eqb stop (length payload)) frame
 stands_at payload start stop old new frame exact w f at =
     subst (λ (n : ℕ). CanStand (eqb n (length payload)) frame) (sym at) (can_stand old new frame (length payload) exact w.strict_is (sym (ap length w.payload_is)) f)
 
-pub small_at : (payload : List ℕ) (start stop : ℕ) (old new : IterState) (frame : Frame) → OneShortest → Walks payload start old → Finds old frame new → stop ≡ new.offset → length (shortest_frame (eqb stop (length payload)) (meaning_of frame)) ≤ stop - start
+pub small_at : (payload : List ℕ) (start stop : ℕ) (old new : IterState) (frame : Frame) → OneShortest → Walks payload start old → Finds old frame new
+    → stop ≡ new.offset → length (shortest_frame (eqb stop (length payload)) (meaning_of frame)) ≤ stop - start
 small_at payload start stop old new frame one w f at =
     let s = span_of payload start (length payload) old new frame refl w f in
     let last = eqb new.offset (length payload) in

@@ -1,11 +1,10 @@
-//! Replays stored lists of lines, each with its mode, and writes what `quic-show` prints of them, one list
-//! after another, each under a heading. The lists are in `data/`, and `stdout` is what must come out.
+//! Replays stored lists of lines, each with its mode, and writes what `quic-show` prints of them, which the gate
+//! compares. The lists are in `data/`, and `stdout` is what must come of them, one after another, each under a heading.
 //!
-//! The lists are seeded random, damaged, cut-off and hostile lines, and their answers come from elsewhere: those
-//! on `datagrams.in`, with ids of 0, 8 and 20 bytes in short headers, from a plain model in which versions 1 and 2
-//! are both supported. Without version 2, it agrees on every line with the Rust crate quinn-proto 0.11.19, which
-//! doesn't support that. Those on `params.in`, as a client and as a server gets them, come from the Rust crate. Those
-//! on
+//! The lists are seeded random, damaged, cut-off and hostile lines, and their answers come from elsewhere: those on
+//! `datagrams.in`, with ids of 0, 8 and 20 bytes in short headers, from a plain model in which versions 1 and 2 are
+//! both supported. Without version 2, it agrees on every line with the Rust crate quinn-proto 0.11.19, which doesn't
+//! support that. Those on `params.in`, as a client and as a server gets them, come from the Rust crate. Those on
 //! `payloads.in`, in their shortest form and with types that must be in their shortest form, come from a plain model,
 //! which agrees with the Rust crate on all that it reads.
 #![tactic(auto)]

@@ -9,7 +9,7 @@ use quic_ranges::range_set::ArrayRangeSet;
 use std::alloc::Global;
 use std::test::Fail;
 
-// Most functions here borrow the set and the bytes that they fill, so that their ways out have nothing to drop.
+// Most functions here borrow the set and the bytes that they fill, so that an early return has nothing to drop.
 
 // Writes the bytes of a line's ACK.
 pub(crate) fn replay(rt: &HostRuntime, line: &str) -> Result<(), Fail> {

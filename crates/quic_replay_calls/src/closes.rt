@@ -6,7 +6,7 @@ use quic_frames::transport_error::Code;
 use std::alloc::Global;
 use std::test::Fail;
 
-// Most functions here borrow the bytes that they fill, so that their ways out have nothing to drop.
+// Most functions here borrow the bytes that they fill, so that an early return has nothing to drop.
 
 // Writes the bytes of a line's close.
 pub(crate) fn replay(rt: &HostRuntime, line: &str) -> Result<(), Fail> {
@@ -56,7 +56,7 @@ fn write_application(
     Ok(())
 }
 
-// The same of the words of a line. The reason phrase is read last, since it is what a way out would have to drop.
+// The same of the words of a line. The reason phrase is read last, since an early return would have to drop it.
 fn connection_of(
     out: &mut Vec<u8>,
     alloc: Global,

@@ -1,7 +1,7 @@
-//! Replays stored lists of single calls, and writes what the library answers, one list after another. The lists
-//! are in `data/`, a call on each line, and `stdout` is what must come out: the answers of the Rust crate
-//! quinn-proto 0.11.19, by its own code, to the same calls. They are seeded random calls, at every width and
-//! at the bounds of numbers.
+//! Replays stored lists of single calls, and writes what the library answers, which the gate compares. The lists are in
+//! `data/`, a call on each line, and `stdout` is what must come of them, one after another: the answers of the Rust
+//! crate quinn-proto 0.11.19, by its own code, to the same calls. They are seeded random calls, at every width and at
+//! the bounds of numbers.
 #![tactic(auto)]
 
 mod acks;

@@ -7,7 +7,7 @@ use quic_frames::transport_error::{Code, Error};
 use std::alloc::Global;
 use std::test::Fail;
 
-// Most functions here borrow the text that they fill, so that their ways out have nothing to drop.
+// Most functions here borrow the text that they fill, so that an early return has nothing to drop.
 
 // Writes the text of a line's value, and for some the bytes that are written of it.
 pub(crate) fn replay(rt: &HostRuntime, line: &str) -> Result<(), Fail> {
@@ -188,7 +188,7 @@ fn show_close(text: &mut String, alloc: Global, fields: &[&str]) -> Result<(), F
     }
 }
 
-// What one field says.
+// The texts of a value that a line has in one field.
 fn show_field(text: &mut String, alloc: Global, kind: &str, field: &str) -> Result<(), Fail> {
     match kind {
         "code" => show_code(text, alloc, field),

@@ -11,13 +11,13 @@ pub(crate) fn varint(word: &str) -> Result<VarInt, Fail> {
     Ok(VarInt::from_u64(word.parse()?)?)
 }
 
-// Bytes in hexadecimal; `-` stands for none.
+// Bytes in hexadecimal; `-` for none.
 pub(crate) fn bytes_of(alloc: Global, word: &str) -> Result<Vec<u8>, Fail> {
     let digits = if word == "-" { "" } else { word };
     Ok(hex::decode(alloc, digits.as_bytes())?)
 }
 
-// Whether a word says so.
+// Whether the word is `true`.
 pub(crate) fn flag(word: &str) -> bool {
     word == "true"
 }
@@ -35,7 +35,7 @@ pub(crate) fn numbered<T: Codec + Drop>(alloc: Global, word: &str) -> Result<T, 
     read(bytes.as_slice())
 }
 
-// A type of frames; `-` stands for none.
+// A type of frames; `-` for none.
 pub(crate) fn type_of(alloc: Global, word: &str) -> Result<Option<FrameType>, Fail> {
     if word == "-" {
         return Ok(None);

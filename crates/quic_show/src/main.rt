@@ -1,4 +1,4 @@
-//! `quic-show`: prints what the lines of standard input encode in hexadecimal.
+//! The program `quic-show`: prints what the lines of standard input encode in hexadecimal.
 #![tactic(auto)]
 
 ghost use Rattle.std.specs.Prelude.{◌≡◌};

@@ -2,3 +2,5 @@
 
 mod ranges;
 mod ranges_refused;
+mod replaced;
+mod shared;

@@ -15,7 +15,7 @@ use Rattle.quic_canon.specs.Bytes.{GivesLeast, canon_bytes}
 use Rattle.quic_canon.specs.declared.canonical.CanonBytes.{CanonBytes}
 use Rattle.quic_canon.specs.declared.canonical.CanonBytes.TheVariants.{Same, Rewritten}
 use Rattle.quic_canon.proofs.LeastPayloads.{one_least, other_some}
-use Rattle.quic_text.specs.Printed.{Printed, Plain, shown, is_plain}
+use Rattle.quic_text.specs.Printed.{Printed, Plain, line_bytes, is_plain}
 use Rattle.quic_text.specs.FrameText.{item_line, frame_lines}
 use Rattle.quic_text.proofs.PlacedLines.{lines_some}
 use Rattle.quic_text.specs.CanonText.{after_frame, frames_in, canon_line, canon_lines}
@@ -59,13 +59,15 @@ least_printed payload least has l =
     ∙ ap (λ (bytes : List ℕ). let ls : List Printed = Plain (encode_lower bytes) ∷ [] in ls) same
 
 -- the line of what is none
-pub broken_printed : (found : List TypedFrame) (payload : List ℕ) (type : Option ℕ) (reason : Fault) → AreBytes payload → IsBroken false None found payload type reason → canon_lines payload ≡ item_line (Broken (invalid type reason)) ∷ []
+pub broken_printed : (found : List TypedFrame) (payload : List ℕ) (type : Option ℕ) (reason : Fault) → AreBytes payload
+    → IsBroken false None found payload type reason → canon_lines payload ≡ item_line (Broken (invalid type reason)) ∷ []
 broken_printed found payload type reason fits b =
     canon_some payload (broken_some false None found payload type reason b)
     ∙ ap (λ (r : Result (List Meaning) Invalid). canon_line r ∷ []) (frames_in_broken found (invalid type reason) (items_of false 0 None payload) (broken_are_items false found 0 None payload type reason fits b))
 
 -- the line of what a call gave
-pub given_printed : (payload : List ℕ) (bytes : CanonBytes) → HasLeast → GivesLeast payload bytes → canon_lines payload ≡ Plain (encode_lower (canon_bytes bytes)) ∷ []
+pub given_printed : (payload : List ℕ) (bytes : CanonBytes) → HasLeast → GivesLeast payload bytes
+    → canon_lines payload ≡ Plain (encode_lower (canon_bytes bytes)) ∷ []
 given_printed payload (Same b) has g =
     least_printed payload payload has g.1 ∙ ap (λ (l : List ℕ). let ls : List Printed = Plain (encode_lower l) ∷ [] in ls) (sym g.0)
 given_printed payload (Rewritten v) has g = least_printed payload v.items has g.0
@@ -79,15 +81,17 @@ plain_items (f ∷ found) (Whole start stop g ∷ items) e =
     let tails : map unplaced items ≡ map given found = cc in plain_items found items tails
 plain_items (f ∷ found) (Broken i ∷ items) e = absurd cc
 
-pub plain_frames : (strict : Bool) (found : List TypedFrame) (bytes : List ℕ) → bytes ≢ [] → AreFrames strict found bytes → list_all is_plain (frame_lines strict bytes) ≡ true
+pub plain_frames : (strict : Bool) (found : List TypedFrame) (bytes : List ℕ) → bytes ≢ [] → AreFrames strict found bytes
+    → list_all is_plain (frame_lines strict bytes) ≡ true
 plain_frames strict found bytes some s =
     ap (list_all is_plain) (lines_some strict bytes some) ∙ plain_items found (items_of strict 0 None bytes) (frames_are_items strict found 0 None bytes s)
 
 -- the bytes of a line alone, and whether it is no `error` line
-pub line_shown : (payload : List ℕ) (line : Printed) → canon_lines payload ≡ line ∷ [] → shown line ≡ flat_map shown (canon_lines payload)
-line_shown payload line e = sym (append-nil (shown line)) ∙ ap (flat_map shown) (sym e)
+pub line_shown : (payload : List ℕ) (line : Printed) → canon_lines payload ≡ line ∷ [] → line_bytes line ≡ flat_map line_bytes (canon_lines payload)
+line_shown payload line e = sym (append-nil (line_bytes line)) ∙ ap (flat_map line_bytes) (sym e)
 
-pub line_reported : (payload : List ℕ) (line : Printed) (b : Bool) → canon_lines payload ≡ line ∷ [] → list_all is_plain (line ∷ []) ≡ b → b ≡ list_all is_plain (canon_lines payload)
+pub line_reported : (payload : List ℕ) (line : Printed) (b : Bool) → canon_lines payload ≡ line ∷ [] → list_all is_plain (line ∷ []) ≡ b
+    → b ≡ list_all is_plain (canon_lines payload)
 line_reported payload line b e reported = sym reported ∙ ap (list_all is_plain) (sym e)
 
 -- the digits of bytes are those of their front and of their back
@@ -98,9 +102,9 @@ digits_of_both (x ∷ a) b = ap (λ (ds : List ℕ). slice_index lower_digits (x
 
 -- the line of bytes, printed by their front and then by their back
 pub digits_shown : (text text' bytes front back : List ℕ) (n : ℕ) → front ≡ take n bytes → back ≡ drop n bytes → text' ≡ text ++ encode_lower front
-    → text' ++ shown (Plain (encode_lower back)) ≡ text ++ shown (Plain (encode_lower bytes))
+    → text' ++ line_bytes (Plain (encode_lower back)) ≡ text ++ line_bytes (Plain (encode_lower bytes))
 digits_shown text text' bytes front back n f b e =
     let both : bytes ≡ front ++ back = sym (rw (f, b) (take-append-drop n bytes)) in
-    ap (λ (l : List ℕ). l ++ shown (Plain (encode_lower back))) e ∙ append_assoc text (encode_lower front) (encode_lower back ++ codes "\n")
+    ap (λ (l : List ℕ). l ++ line_bytes (Plain (encode_lower back))) e ∙ append_assoc text (encode_lower front) (encode_lower back ++ codes "\n")
     ∙ ap (λ (l : List ℕ). text ++ l) (sym (append_assoc (encode_lower front) (encode_lower back) (codes "\n")))
     ∙ ap (λ (l : List ℕ). text ++ (l ++ codes "\n")) (sym (digits_of_both front back) ∙ ap encode_lower (sym both))

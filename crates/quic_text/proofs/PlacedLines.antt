@@ -21,10 +21,12 @@ pub lines_some : (strict : Bool) (bytes : List ℕ) → bytes ≢ [] → frame_l
 lines_some strict [] some = absurd (some refl)
 lines_some strict (b ∷ bytes) some = refl
 
-pub placed_printed : (strict : Bool) (ps : List Placed) (bytes : List ℕ) → bytes ≢ [] → ArePlaced strict 0 ps bytes → frame_lines strict bytes ≡ map (λ p. item_line (whole p)) ps
+pub placed_printed : (strict : Bool) (ps : List Placed) (bytes : List ℕ) → bytes ≢ [] → ArePlaced strict 0 ps bytes
+    → frame_lines strict bytes ≡ map (λ p. item_line (whole p)) ps
 placed_printed strict ps bytes some placed = lines_some strict bytes some ∙ ap (map item_line) (placed_items strict ps bytes placed) ∙ lines_of_all ps
 
-pub broken_printed : (strict : Bool) (ps : List Placed) (bytes : List ℕ) (type : Option ℕ) (reason : Fault) → bytes ≢ [] → AreBytes bytes → IsPlacedBroken strict ps bytes type reason
+pub broken_printed : (strict : Bool) (ps : List Placed) (bytes : List ℕ) (type : Option ℕ) (reason : Fault) → bytes ≢ [] → AreBytes bytes
+    → IsPlacedBroken strict ps bytes type reason
     → frame_lines strict bytes ≡ map (λ p. item_line (whole p)) ps ++ item_line (Broken (invalid type reason)) ∷ []
 broken_printed strict ps bytes type reason some fits broken =
     lines_some strict bytes some ∙ ap (map item_line) (broken_items strict ps bytes type reason fits broken) ∙ lines_of_whole ps (Broken (invalid type reason) ∷ [])

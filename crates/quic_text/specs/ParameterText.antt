@@ -10,7 +10,29 @@ use Rattle.quic_params.specs.Table.{ids}
 use Rattle.quic_params.specs.Writing.{encoding, value_written}
 use Rattle.quic_params.specs.declared.error.Error as params
 use Rattle.quic_params.specs.declared.parameter.TransportParameterId.{TransportParameterId}
-use Rattle.quic_params.specs.declared.parameter.TransportParameterId.TheVariants.{MaxIdleTimeout, MaxUdpPayloadSize, InitialMaxData, InitialMaxStreamDataBidiLocal, InitialMaxStreamDataBidiRemote, InitialMaxStreamDataUni, InitialMaxStreamsBidi, InitialMaxStreamsUni, AckDelayExponent, MaxAckDelay, ActiveConnectionIdLimit, ReservedTransportParameter, StatelessResetToken, DisableActiveMigration, MaxDatagramFrameSize, PreferredAddress, OriginalDestinationConnectionId, InitialSourceConnectionId, RetrySourceConnectionId, GreaseQuicBit, MinAckDelayDraft07}
+use Rattle.quic_params.specs.declared.parameter.TransportParameterId.TheVariants.{
+  MaxIdleTimeout,
+  MaxUdpPayloadSize,
+  InitialMaxData,
+  InitialMaxStreamDataBidiLocal,
+  InitialMaxStreamDataBidiRemote,
+  InitialMaxStreamDataUni,
+  InitialMaxStreamsBidi,
+  InitialMaxStreamsUni,
+  AckDelayExponent,
+  MaxAckDelay,
+  ActiveConnectionIdLimit,
+  ReservedTransportParameter,
+  StatelessResetToken,
+  DisableActiveMigration,
+  MaxDatagramFrameSize,
+  PreferredAddress,
+  OriginalDestinationConnectionId,
+  InitialSourceConnectionId,
+  RetrySourceConnectionId,
+  GreaseQuicBit,
+  MinAckDelayDraft07,
+}
 use Rattle.quic_params.specs.declared.record.TransportParameters.{TransportParameters}
 use Rattle.quic_params.specs.declared.value.Value.{Value}
 use Rattle.quic_params.specs.declared.value.Value.TheVariants as V

@@ -7,9 +7,9 @@ pub data Printed : Type 0 where
   Error : List ℕ → Printed
 
 -- the bytes of a printed line
-abbrev pub shown : Printed → List ℕ
-shown (Plain text) = text ++ codes "\n"
-shown (Error text) = codes "error " ++ text ++ codes "\n"
+abbrev pub line_bytes : Printed → List ℕ
+line_bytes (Plain text) = text ++ codes "\n"
+line_bytes (Error text) = codes "error " ++ text ++ codes "\n"
 
 -- whether it is no `error` line
 abbrev pub is_plain : Printed → Bool

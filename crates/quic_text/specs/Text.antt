@@ -6,7 +6,7 @@ use Rattle.hex.specs.declared.error.FromHexError.{FromHexError}
 use Rattle.quic_text.specs.declared.mode.Mode.{Mode}
 use Rattle.quic_text.specs.declared.mode.Mode.TheVariants.{Frames, Strict, Canon, Datagram, Params}
 use Rattle.quic_text.specs.Lines.{lines_of, without_return}
-use Rattle.quic_text.specs.Printed.{Printed, Error, shown, is_plain}
+use Rattle.quic_text.specs.Printed.{Printed, Error, line_bytes, is_plain}
 use Rattle.quic_text.specs.FrameText.{frame_lines}
 use Rattle.quic_text.specs.CanonText.{canon_lines}
 use Rattle.quic_text.specs.DatagramText.{datagram_lines}
@@ -36,7 +36,7 @@ printed mode input = flat_map (line_lines mode) (lines_of input)
 
 -- its bytes
 abbrev pub text_of : Mode → List ℕ → List ℕ
-text_of mode input = flat_map shown (printed mode input)
+text_of mode input = flat_map line_bytes (printed mode input)
 
 -- whether it has no `error` line
 abbrev pub is_clean : Mode → List ℕ → Bool

@@ -1,4 +1,4 @@
-//! Text on its way to a sink: it is buffered, and passed on in pieces.
+//! Text that is buffered, and passed to a sink in pieces of 16 KiB.
 ghost use Rattle.std.specs.Prelude.{◌≡◌, ◌++◌, ◌||◌, [], OnOk, OnErr, is_err};
 ghost use Rattle.std.specs.String.{string_bytes};
 ghost use Rattle.quic_text.specs.Whole.{AppendsAllBut, AppendsBeginning};

@@ -8,10 +8,9 @@ use quic_frames::transport_error::Error;
 use std::alloc::Global;
 use std::test::Fail;
 
-// Helpers that read frames own nothing and return whether every fact held, and a test returns early only before its
-// checks begin: these live to its end, so that each later return would have to drop them.
+// Helpers that read frames return whether every fact held: so no test returns early while its `Checks` are alive.
 
-// Whether an acknowledgement has exactly these ranges, as they come.
+// Whether an acknowledgement has exactly these ranges, in this order.
 pub fn has_ranges(ack: &Ack<'_>, ranges: &[(u64, u64)]) -> bool {
     let mut rest = ack.into_iter();
     for &(start, end) in ranges {
@@ -45,7 +44,7 @@ fn parts_of_an_acknowledgement(rt: HostRuntime) -> Result<(), Fail> {
     checks.verdict()
 }
 
-// The blocks of an ACK that was read are the payload's bytes, in the widths that they have there.
+// The blocks of an ACK that was read are the payload's bytes: numbers keep the widths that they have there.
 const BLOCKS_READ: &[(&[u8], &[u8])] = &[
     (b"\x02\x05\x00\x00\x00", b"\x00"),
     (b"\x02\x05\x00\x00\x40\x00", b"\x40\x00"),
@@ -106,7 +105,7 @@ fn parts_that_are_refused(rt: HostRuntime) -> Result<(), Fail> {
     checks.verdict()
 }
 
-// One range at a time, of bytes that may be no blocks: below 5 a gap of 0 leaves 4 out, and 3 is next.
+// Reads one range at a time from bytes that may not be blocks: below 5, a gap of 0 leaves out 4, and 3 is next.
 const FIRST_RANGES: &[(&[u8], u64, u64, &[u8])] = &[
     (b"\x00\x00\x03", 5, 3, b"\x03"),
     (b"\x40\x00\x00\x03", 5, 3, b"\x03"),
@@ -315,7 +314,8 @@ fn reads_an_ack_frequency(iter: &mut Iter<'_>) -> bool {
 #[test]
 fn a_new_connection_id_and_an_ack_frequency(rt: HostRuntime) -> Result<(), Fail> {
     let payload =
-        b"\x18\x05\x02\x02\xaa\xbb\x11\x11\x11\x11\x11\x11\x11\x11\x11\x11\x11\x11\x11\x11\x11\x12\x40\xaf\x2a\x14\x80\x00\xc3\x50\x01";
+        b"\x18\x05\x02\x02\xaa\xbb\x11\x11\x11\x11\x11\x11\x11\x11\x11\x11\x11\x11\x11\x11\x11\x12\x40\xaf\x2a\x14\x80\
+        \x00\xc3\x50\x01";
     let mut iter = Iter::new(payload)?;
     let mut checks = Checks::new(rt.alloc());
     checks.holds(reads_a_new_connection_id(&mut iter));
@@ -324,7 +324,7 @@ fn a_new_connection_id_and_an_ack_frequency(rt: HostRuntime) -> Result<(), Fail>
     checks.verdict()
 }
 
-// A conversion, by its bound alone.
+// A conversion, called through its bound.
 fn converted<T: Copy, U: From<T>>(value: &T) -> U
     ensures { U.from_gives value.now result }
 {

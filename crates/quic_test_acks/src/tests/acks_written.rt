@@ -35,7 +35,7 @@ fn are_small(counts: Option<&EcnCounts>) -> bool
     }
 }
 
-// Writes the ACK of a set, and answers whether that was done.
+// Writes the ACK of a set; `false` if memory runs out.
 fn encode(out: &mut Vec<u8>, delay: u64, set: &ArrayRangeSet, counts: Option<&EcnCounts>) -> bool {
     let Some(greatest) = set.max() else {
         return false;
@@ -46,7 +46,7 @@ fn encode(out: &mut Vec<u8>, delay: u64, set: &ArrayRangeSet, counts: Option<&Ec
     Ack::encode(delay, set, counts, out).is_ok()
 }
 
-// The same of a set whose runs lie in a vector.
+// The same of a set whose ranges are in a vector.
 fn encode_from(out: &mut Vec<u8>, delay: u64, set: &RangeSet, counts: Option<&EcnCounts>) -> bool {
     let Some(greatest) = set.max() else {
         return false;
@@ -67,7 +67,7 @@ fn encode_from_equal(
     insert_all_of(equal, set).is_ok() && encode_from(out, delay, equal, counts)
 }
 
-// Writes the ACK of a set, and answers whether both encoders write the same.
+// Whether both encoders write the same ACK of a set.
 fn encode_by_both(
     out: &mut Vec<u8>,
     alloc: Global,

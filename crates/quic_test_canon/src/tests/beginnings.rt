@@ -43,7 +43,7 @@ fn is_whole(strict: bool, payload: &[u8]) -> bool {
     true
 }
 
-// Whether `new` and `strict` tell of a cut, with this type.
+// Whether `new` and `strict` report an unexpected end, with this type.
 fn is_cut(payload: &[u8], ty: &Option<FrameType>) -> bool {
     is_broken(false, payload, ty, "unexpected end")
         && is_broken(true, payload, ty, "unexpected end")
@@ -73,7 +73,7 @@ fn beginnings_of_an_ack_frequency(rt: HostRuntime) -> Result<(), Fail> {
     checks.verdict()
 }
 
-// Frames that say where they end, one of each type that has fields, each with its type.
+// Frames that hold their own length, one of each type that has fields, each with its type.
 const ENDED: &[(u8, &[u8])] = &[
     (0x02, b"\x02\x0e\x2a\x01\x01\x00\x40\x02"),
     (0x03, b"\x03\x0e\x2a\x01\x01\x00\x02\x40\x2a\x18\x0c"),
@@ -172,8 +172,8 @@ fn beginnings_of_an_id_that_cannot_be(rt: HostRuntime) -> Result<(), Fail> {
     checks.verdict()
 }
 
-// A payload is read without an error exactly where it has a shortest form, which is no longer, is its own and is
-// read where types count in their shortest form alone; else the error is the same.
+// A payload that is read without an error has a shortest payload. That is no longer, is its own shortest payload, and
+// is read by `strict` too. Any other payload has the same error when it is read and when its shortest is asked for.
 fn is_reported_alike(alloc: Global, payload: &[u8]) -> bool {
     match &canonical_of(alloc, payload) {
         Ok(bytes) => is_whole(false, payload) && is_least(alloc, bytes.bytes(), payload.len()),

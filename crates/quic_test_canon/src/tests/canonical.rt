@@ -1,4 +1,4 @@
-//! Payloads in their shortest form, by the calls.
+//! The calls that give shortest payloads.
 use super::growth_refused::{ROWS, is_not_appended, is_refused, is_same};
 use quic_canon::canonical::{CanonError, canonical, canonical_of};
 use quic_canon::client::mean_the_same;
@@ -63,7 +63,7 @@ fn what_is_refused(rt: HostRuntime) -> Result<(), Fail> {
     checks.verdict()
 }
 
-// Whether this was answered.
+// Whether the answer is `same`.
 fn is_reported(answer: &Result<bool, CanonError>, same: bool) -> bool {
     match answer {
         Ok(reported) => *reported == same,
@@ -71,7 +71,7 @@ fn is_reported(answer: &Result<bool, CanonError>, same: bool) -> bool {
     }
 }
 
-// Whether one of them was no payload.
+// Whether the answer is the error of a payload with no frame.
 fn is_empty(answer: &Result<bool, CanonError>) -> bool {
     match answer {
         Ok(_) => false,

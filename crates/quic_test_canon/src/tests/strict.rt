@@ -1,4 +1,4 @@
-//! Types that count in their shortest form alone.
+//! Readers that refuse a frame type longer than its shortest encoding.
 use quic_checks::Checks;
 use quic_frames::frame::{Frame, FrameType, InvalidFrame, Iter};
 use quic_frames::transport_error::Code;
@@ -23,7 +23,8 @@ fn a_long_type_is_a_violation(rt: HostRuntime) -> Result<(), Fail> {
     checks.displays(
         rt.alloc(),
         &error,
-        "detected an error with protocol compliance that was not covered by more specific error codes in PADDING: frame type not in shortest form",
+        "detected an error with protocol compliance that was not covered by more specific error codes in PADDING: \
+        frame type not in shortest form",
     )?;
     checks.verdict()
 }

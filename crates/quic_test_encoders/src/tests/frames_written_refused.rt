@@ -63,7 +63,7 @@ fn made(out: &mut Vec<u8>, call: &Call<'_>) -> Result<(), NoRoom> {
     }
 }
 
-// Whether the whole is there, or a part of it where there was no room.
+// Whether all bytes are written, or a beginning of them after `NoRoom`.
 fn is_begun(answer: Result<(), NoRoom>, out: &[u8], whole: &[u8]) -> bool {
     match answer {
         Ok(()) => out == whole,
@@ -71,7 +71,7 @@ fn is_begun(answer: Result<(), NoRoom>, out: &[u8], whole: &[u8]) -> bool {
     }
 }
 
-// Whether it is so in a vector that grows.
+// The same of a call on a vector that grows.
 fn begins(out: &mut Vec<u8>, call: &Call<'_>, whole: &[u8]) -> bool {
     let answer = made(out, call);
     is_begun(answer, out.as_slice(), whole)
@@ -81,7 +81,7 @@ fn is_made(out: &mut Vec<u8>, call: &Call<'_>, whole: &[u8]) -> bool {
     made(out, call) == Ok(()) && out.as_slice() == whole
 }
 
-// Whether the whole is there in a vector with room, in which nothing can be refused.
+// Whether all bytes are written to a vector with room, where no growth can be refused.
 fn fits(alloc: Global, call: &Call<'_>, whole: &[u8]) -> bool {
     match Vec::with_capacity(alloc, 64) {
         Ok(mut out) => is_made(&mut out, call, whole),

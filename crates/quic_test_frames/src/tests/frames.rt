@@ -6,8 +6,7 @@ use quic_frames::transport_error::{Code, Error, Reason};
 use std::alloc::Global;
 use std::test::Fail;
 
-// What reads frames here owns nothing, and answers whether all was as it has to be: the checks of a test are alive to
-// its end, so that each way out of a test would have to drop them.
+// Helpers that read frames return whether every fact held: so no test returns early while its `Checks` are alive.
 
 fn type_of(number: &[u8]) -> Option<FrameType> {
     let mut left = number;
@@ -121,7 +120,7 @@ fn one_error_and_then_nothing(rt: HostRuntime) -> Result<(), Fail> {
     checks.verdict()
 }
 
-// Whether an iterator refuses first what follows, with this type and this reason.
+// Whether the next frame is refused, with this type and this reason.
 fn refuses(iter: Option<Iter<'_>>, ty: FrameType, reason: &str) -> bool {
     let Some(mut iter) = iter else {
         return false;
@@ -178,7 +177,7 @@ fn an_iterator_that_goes_on(rt: HostRuntime) -> Result<(), Fail> {
     checks.verdict()
 }
 
-// Whether just so much PADDING is passed, up to this place.
+// Whether exactly so much PADDING is passed, and the iterator is at this offset then.
 fn passes(iter: &mut Iter<'_>, count: usize, offset: usize) -> bool {
     iter.pass_padding() == count && iter.offset() == offset
 }

@@ -1,10 +1,10 @@
-// What remains after a failed allocation. Each test passes whichever one allocation of its run fails, and if none does:
-// `rt try --test --fail-alloc N` lets the Nth fail. Afterwards the set is as its contract promises, and the same call
-// then succeeds.
+//! Sets after a failed allocation. Each test passes whichever one allocation of its run fails, and if none does:
+//! `rt try --test --fail-alloc N` lets the Nth fail. Afterwards the set is as its contract promises, and the same call
+//! then succeeds.
+use super::shared::{Call, made, made_in_array, on_a_set, on_an_array, on_two_arrays, on_two_sets};
 use quic_base::coding::NoRoom;
 use quic_checks::Checks;
 use quic_ranges::range_set::{ArrayRangeSet, RangeSet, Replace};
-use std::alloc::Global;
 use std::ops::Range;
 use std::test::Fail;
 
@@ -25,91 +25,13 @@ fn gap(index: u64) -> Range<u64> {
     start + 5..start + 10
 }
 
-// A call that changes a set.
-#[derive(Clone, Copy)]
-pub(super) enum Call {
-    Insert(u64, u64),
-    InsertOne(u32),
-    InsertGreatest,
-    Remove(u64, u64),
-}
-
-// Makes the call, and answers whether it changes the set.
-pub(super) fn made(set: &mut RangeSet, call: Call) -> Result<bool, NoRoom> {
-    match call {
-        Call::Insert(start, end) => set.insert(start..end),
-        Call::InsertOne(x) => set.insert_one(x.into()),
-        Call::InsertGreatest => set.insert_one(u64::MAX - 1),
-        Call::Remove(start, end) => set.remove(start..end),
-    }
-}
-
-pub(super) fn made_in_array(set: &mut ArrayRangeSet, call: Call) -> Result<bool, NoRoom> {
-    match call {
-        Call::Insert(start, end) => set.insert(start..end),
-        Call::InsertOne(x) => set.insert_one(x.into()),
-        Call::InsertGreatest => set.insert_one(u64::MAX - 1),
-        Call::Remove(start, end) => set.remove(start..end),
-    }
-}
-
-// Has a new set checked. The checks fail where they end for want of memory.
-pub(super) fn on_a_set<F: FnOnce(&mut Checks, &mut RangeSet) -> Result<(), NoRoom>>(
-    alloc: Global,
-    check: F,
-) -> Result<(), Fail>
-    requires { F.IsAlwaysCallable check }
-{
-    let mut checks = Checks::new(alloc);
-    let checked = check(&mut checks, &mut RangeSet::new(alloc));
-    checks.holds(checked.is_ok());
-    checks.verdict()
-}
-
-pub(super) fn on_an_array<F: FnOnce(&mut Checks, &mut ArrayRangeSet) -> Result<(), NoRoom>>(
-    alloc: Global,
-    check: F,
-) -> Result<(), Fail>
-    requires { F.IsAlwaysCallable check }
-{
-    let mut checks = Checks::new(alloc);
-    let checked = check(&mut checks, &mut ArrayRangeSet::new(alloc));
-    checks.holds(checked.is_ok());
-    checks.verdict()
-}
-
-// The same with two new sets.
-pub(super) fn on_two_sets<
-    F: FnOnce(&mut Checks, &mut RangeSet, &mut RangeSet) -> Result<(), NoRoom>,
->(alloc: Global, check: F) -> Result<(), Fail>
-    requires { F.IsAlwaysCallable check }
-{
-    let mut checks = Checks::new(alloc);
-    let mut set = RangeSet::new(alloc);
-    let checked = check(&mut checks, &mut set, &mut RangeSet::new(alloc));
-    checks.holds(checked.is_ok());
-    checks.verdict()
-}
-
-pub(super) fn on_two_arrays<
-    F: FnOnce(&mut Checks, &mut ArrayRangeSet, &mut ArrayRangeSet) -> Result<(), NoRoom>,
->(alloc: Global, check: F) -> Result<(), Fail>
-    requires { F.IsAlwaysCallable check }
-{
-    let mut checks = Checks::new(alloc);
-    let mut set = ArrayRangeSet::new(alloc);
-    let checked = check(&mut checks, &mut set, &mut ArrayRangeSet::new(alloc));
-    checks.holds(checked.is_ok());
-    checks.verdict()
-}
-
 // Calls again if an allocation failed, after a look at the set.
 macro_rules! twice {
-    ($checks:ident, $call:expr, $stands:expr) => {
+    ($checks:ident, $call:expr, $is_kept:expr) => {
         match $call {
             Ok(answer) => answer,
             Err(NoRoom) => {
-                $checks.holds_at("after the refusal", $stands);
+                $checks.holds_at("after the refusal", $is_kept);
                 $call?
             }
         }

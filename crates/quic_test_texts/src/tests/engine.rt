@@ -1,4 +1,4 @@
-//! The engine over memory: pieces, ends and failures.
+//! Runs over a source and a sink in memory: text in several writes, ends, and failures at each call.
 use quic_bench::FailAt;
 use quic_checks::Checks;
 use quic_text::{FromRead, Mode, RunError, ToWrite, mode_of, run, status};
@@ -11,7 +11,8 @@ const NEVER: u64 = u64::MAX;
 const LINES: &[u8] = b"0001\r\n\nzz\n40\n0100";
 
 const TEXT: &[u8] =
-    b"0..1 PADDING\n1..2 PING\nerror packet payload is empty\nerror not hexadecimal\nerror unexpected end\n0..1 PING\n1..2 PADDING\n";
+    b"0..1 PADDING\n1..2 PING\nerror packet payload is empty\nerror not hexadecimal\nerror unexpected end\n\
+    0..1 PING\n1..2 PADDING\n";
 
 // Words of a mode, lines that it reads, and what it prints of them.
 type ModeRow = (&'static [&'static str], &'static [u8], &'static [u8]);
@@ -31,7 +32,8 @@ const EACH_MODE: &[ModeRow] = &[
     (
         &["datagram", "0"],
         b"e000000001000002aabb41\ne000000001000002aabb\n00",
-        b"0..10 handshake dst - src - version 00000001\n10..11 short dst -\n0..10 handshake dst - src - version 00000001\nerror fixed bit unset\n",
+        b"0..10 handshake dst - src - version 00000001\n10..11 short dst -\n\
+        0..10 handshake dst - src - version 00000001\nerror fixed bit unset\n",
     ),
     (
         &["params", "server"],
@@ -40,7 +42,7 @@ const EACH_MODE: &[ModeRow] = &[
     ),
 ];
 
-// Functions here own their sources and sinks and answer whether all was as it has to be.
+// Helpers own their sources and sinks, and return whether every fact held.
 
 // Whether a run over such a source and that sink ends so, with the sink's text then.
 fn prints(
@@ -314,7 +316,7 @@ fn repeats_a_ping(alloc: Global) -> bool {
     }
 }
 
-// A line of the longest payload that a datagram can hold. Its text is passed on in pieces.
+// A line of the longest payload that a datagram can hold. Its text is passed to the sink before the line ends.
 #[test]
 fn the_longest_payload(rt: HostRuntime) -> Result<(), Fail> {
     let mut checks = Checks::new(rt.alloc());

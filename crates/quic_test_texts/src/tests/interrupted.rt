@@ -28,7 +28,7 @@ impl<T> Interrupted<T> {
         }
     }
 
-    // Counts a call, and says how many of so many bytes it moves.
+    // Counts a call, and returns how many of `len` bytes it moves.
     fn turn(&mut self, len: usize) -> io::Result<usize> {
         let is_now = self.calls == self.calls_before;
         self.calls = self.calls.wrapping_add(1);

@@ -10,8 +10,7 @@ use std::alloc::Global;
 use std::fmt::Display;
 use std::test::Fail;
 
-// Functions here own little and answer whether all was as it has to be: so tests have few ways out while their checks
-// are alive.
+// Helpers return whether every fact held: so few tests return early while their `Checks` are alive.
 
 pub fn displays<T: Display>(alloc: Global, value: &T, text: &str) -> bool {
     match format!(in alloc; "{value}") {

@@ -5,7 +5,7 @@ use quic_frames::transport_error::{Code, Error};
 use std::alloc::Global;
 use std::test::Fail;
 
-// Whether the error says this.
+// Whether the error has this code and this text.
 fn is(error: &Error, code: Code, reason: &str) -> bool {
     error.code == code && error.reason.as_str() == reason
 }

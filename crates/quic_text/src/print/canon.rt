@@ -1,6 +1,6 @@
 //! What is printed of a payload in its shortest form.
 ghost use Rattle.hex.specs.Hex.{encode_lower};
-ghost use Rattle.quic_text.specs.Printed.{Plain, shown};
+ghost use Rattle.quic_text.specs.Printed.{Plain, line_bytes};
 ghost use Rattle.quic_text.specs.CanonText.{canon_lines};
 ghost use Rattle.quic_text.specs.Whole.{PrintsBytes, PrintsLines};
 
@@ -46,7 +46,7 @@ fn print_digits<W: Sink>(
     text: &mut String,
     sink: &mut W,
 ) -> Result<(), RunError>
-    ensures { PrintsBytes W.taken W.has_failed (shown (Plain (encode_lower bytes.now))) sink.old sink.new
+    ensures { PrintsBytes W.taken W.has_failed (line_bytes (Plain (encode_lower bytes.now))) sink.old sink.new
         text.old text.new result }
 {
     let mut rest = bytes;

@@ -2,7 +2,7 @@
 ghost use Rattle.std.specs.Prelude.{◌≡◌, ◌≢◌, ◌++◌, OnOk, codes, false};
 ghost use Rattle.std.specs.Fmt.{decimal, digits};
 ghost use Rattle.std.specs.String.{string_bytes};
-ghost use Rattle.quic_text.specs.Printed.{Error, shown};
+ghost use Rattle.quic_text.specs.Printed.{Error, line_bytes};
 ghost use Rattle.quic_text.specs.DatagramText.{datagram_lines, header_text, id_or_dash, long_text, packet_line, eight_digits, refusal_text};
 ghost use Rattle.quic_header_decode.specs.Refusal.{NoMemory, refusal_of};
 ghost use Rattle.quic_text.specs.IdLens.{count};
@@ -66,7 +66,7 @@ fn print_packet(
     text: &mut String,
 ) -> Result<(), AllocError>
     ensures { OnOk result (string_bytes text.new ≡ string_bytes text.old
-        ++ shown (packet_line (record { start = start; stop = end; header = head.now }))) }
+        ++ line_bytes (packet_line (record { start = start; stop = end; header = head.now }))) }
 {
     write!(text, "{start}..{end} ")?;
     print_header(head, text)?;
@@ -168,7 +168,7 @@ fn print_id(id: &ConnectionId, text: &mut String) -> Result<(), AllocError>
 // The `error` line of a refusal.
 fn print_refusal(error: &PacketDecodeError, text: &mut String) -> Result<(), AllocError>
     ensures bytes { OnOk result
-        (string_bytes text.new ≡ string_bytes text.old ++ shown (Error (refusal_text (refusal_of error.now)))) }
+        (string_bytes text.new ≡ string_bytes text.old ++ line_bytes (Error (refusal_text (refusal_of error.now)))) }
     ensures memory { OnOk result (refusal_of error.now ≢ NoMemory) }
 {
     match error {
@@ -181,7 +181,7 @@ fn print_refusal(error: &PacketDecodeError, text: &mut String) -> Result<(), All
 // The `error` line of a version that is not supported.
 fn print_unsupported(version: u32, text: &mut String) -> Result<(), AllocError>
     ensures { OnOk result (string_bytes text.new ≡ string_bytes text.old
-        ++ shown (Error (codes "unsupported version " ++ digits 16 false version))) }
+        ++ line_bytes (Error (codes "unsupported version " ++ digits 16 false version))) }
 {
     writeln!(text, "error unsupported version {version:x}")
 }

@@ -4,7 +4,7 @@ ghost use Rattle.std.specs.String.{string_bytes};
 ghost use Rattle.quic_frames.specs.Reading.{Broken};
 ghost use Rattle.quic_errors.specs.Codes.{IsError, protocol_violation};
 ghost use Rattle.quic_frames.specs.Walk.{first_of, invalid_of};
-ghost use Rattle.quic_text.specs.Printed.{shown};
+ghost use Rattle.quic_text.specs.Printed.{line_bytes};
 ghost use Rattle.quic_text.specs.FrameText.{frame_line, item_line, frame_lines};
 ghost use Rattle.quic_text.specs.Whole.{PrintsLines};
 
@@ -66,7 +66,7 @@ fn frames_of(strict: bool, payload: &[u8]) -> Result<Iter<'_>, Error>
 
 // The line of a frame.
 fn print_frame(start: usize, end: usize, ty: FrameType, text: &mut String) -> Result<(), AllocError>
-    ensures { OnOk result (string_bytes text.new ≡ string_bytes text.old ++ shown (frame_line start end ty)) }
+    ensures { OnOk result (string_bytes text.new ≡ string_bytes text.old ++ line_bytes (frame_line start end ty)) }
 {
     writeln!(text, "{start}..{end} {ty}")?;
     Ok(())
@@ -75,7 +75,7 @@ fn print_frame(start: usize, end: usize, ty: FrameType, text: &mut String) -> Re
 // The `error` line of an invalid frame.
 pub(super) fn print_invalid(invalid: &InvalidFrame, text: &mut String) -> Result<(), AllocError>
     ensures { OnOk result (string_bytes text.new ≡ string_bytes text.old
-        ++ shown (item_line (Broken (invalid_of invalid.now)))) }
+        ++ line_bytes (item_line (Broken (invalid_of invalid.now)))) }
 {
     writeln!(text, "error {invalid}")
 }

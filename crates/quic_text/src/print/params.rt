@@ -6,7 +6,7 @@ ghost use Rattle.quic_base.specs.Number.{AreBytes};
 ghost use Rattle.quic_params.specs.Answer.{answer_at};
 ghost use Rattle.quic_params.specs.Writing.{encoding, value_written};
 ghost use Rattle.quic_params.specs.declared.value.Value.TheVariants as values;
-ghost use Rattle.quic_text.specs.Printed.{shown, is_plain};
+ghost use Rattle.quic_text.specs.Printed.{line_bytes, is_plain};
 ghost use Rattle.quic_text.specs.ParameterText.{digits_of, parameter_name_of, value_text, value_lines, record_lines, parameter_lines};
 
 use quic_base::ids::Side;
@@ -24,7 +24,7 @@ pub(super) fn print_params(
     text: &mut String,
 ) -> Result<bool, AllocError>
     ensures bytes { OnOk result
-        (string_bytes text.new ≡ string_bytes text.old ++ flat_map shown (parameter_lines side list.now)) }
+        (string_bytes text.new ≡ string_bytes text.old ++ flat_map line_bytes (parameter_lines side list.now)) }
     ensures clean { IfOk result (λ clean. clean ≡ list_all is_plain (parameter_lines side list.now)) }
 {
     match answer(side, list) {
@@ -65,7 +65,8 @@ fn print_record(
     params: &TransportParameters,
     text: &mut String,
 ) -> Result<(), AllocError>
-    ensures { OnOk result (string_bytes text.new ≡ string_bytes text.old ++ flat_map shown (record_lines params.now)) }
+    ensures { OnOk result
+        (string_bytes text.new ≡ string_bytes text.old ++ flat_map line_bytes (record_lines params.now)) }
 {
     for id in TransportParameterId::SUPPORTED {
         print_parameter(alloc, id, params, text)?;
@@ -81,7 +82,7 @@ fn print_parameter(
     text: &mut String,
 ) -> Result<(), AllocError>
     ensures { OnOk result (string_bytes text.new ≡ string_bytes text.old
-        ++ flat_map shown (value_lines id (value_written params.now id))) }
+        ++ flat_map line_bytes (value_lines id (value_written params.now id))) }
 {
     let Some(value) = params.written_value(id) else {
         return Ok(());

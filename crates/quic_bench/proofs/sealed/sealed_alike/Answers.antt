@@ -9,7 +9,14 @@ use Rattle.quic_bench.proofs.sealed.sealed_alike.Goals as goal
 pub returns-clause-alike : goal.returns-clause-alike
 returns-clause-alike g c =
     let keys = keys_in c.args.keys.now (space_in c.args.packet.now.header.now) in
-    let pair : KeyPair = record { sample_len = g.H.HeaderKey.sample_len keys.header; tag_size = g.P.PacketKey.tag_size keys.packet; protected = g.H.HeaderKey.protected keys.header; unprotected = g.H.HeaderKey.unprotected keys.header; sealed = g.P.PacketKey.sealed keys.packet; opened = g.P.PacketKey.opened keys.packet } in
+    let pair : KeyPair = record {
+      sample_len = g.H.HeaderKey.sample_len keys.header;
+      tag_size = g.P.PacketKey.tag_size keys.packet;
+      protected = g.H.HeaderKey.protected keys.header;
+      unprotected = g.H.HeaderKey.unprotected keys.header;
+      sealed = g.P.PacketKey.sealed keys.packet;
+      opened = g.P.PacketKey.opened keys.packet;
+    } in
     let packet = c.args.packet.now in
     let start : c.new-one.result.items ≡ c.new-other.result.items = search rules in
     let alike = sealed_same pair packet.header.now packet.number packet.frames.now _ _

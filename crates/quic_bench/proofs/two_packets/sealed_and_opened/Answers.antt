@@ -1,5 +1,5 @@
 -- Each packet is given back, and the second one follows the first.
-use Rattle.std.specs.Prelude.{◌<◌, ◌≡◌, false, List, ℕ, [], ◌++◌, length}
+use Rattle.std.specs.Prelude.{◌<◌, false, [], ◌++◌, length}
 use Rattle.std.proofs.Common.{◌∙◌, refl}
 use Rattle.quic_header_encode.specs.Queries.{space_in}
 use Rattle.quic_packets.specs.Opening.{Opening}

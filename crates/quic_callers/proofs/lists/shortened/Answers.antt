@@ -8,7 +8,8 @@ use Rattle.quic_callers.proofs.lists.shortened.Goals as goal
 
 -- a record that was read is plain
 plain_is : (p : TransportParameters) → p.grease_transport_parameter ≡ None → p.write_order ≡ None → plain p ≡ p
-plain_is p no_grease no_order = ap (λ g. record p { grease_transport_parameter = g; write_order = None }) (sym no_grease) ∙ ap (λ o. record p { write_order = o }) (sym no_order)
+plain_is p no_grease no_order =
+    ap (λ g. record p { grease_transport_parameter = g; write_order = None }) (sym no_grease) ∙ ap (λ o. record p { write_order = o }) (sym no_order)
 
 pub returns : goal.returns
 returns c =

@@ -5,7 +5,8 @@ use Rattle.quic_callers.proofs.Counts.{counted_first, counted_other, counted_str
 use Rattle.quic_callers.proofs.payloads.all_stream_data.Goals as goal
 
 pub loop-item-init : goal.loop-item-init
-loop-item-init c = (tt, tt, counted_first c.args.payload.now c.into_iter-item-iterator.result (c.into_iter-item-iterator.ensures.into_iter_gives ∙ c.in_ok-item-items.ensures.first))
+loop-item-init c =
+    (tt, tt, counted_first c.args.payload.now c.into_iter-item-iterator.result (c.into_iter-item-iterator.ensures.into_iter_gives ∙ c.in_ok-item-items.ensures.first))
 
 pub loop-item-preserved-in-Stream : goal.loop-item-preserved-in-Stream
 loop-item-preserved-in-Stream c =

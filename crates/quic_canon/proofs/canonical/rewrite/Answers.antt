@@ -4,10 +4,10 @@ use Rattle.quic_canon.proofs.RewriteWalk.{RewriteWalk, walk_as, rewrite_walk_beg
 use Rattle.std.proofs.lemmas.Grind.{common_steps}
 use Rattle.quic_canon.proofs.PaddingWalk.{passed_as, stands_as, padding_goes_on_as, frame_goes_on}
 use Rattle.quic_canon.proofs.canonical.rewrite.Goals as goal
-use Rattle.quic_canon.proofs.canonical.rewrite.Goals.{then-not-is_shortest, else-not-is_shortest, then-stop-start-eq1, else-stop-start-eq1}
 
 pub loop-item-init : goal.loop-item-init
-loop-item-init c = rewrite_walk_begins c.args.out.now c.args.payload.now c.in-Ok.iter c.in-Ok.ensures.first c.in-Ok.ensures.either c.in-Ok.ensures.frames c.in-Ok.ensures.broken
+loop-item-init c =
+    rewrite_walk_begins c.args.out.now c.args.payload.now c.in-Ok.iter c.in-Ok.ensures.first c.in-Ok.ensures.either c.in-Ok.ensures.frames c.in-Ok.ensures.broken
 
 pub unreachable-requires-in_default-item : goal.unreachable-requires-in_default-item
 unreachable-requires-in_default-item c =
@@ -44,17 +44,17 @@ loop-item-preserved c =
     let begins = c.one_reading.ensures.begins_none false in
     let one = c.least_encoding.ensures.least in
     let w : RewriteWalk c.args.out.now c.if-not-is_shortest.out c.args.payload.now c.if-not-is_shortest.from c.offset-stop.result c.next.new.self = elim c.if-not-is_shortest.branch [
-      | then-not-is_shortest w ↦ walk_as _ _ _ _ _ _ _ _ w.out-is w.from-is
+      | goal.then-not-is_shortest w ↦ walk_as _ _ _ _ _ _ _ _ w.out-is w.from-is
           (rewrite_writes c.args.out.now c.loop-item.out w.copy.new.out w.write.new.out c.args.payload.now c.loop-item.from c.loop-item.start c.offset-stop.result c.loop-item.iter c.next.new.self c.in-Ok-item.frame
           begins c.loop-item.invariant f c.offset-stop.ensures.value w.copy.ensures.items w.copy.ensures.capacity w.write.ensures.items w.write.ensures.capacity)
-      | else-not-is_shortest w ↦ walk_as _ _ _ _ _ _ _ _ w.out-is w.from-is
+      | goal.else-not-is_shortest w ↦ walk_as _ _ _ _ _ _ _ _ w.out-is w.from-is
           (rewrite_keeps c.args.out.now c.loop-item.out c.args.payload.now c.loop-item.from c.loop-item.start c.offset-stop.result c.loop-item.iter c.next.new.self c.in-Ok-item.frame c.is_shortest.result
           begins one c.loop-item.invariant f c.offset-stop.ensures.value c.is_shortest.ensures w.if-not-is_shortest.false)
     ] in
     elim c.if-stop-start-eq1.branch [
-      | then-stop-start-eq1 v ↦ passed_as c.args.out.now c.if-not-is_shortest.out c.args.payload.now c.if-not-is_shortest.from c.offset-stop.result c.offset-start.result v.pass_padding.result c.next.new.self v.pass_padding.new.self
+      | goal.then-stop-start-eq1 v ↦ passed_as c.args.out.now c.if-not-is_shortest.out c.args.payload.now c.if-not-is_shortest.from c.offset-stop.result c.offset-start.result v.pass_padding.result c.next.new.self v.pass_padding.new.self
           c.if-stop-start-eq1.iter begins one w v.pass_padding.ensures v.iter-is c.offset-start.ensures.value
-      | else-stop-start-eq1 v ↦ stands_as c.args.out.now c.if-not-is_shortest.out c.args.payload.now c.if-not-is_shortest.from c.offset-stop.result c.offset-start.result c.next.new.self
+      | goal.else-stop-start-eq1 v ↦ stands_as c.args.out.now c.if-not-is_shortest.out c.args.payload.now c.if-not-is_shortest.from c.offset-stop.result c.offset-start.result c.next.new.self
           c.if-stop-start-eq1.iter w c.offset-stop.ensures.value v.iter-is c.offset-start.ensures.value
     ]
 
@@ -62,8 +62,8 @@ pub loop-item-smaller : goal.loop-item-smaller
 loop-item-smaller c =
     let f = finds_ok c.loop-item.iter c.next.new.self c.in-Some.item c.in-Ok-item.frame c.in-Ok-item.is c.in-Some.ensures.steps in
     elim c.if-stop-start-eq1.branch [
-      | then-stop-start-eq1 v ↦ padding_goes_on_as v.pass_padding.result c.loop-item.iter c.next.new.self v.pass_padding.new.self c.if-stop-start-eq1.iter c.in-Ok-item.frame f v.pass_padding.ensures v.iter-is
-      | else-stop-start-eq1 v ↦ frame_goes_on c.loop-item.iter c.next.new.self c.if-stop-start-eq1.iter c.in-Ok-item.frame f v.iter-is
+      | goal.then-stop-start-eq1 v ↦ padding_goes_on_as v.pass_padding.result c.loop-item.iter c.next.new.self v.pass_padding.new.self c.if-stop-start-eq1.iter c.in-Ok-item.frame f v.pass_padding.ensures v.iter-is
+      | goal.else-stop-start-eq1 v ↦ frame_goes_on c.loop-item.iter c.next.new.self c.if-stop-start-eq1.iter c.in-Ok-item.frame f v.iter-is
     ]
 
 pub copy-requires-2 : goal.copy-requires-2

@@ -6,7 +6,6 @@ use Rattle.quic_canon.proofs.Steps.{finds_ok, fails_err, stands_at, small_at}
 use Rattle.quic_canon.proofs.PaddingWalk.{padding_grows, padding_stays, padding_goes_on}
 use Rattle.quic_canon.proofs.FrontWalk.{FrontWalk, front_is, front_walk_begins, front_done, front_fails, grows_to, ends_at, stays_at}
 use Rattle.quic_canon.proofs.canonical.shortest_front.Goals as goal
-use Rattle.quic_canon.proofs.canonical.shortest_front.Goals.{then-front-start+then-is_shortest, else-front-start, else-front-start-via-then-front-start+else-is_shortest, else-front-start-via-else-front-start}
 
 not_memory : (invalid : InvalidFrame) → Invalid invalid ≢ OutOfMemory
 not_memory invalid e = cc
@@ -33,15 +32,15 @@ pub loop-item-preserved-then-front-stop : goal.loop-item-preserved-then-front-st
 loop-item-preserved-then-front-stop c =
     let f = finds_ok c.loop-item.iter c.next.new.self c.in-Some.item c.in-Ok-item.frame c.in-Ok-item.is c.in-Some.ensures.steps in
     let w : FrontWalk c.args.payload.now c.if-front-start.front c.offset-stop.result c.next.new.self = elim c.if-front-start.branch [
-      | then-front-start+then-is_shortest w ↦
+      | goal.then-front-start+then-is_shortest w ↦
           front_is c.args.payload.now _ _ c.offset-stop.result c.next.new.self w.front-is
           (grows_to c.args.payload.now c.loop-item.front c.loop-item.start c.offset-stop.result c.loop-item.iter c.next.new.self c.in-Ok-item.frame w.is_shortest.result
           (c.one_reading.ensures.begins_none false) c.least_encoding.ensures.least w.if-front-start.true c.loop-item.invariant f c.offset-stop.ensures.value w.is_shortest.ensures w.if-is_shortest.true)
-      | else-front-start w ↦ front_is c.args.payload.now _ _ c.offset-stop.result c.next.new.self w.front-is (elim w.else-front-start.branch [
-        | else-front-start-via-then-front-start+else-is_shortest v ↦
+      | goal.else-front-start w ↦ front_is c.args.payload.now _ _ c.offset-stop.result c.next.new.self w.front-is (elim w.else-front-start.branch [
+        | goal.else-front-start-via-then-front-start+else-is_shortest v ↦
             ends_at c.args.payload.now c.loop-item.front c.loop-item.start c.offset-stop.result c.loop-item.iter c.next.new.self c.in-Ok-item.frame v.is_shortest.result
             (c.one_reading.ensures.begins_none false) c.least_encoding.ensures.least c.least_encoding.ensures.all_least v.if-front-start.true c.loop-item.invariant f c.offset-stop.ensures.value v.is_shortest.ensures v.if-is_shortest.false
-        | else-front-start-via-else-front-start v ↦
+        | goal.else-front-start-via-else-front-start v ↦
             stays_at c.args.payload.now c.loop-item.front c.loop-item.start c.offset-stop.result c.loop-item.iter c.next.new.self c.in-Ok-item.frame v.if-front-start.false c.loop-item.invariant f c.offset-stop.ensures.value
       ])
     ] in
@@ -52,15 +51,15 @@ pub loop-item-preserved-else-front-stop : goal.loop-item-preserved-else-front-st
 loop-item-preserved-else-front-stop c =
     let f = finds_ok c.loop-item.iter c.next.new.self c.in-Some.item c.in-Ok-item.frame c.in-Ok-item.is c.in-Some.ensures.steps in
     let w : FrontWalk c.args.payload.now c.if-front-start.front c.offset-stop.result c.next.new.self = elim c.if-front-start.branch [
-      | then-front-start+then-is_shortest w ↦
+      | goal.then-front-start+then-is_shortest w ↦
           front_is c.args.payload.now _ _ c.offset-stop.result c.next.new.self w.front-is
           (grows_to c.args.payload.now c.loop-item.front c.loop-item.start c.offset-stop.result c.loop-item.iter c.next.new.self c.in-Ok-item.frame w.is_shortest.result
           (c.one_reading.ensures.begins_none false) c.least_encoding.ensures.least w.if-front-start.true c.loop-item.invariant f c.offset-stop.ensures.value w.is_shortest.ensures w.if-is_shortest.true)
-      | else-front-start w ↦ front_is c.args.payload.now _ _ c.offset-stop.result c.next.new.self w.front-is (elim w.else-front-start.branch [
-        | else-front-start-via-then-front-start+else-is_shortest v ↦
+      | goal.else-front-start w ↦ front_is c.args.payload.now _ _ c.offset-stop.result c.next.new.self w.front-is (elim w.else-front-start.branch [
+        | goal.else-front-start-via-then-front-start+else-is_shortest v ↦
             ends_at c.args.payload.now c.loop-item.front c.loop-item.start c.offset-stop.result c.loop-item.iter c.next.new.self c.in-Ok-item.frame v.is_shortest.result
             (c.one_reading.ensures.begins_none false) c.least_encoding.ensures.least c.least_encoding.ensures.all_least v.if-front-start.true c.loop-item.invariant f c.offset-stop.ensures.value v.is_shortest.ensures v.if-is_shortest.false
-        | else-front-start-via-else-front-start v ↦
+        | goal.else-front-start-via-else-front-start v ↦
             stays_at c.args.payload.now c.loop-item.front c.loop-item.start c.offset-stop.result c.loop-item.iter c.next.new.self c.in-Ok-item.frame v.if-front-start.false c.loop-item.invariant f c.offset-stop.ensures.value
       ])
     ] in
@@ -70,15 +69,15 @@ pub loop-item-preserved : goal.loop-item-preserved
 loop-item-preserved c =
     let f = finds_ok c.loop-item.iter c.next.new.self c.in-Some.item c.in-Ok-item.frame c.in-Ok-item.is c.in-Some.ensures.steps in
     let w : FrontWalk c.args.payload.now c.if-front-start.front c.offset-stop.result c.next.new.self = elim c.if-front-start.branch [
-      | then-front-start+then-is_shortest w ↦
+      | goal.then-front-start+then-is_shortest w ↦
           front_is c.args.payload.now _ _ c.offset-stop.result c.next.new.self w.front-is
           (grows_to c.args.payload.now c.loop-item.front c.loop-item.start c.offset-stop.result c.loop-item.iter c.next.new.self c.in-Ok-item.frame w.is_shortest.result
           (c.one_reading.ensures.begins_none false) c.least_encoding.ensures.least w.if-front-start.true c.loop-item.invariant f c.offset-stop.ensures.value w.is_shortest.ensures w.if-is_shortest.true)
-      | else-front-start w ↦ front_is c.args.payload.now _ _ c.offset-stop.result c.next.new.self w.front-is (elim w.else-front-start.branch [
-        | else-front-start-via-then-front-start+else-is_shortest v ↦
+      | goal.else-front-start w ↦ front_is c.args.payload.now _ _ c.offset-stop.result c.next.new.self w.front-is (elim w.else-front-start.branch [
+        | goal.else-front-start-via-then-front-start+else-is_shortest v ↦
             ends_at c.args.payload.now c.loop-item.front c.loop-item.start c.offset-stop.result c.loop-item.iter c.next.new.self c.in-Ok-item.frame v.is_shortest.result
             (c.one_reading.ensures.begins_none false) c.least_encoding.ensures.least c.least_encoding.ensures.all_least v.if-front-start.true c.loop-item.invariant f c.offset-stop.ensures.value v.is_shortest.ensures v.if-is_shortest.false
-        | else-front-start-via-else-front-start v ↦
+        | goal.else-front-start-via-else-front-start v ↦
             stays_at c.args.payload.now c.loop-item.front c.loop-item.start c.offset-stop.result c.loop-item.iter c.next.new.self c.in-Ok-item.frame v.if-front-start.false c.loop-item.invariant f c.offset-stop.ensures.value
       ])
     ] in

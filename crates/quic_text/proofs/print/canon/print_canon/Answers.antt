@@ -4,7 +4,7 @@ use Rattle.hex.specs.Hex.{encode_lower}
 use Rattle.quic_frame_fields.specs.Reading.{Invalid, Broken}
 use Rattle.quic_frames.specs.Walk.{invalid_of}
 use Rattle.quic_canon.specs.Bytes.{canon_bytes}
-use Rattle.quic_text.specs.Printed.{Plain, shown}
+use Rattle.quic_text.specs.Printed.{Plain, line_bytes}
 use Rattle.quic_text.specs.FrameText.{item_line, empty_line}
 use Rattle.quic_text.specs.CanonText.{canon_lines}
 use Rattle.quic_text.specs.Whole.{AppendsAllBut, AppendsBeginning}
@@ -15,7 +15,7 @@ use Rattle.quic_text.proofs.print.canon.print_canon.Goals as goal
 pub returns-in_err-print_digits-in-Ok : goal.returns-in_err-print_digits-in-Ok
 returns-in_err-print_digits-in-Ok g c =
     let given = given_printed c.args.payload.now c.in-Ok.canonical c.one_least.ensures.exists c.in-Ok.ensures.ok in
-    let line = ap (λ (l : List ℕ). string_bytes c.args.text.now ++ shown (Plain (encode_lower l))) c.bytes.ensures
+    let line = ap (λ (l : List ℕ). string_bytes c.args.text.now ++ line_bytes (Plain (encode_lower l))) c.bytes.ensures
     ∙ ap (λ (l : List ℕ). string_bytes c.args.text.now ++ l) (line_shown c.args.payload.now (Plain (encode_lower (canon_bytes c.in-Ok.canonical))) given) in
     let begun = on_err c.from_residual.result
     (subst (λ (all : List ℕ). AppendsBeginning (g.W.Sink.taken c.args.sink.now) (g.W.Sink.taken c.print_digits.new.sink) all) line c.in_err-print_digits-in-Ok.ensures.err) in
@@ -30,7 +30,7 @@ returns-in_err-print_invalid-in-Err-Invalid g c = search (rules, nothing_begun)
 pub returns-in_ok-print_digits-in-Ok : goal.returns-in_ok-print_digits-in-Ok
 returns-in_ok-print_digits-in-Ok g c =
     let given = given_printed c.args.payload.now c.in-Ok.canonical c.one_least.ensures.exists c.in-Ok.ensures.ok in
-    let line = ap (λ (l : List ℕ). string_bytes c.args.text.now ++ shown (Plain (encode_lower l))) c.bytes.ensures
+    let line = ap (λ (l : List ℕ). string_bytes c.args.text.now ++ line_bytes (Plain (encode_lower l))) c.bytes.ensures
     ∙ ap (λ (l : List ℕ). string_bytes c.args.text.now ++ l) (line_shown c.args.payload.now (Plain (encode_lower (canon_bytes c.in-Ok.canonical))) given) in
     let waits = subst (λ (all : List ℕ). AppendsAllBut (g.W.Sink.taken c.args.sink.now) (g.W.Sink.taken c.print_digits.new.sink) (string_bytes c.print_digits.new.text) all) line c.in_ok-print_digits-in-Ok.ensures.ok in
     let plain = line_reported c.args.payload.now (Plain (encode_lower (canon_bytes c.in-Ok.canonical))) _ given refl in

@@ -3,7 +3,7 @@ use Rattle.std.proofs.Common.{rules, ◌≡◌, ◌+◌, ◌<◌, ◌++◌, ℕ,
 use Rattle.std.proofs.Math.Bool.{or-false}
 use Rattle.std.specs.String.{string_bytes}
 use Rattle.std.specs.List.{flat_map}
-use Rattle.quic_text.specs.Printed.{shown}
+use Rattle.quic_text.specs.Printed.{line_bytes}
 use Rattle.quic_base.specs.Number.{AreBytes}
 use Rattle.quic_header_decode.specs.Grammar.{Cut, Uncut}
 use Rattle.quic_header_decode.specs.Refusal.{refusal_of}
@@ -19,7 +19,7 @@ loop-left-init g c =
     let fits : AreBytes c.args.datagram.now = λ i. (c.type_inv.datagram i).fits in
     let len : count c.args.id_len ≡ c.new-parser.result.expected_len = sym (c.new-parser.ensures ∙ c.get.ensures.value) in
     let same : c.in_ok-left.left.items ≡ c.args.datagram.now = c.in_ok-left.ensures in
-    let all : List ℕ = string_bytes c.args.text.now ++ flat_map shown (datagram_lines (count c.args.id_len) c.args.datagram.now) in
+    let all : List ℕ = string_bytes c.args.text.now ++ flat_map line_bytes (datagram_lines (count c.args.id_len) c.args.datagram.now) in
     let taken : List ℕ = g.W.Sink.taken c.args.sink.now in
     record {
       passed = subst (λ (n : ℕ). Waits n 0 c.in_ok-left.left.items taken taken (string_bytes c.args.text.now) all) len
@@ -51,7 +51,7 @@ returns-in-None g c =
     let cut : Cut (with_ids_of c.new-parser.result.expected_len) left c.in-Ok.packet.head c.in-Ok.packet.header_end q = cut_given (with_ids_of c.new-parser.result.expected_len) left _ _ q c.in-Ok.ensures.answer.some in
     let none : drop q left ≡ [] = rw c.in-None.is at c.in-Ok.ensures.rest in
     let waits = text_last (with_ids_of c.new-parser.result.expected_len) c.loop-left.start (c.loop-left.start + c.len.result) q c.in-Ok.packet.header_end left (string_bytes c.pass_on_pieces.new.text) (string_bytes c.print_packet.new.text)
-    (λ waits. AppendsAllBut (g.W.Sink.taken c.args.sink.now) (g.W.Sink.taken c.pass_on_pieces.new.sink) waits (string_bytes c.args.text.now ++ flat_map shown (datagram_lines (count c.args.id_len) c.args.datagram.now)))
+    (λ waits. AppendsAllBut (g.W.Sink.taken c.args.sink.now) (g.W.Sink.taken c.pass_on_pieces.new.sink) waits (string_bytes c.args.text.now ++ flat_map line_bytes (datagram_lines (count c.args.id_len) c.args.datagram.now)))
     c.in-Ok.packet.head cut none (ap (λ (n : ℕ). c.loop-left.start + n) c.len.ensures) (rw c.header.ensures at c.in_ok-print_packet-in-Ok.ensures)
     (waits_less c.new-parser.result.expected_len c.loop-left.start c.loop-left.left.items _ _ _ (string_bytes c.loop-left.text) _ _ c.loop-left.invariant.passed c.in_ok-pass_on_pieces.ensures.ok) in
     let plain = clean_last (with_ids_of c.new-parser.result.expected_len) c.loop-left.start q c.in-Ok.packet.header_end left (datagram_lines (count c.args.id_len) c.args.datagram.now) c.in-Ok.packet.head cut none c.loop-left.invariant.clean in
@@ -68,7 +68,7 @@ loop-left-preserved g c =
     let at : stop ≡ c.loop-left.start + q = ap (λ (n : ℕ). c.loop-left.start + n) c.len.ensures in
     record {
       passed = text_more (with_ids_of c.new-parser.result.expected_len) c.loop-left.start stop q c.in-Ok.packet.header_end left c.in-Some.rest.items (string_bytes c.pass_on_pieces.new.text) (string_bytes c.print_packet.new.text)
-          (λ waits. AppendsAllBut (g.W.Sink.taken c.args.sink.now) (g.W.Sink.taken c.pass_on_pieces.new.sink) waits (string_bytes c.args.text.now ++ flat_map shown (datagram_lines (count c.args.id_len) c.args.datagram.now)))
+          (λ waits. AppendsAllBut (g.W.Sink.taken c.args.sink.now) (g.W.Sink.taken c.pass_on_pieces.new.sink) waits (string_bytes c.args.text.now ++ flat_map line_bytes (datagram_lines (count c.args.id_len) c.args.datagram.now)))
           c.in-Ok.packet.head cut lt rest.0 at (rw c.header.ensures at c.in_ok-print_packet-in-Ok.ensures)
           (waits_less c.new-parser.result.expected_len c.loop-left.start c.loop-left.left.items _ _ _ (string_bytes c.loop-left.text) _ _ c.loop-left.invariant.passed c.in_ok-pass_on_pieces.ensures.ok);
       clean = clean_more (with_ids_of c.new-parser.result.expected_len) c.loop-left.start stop q c.in-Ok.packet.header_end left c.in-Some.rest.items (datagram_lines (count c.args.id_len) c.args.datagram.now) c.in-Ok.packet.head cut lt rest.0 at c.loop-left.invariant.clean;
@@ -89,7 +89,7 @@ returns-in-Err g c =
     let left : List ℕ = c.loop-left.left.items in
     let uncut : Uncut (with_ids_of c.new-parser.result.expected_len) left (refusal_of c.in-Err.error) = refusal_given _ left c.in-Err.error c.in_ok-print_refusal-in-Err.ensures.memory c.in-Err.ensures.answer.some in
     let waits = text_refused (with_ids_of c.new-parser.result.expected_len) c.loop-left.start left (string_bytes c.pass_on_pieces.new.text) (string_bytes c.print_refusal.new.text)
-    (λ waits. AppendsAllBut (g.W.Sink.taken c.args.sink.now) (g.W.Sink.taken c.pass_on_pieces.new.sink) waits (string_bytes c.args.text.now ++ flat_map shown (datagram_lines (count c.args.id_len) c.args.datagram.now)))
+    (λ waits. AppendsAllBut (g.W.Sink.taken c.args.sink.now) (g.W.Sink.taken c.pass_on_pieces.new.sink) waits (string_bytes c.args.text.now ++ flat_map line_bytes (datagram_lines (count c.args.id_len) c.args.datagram.now)))
     (refusal_of c.in-Err.error) uncut c.in_ok-print_refusal-in-Err.ensures.bytes
     (waits_less c.new-parser.result.expected_len c.loop-left.start c.loop-left.left.items _ _ _ (string_bytes c.loop-left.text) _ _ c.loop-left.invariant.passed c.in_ok-pass_on_pieces.ensures.ok) in
     let plain = clean_refused (with_ids_of c.new-parser.result.expected_len) c.loop-left.start left (datagram_lines (count c.args.id_len) c.args.datagram.now) (refusal_of c.in-Err.error) uncut c.loop-left.invariant.clean in

@@ -3,7 +3,7 @@ use Rattle.std.proofs.Math.Bool.{or-false}
 use Rattle.std.specs.List.{flat_map}
 use Rattle.std.specs.String.{string_bytes}
 use Rattle.quic_frames.specs.Walk.{left, Finds}
-use Rattle.quic_text.specs.Printed.{shown}
+use Rattle.quic_text.specs.Printed.{line_bytes}
 use Rattle.quic_text.specs.FrameText.{item_line}
 use Rattle.quic_text.proofs.FrameLines.{text_more, clean_more}
 use Rattle.quic_text.proofs.PassingLemmas.{passed_on, beginning_passed, nothing_begun, on_err}
@@ -22,7 +22,7 @@ returns-in_err-pass_on_pieces g c = record {
         let finds : Finds old c.in-Ok-item.frame new = rw c.in-Ok-item.is at c.in-Some.ensures.steps in
         let same = text_more old new c.in-Ok-item.frame (string_bytes c.loop-item.text) (string_bytes c.print_frame.new.text) _ finds (rw (← c.offset-end.ensures.value, ← c.loop-item.invariant.start, ← c.ty.ensures) c.in_ok-print_frame.ensures) refl in
         on_err c.from_residual-in_err-pass_on_pieces.result
-        (beginning_passed _ _ _ (string_bytes c.print_frame.new.text) (flat_map shown (map item_line (left new))) _ _ same c.loop-item.invariant.passed c.in_err-pass_on_pieces.ensures.err);
+        (beginning_passed _ _ _ (string_bytes c.print_frame.new.text) (flat_map line_bytes (map item_line (left new))) _ _ same c.loop-item.invariant.passed c.in_err-pass_on_pieces.ensures.err);
     failed = search rules;
     read = search rules;
   };
@@ -36,7 +36,7 @@ loop-item-preserved g c =
     let finds : Finds old c.in-Ok-item.frame new = rw c.in-Ok-item.is at c.in-Some.ensures.steps in
     let same = text_more old new c.in-Ok-item.frame (string_bytes c.loop-item.text) (string_bytes c.print_frame.new.text) _ finds (rw (← c.offset-end.ensures.value, ← c.loop-item.invariant.start, ← c.ty.ensures) c.in_ok-print_frame.ensures) refl in
     record {
-      passed = passed_on _ _ _ (string_bytes c.print_frame.new.text) _ (flat_map shown (map item_line (left new))) _ _ same c.loop-item.invariant.passed c.in_ok-pass_on_pieces.ensures.ok;
+      passed = passed_on _ _ _ (string_bytes c.print_frame.new.text) _ (flat_map line_bytes (map item_line (left new))) _ _ same c.loop-item.invariant.passed c.in_ok-pass_on_pieces.ensures.ok;
       clean = sym (clean_more old new c.in-Ok-item.frame finds) ∙ c.loop-item.invariant.clean;
       start = c.offset-end.ensures.value;
       failed = c.in_ok-pass_on_pieces.ensures.failed ∙ or-false _ ∙ c.loop-item.invariant.failed;

@@ -11,4 +11,5 @@ loop-id-preserved c =
     one_more (λ id. value_lines id (value_written c.args.params.now id)) ids c.loop-id.id-index MaxIdleTimeout (get_or ids c.loop-id.id-index MaxIdleTimeout) _ _ _ (omega (arith, c.loop-id-test.true)) refl c.loop-id.invariant c.in_ok-print_parameter.ensures
 
 pub returns : goal.returns
-returns c = all_of (λ id. value_lines id (value_written c.args.params.now id)) ids c.loop-id.id-index _ _ (omega (arith, c.loop-id-test.false)) c.loop-id.invariant
+returns c =
+    all_of (λ id. value_lines id (value_written c.args.params.now id)) ids c.loop-id.id-index _ _ (omega (arith, c.loop-id-test.false)) c.loop-id.invariant

@@ -1,0 +1,130 @@
+//! `replace`: the ranges that it gives, and the set after it.
+ghost use Rattle.std.specs.Prelude.{OnOk};
+ghost use Rattle.quic_ranges.specs.Runs.{IsRunsOf, in_union};
+
+use super::shared::{Runs, gives_replaced, insert_all, on_a_set, set_is};
+use quic_base::coding::NoRoom;
+use quic_checks::Checks;
+use quic_ranges::range_set::RangeSet;
+use std::alloc::Global;
+use std::ops::Range;
+use std::test::Fail;
+
+// By its contract the set is the union, whether none, one or all of the ranges that `replace` gives are taken.
+fn replace_unseen(set: &mut RangeSet, x: Range<u64>) -> Result<(), NoRoom>
+    ensures { OnOk result (IsRunsOf (in_union set.old x) set.new) }
+{
+    let _ = set.replace(x)?;
+    Ok(())
+}
+
+fn replace_at_a_look(set: &mut RangeSet, x: Range<u64>) -> Result<(), NoRoom>
+    ensures { OnOk result (IsRunsOf (in_union set.old x) set.new) }
+{
+    let mut pieces = set.replace(x)?;
+    let _ = pieces.next();
+    Ok(())
+}
+
+fn count_replaced(set: &mut RangeSet, x: Range<u64>) -> Result<u64, NoRoom>
+    ensures { OnOk result (IsRunsOf (in_union set.old x) set.new) }
+{
+    let mut count = 0u64;
+    for _piece in set.replace(x)? {
+        count = count.wrapping_add(1);
+    }
+    Ok(count)
+}
+
+// The runs of a set, a range that is put into it, the ranges that `replace` gives, and the runs of the set after.
+type ReplaceRow = (Runs, (u64, u64), Runs, Runs);
+
+const REPLACE_ROWS: &[ReplaceRow] = &[
+    (&[(1, 5)], (2, 4), &[(2, 4)], &[(1, 5)]),
+    (&[(2, 4)], (1, 3), &[(2, 3)], &[(1, 4)]),
+    (&[(2, 4)], (4, 6), &[], &[(2, 6)]),
+    (&[(2, 4)], (1, 5), &[(2, 4)], &[(1, 5)]),
+    (&[(2, 4)], (3, 5), &[(3, 4)], &[(2, 5)]),
+    (&[(2, 4)], (0, 2), &[], &[(0, 4)]),
+    (
+        &[(2, 4), (6, 8), (15, 30)],
+        (1, 20),
+        &[(2, 4), (6, 8), (15, 20)],
+        &[(1, 30)],
+    ),
+    (&[(1, 3), (4, 7)], (0, 10), &[(1, 3), (4, 7)], &[(0, 10)]),
+    (&[(0, 10)], (5, 2), &[], &[(0, 10)]),
+];
+
+// Puts the row's runs into an empty set: whether `replace` then gives and leaves what the row has.
+fn is_replaced(set: &mut RangeSet, row: &ReplaceRow) -> bool {
+    let &(before, (start, end), pieces, after) = row;
+    insert_all(set, before).is_ok() && gives_replaced(set, start..end, pieces) && set_is(set, after)
+}
+
+// The same where the `Replace` is dropped before its first `next`, and, below, after it.
+fn is_same_unseen(set: &mut RangeSet, row: &ReplaceRow) -> bool {
+    let &(before, (start, end), _, after) = row;
+    insert_all(set, before).is_ok() && replace_unseen(set, start..end).is_ok() && set_is(set, after)
+}
+
+fn is_same_at_a_look(set: &mut RangeSet, row: &ReplaceRow) -> bool {
+    let &(before, (start, end), _, after) = row;
+    insert_all(set, before).is_ok()
+        && replace_at_a_look(set, start..end).is_ok()
+        && set_is(set, after)
+}
+
+fn is_counted(set: &mut RangeSet, row: &ReplaceRow) -> bool {
+    let &(before, (start, end), pieces, _) = row;
+    insert_all(set, before).is_ok() && count_replaced(set, start..end) == Ok(pieces.len() as u64)
+}
+
+fn check_replaced(checks: &mut Checks, alloc: Global, row: &ReplaceRow) {
+    checks.holds_at("replaced", is_replaced(&mut RangeSet::new(alloc), row));
+    checks.holds_at("unseen", is_same_unseen(&mut RangeSet::new(alloc), row));
+    checks.holds_at(
+        "at a look",
+        is_same_at_a_look(&mut RangeSet::new(alloc), row),
+    );
+    checks.holds_at("counted", is_counted(&mut RangeSet::new(alloc), row));
+}
+
+#[test]
+fn replaces(rt: HostRuntime) -> Result<(), Fail> {
+    let mut checks = Checks::new(rt.alloc());
+    for row in REPLACE_ROWS {
+        check_replaced(&mut checks, rt.alloc(), row);
+    }
+    checks.verdict()
+}
+
+// Ranges that are put in one after the other, and what each call gives.
+const REPLACE_SCRIPT: &[((u64, u64), Runs)] = &[
+    ((3, 3), &[]),
+    ((6, 10), &[]),
+    ((5, 5), &[]),
+    ((2, 7), &[(6, 7)]),
+];
+
+fn replace_by_script(checks: &mut Checks, set: &mut RangeSet) -> Result<(), NoRoom> {
+    for &((start, end), pieces) in REPLACE_SCRIPT {
+        checks.holds_at(start, gives_replaced(set, start..end, pieces));
+    }
+    checks.holds(set_is(set, &[(2, 10)]));
+    Ok(())
+}
+
+fn replace_by_script_unseen(checks: &mut Checks, set: &mut RangeSet) -> Result<(), NoRoom> {
+    for &((start, end), _) in REPLACE_SCRIPT {
+        replace_unseen(set, start..end)?;
+    }
+    checks.holds(set_is(set, &[(2, 10)]));
+    Ok(())
+}
+
+#[test]
+fn replaces_one_after_the_other(rt: HostRuntime) -> Result<(), Fail> {
+    on_a_set(rt.alloc(), replace_by_script)?;
+    on_a_set(rt.alloc(), replace_by_script_unseen)
+}

@@ -57,7 +57,7 @@ def matched(template, text):
     return found and {name: int(it, 0) if it[0].isdigit() else it for name, it in found.groupdict().items()}
 
 
-def said(file, name, left, template):
+def stated(file, name, left, template):
     """The same of a clause of a definition, or of a field of a record, which must be the template."""
     text = {**clauses(file, name), **fields_of(file, name)}.get(left, "(nothing)")
     found = matched(template, text)

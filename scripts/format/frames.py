@@ -2,7 +2,7 @@
 import collections
 import re
 
-from format.definitions import clauses, fail, figure, listed, matched, only, quoted, said, source
+from format.definitions import clauses, fail, figure, listed, matched, only, quoted, stated, source
 
 IDS = "quic_base/specs/Ids"
 FIELD = "quic_frame_fields/specs/Field"
@@ -180,14 +180,14 @@ def merged(group):
 
 def ack_note(first):
     """What the numbers of an ACK's ranges say."""
-    apart = said(FIELD, "AreBelow", "low (range ∷ ranges) bytes", (
+    apart = stated(FIELD, "AreBelow", "low (range ∷ ranges) bytes", (
         "(gap block others : List ℕ) × (bytes ≡ gap ++ (block ++ others)) × (range.0 ≤ range.1) × (range.1 + <apart>"
         " ≤ low) × Encodes (low - (range.1 + <apart>)) gap × Encodes (range.1 - range.0) block × AreBelow range.0 ranges"
         " others"))["apart"]
-    said(FIELD, "AreBlocks", "greatest (range ∷ ranges) bytes", (
+    stated(FIELD, "AreBlocks", "greatest (range ∷ ranges) bytes", (
         "(block others : List ℕ) × (bytes ≡ block ++ others) × (range.1 ≡ greatest) × (range.0 ≤ range.1)"
         " × Encodes (range.1 - range.0) block × AreBelow range.0 ranges others"))
-    said(FIELD, "greatest_of", "(Number greatest ∷ values)", "greatest")
+    stated(FIELD, "greatest_of", "(Number greatest ∷ values)", "greatest")
     return (
         f"ACK Range Count counts the ranges after the first (`Blocks`), which ends at {first}; First ACK Range and ACK"
         " Range Length are a range's greatest number less its least (`AreBlocks`), Gap the least of the range before,"
@@ -225,18 +225,18 @@ def notes(group, optional):
         yield f"{name} is present {distinguished_by(some, types)}{other}."
     yield from unwritten_notes(group, types)
     if "Rest" in parts:
-        said(PAYLOAD, "AreFrames", "strict (found ∷ others) bytes", (
+        stated(PAYLOAD, "AreFrames", "strict (found ∷ others) bytes", (
             "(front back : List ℕ) × (bytes ≡ front ++ back) × IsFrame strict found front × (is_open found.type ≡ true"
             " → back ≡ []) × AreFrames strict others back"))
-        said(TABLE, "is_open", "t", "is_open_row (row_of t)")
-        said(TABLE, "has_rest", "(field ∷ fields)", "is_rest field || has_rest fields")
-        said(FIELD, "is_rest", "Rest", "true")
+        stated(TABLE, "is_open", "t", "is_open_row (row_of t)")
+        stated(TABLE, "has_rest", "(field ∷ fields)", "is_rest field || has_rest fields")
+        stated(FIELD, "is_rest", "Rest", "true")
         rest = {frame.type for frame in group if any(part.kind == "Rest" for part in frame.parts)}
         yield f"{parts['Rest'].name} goes to the payload's end (`Rest`) {distinguished_by(rest, types)}."
     if "Blocks" in parts:
         yield ack_note(group[0].parts[0].name)
     if "Ordered" in parts:
-        said(FIELD, "is_ordered", "(Number first ∷ Number second ∷ [])", "nat_le second first")
+        stated(FIELD, "is_ordered", "(Number first ∷ Number second ∷ [])", "nat_le second first")
         at = [part.kind for part in group[0].parts].index("Ordered")
         first, second = group[0].parts[at - 2:at]
         yield f"{second.name} is at most {first.name} (`Ordered`)."
@@ -244,10 +244,10 @@ def notes(group, optional):
 
 def meanings():
     """What the values of each frame are in the code, by the word that says so."""
-    said(PARTS, "flag", "b", "Number (if b then 1 else 0)")
-    said(PARTS, "counts_of", "(Some e)", "Number e.ect0 ∷ Number e.ect1 ∷ Number e.ce ∷ []")
-    said(PARTS, "close_meaning", "(closes.Connection c)", "connection_close c.error_code c.frame_type c.reason.now")
-    said(PARTS, "close_meaning", "(closes.Application c)", "application_close c.error_code c.reason.now")
+    stated(PARTS, "flag", "b", "Number (if b then 1 else 0)")
+    stated(PARTS, "counts_of", "(Some e)", "Number e.ect0 ∷ Number e.ect1 ∷ Number e.ce ∷ []")
+    stated(PARTS, "close_meaning", "(closes.Connection c)", "connection_close c.error_code c.frame_type c.reason.now")
+    stated(PARTS, "close_meaning", "(closes.Application c)", "application_close c.error_code c.reason.now")
     for file in PARTS, MEANING:
         for word in dict.fromkeys(re.findall(r"^(\w+_meaning|\w+_close|meaning_of) ", source(file), re.M)):
             for text in clauses(file, word).values():
@@ -288,14 +288,14 @@ def frame_figures(name, group):
 
 def beginning():
     """What is so of all frames."""
-    said(PAYLOAD, "IsFrame", "parts", "bytes ≡ type_bytes ++ field_bytes")
-    said(PAYLOAD, "IsFrame", "type_encoded", "IsType strict found.type type_bytes")
-    said(PAYLOAD, "IsFrame", "in_table", "row_of found.type ≡ Some row")
-    said(PAYLOAD, "IsFrame", "fields", "AreFields row.fields [] found.frame.values field_bytes")
-    said(PAYLOAD, "IsType", "encoded", "Encodes t bytes")
-    said(PAYLOAD, "IsType", "shortest", "strict ≡ true → bytes ≡ shortest_varint t")
-    said(PAYLOAD, "AreFrames", "strict [] bytes", "bytes ≡ []")
-    said(FIELD, "AreFields", "(field ∷ fields) before after bytes", (
+    stated(PAYLOAD, "IsFrame", "parts", "bytes ≡ type_bytes ++ field_bytes")
+    stated(PAYLOAD, "IsFrame", "type_encoded", "IsType strict found.type type_bytes")
+    stated(PAYLOAD, "IsFrame", "in_table", "row_of found.type ≡ Some row")
+    stated(PAYLOAD, "IsFrame", "fields", "AreFields row.fields [] found.frame.values field_bytes")
+    stated(PAYLOAD, "IsType", "encoded", "Encodes t bytes")
+    stated(PAYLOAD, "IsType", "shortest", "strict ≡ true → bytes ≡ shortest_varint t")
+    stated(PAYLOAD, "AreFrames", "strict [] bytes", "bytes ≡ []")
+    stated(FIELD, "AreFields", "(field ∷ fields) before after bytes", (
         "(values : List Value) × (front back : List ℕ) × (bytes ≡ front ++ back) × IsField field before values front"
         " × AreFields fields (before ++ values) after back"))
     return [

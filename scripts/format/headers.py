@@ -1,7 +1,7 @@
 """The figures of packet headers (RFC 9000, section 17; RFC 8999), from crates/quic_header_decode/specs/Grammar.antt."""
 import collections
 
-from format.definitions import clauses, fail, figure, listed, log_of, matched, said
+from format.definitions import clauses, fail, figure, listed, log_of, matched, stated
 
 NUMBER = "quic_base/specs/Number"
 LONG_ID = "quic_base/specs/ConnectionId"
@@ -74,8 +74,8 @@ MEANT["Handshake"] = MEANT["0-RTT"]
 
 def most_of_id():
     """How long an id may be, after the byte of its length."""
-    said(LONG_ID, "long_id", "id", "length id ∷ id")
-    return said(GRAMMAR, "IsId", "values bytes", (
+    stated(LONG_ID, "long_id", "id", "length id ∷ id")
+    return stated(GRAMMAR, "IsId", "values bytes", (
         "(id : List ℕ) × (values ≡ Bytes id ∷ []) × (length id ≤ <most>) × (bytes ≡ long_id id)"))["most"]
 
 
@@ -92,19 +92,19 @@ def lines_of(field):
 
 def meant(head):
     """What is in the holes of the text that a header should have."""
-    return said(GRAMMAR, "IsHeader", f"whole first values {head.read}", MEANT[head.title])
+    return stated(GRAMMAR, "IsHeader", f"whole first values {head.read}", MEANT[head.title])
 
 
 def is_protected(head):
-    said(HEADS, "is_protected", "h", "is_some (space_of h)")
-    return said(SPACES, "space_of", head.read, "<answer..>")["answer"] != "None"
+    stated(HEADS, "is_protected", "h", "is_some (space_of h)")
+    return stated(SPACES, "space_of", head.read, "<answer..>")["answer"] != "None"
 
 
 def row(head):
     """The fields of a header after its first byte."""
-    rows = said(GRAMMAR, "header_row_of", "first version", (
+    rows = stated(GRAMMAR, "header_row_of", "first version", (
         "if is_long first then <long..> ∷ row_behind_ids first version else <short..> ∷ []"))
-    behind = said(GRAMMAR, "row_behind_ids", "first version", (
+    behind = stated(GRAMMAR, "row_behind_ids", "first version", (
         "if version == 0 then [] else <known..> ∷ typed_row (long_type version first)"))
     if head.title == "1-RTT":
         return rows["short"].split(" ∷ ")
@@ -117,7 +117,7 @@ def row(head):
 
 def type_number(head, version):
     """The number of a header's type under version 1 and its drafts, or 2."""
-    types = said(TYPES, "types_of", "version", "if nat_eq version version_2 then <second..> else <first..>")
+    types = stated(TYPES, "types_of", "version", "if nat_eq version version_2 then <second..> else <first..>")
     numbers = {kind: number for number, kind in enumerate(listed(types[version], "types_of"))}
     if len(numbers) != 4 or head.type not in numbers:
         fail(f"types_of in crates/{TYPES}.antt", types[version])
@@ -126,23 +126,23 @@ def type_number(head, version):
 
 def first_parts(head):
     """What the bits of a first byte are: the lowest's value, how many values there are, name, value."""
-    said("quic_base/specs/Number", "has_bit", "bit byte", "(byte / bit % 2) == 1")
-    form = said(GRAMMAR, "is_long", "first", "nat_le <bit> first")["bit"]
+    stated("quic_base/specs/Number", "has_bit", "bit byte", "(byte / bit % 2) == 1")
+    form = stated(GRAMMAR, "is_long", "first", "nat_le <bit> first")["bit"]
     yield form, 2, "Header Form", 0 if head.title == "1-RTT" else 1
-    yield said(GRAMMAR, "is_fixed", "context first", "context.grease || has_bit <bit> first")["bit"], 2, "Fixed Bit", 1
+    yield stated(GRAMMAR, "is_fixed", "context first", "context.grease || has_bit <bit> first")["bit"], 2, "Fixed Bit", 1
     if head.type:
-        found = said(TYPES, "long_type", "version first", (
+        found = stated(TYPES, "long_type", "version first", (
             "slice_index_or (types_of version) (first / <unit> % <count>) kind.Retry"))
         yield found["unit"], found["count"], "Long Packet Type", type_number(head, "first")
     if head.title == "1-RTT":
         yield meant(head)["spin"], 2, "Spin Bit", None
-        found = said(HEADS, "with_number", f"{head.read} number packet got", (
+        found = stated(HEADS, "with_number", f"{head.read} number packet got", (
             "got ≡ header.Short spin (nat_eq (slice_index packet 0 / <unit> % <count>) 1) dst number"))
         yield found["unit"], found["count"], "Key Phase", None
     if is_protected(head):
-        found = said(QUERIES, "reserved_zero", f"{head.written} first", "nat_eq (first / <unit> % <count>) 0")
+        found = stated(QUERIES, "reserved_zero", f"{head.written} first", "nat_eq (first / <unit> % <count>) 0")
         yield found["unit"], found["count"], "Reserved Bits", None
-        yield 1, said(KEYS, "number_len", "first", "first % <count> + 1")["count"], "Packet Number Length", None
+        yield 1, stated(KEYS, "number_len", "first", "first % <count> + 1")["count"], "Packet Number Length", None
 
 
 def first_lines(head):
@@ -165,8 +165,8 @@ def behind(head):
     """What follows the row of a header."""
     if not is_protected(head):
         return ["(..)"]
-    said(FINISH, "IsNumberIn", "size", "number_size number ≡ number_len (slice_index packet 0)")
-    said(CRYPTO, "NumberAt", "number text", "IsNumber (number_size number) (low_part number) text")
+    stated(FINISH, "IsNumberIn", "size", "number_size number ≡ number_len (slice_index packet 0)")
+    stated(CRYPTO, "NumberAt", "number text", "IsNumber (number_size number) (low_part number) text")
     sizes = clauses(CRYPTO, "number_size")
     if list(sizes) != [f"(U{8 * int(size)} x)" for size in sizes.values()]:
         fail(f"number_size in crates/{CRYPTO}.antt", str(sizes))
@@ -187,27 +187,27 @@ def notes(head):
 def checked(head):
     """StopsAtField where a header ends or is written otherwise than the paragraphs on all say."""
     if "Length" in row(head):
-        said(GRAMMAR, "Cut", "context bytes h p q", (
+        stated(GRAMMAR, "Cut", "context bytes h p q", (
             "(rest : List ℕ) × HeaderAt context (length bytes) bytes h rest × (p + length rest ≡ length bytes)"
             " × MatchOption (len_in h) (q ≡ length bytes) (λ len. q ≡ p + len) × (q ≤ length bytes)"))
     front, whole = WRITTEN[head.title]
-    said(WRITING, "header_front", head.written, front)
-    said(WRITING, "header_with", f"len {head.written}", whole.replace("<front..>", f"header_front {head.written}"))
+    stated(WRITING, "header_front", head.written, front)
+    stated(WRITING, "header_with", f"len {head.written}", whole.replace("<front..>", f"header_front {head.written}"))
 
 
 def reading():
     """How headers are read."""
-    said(GRAMMAR, "HeaderAt", "context whole bytes h rest", (
+    stated(GRAMMAR, "HeaderAt", "context whole bytes h rest", (
         "(first : ℕ) × (text : List ℕ) × (values : List HeaderValue) × (bytes ≡ first ∷ text) × (is_fixed context first ≡"
         " true) × AreHeaderFields context (header_row_of first (num (take 4 text))) [] values text rest"
         " × IsHeader whole first values h"))
-    said(GRAMMAR, "AreHeaderFields", "context (field ∷ fields) before after bytes rest", (
+    stated(GRAMMAR, "AreHeaderFields", "context (field ∷ fields) before after bytes rest", (
         "(values : List HeaderValue) × (left : List ℕ) × BeginsWithField context field before values bytes left"
         " × AreHeaderFields context fields (before ++ values) after left rest"))
-    said(GRAMMAR, "BeginsWithField", "context field before values bytes rest", (
+    stated(GRAMMAR, "BeginsWithField", "context field before values bytes rest", (
         "(front : List ℕ) × (bytes ≡ front ++ rest) × IsHeaderField context field before values front rest"))
-    said(GRAMMAR, "token_length_of", "(version ∷ destination ∷ source ∷ Number count ∷ [])", "count")
-    version = said(TYPES, "version_2", "", "<number>")["number"]
+    stated(GRAMMAR, "token_length_of", "(version ∷ destination ∷ source ∷ Number count ∷ [])", "count")
+    version = stated(TYPES, "version_2", "", "<number>")["number"]
     types = ", ".join(f"{type_number(head, 'second')} {head.title}" for head in ALL if head.type)
     return (
         "A header is its first byte and its row's fields one after another (`HeaderAt`, `header_row_of`, `row_behind_ids`,"
@@ -218,9 +218,9 @@ def reading():
 
 def protection():
     """What is under header protection."""
-    low = {short: log_of(said(KEYS, "first_unit", short, "<unit>")["unit"], short) for short in ("true", "false")}
-    said(KEYS, "is_short", "packet", "nat_lt (slice_index packet 0) 128")
-    skipped = said(KEYS, "HasSample", "room", "at + <skipped> + sample_len ≤ length packet")["skipped"]
+    low = {short: log_of(stated(KEYS, "first_unit", short, "<unit>")["unit"], short) for short in ("true", "false")}
+    stated(KEYS, "is_short", "packet", "nat_lt (slice_index packet 0) 128")
+    skipped = stated(KEYS, "HasSample", "room", "at + <skipped> + sample_len ≤ length packet")["skipped"]
     return (
         "Packet Number has a byte more than Packet Number Length says (`number_len`); `reserved_zero` tells whether"
         f" Reserved Bits are 0. The low {low['true']} bits of a 1-RTT packet's first byte, {low['false']} of others,"
@@ -230,10 +230,10 @@ def protection():
 
 def packet_numbers():
     """What a packet number stands for."""
-    said(CRYPTO, "IsInWindow", "residue", "n % window ≡ low")
-    said(CRYPTO, "IsInWindow", "above", "expected < n + window / 2")
-    said(CRYPTO, "IsInWindow", "below", "n ≤ expected + window / 2")
-    said(CRYPTO, "window_of", "number", "2 ^ (8 * number_size number)")
+    stated(CRYPTO, "IsInWindow", "residue", "n % window ≡ low")
+    stated(CRYPTO, "IsInWindow", "above", "expected < n + window / 2")
+    stated(CRYPTO, "IsInWindow", "below", "n ≤ expected + window / 2")
+    stated(CRYPTO, "window_of", "number", "2 ^ (8 * number_size number)")
     return (
         "It is the low bytes of the one number with these that is greater than the expected one less half the window,"
         f" and at most half the window greater (17.1, A.3; `IsInWindow`, crates/{CRYPTO}.antt).")
@@ -241,12 +241,12 @@ def packet_numbers():
 
 def writing():
     """How headers are written."""
-    said(STARTS, "long_front", "first version dst src", "(first ∷ bytes_of 4 version) ++ (long_id dst ++ long_id src)")
-    said(WRITING, "long_first", "version ty count", "first_byte version ty + (count - 1)")
-    said(TYPES, "first_byte", "version ty", "192 + 16 * type_number version ty")
-    said(TYPES, "type_number", "version ty", "place_of ty (types_of version)")
-    said(WRITING, "no_length", "", "0 ∷ 0 ∷ []")
-    said(WRITING, "with_length", "pn_len true header_len bytes", (
+    stated(STARTS, "long_front", "first version dst src", "(first ∷ bytes_of 4 version) ++ (long_id dst ++ long_id src)")
+    stated(WRITING, "long_first", "version ty count", "first_byte version ty + (count - 1)")
+    stated(TYPES, "first_byte", "version ty", "192 + 16 * type_number version ty")
+    stated(TYPES, "type_number", "version ty", "place_of ty (types_of version)")
+    stated(WRITING, "no_length", "", "0 ∷ 0 ∷ []")
+    stated(WRITING, "with_length", "pn_len true header_len bytes", (
         "let at = header_len - pn_len in take (at - 2) bytes ++ (bytes_of 2 (2 ^ 14 + (length bytes - at)) ++ drop at"
         " bytes)"))
     return (
@@ -256,13 +256,13 @@ def writing():
 
 def any_version():
     """The headers that all versions have."""
-    width = said(PLACES, "AnyVersion", "bytes version dst src rest", (
+    width = stated(PLACES, "AnyVersion", "bytes version dst src rest", (
         "(first : ℕ) × (number : List ℕ) × (bytes ≡ first ∷ (number ++ (long_id dst ++ (long_id src ++ rest))))"
         " × (is_long first ≡ true) × IsNumber <width> version number"))["width"]
-    most = 8 * (said(NUMBER, "AreBytes", "b", "(i : ℕ) → slice_index b i < <above>")["above"] - 1)
-    zero = said(NEGOTIATION, "IsNegotiation", "bytes dst src rest", "AnyVersion bytes <zero> dst src rest")["zero"]
-    one = said(NEGOTIATION, "version_bytes", "", "flat_map (bytes_of <width>)")["width"]
-    said(NEGOTIATION, "negotiation_bytes", "first dst src versions", (
+    most = 8 * (stated(NUMBER, "AreBytes", "b", "(i : ℕ) → slice_index b i < <above>")["above"] - 1)
+    zero = stated(NEGOTIATION, "IsNegotiation", "bytes dst src rest", "AnyVersion bytes <zero> dst src rest")["zero"]
+    one = stated(NEGOTIATION, "version_bytes", "", "flat_map (bytes_of <width>)")["width"]
+    stated(NEGOTIATION, "negotiation_bytes", "first dst src versions", (
         "header_bytes (header.VersionNegotiate (first % 128) src dst) ++ version_bytes versions"))
     widths = [" Length (8)", f" (0..{most})"]
     ids = [f"{end} Connection ID{width}" for end in ("Destination", "Source") for width in widths]

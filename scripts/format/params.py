@@ -1,7 +1,7 @@
 """The table of transport parameters (RFC 9000, section 18), from crates/quic_params/specs."""
 import re
 
-from format.definitions import clauses, columns, fail, fields_of, figure, listed, matched, quoted, said
+from format.definitions import clauses, columns, fail, fields_of, figure, listed, matched, quoted, stated
 
 LONG_ID = "quic_base/specs/ConnectionId"
 TABLE = "quic_params/specs/Table"
@@ -41,7 +41,7 @@ BOUNDS = {
 
 def identifiers():
     """The parameters: name, number, kind, whether once."""
-    for name, text in clauses(TABLE, "row").items():
+    for name, text in clauses(TABLE, "row_of").items():
         found = matched("<how> <index> <number> <kind..>", text)
         if not found or found["how"] not in ("single", "repeated"):
             fail(f"row {name} in crates/{TABLE}.antt", text)
@@ -60,13 +60,13 @@ def value_of(kind):
     """What a value of a kind is, and its default."""
     head, _, default = kind.partition(" ")
     if head == "K.Skipped":
-        said(ENTRY, "IsKnownParameter", "counts", "(row id).kind ≢ K.Skipped")
+        stated(ENTRY, "IsKnownParameter", "counts", "(row_of id).kind ≢ K.Skipped")
         return "(..)", ""
     encoded = {re.search(r"[KV_][.\w]*", left)[0]: text for left, text in clauses(VALUE, "IsEncoded").items()}
     for template, words in KINDS.items():
         found = matched(template, encoded.get(head, ""))
         if found is not None:
-            said(VALUE, "default_of", "(K.Integer default)", "Some (V.Number default)")
+            stated(VALUE, "default_of", "(K.Integer default)", "Some (V.Number default)")
             return words(**found), default
     return fail(f"IsEncoded {head} in crates/{VALUE}.antt", encoded.get(head, ""))
 
@@ -103,20 +103,20 @@ def rows():
 
 def address():
     """The figure of a preferred address."""
-    said(ADDRESS, "AreAddressFields", "whole", "bytes ≡ v4 ++ v6 ++ id ++ address.stateless_reset_token")
+    stated(ADDRESS, "AreAddressFields", "whole", "bytes ≡ v4 ++ v6 ++ id ++ address.stateless_reset_token")
     lines, absent = [], []
     for version, flow in ((4, ""), (6, " × (v6_flowinfo socket ≡ 0) × (v6_scope_id socket ≡ 0)")):
-        none = said(ADDRESS, f"IsV{version}", "None bytes", "bytes ≡ replicate <width> 0")["width"]
-        found = said(ADDRESS, f"IsV{version}", "(Some socket) bytes", (
+        none = stated(ADDRESS, f"IsV{version}", "None bytes", "bytes ≡ replicate <width> 0")["width"]
+        found = stated(ADDRESS, f"IsV{version}", "(Some socket) bytes", (
             f"(bytes ≢ replicate {none} 0) × (ip port : List ℕ) × (bytes ≡ ip ++ port) × IsOctets <ip> (ipv{version}_octets"
             f" (v{version}_ip socket)) ip × IsNumber <port> (v{version}_port socket) port{flow}"))
         lines += [f"IPv{version} Address ({8 * found['ip']})", f"IPv{version} Port ({8 * found['port']})"]
         absent.append(none)
-    said(LONG_ID, "IsLongId", "value", "b ≡ long_id id")
-    said(LONG_ID, "long_id", "id", "length id ∷ id")
-    most = said(LONG_ID, "IsLongId", "short", "length id ≤ <most>")["most"]
-    token = said(ADDRESS, "AreAddressFields", "is_token", "length address.stateless_reset_token ≡ <width>")["width"]
-    said(ADDRESS, "IsAddress", "address bytes", "AreAddressFields address bytes × ¬ (HasNoAddress address)")
+    stated(LONG_ID, "IsLongId", "value", "b ≡ long_id id")
+    stated(LONG_ID, "long_id", "id", "length id ∷ id")
+    most = stated(LONG_ID, "IsLongId", "short", "length id ≤ <most>")["most"]
+    token = stated(ADDRESS, "AreAddressFields", "is_token", "length address.stateless_reset_token ≡ <width>")["width"]
+    stated(ADDRESS, "IsAddress", "address bytes", "AreAddressFields address bytes × ¬ (HasNoAddress address)")
     yield from figure("Preferred Address", [
         *lines, "Connection ID Length (8)", f"Connection ID (0..{8 * most})", f"Stateless Reset Token ({8 * token})"])
     yield (
@@ -126,19 +126,19 @@ def address():
 
 def page():
     """Lists of parameters, and each parameter."""
-    said(ENTRY, "IsEntry", "number bytes", "Follows (Encodes number) (Follows (Encodes (length bytes)) (Is bytes))")
-    said(ENTRY, "AreEntries", "(last ∷ earlier) bytes", (
+    stated(ENTRY, "IsEntry", "number bytes", "Follows (Encodes number) (Follows (Encodes (length bytes)) (Is bytes))")
+    stated(ENTRY, "AreEntries", "(last ∷ earlier) bytes", (
         "Follows (AreEntries earlier) (IsEntry last.number last.bytes) bytes"))
-    said(ENTRY, "IsRepeat", "id before", "((row id).once ≡ true) × IsGiven id before")
-    said(ENTRY, "Accepts", "Passed", (
+    stated(ENTRY, "IsRepeat", "id before", "((row_of id).once ≡ true) × IsGiven id before")
+    stated(ENTRY, "Accepts", "Passed", (
         "((id : TransportParameterId) → ¬ (IsKnownParameter id entry.number)) → after ≡ before → Accepts before entry"
         " after"))
-    said(ENTRY, "Accepts", "Taken", (
+    stated(ENTRY, "Accepts", "Taken", (
         "(id : TransportParameterId) (value : Value) → IsKnownParameter id entry.number → ¬ (IsRepeat id before)"
-        " → IsEncoded (row id).kind value entry.bytes → after ≡ record { id = id; value = value } ∷ before"
+        " → IsEncoded (row_of id).kind value entry.bytes → after ≡ record { id = id; value = value } ∷ before"
         " → Accepts before entry after"))
-    said(ENTRY, "IsKnownParameter", "number_is", "(row id).number ≡ number")
-    free = said(RESERVED, "IsReserved", "number", "number % <step> ≡ <first>")
+    stated(ENTRY, "IsKnownParameter", "number_is", "(row_of id).number ≡ number")
+    free = stated(RESERVED, "IsReserved", "number", "number % <step> ≡ <first>")
     yield from ["## Transport parameters", "", "### Lists (18)", ""]
     yield from figure("Transport Parameters", ["Transport Parameter (..) ..."])
     yield from figure("Transport Parameter", [
@@ -148,9 +148,9 @@ def page():
         " refused unless they may (`IsRepeat`).")
     yield from ["", "### Parameters (18.2)", ""]
     yield from columns([["ID", "Name", "Value", "Default", "Must be"], *rows()])
-    others = quoted(name for name in clauses(TABLE, "row") if name in NAMES)
+    others = quoted(name for name in clauses(TABLE, "row_of") if name in NAMES)
     yield (
-        f"Rows (`row`, crates/{TABLE}.antt) have these names but {others}. Values (`IsEncoded`, crates/{VALUE}.antt)"
+        f"Rows (`row_of`, crates/{TABLE}.antt) have these names but {others}. Values (`IsEncoded`, crates/{VALUE}.antt)"
         " (i) are in the shortest width unless in any; (..) are passed. Without a default what isn't there is absent"
         f" (`default_of`). What must be, `IsValid` says, crates/{MEANING}.antt, of names of `value_of`,"
         f" crates/{RECORD}.antt. Numbers {free['step']} * N + {free['first']} are reserved (`IsReserved`,"

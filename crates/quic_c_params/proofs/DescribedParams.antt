@@ -8,7 +8,7 @@ use Rattle.std.specs.declared.net.socket_addr.SocketAddrV6.{SocketAddrV6}
 use Rattle.quic_params.specs.Range.{IsEncodableV6, IsTypedAs, IsTypedAddress, plain}
 use Rattle.quic_params.specs.Record.{kept}
 use Rattle.quic_params.specs.Reserved.{Reserved}
-use Rattle.quic_params.specs.Table.{row}
+use Rattle.quic_params.specs.Table.{row_of}
 use Rattle.quic_params.specs.declared.parameter.TransportParameterId.TheVariants as ids
 use Rattle.quic_params.specs.declared.value.PreferredAddress.{PreferredAddress}
 use Rattle.quic_params.specs.declared.value.Value.TheVariants as V
@@ -117,14 +117,14 @@ same_fields p x0 x1 x2 x3 x4 x5 x6 x7 x8 x9 x10 x11 x12 x13 x14 x15 x16 x17 x18 
     whole ∙ plain_is p g o
 
 -- what the types of a record's fields hold
-pub typed_number : (o : Option ℕ) → IfSome (kept V.Number o) (IsTypedAs (row ids.MaxDatagramFrameSize).kind) → IfSome o (λ n. n < 2 ^ 62)
+pub typed_number : (o : Option ℕ) → IfSome (kept V.Number o) (IsTypedAs (row_of ids.MaxDatagramFrameSize).kind) → IfSome o (λ n. n < 2 ^ 62)
 typed_number None t = tt
 typed_number (Some n) t = t
 
-pub typed_id : (o : Option (List ℕ)) → IfSome (kept V.Id o) (IsTypedAs (row ids.OriginalDestinationConnectionId).kind) → IfSome o (λ id. length id ≤ 20)
+pub typed_id : (o : Option (List ℕ)) → IfSome (kept V.Id o) (IsTypedAs (row_of ids.OriginalDestinationConnectionId).kind) → IfSome o (λ id. length id ≤ 20)
 typed_id None t = tt
 typed_id (Some id) t = t
 
-pub typed_address : (o : Option PreferredAddress) → IfSome (kept V.Address o) (IsTypedAs (row ids.PreferredAddress).kind) → IfSome o IsTypedAddress
+pub typed_address : (o : Option PreferredAddress) → IfSome (kept V.Address o) (IsTypedAs (row_of ids.PreferredAddress).kind) → IfSome o IsTypedAddress
 typed_address None t = tt
 typed_address (Some a) t = t

@@ -8,7 +8,7 @@ use Rattle.quic_base.proofs.PublicLaws.{encoded_bound}
 use Rattle.quic_params.specs.declared.parameter.TransportParameterId.{TransportParameterId}
 use Rattle.quic_params.specs.Entry.{Entry, IsEntry, IsCutEntry, IsKnownParameter}
 use Rattle.quic_params.specs.Further.{AreInOrder, AreOthers, HasEntryNumber, IsOther, IsOrderOf, upward, asked}
-use Rattle.quic_params.specs.Table.{rows}
+use Rattle.quic_params.specs.Table.{parameter_count}
 use Rattle.quic_params.proofs.ReadBack.{get_upward}
 use Rattle.quic_params.proofs.Further.{next, order_within}
 use Rattle.quic_c_params.specs.Lists.{any_entry, IsFurther}
@@ -67,7 +67,7 @@ so_far_end n list rest c s es h has =
 pub record Counted (list rest : List ℕ) (count : ℕ) : Type 0 where
   pub back : (left : List Entry) → AreInOrder left rest → AreOthers left → (es : List Entry) × AreInOrder es list × AreOthers es × (length es ≡ count + length left)
   pub on : (es : List Entry) → AreInOrder es list → AreOthers es → (left : List Entry) × AreInOrder left rest × AreOthers left × (length es ≡ count + length left)
-  pub few : rows + count ≤ 256
+  pub few : parameter_count + count ≤ 256
 
 pub counted_none : (list : List ℕ) → Counted list list 0
 counted_none list = record { back = λ es h o. (es, h, o, omega arith); on = λ es h o. (es, h, o, omega arith); few = omega arith }
@@ -80,7 +80,7 @@ others_of : (es others : List Entry) (first : Entry) → es ≡ first ∷ others
 others_of es others first e h = subst AreOthers e h
 
 pub counted_more : (list rest behind : List ℕ) (n : ℕ) (x : List ℕ) (count : ℕ) → Takes (IsEntry n x) rest behind → ((id : TransportParameterId) → ¬ (IsKnownParameter id n))
-    → ((es : List Entry) → AreInOrder es behind → HasEntryNumber n es → ⊥) → rows + count < 256 → Counted list rest count → Counted list behind (count + 1)
+    → ((es : List Entry) → AreInOrder es behind → HasEntryNumber n es → ⊥) → parameter_count + count < 256 → Counted list rest count → Counted list behind (count + 1)
 counted_more list rest behind n x count t u once lt c = record {
   back = λ left h o.
       let a = c.back (taken n x ∷ left) (begins n x rest behind left t h) (other_taken n x rest behind t u, once left h, o) in
@@ -112,7 +112,7 @@ cut_off list rest count cut some c es f =
     let a = c.on es f.encoded f.others in
     some (nothing_left rest a.0 (none_cut rest a.0 cut a.1) a.1)
 
-pub too_many : (list rest behind : List ℕ) (n : ℕ) (x : List ℕ) (count : ℕ) → Takes (IsEntry n x) rest behind → rows + count ≡ 256 → Counted list rest count → (es : List Entry) → IsFurther es list → ⊥
+pub too_many : (list rest behind : List ℕ) (n : ℕ) (x : List ℕ) (count : ℕ) → Takes (IsEntry n x) rest behind → parameter_count + count ≡ 256 → Counted list rest count → (es : List Entry) → IsFurther es list → ⊥
 too_many list rest behind n x count t full c es f =
     let a = c.on es f.encoded f.others in
     let g = next n x rest behind a.0 t a.1 in

@@ -8,7 +8,7 @@ use Rattle.std.proofs.lemmas.List.{append-nil, drop_all, drop_at, drop-drop, len
 use Rattle.quic_params.specs.declared.record.TransportParameters.{TransportParameters}
 use Rattle.quic_params.specs.Entry.{Entry}
 use Rattle.quic_params.specs.Further.{AreInOrder, AreOthers, IsOther, IsOrderOf, asked, listed}
-use Rattle.quic_params.specs.Table.{rows}
+use Rattle.quic_params.specs.Table.{parameter_count}
 use Rattle.quic_params.specs.Writing.{shortest_entry}
 use Rattle.quic_params.proofs.Further.{in_order_once, other_at, encoded_at, encoded_further}
 use Rattle.quic_c_params.specs.Lists.{any_entry, StoresBytes}
@@ -17,16 +17,16 @@ pub stores_as : (result : Result ℕ ℕ) (bytes same old new : List ℕ) → sa
 stores_as result bytes same old new e l = subst (λ (b : List ℕ). StoresBytes result b old new) (sym e) l
 
 -- the entry at an index that is no row's
-pub further_encoded : (p : TransportParameters) (es : List Entry) (index number : ℕ) (value : List ℕ) → rows ≤ index → index < rows + length es
-    → number ≡ (get_or es (index - rows) any_entry).number → value ≡ (get_or es (index - rows) any_entry).bytes → encoded_at p es index ≡ shortest_entry number value
+pub further_encoded : (p : TransportParameters) (es : List Entry) (index number : ℕ) (value : List ℕ) → parameter_count ≤ index → index < parameter_count + length es
+    → number ≡ (get_or es (index - parameter_count) any_entry).number → value ≡ (get_or es (index - parameter_count) any_entry).bytes → encoded_at p es index ≡ shortest_entry number value
 further_encoded p es index number value le lt n v =
-    let at : rows + (index - rows) ≡ index = omega (arith, le) in
-    ap (encoded_at p es) (sym at) ∙ encoded_further p es (index - rows) any_entry (omega (arith, le, lt))
-    ∙ ap (λ (m : ℕ). shortest_entry m (get_or es (index - rows) any_entry).bytes) (sym n) ∙ ap (shortest_entry number) (sym v)
+    let at : parameter_count + (index - parameter_count) ≡ index = omega (arith, le) in
+    ap (encoded_at p es) (sym at) ∙ encoded_further p es (index - parameter_count) any_entry (omega (arith, le, lt))
+    ∙ ap (λ (m : ℕ). shortest_entry m (get_or es (index - parameter_count) any_entry).bytes) (sym n) ∙ ap (shortest_entry number) (sym v)
 
 -- it can be written, and is no longer than the list that it is in
-pub other_there : (es : List Entry) (index : ℕ) → AreOthers es → rows ≤ index → index < rows + length es → IsOther (get_or es (index - rows) any_entry)
-other_there es index h le lt = other_at es (index - rows) any_entry h (omega (arith, le, lt))
+pub other_there : (es : List Entry) (index : ℕ) → AreOthers es → parameter_count ≤ index → index < parameter_count + length es → IsOther (get_or es (index - parameter_count) any_entry)
+other_there es index h le lt = other_at es (index - parameter_count) any_entry h (omega (arith, le, lt))
 
 value_within : (es : List Entry) (b : List ℕ) (j : ℕ) → AreInOrder es b → j < length es → length (get_or es j any_entry).bytes ≤ length b
 value_within [] b j h lt = absurd (omega (arith, lt))
@@ -43,9 +43,9 @@ value_within (e ∷ es) b zero h lt =
     )
 value_within (e ∷ es) b (suc j) h lt = omega (arith, ap length h.whole, length-append h.front h.back, value_within es h.back j h.second (omega (arith, lt)))
 
-pub value_short : (es : List Entry) (b value : List ℕ) (index : ℕ) → AreInOrder es b → rows ≤ index → index < rows + length es
-    → value ≡ (get_or es (index - rows) any_entry).bytes → length value ≤ length b
-value_short es b value index h le lt v = omega (arith, ap length v, value_within es b (index - rows) h (omega (arith, le, lt)))
+pub value_short : (es : List Entry) (b value : List ℕ) (index : ℕ) → AreInOrder es b → parameter_count ≤ index → index < parameter_count + length es
+    → value ≡ (get_or es (index - parameter_count) any_entry).bytes → length value ≤ length b
+value_short es b value index h le lt v = omega (arith, ap length v, value_within es b (index - parameter_count) h (omega (arith, le, lt)))
 
 -- ---- entries in an order
 
@@ -66,10 +66,10 @@ pub record CountedTo (p : TransportParameters) (further order : List ℕ) (k len
   pub value : (es : List Entry) → AreInOrder es further → len ≡ length (first_of p es order k)
   pub few : len ≤ k * 2 ^ 41
 
-pub counted_to_all : (p : TransportParameters) (further order : List ℕ) (count k len : ℕ) → count ≤ k → CountedTo p further (asked count order) k len → (any : List Entry) → AreInOrder any further → count ≡ rows + length any
+pub counted_to_all : (p : TransportParameters) (further order : List ℕ) (count k len : ℕ) → count ≤ k → CountedTo p further (asked count order) k len → (any : List Entry) → AreInOrder any further → count ≡ parameter_count + length any
     → IsOrderOf count (asked count order) → (es : List Entry) → AreInOrder es further → len ≡ length (listed p es order)
 counted_to_all p further order count k len le c any has same o es h =
-    let e : rows + length es ≡ count = omega (arith, ap length (in_order_once any es further has h), same) in
+    let e : parameter_count + length es ≡ count = omega (arith, ap length (in_order_once any es further has h), same) in
     c.value es h ∙ ap length (first_all p es (asked count order) k (omega (arith, o.width, le))) ∙ ap (λ (n : ℕ). length (flat_map (encoded_at p es) (asked n order))) (sym e)
 
 -- so many of them are written
@@ -108,18 +108,18 @@ first_within p es order k =
     let whole = ap (flat_map (encoded_at p es)) (sym (take-append-drop k order)) ∙ flat_map-append (encoded_at p es) (take k order) (drop k order) in
     omega (arith, ap length whole, length-append (first_of p es order k) (flat_map (encoded_at p es) (drop k order)))
 
-asked_same : (further : List ℕ) (count : ℕ) (any es : List Entry) → AreInOrder any further → count ≡ rows + length any → AreInOrder es further → rows + length es ≡ count
+asked_same : (further : List ℕ) (count : ℕ) (any es : List Entry) → AreInOrder any further → count ≡ parameter_count + length any → AreInOrder es further → parameter_count + length es ≡ count
 asked_same further count any es has same h = omega (arith, ap length (in_order_once any es further has h), same)
 
 -- what is written has room
-pub stored_within : (p : TransportParameters) (further order old new : List ℕ) (count k at : ℕ) (any : List Entry) → AreInOrder any further → count ≡ rows + length any
+pub stored_within : (p : TransportParameters) (further order old new : List ℕ) (count k at : ℕ) (any : List Entry) → AreInOrder any further → count ≡ parameter_count + length any
     → ((es : List Entry) → AreInOrder es further → length (listed p es order) ≤ length old) → StoredTo p further (asked count order) old k at new → at ≤ length new
 stored_within p further order old new count k at any has same room l =
     let e = asked_same further count any any has same has in
     omega (arith, l.count any has, first_within p any (asked count order) k, ap (λ (n : ℕ). length (flat_map (encoded_at p any) (asked n order))) e, room any has, l.long)
 
 -- and so has the next entry
-pub next_within : (p : TransportParameters) (further order old new ys : List ℕ) (count k index at n : ℕ) (result : Result ℕ ℕ) (any : List Entry) → AreInOrder any further → count ≡ rows + length any
+pub next_within : (p : TransportParameters) (further order old new ys : List ℕ) (count k index at n : ℕ) (result : Result ℕ ℕ) (any : List Entry) → AreInOrder any further → count ≡ parameter_count + length any
     → ((es : List Entry) → AreInOrder es further → length (listed p es order) ≤ length old) → StoredTo p further (asked count order) old k at new
     → k < length (asked count order) → index ≡ get_or (asked count order) k 0 → result ≡ Err n
     → ((es : List Entry) → AreInOrder es further → StoresBytes result (encoded_at p es index) (drop at new) ys) → ⊥
@@ -141,7 +141,7 @@ next_within p further order old new ys count k index at n result any has same ro
     )
 
 pub stored_to_all : (p : TransportParameters) (further order old new : List ℕ) (count k at : ℕ) → count ≤ k → StoredTo p further (asked count order) old k at new → (any : List Entry) → AreInOrder any further
-    → count ≡ rows + length any → IsOrderOf count (asked count order) → (es : List Entry) → AreInOrder es further → new ≡ listed p es order ++ drop (length (listed p es order)) old
+    → count ≡ parameter_count + length any → IsOrderOf count (asked count order) → (es : List Entry) → AreInOrder es further → new ≡ listed p es order ++ drop (length (listed p es order)) old
 stored_to_all p further order old new count k at le l any has same o es h =
     let e = asked_same further count any es has same h in
     let whole : first_of p es (asked count order) k ≡ listed p es order =

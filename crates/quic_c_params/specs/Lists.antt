@@ -6,7 +6,7 @@ use Rattle.quic_params.specs.declared.record.TransportParameters.{TransportParam
 use Rattle.quic_params.specs.Entry.{Entry, IsEntry, IsKnownParameter}
 use Rattle.quic_params.specs.Further.{AreInOrder, AreOthers, IsOrderOf, asked, listed}
 use Rattle.quic_params.specs.Meaning.{IsReadAnswer}
-use Rattle.quic_params.specs.Table.{rows}
+use Rattle.quic_params.specs.Table.{parameter_count}
 use Rattle.quic_c_params.specs.declared.words.CEntry.{CEntry}
 use Rattle.quic_c_params.specs.declared.words.CParams.{CParams}
 use Rattle.quic_c_params.specs.Written.{CanWriteParams}
@@ -51,7 +51,7 @@ any_entry = record { number = 0; bytes = [] }
 pub record IsFurther (entries : List Entry) (list : List ℕ) : Type 0 where
   pub encoded : AreInOrder entries list
   pub others : AreOthers entries
-  pub few : rows + length entries ≤ 256
+  pub few : parameter_count + length entries ≤ 256
   pub short : length list < 2 ^ 40
 
 -- The words describe a record that the side reads back, the list has further entries, and the order is one of all of
@@ -60,7 +60,7 @@ pub record CanList (side : ℕ) (words : CParams) (further order : List ℕ) (pa
     (entries : List Entry) : Type 0 where
   pub record_is : CanWriteParams side words params
   pub further_are : IsFurther entries further
-  pub order_is : IsOrderOf (rows + length entries) (asked (rows + length entries) order)
+  pub order_is : IsOrderOf (parameter_count + length entries) (asked (parameter_count + length entries) order)
 
 -- The list of a record with further entries was written at the front, and the side reads that record from it.
 pub record WroteList (side : ℕ) (words : CParams) (further order old new : List ℕ) (count : ℕ) : Type 0 where

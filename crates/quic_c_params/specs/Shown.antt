@@ -8,20 +8,20 @@ use Rattle.quic_params.specs.declared.value.PreferredAddress.{PreferredAddress}
 use Rattle.quic_params.specs.declared.record.TransportParameters.{TransportParameters}
 use Rattle.quic_c_params.specs.declared.words.CParams.{CParams}
 
--- a bit with others above it
-abbrev pub bit : Bool → ℕ → ℕ
-bit true above = 1 + 2 * above
-bit false above = 2 * above
+-- a bit of the flags with others above it
+abbrev pub flag_bit : Bool → ℕ → ℕ
+flag_bit true above = 1 + 2 * above
+flag_bit false above = 2 * above
 
 -- bits from the lowest
 abbrev pub bits : List Bool → ℕ
 bits [] = 0
-bits (first ∷ above) = bit first (bits above)
+bits (first ∷ above) = flag_bit first (bits above)
 
 -- what is absent is 0
-abbrev pub number_of : Option ℕ → ℕ
-number_of (Some number) = number
-number_of None = 0
+abbrev pub number_word : Option ℕ → ℕ
+number_word (Some number) = number
+number_word None = 0
 
 abbrev pub reset_token_of : Option (List ℕ) → List ℕ
 reset_token_of (Some token) = token
@@ -104,8 +104,8 @@ params_words params = record {
   ack_delay_exponent = params.ack_delay_exponent;
   max_ack_delay = params.max_ack_delay;
   active_connection_id_limit = params.active_connection_id_limit;
-  max_datagram_frame_size = number_of params.max_datagram_frame_size;
-  min_ack_delay = number_of params.min_ack_delay;
+  max_datagram_frame_size = number_word params.max_datagram_frame_size;
+  min_ack_delay = number_word params.min_ack_delay;
   original_dst_cid_len = len_of params.original_dst_cid;
   initial_src_cid_len = len_of params.initial_src_cid;
   retry_src_cid_len = len_of params.retry_src_cid;

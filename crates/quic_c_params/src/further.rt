@@ -3,7 +3,7 @@
 ghost use Rattle.std.specs.Prelude.{◌≡◌, ◌+◌, ◌<◌, ◌≤◌, ◌↔◌, ◌^◌, ℕ, List, get_or, length, IsTrue, IfSome, IsNone};
 ghost use Rattle.quic_params.specs.Entry.{Entry};
 ghost use Rattle.quic_params.specs.Further.{AreInOrder, AreOthers, HasEntryNumber, IsOrderOf, asked};
-ghost use Rattle.quic_params.specs.Table.{rows};
+ghost use Rattle.quic_params.specs.Table.{parameter_count};
 ghost use Rattle.quic_c_params.specs.Lists.{any_entry, IsFurther};
 
 use quic_params::transport_parameters::{TransportParameterId, known, split_entry};

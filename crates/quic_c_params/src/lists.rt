@@ -4,7 +4,7 @@ ghost use Rattle.std.specs.List.{flat_map};
 ghost use Rattle.quic_params.specs.Entry.{Entry};
 ghost use Rattle.quic_params.specs.Further.{AreInOrder, IsOrderOf, asked, listed, encoded_entries};
 ghost use Rattle.quic_params.specs.Order.{id_of_index};
-ghost use Rattle.quic_params.specs.Table.{rows};
+ghost use Rattle.quic_params.specs.Table.{parameter_count};
 ghost use Rattle.quic_params.specs.Writing.{shortest_entry, written_for};
 ghost use Rattle.quic_params.specs.declared.record.TransportParameters.{TransportParameters};
 ghost use Rattle.quic_c_params.specs.Lists.{CanList, IsFurther, StoresBytes, ListNeedsMore, DescribesNoList, WroteList};
@@ -20,7 +20,7 @@ use quic_params::transport_parameters::{
 
 // The parameter of a row.
 fn row_at(index: usize) -> TransportParameterId
-    requires { index < rows }
+    requires { index < parameter_count }
     ensures { result ≡ id_of_index index }
 {
     TransportParameterId::SUPPORTED[index]
@@ -56,7 +56,7 @@ fn store_entry_at(
     index: usize,
     dest: &mut [u8],
 ) -> Result<usize, usize>
-    requires there { (entries : List Entry) × IsFurther entries further.now × (index < rows + length entries) }
+    requires there { (entries : List Entry) × IsFurther entries further.now × (index < parameter_count + length entries) }
     ensures stores { (entries : List Entry) → AreInOrder entries further.now
         → StoresBytes result (get_or (encoded_entries params.now entries) index []) dest.old dest.new }
     ensures few { (entries : List Entry) → AreInOrder entries further.now
@@ -71,10 +71,10 @@ fn store_entry_at(
 
 // How many entries a list has with these further entries, if they are such, and the order is one of all.
 fn count_entries(further: &[u8], order: &[u8]) -> Option<usize>
-    ensures some { IfSome result (λ n. (entries : List Entry) × IsFurther entries further.now × (n ≡ rows + length entries)
+    ensures some { IfSome result (λ n. (entries : List Entry) × IsFurther entries further.now × (n ≡ parameter_count + length entries)
         × IsOrderOf n (asked n order.now)) }
     ensures none { IsNone result → (entries : List Entry) → IsFurther entries further.now
-        → IsOrderOf (rows + length entries) (asked (rows + length entries) order.now) → ⊥ }
+        → IsOrderOf (parameter_count + length entries) (asked (parameter_count + length entries) order.now) → ⊥ }
 {
     let count = ROWS + count_further(further)?;
     if is_order(count, order) {
@@ -86,7 +86,7 @@ fn count_entries(further: &[u8], order: &[u8]) -> Option<usize>
 
 // How many bytes the list has whose entries are in an order.
 fn list_len(params: &TransportParameters, further: &[u8], count: usize, order: &[u8]) -> usize
-    requires there { (entries : List Entry) × IsFurther entries further.now × (count ≡ rows + length entries) }
+    requires there { (entries : List Entry) × IsFurther entries further.now × (count ≡ parameter_count + length entries) }
     requires order { IsOrderOf count (asked count order.now) }
     ensures { (entries : List Entry) → AreInOrder entries further.now → result ≡ length (listed params.now entries order.now) }
 {
@@ -109,7 +109,7 @@ fn store_list(
     order: &[u8],
     dest: &mut [u8],
 )
-    requires there { (entries : List Entry) × IsFurther entries further.now × (count ≡ rows + length entries) }
+    requires there { (entries : List Entry) × IsFurther entries further.now × (count ≡ parameter_count + length entries) }
     requires order { IsOrderOf count (asked count order.now) }
     requires room { (entries : List Entry) → AreInOrder entries further.now
         → length (listed params.now entries order.now) ≤ length dest.old }

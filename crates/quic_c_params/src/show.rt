@@ -1,6 +1,6 @@
 //! Transport parameters as words.
 ghost use Rattle.std.specs.Prelude.{◌≡◌, ◌+◌, ◌*◌, ◌<◌, ◌≤◌, ◌^◌};
-ghost use Rattle.quic_c_params.specs.Shown.{bit, number_of, reset_token_of, id_of, len_of, octets_of_v4, port_of_v4, octets_of_v6, port_of_v6, v4_in, v6_in, id_in, token_in, bits, present_in, params_words};
+ghost use Rattle.quic_c_params.specs.Shown.{flag_bit, number_word, reset_token_of, id_of, len_of, octets_of_v4, port_of_v4, octets_of_v6, port_of_v6, v4_in, v6_in, id_in, token_in, bits, present_in, params_words};
 
 use crate::words::CParams;
 use quic_base::ids::{ConnectionId, ResetToken};
@@ -11,14 +11,14 @@ use std::net::{SocketAddrV4, SocketAddrV6};
 // A bit with others above it.
 fn bit(set: bool, above: u32) -> u32
     requires { above < 2 ^ 30 }
-    ensures value { result ≡ bit set above }
+    ensures value { result ≡ flag_bit set above }
     ensures bound { result ≤ 1 + 2 * above }
 {
     if set { 1 + 2 * above } else { 2 * above }
 }
 
 fn number(n: &Option<VarInt>) -> u64
-    ensures { result ≡ number_of n.now }
+    ensures { result ≡ number_word n.now }
 {
     match n {
         Some(n) => n.into_inner(),

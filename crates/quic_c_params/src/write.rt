@@ -7,7 +7,7 @@ ghost use Rattle.quic_params.specs.Range.{IsEncodableV6, IsEncodableAddress, IsT
 ghost use Rattle.quic_params.specs.Meaning.{IsReadAnswer};
 ghost use Rattle.quic_params.specs.Writing.{written};
 ghost use Rattle.quic_params.specs.declared.record.TransportParameters.{TransportParameters};
-ghost use Rattle.quic_c_params.specs.Shown.{bit, bits, present_in, number_of, reset_token_of, padded, id_of, len_of, octets_of_v4, port_of_v4, octets_of_v6, port_of_v6, params_words};
+ghost use Rattle.quic_c_params.specs.Shown.{flag_bit, bits, present_in, number_word, reset_token_of, padded, id_of, len_of, octets_of_v4, port_of_v4, octets_of_v6, port_of_v6, params_words};
 ghost use Rattle.quic_c_params.specs.Written.{DescribesParams, CanWriteParams, WroteParams, ParamsNeedMore, DescribesNoParams, HasFlags};
 
 use crate::read::side_of;
@@ -21,7 +21,7 @@ use std::net::{Ipv4Addr, Ipv6Addr, SocketAddrV4, SocketAddrV6};
 
 // The lowest bit, and the others.
 fn split(word: u32) -> (bool, u32)
-    ensures { (b : Bool) (above : ℕ) → word ≡ bit b above → (result.0 ≡ b) × (result.1 ≡ above) }
+    ensures { (b : Bool) (above : ℕ) → word ≡ flag_bit b above → (result.0 ≡ b) × (result.1 ≡ above) }
 {
     (word % 2 == 1, word / 2)
 }
@@ -83,7 +83,7 @@ fn varint(n: u64) -> VarInt
 }
 
 fn number_in(there: bool, n: u64) -> Option<VarInt>
-    ensures { (o : Option ℕ) → IfSome o (λ m. m < 2 ^ 62) → there ≡ is_some o → n ≡ number_of o → result ≡ o }
+    ensures { (o : Option ℕ) → IfSome o (λ m. m < 2 ^ 62) → there ≡ is_some o → n ≡ number_word o → result ≡ o }
 {
     if there { Some(varint(n)) } else { None }
 }

@@ -8,7 +8,7 @@ use Rattle.quic_params.specs.declared.error.Error.TheVariants.{Malformed}
 use Rattle.quic_params.specs.declared.parameter.Row.{Row}
 use Rattle.quic_params.specs.declared.parameter.TransportParameterId.{TransportParameterId}
 use Rattle.quic_params.specs.declared.record.TransportParameters.{TransportParameters}
-use Rattle.quic_params.specs.Table.{row}
+use Rattle.quic_params.specs.Table.{row_of}
 use Rattle.quic_params.specs.Value.{IsNoValue}
 use Rattle.quic_params.specs.Entry.{Given, IsEnd, IsKnownParameter, RefusesList, StopsAtEntry, StopsAt, StopsIn, within_entry}
 use Rattle.quic_params.specs.State.{Holds}
@@ -48,21 +48,21 @@ entry_left before old mid new n len count error t le r within e =
     (e ∙ drop_within count len mid within le)
 
 -- at a repeat, whose row is known by an equation
-pub repeat_left : (p : TransportParameters) (seen : List Bool) (before : List Given) (old mid : List ℕ) (n len : ℕ) (i : TransportParameterId) (w : Row) → w ≡ row i
+pub repeat_left : (p : TransportParameters) (seen : List Bool) (before : List Given) (old mid : List ℕ) (n len : ℕ) (i : TransportParameterId) (w : Row) → w ≡ row_of i
     → Takes (Follows (Encodes n) (Encodes len)) old mid → len ≤ length mid → IsKnownParameter i n → w.once ≡ true → get_or seen w.index false ≡ true → Holds p seen before
     → StopsAt before old Malformed mid
 repeat_left p seen before old mid n len i w e t le k once seen_it h =
-    let again : (row i).once ≡ true = sym (ap (λ r. r.once) e) ∙ once in
-    let marked : get_or seen (row i).index false ≡ true = sym (ap (λ r. get_or seen r.index false) e) ∙ seen_it in
+    let again : (row_of i).once ≡ true = sym (ap (λ r. r.once) e) ∙ once in
+    let marked : get_or seen (row_of i).index false ≡ true = sym (ap (λ r. get_or seen r.index false) e) ∙ seen_it in
     entry_left before old mid mid n len 0 Malformed t le (record { id = i; known = k; cause = inl ((again, h.given_there i marked), refl) }) (omega arith) refl
 
 -- at a value that is none
-pub value_left : (p : TransportParameters) (seen : List Bool) (before : List Given) (old mid new : List ℕ) (n len count : ℕ) (i : TransportParameterId) (error : Error) (w : Row) → w ≡ row i
+pub value_left : (p : TransportParameters) (seen : List Bool) (before : List Given) (old mid new : List ℕ) (n len count : ℕ) (i : TransportParameterId) (error : Error) (w : Row) → w ≡ row_of i
     → Takes (Follows (Encodes n) (Encodes len)) old mid → len ≤ length mid → IsKnownParameter i n → ¬ ((w.once ≡ true) × (get_or seen w.index false ≡ true))
     → IsNoValue w.kind (take len mid) error → Holds p seen before → count ≤ len → new ≡ drop count mid → StopsAt before old error new
 value_left p seen before old mid new n len count i error w e t le k once bad h within rest =
-    let once_there : ¬ (((row i).once ≡ true) × (get_or seen (row i).index false ≡ true)) = subst (λ (r : Row). ¬ ((r.once ≡ true) × (get_or seen r.index false ≡ true))) e once in
-    let none : IsNoValue (row i).kind (take len mid) error = subst (λ (r : Row). IsNoValue r.kind (take len mid) error) e bad in
+    let once_there : ¬ (((row_of i).once ≡ true) × (get_or seen (row_of i).index false ≡ true)) = subst (λ (r : Row). ¬ ((r.once ≡ true) × (get_or seen r.index false ≡ true))) e once in
+    let none : IsNoValue (row_of i).kind (take len mid) error = subst (λ (r : Row). IsNoValue r.kind (take len mid) error) e bad in
     entry_left before old mid new n len count error t le (record { id = i; known = k; cause = inr ((λ r. once_there (r.0, h.marked i r.1)), none) }) within rest
 
 -- at a list

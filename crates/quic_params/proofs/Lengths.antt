@@ -21,7 +21,7 @@ use Rattle.quic_params.specs.Order.{IsOrder, id_of_index, order_of}
 use Rattle.quic_params.specs.Range.{IsTypedRecord, IsTypedAs, IsTypedAddress, IsFree}
 use Rattle.quic_params.specs.Record.{value_of}
 use Rattle.quic_params.specs.Reserved.{Reserved}
-use Rattle.quic_params.specs.Table.{row}
+use Rattle.quic_params.specs.Table.{row_of}
 use Rattle.quic_params.specs.Writing.{encoding, shortest_entry, encoded_entry, is_written, grease_bytes, of_kind, written, written_for, v4_bytes, v6_bytes}
 use Rattle.quic_params.proofs.Hosts.{octets_long}
 use Rattle.quic_params.proofs.Sizes.{size_below}
@@ -67,9 +67,9 @@ either : (b : Bool) (l : List ℕ) → length l ≤ 77 → length (cond b l []) 
 either true l le = le
 either false l le = omega arith
 
-encoded_below : (id : TransportParameterId) (o : Option Value) → IfSome o (IsTypedAs (row id).kind) → length (encoded_entry id o) ≤ 77
+encoded_below : (id : TransportParameterId) (o : Option Value) → IfSome o (IsTypedAs (row_of id).kind) → length (encoded_entry id o) ≤ 77
 encoded_below id None t = omega arith
-encoded_below id (Some v) t = either (is_written (row id).kind v) (shortest_entry (row id).number (encoding v)) (entry_below (row id).number (encoding v) (value_below (row id).kind v t))
+encoded_below id (Some v) t = either (is_written (row_of id).kind v) (shortest_entry (row_of id).number (encoding v)) (entry_below (row_of id).number (encoding v) (value_below (row_of id).kind v t))
 
 grease_below : (g : Option Reserved) → IfSome g IsFree → length (grease_bytes g) ≤ 77
 grease_below None t = omega arith
@@ -81,7 +81,7 @@ kind_below _ a b l m = m
 
 pub for_below : (p : TransportParameters) → IsTypedRecord p → (id : TransportParameterId) → length (written_for p id) ≤ 77
 unfolding written_for
-for_below p t id = kind_below (row id).kind (grease_bytes p.grease_transport_parameter) (encoded_entry id (value_of p id)) (grease_below p.grease_transport_parameter t.grease) (encoded_below id (value_of p id) (t.values id))
+for_below p t id = kind_below (row_of id).kind (grease_bytes p.grease_transport_parameter) (encoded_entry id (value_of p id)) (grease_below p.grease_transport_parameter t.grease) (encoded_below id (value_of p id) (t.values id))
 
 all_below : (f : ℕ → List ℕ) → ((i : ℕ) → length (f i) ≤ 77) → (l : List ℕ) → length (flat_map f l) ≤ 77 * length l
 all_below f h [] = omega arith

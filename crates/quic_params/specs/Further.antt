@@ -4,7 +4,7 @@ use Rattle.std.specs.List.{flat_map}
 use Rattle.quic_base.specs.Codec.{Follows}
 use Rattle.quic_params.specs.declared.parameter.TransportParameterId.{TransportParameterId}
 use Rattle.quic_params.specs.declared.record.TransportParameters.{TransportParameters}
-use Rattle.quic_params.specs.Table.{ids, rows}
+use Rattle.quic_params.specs.Table.{ids, parameter_count}
 use Rattle.quic_params.specs.Entry.{Entry, Given, IsEntry, IsKnownParameter, Give}
 use Rattle.quic_params.specs.Record.{IsRecord}
 use Rattle.quic_params.specs.Writing.{shortest_entry, written_for}
@@ -59,4 +59,4 @@ asked count (first ∷ others) = first ∷ others
 -- the list of a record with further entries, in an order
 abbrev pub listed : TransportParameters → List Entry → List ℕ → List ℕ
 listed params further order = flat_map (λ index. get_or (encoded_entries params further) index [])
-    (asked (rows + length further) order)
+    (asked (parameter_count + length further) order)

@@ -2,7 +2,7 @@ use Rattle.std.proofs.Common.{◌≡◌, ℕ, List, ◌+◌, ◌++◌, length, d
 use Rattle.std.specs.Prelude.{Ok}
 use Rattle.quic_params.specs.Further.{IsOrderOf, asked, listed}
 use Rattle.quic_params.specs.Meaning.{IsReadAnswer}
-use Rattle.quic_params.specs.Table.{rows}
+use Rattle.quic_params.specs.Table.{parameter_count}
 use Rattle.quic_params.specs.declared.record.TransportParameters.{TransportParameters}
 use Rattle.quic_c_params.proofs.DescribedParams.{plain_is}
 use Rattle.quic_c_params.proofs.lists.quic_wire_params_write_with_.Goals as goal
@@ -15,7 +15,7 @@ returns-clause-wrote c = λ _.
     let order = subst (λ (n : ℕ). IsOrderOf n (asked n c.args.order.now)) r.2 r.3 in
     let list : List ℕ = listed p r.0 c.args.order.now in
     let len : c.list_len-len.result ≡ length list = c.list_len-len.ensures r.0 r.1.encoded in
-    let read = c.further.ensures c.in-Some.reader p r.0 (asked (rows + length r.0) c.args.order.now) c.type_bounds-2.ensures s.1 r.1.others order in
+    let read = c.further.ensures c.in-Some.reader p r.0 (asked (parameter_count + length r.0) c.args.order.now) c.type_bounds-2.ensures s.1 r.1.others order in
     record {
       params = p;
       entries = r.0;

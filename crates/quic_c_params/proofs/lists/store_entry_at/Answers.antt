@@ -1,5 +1,5 @@
 use Rattle.std.proofs.Common.{◌<◌, ◌+◌, ◌∙◌, ap, sym, arith, length}
-use Rattle.quic_params.specs.Table.{rows}
+use Rattle.quic_params.specs.Table.{parameter_count}
 use Rattle.quic_params.specs.Writing.{shortest_entry, written_for}
 use Rattle.quic_params.proofs.Further.{in_order_once, encoded_at, encoded_row}
 use Rattle.quic_c_params.proofs.StoredEntries.{stores_as, further_encoded, other_there, value_short}
@@ -31,7 +31,7 @@ returns-clause-stores c = λ es h.
     let p = c.args.params.now in
     let r = c.requires.there in
     let same = in_order_once r.0 es c.args.further.now r.1.encoded h in
-    let lt : c.args.index < rows + length es = omega (arith, ap length same, r.2) in
+    let lt : c.args.index < parameter_count + length es = omega (arith, ap length same, r.2) in
     let n = c.nth-number.ensures es h in
     stores_as c.store_entry.result (shortest_entry c.nth-number.result.0 c.nth-number.result.1.now) (encoded_at p es c.args.index) c.args.dest.now c.store_entry.new.dest
     (further_encoded p es c.args.index c.nth-number.result.0 c.nth-number.result.1.now c.if-index-lt-ROWS.false lt n.0 n.1) c.store_entry.ensures.stores
@@ -41,7 +41,7 @@ returns-clause-few c = λ es h.
     let p = c.args.params.now in
     let r = c.requires.there in
     let same = in_order_once r.0 es c.args.further.now r.1.encoded h in
-    let lt : c.args.index < rows + length es = omega (arith, ap length same, r.2) in
+    let lt : c.args.index < parameter_count + length es = omega (arith, ap length same, r.2) in
     let n = c.nth-number.ensures es h in
     let own = further_encoded p es c.args.index c.nth-number.result.0 c.nth-number.result.1.now c.if-index-lt-ROWS.false lt n.0 n.1 in
     omega (arith, ap length own, c.store_entry.ensures.few, value_short es c.args.further.now c.nth-number.result.1.now c.args.index h c.if-index-lt-ROWS.false lt n.1)

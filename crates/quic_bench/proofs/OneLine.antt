@@ -11,7 +11,8 @@ use Rattle.quic_text.specs.Text.{decoded_lines, line_lines, payload_lines, print
 use Rattle.quic_text.specs.Whole.{WritesText}
 use Rattle.quic_bench.specs.Lines.{Prints}
 
-one_line : (mode : Mode) (bytes input line : List ℕ) (lines : List Printed) → lines_of input ≡ line ∷ [] → decode_of (without_return line) ≡ Ok bytes
+one_line : (mode : Mode) (bytes input line : List ℕ) (lines : List Printed) → lines_of input ≡ line ∷ []
+    → decode_of (without_return line) ≡ Ok bytes
     → payload_lines mode bytes ≡ lines
     → printed mode input ≡ lines
 one_line mode bytes input line lines one encoded are =
@@ -22,4 +23,5 @@ pub prints : (mode : Mode) (bytes : List ℕ) (lines : List Printed) (given give
     → payload_lines mode bytes ≡ lines → Prints bytes lines given given' taken taken'
 prints mode bytes lines given given' taken taken' clean it are = λ input line read one encoded.
     let same : it.input ≡ input = append_cancel_left given it.input input (sym it.read ∙ read) in
-    it.written ∙ ap (λ (x : List ℕ). taken ++ text_of mode x) same ∙ ap (λ (x : List Printed). taken ++ flat_map line_bytes x) (one_line mode bytes input line lines one encoded are)
+    it.written ∙ ap (λ (x : List ℕ). taken ++ text_of mode x) same
+    ∙ ap (λ (x : List Printed). taken ++ flat_map line_bytes x) (one_line mode bytes input line lines one encoded are)

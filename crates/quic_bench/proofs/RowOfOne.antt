@@ -21,7 +21,8 @@ use Rattle.quic_bench.specs.Outgoing.{Carries, IsFoundAgain}
 use Rattle.quic_bench.proofs.Carried.{IsSealed, begins, carries_same, contents_of}
 use Rattle.quic_bench.specs.declared.two_packets.Outgoing.{Outgoing}
 
-one_opened : (opening : Opening) (packet : Outgoing) (payload : List ℕ) (old new added : List Opened) → IsPayload packet.frames.now payload
+one_opened : (opening : Opening) (packet : Outgoing) (payload : List ℕ) (old new added : List Opened)
+    → IsPayload packet.frames.now payload
     → AreReturned opening (contents_of packet payload ∷ []) added → new ≡ old ++ added
     → (opened : Opened) × (new ≡ old ++ (opened ∷ [])) × Carries opened packet
 one_opened opening packet payload old new [] is are appended = absurd cc
@@ -31,24 +32,30 @@ one_opened opening packet payload old new (opened ∷ []) is are appended =
 one_opened opening packet payload old new (opened ∷ other ∷ others) is are appended = absurd cc
 
 -- a datagram of one sealed packet
-row_of_one : (opening : Opening) (packet : Outgoing) (bytes : List ℕ) → (s : IsSealed opening packet bytes) → IsFoundAgain opening packet []
+row_of_one : (opening : Opening) (packet : Outgoing) (bytes : List ℕ) → (s : IsSealed opening packet bytes)
+    → IsFoundAgain opening packet []
     → SealedRow opening (contents_of packet s.payload ∷ []) bytes
-row_of_one opening packet bytes s found = last (contents_of packet s.payload) bytes (begins opening packet bytes bytes [] s found (sym (append-nil bytes)))
+row_of_one opening packet bytes s found =
+    last (contents_of packet s.payload) bytes (begins opening packet bytes bytes [] s found (sym (append-nil bytes)))
 
 -- what is given of it is that packet
-pub opened_one : {X : Type 0} {opening : Opening} {bytes : List ℕ} {x : X} {old new : List Opened} → DatagramAnswer opening bytes (Ok x) old new
+pub opened_one : {X : Type 0} {opening : Opening} {bytes : List ℕ} {x : X} {old new : List Opened}
+    → DatagramAnswer opening bytes (Ok x) old new
     → (packet : Outgoing) (sealed : List ℕ)
     → IsSealed opening packet sealed → IsFoundAgain opening packet [] → bytes ≡ sealed
     → (opened : Opened) × (new ≡ old ++ (opened ∷ [])) × Carries opened packet
 opened_one {X} {opening} {bytes} {x} {old} {new} answer packet sealed s found is =
-    let back = answer.sealed (contents_of packet s.payload ∷ []) (subst (SealedRow opening (contents_of packet s.payload ∷ [])) (sym is) (row_of_one opening packet sealed s found)) in
+    let back =
+    answer.sealed (contents_of packet s.payload ∷ []) (subst (SealedRow opening (contents_of packet s.payload ∷ []))
+    (sym is) (row_of_one opening packet sealed s found)) in
     one_opened opening packet s.payload old new back.0 s.is_payload back.1 back.2
 
 pub one_refused : {X : Type 0} {opening : Opening} {bytes : List ℕ} {e : OpenError} {old new : List Opened}
     → DatagramAnswer {X = X} opening bytes (Err e) old new → (packet : Outgoing) (sealed : List ℕ)
     → IsSealed opening packet sealed → IsFoundAgain opening packet [] → bytes ≡ sealed → e ≡ error.OutOfMemory
 one_refused {X} {opening} {bytes} {e} {old} {new} answer packet sealed s found is =
-    (answer.sealed (contents_of packet s.payload ∷ []) (subst (SealedRow opening (contents_of packet s.payload ∷ [])) (sym is) (row_of_one opening packet sealed s found))).0
+    (answer.sealed (contents_of packet s.payload ∷ []) (subst (SealedRow opening (contents_of packet s.payload ∷ []))
+    (sym is) (row_of_one opening packet sealed s found))).0
 
 -- a packet that was sealed twice
 pub sealed_same : (keys : KeyPair) (h : Header) (n : ℕ) (frames : List Frame) (one other : List ℕ)
@@ -59,7 +66,8 @@ pub sealed_same : (keys : KeyPair) (h : Header) (n : ℕ) (frames : List Frame) 
 sealed_same keys h n frames one other packets payloads before before' start a b =
     let first = a.1 in
     let second = b.1 in
-    let payload : first.payload ≡ second.payload = payloads first.payload second.payload first.is_payload second.is_payload in
+    let payload : first.payload ≡ second.payload =
+    payloads first.payload second.payload first.is_payload second.is_payload in
     let P : List ℕ → Type 0 = λ x. SealedOf keys h n x a.0 in
     let packet : a.0 ≡ b.0 = packets second.payload a.0 b.0 (subst P payload first.sealed) second.sealed in
     a.2 ∙ ap (λ x. x ++ a.0) start ∙ ap (λ x. before' ++ x) packet ∙ sym b.2
@@ -82,6 +90,7 @@ reported_same some others x y is is' same =
 
 -- what is canonical is given as it is
 pub canonical_same : (payload : List ℕ) (bytes : CanonBytes) → GivesLeast payload bytes → IsLeast payload payload
-    → ((one other payload : List ℕ) → IsLeast one payload → IsLeast other payload → one ≡ other) → canon_bytes bytes ≡ payload
+    → ((one other payload : List ℕ) → IsLeast one payload → IsLeast other payload → one ≡ other)
+    → canon_bytes bytes ≡ payload
 canonical_same payload (Same b) gives least unique = gives.0
 canonical_same payload (Rewritten b) gives least unique = unique b.items payload payload gives.0 least

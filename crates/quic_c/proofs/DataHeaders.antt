@@ -35,13 +35,15 @@ never kind other h e apart =
 
 -- what the law means for a frame
 abbrev IsCut : CFrame → Bool → Frame → Type 0
-IsCut words last frame = HasHeader words last × (shortest_frame last (meaning_of frame) ≡ data_header_bytes words last ++ data_of frame)
+IsCut words last frame =
+    HasHeader words last × (shortest_frame last (meaning_of frame) ≡ data_header_bytes words last ++ data_of frame)
 
 fin_is : (fin : Bool) → ◌≡◌ {A = Bool} ((if fin then 1 else 0) == 1) fin
 fin_is true = refl
 fin_is false = refl
 
-fin_flag : (fin : Bool) (kind flags : ℕ) → kind ≡ 0x08 → flags ≡ (if fin then 1 else 0) → flags ≡ 0 ⊎ (kind ≡ 0x08) × (flags ≡ 1)
+fin_flag : (fin : Bool) (kind flags : ℕ) → kind ≡ 0x08 → flags ≡ (if fin then 1 else 0)
+    → flags ≡ 0 ⊎ (kind ≡ 0x08) × (flags ≡ 1)
 fin_flag true kind flags k e = inr (k, e)
 fin_flag false kind flags k e = inl e
 
@@ -50,14 +52,17 @@ inner_of kind last (inl e) other = absurd (other e)
 inner_of kind last (inr e) other = e
 
 datagram_parts : (last : Bool) (d : Datagram)
-    → shortest_frame last (meaning_of (frames.Datagram d)) ≡ data_header_by 0x30 0 (0 ∷ 0 ∷ 0 ∷ 0 ∷ 0 ∷ []) (length d.bytes.now) last ++ d.bytes.now
+    → shortest_frame last (meaning_of (frames.Datagram d)) ≡ data_header_by 0x30 0 (0 ∷ 0 ∷ 0 ∷ 0 ∷ 0 ∷ [])
+    (length d.bytes.now) last ++ d.bytes.now
 datagram_parts true d = datagram_open d.bytes.now
 datagram_parts false d = datagram_counted d.bytes.now
 
-pub header_and : (words : CFrame) (bytes : List ℕ) (last : Bool) (frame : Frame) → IsHeaded words.kind → CanWriteFrame words bytes last frame → IsCut words last frame
+pub header_and : (words : CFrame) (bytes : List ℕ) (last : Bool) (frame : Frame) → IsHeaded words.kind
+    → CanWriteFrame words bytes last frame → IsCut words last frame
 header_and words bytes last (frames.Crypto x) h can =
     let s = can.described in
-    let same : data_header_bytes words last ≡ data_header_by 0x06 0 (0 ∷ x.offset ∷ 0 ∷ 0 ∷ 0 ∷ []) (length x.bytes.now) last = rw (s.kind, s.numbers, s.count) refl in
+    let same : data_header_bytes words last ≡ data_header_by 0x06 0 (0 ∷ x.offset ∷ 0 ∷ 0 ∷ 0 ∷ []) (length x.bytes.now) last =
+    rw (s.kind, s.numbers, s.count) refl in
     let has : HasHeader words last = record {
       kind = h;
       two = subst AreTwo (sym s.numbers) (refl, refl, refl);
@@ -71,12 +76,14 @@ header_and words bytes last (frames.Crypto x) h can =
 header_and words bytes last (frames.Stream x) h can =
     let s = can.described in
     let fin : ◌≡◌ {A = Bool} (words.flags == 1) x.fin = ap (λ (n : ℕ). n == 1) s.flags ∙ fin_is x.fin in
-    let same : data_header_bytes words last ≡ stream_header x.id x.offset x.fin (if last then None else Some (length x.bytes.now)) = rw (fin, s.kind, s.numbers, s.count) refl in
+    let same : data_header_bytes words last ≡ stream_header x.id x.offset x.fin (if last then None else Some (length x.bytes.now)) =
+    rw (fin, s.kind, s.numbers, s.count) refl in
     let has : HasHeader words last = record {
       kind = h;
       two = subst AreTwo (sym s.numbers) (refl, refl, refl);
       numeric = subst AreNumeric (sym s.numbers) (can.typed, (can.stands.in_range, (zero_fits, (zero_fits, (zero_fits, tt)))));
-      counted = λ c. subst (λ (n : ℕ). n < 2 ^ 62) (sym s.count) (can.stands.counted (inner_of words.kind last c (λ e. absurd (omega (arith, e, s.kind)))));
+      counted = λ c. subst (λ (n : ℕ). n < 2 ^ 62) (sym s.count)
+          (can.stands.counted (inner_of words.kind last c (λ e. absurd (omega (arith, e, s.kind)))));
       id = inl s.kind;
       offset = λ e. absurd (omega (arith, e, s.kind));
       flags = fin_flag x.fin words.kind words.flags s.kind s.flags;
@@ -84,12 +91,14 @@ header_and words bytes last (frames.Stream x) h can =
     (has, sym (stream_parts last x.fin x.id x.offset x.bytes.now) ∙ ap (λ (l : List ℕ). l ++ x.bytes.now) (sym same))
 header_and words bytes last (frames.Datagram x) h can =
     let s = can.described in
-    let same : data_header_bytes words last ≡ data_header_by 0x30 0 (0 ∷ 0 ∷ 0 ∷ 0 ∷ 0 ∷ []) (length x.bytes.now) last = rw (s.kind, s.count) refl in
+    let same : data_header_bytes words last ≡ data_header_by 0x30 0 (0 ∷ 0 ∷ 0 ∷ 0 ∷ 0 ∷ []) (length x.bytes.now) last =
+    rw (s.kind, s.count) refl in
     let has : HasHeader words last = record {
       kind = h;
       two = subst AreTwo (sym s.numbers) (refl, refl, refl);
       numeric = subst AreNumeric (sym s.numbers) (zero_fits, (zero_fits, (zero_fits, (zero_fits, (zero_fits, tt)))));
-      counted = λ c. subst (λ (n : ℕ). n < 2 ^ 62) (sym s.count) (can.stands.counted (inner_of words.kind last c (λ e. absurd (omega (arith, e, s.kind)))));
+      counted = λ c. subst (λ (n : ℕ). n < 2 ^ 62) (sym s.count)
+          (can.stands.counted (inner_of words.kind last c (λ e. absurd (omega (arith, e, s.kind)))));
       id = inr (ap first_in s.numbers);
       offset = λ e. ap second_in s.numbers;
       flags = inl s.flags;
@@ -102,19 +111,28 @@ header_and words bytes last (frames.ResetStream r) h can = absurd (never words.k
 header_and words bytes last (frames.StopSending x) h can = absurd (never words.kind 0x05 h can.described.kind refl)
 header_and words bytes last (frames.NewToken t) h can = absurd (never words.kind 0x07 h can.described.kind refl)
 header_and words bytes last (frames.MaxData n) h can = absurd (never words.kind 0x10 h can.described.kind refl)
-header_and words bytes last (frames.MaxStreamData id offset) h can = absurd (never words.kind 0x11 h can.described.kind refl)
-header_and words bytes last (frames.MaxStreams dirs.Bi count) h can = absurd (never words.kind 0x12 h can.described.kind refl)
-header_and words bytes last (frames.MaxStreams dirs.Uni count) h can = absurd (never words.kind 0x13 h can.described.kind refl)
+header_and words bytes last (frames.MaxStreamData id offset) h can =
+    absurd (never words.kind 0x11 h can.described.kind refl)
+header_and words bytes last (frames.MaxStreams dirs.Bi count) h can =
+    absurd (never words.kind 0x12 h can.described.kind refl)
+header_and words bytes last (frames.MaxStreams dirs.Uni count) h can =
+    absurd (never words.kind 0x13 h can.described.kind refl)
 header_and words bytes last (frames.DataBlocked offset) h can = absurd (never words.kind 0x14 h can.described.kind refl)
-header_and words bytes last (frames.StreamDataBlocked id offset) h can = absurd (never words.kind 0x15 h can.described.kind refl)
-header_and words bytes last (frames.StreamsBlocked dirs.Bi limit) h can = absurd (never words.kind 0x16 h can.described.kind refl)
-header_and words bytes last (frames.StreamsBlocked dirs.Uni limit) h can = absurd (never words.kind 0x17 h can.described.kind refl)
+header_and words bytes last (frames.StreamDataBlocked id offset) h can =
+    absurd (never words.kind 0x15 h can.described.kind refl)
+header_and words bytes last (frames.StreamsBlocked dirs.Bi limit) h can =
+    absurd (never words.kind 0x16 h can.described.kind refl)
+header_and words bytes last (frames.StreamsBlocked dirs.Uni limit) h can =
+    absurd (never words.kind 0x17 h can.described.kind refl)
 header_and words bytes last (frames.NewConnectionId n) h can = absurd (never words.kind 0x18 h can.described.kind refl)
-header_and words bytes last (frames.RetireConnectionId sequence) h can = absurd (never words.kind 0x19 h can.described.kind refl)
+header_and words bytes last (frames.RetireConnectionId sequence) h can =
+    absurd (never words.kind 0x19 h can.described.kind refl)
 header_and words bytes last (frames.PathChallenge n) h can = absurd (never words.kind 0x1a h can.described.kind refl)
 header_and words bytes last (frames.PathResponse n) h can = absurd (never words.kind 0x1b h can.described.kind refl)
-header_and words bytes last (frames.Close (closes.Connection x)) h can = absurd (never words.kind 0x1c h can.described.kind refl)
-header_and words bytes last (frames.Close (closes.Application x)) h can = absurd (never words.kind 0x1d h can.described.kind refl)
+header_and words bytes last (frames.Close (closes.Connection x)) h can =
+    absurd (never words.kind 0x1c h can.described.kind refl)
+header_and words bytes last (frames.Close (closes.Application x)) h can =
+    absurd (never words.kind 0x1d h can.described.kind refl)
 header_and words bytes last (frames.AckFrequency f) h can = absurd (never words.kind 0xaf h can.described.kind refl)
 header_and words bytes last frames.ImmediateAck h can = absurd (never words.kind 0x1f h can.described.kind refl)
 header_and words bytes last frames.HandshakeDone h can = absurd (never words.kind 0x1e h can.described.kind refl)

@@ -16,7 +16,8 @@ use Rattle.quic_c.specs.Filling.{GivesEntry, Shows, HasNoFrame, Fills, further}
 pub shows-append : {P E : Type 0} (step : P → E → P → Type 0) (old : P) (entries : List E) (here : P) (entry : E) (new : P)
     → Shows step old entries here → step here entry new → Shows step old (entries ++ entry ∷ []) new
 shows-append step old [] here entry new s gives = (new, subst (λ w. step w entry new) (sym s) gives, refl)
-shows-append step old (first ∷ entries) here entry new s gives = (s.0, s.1, shows-append step s.0 entries here entry new s.2 gives)
+shows-append step old (first ∷ entries) here entry new s gives =
+    (s.0, s.1, shows-append step s.0 entries here entry new s.2 gives)
 
 -- ---- places over one payload
 
@@ -27,7 +28,8 @@ further_on : (a b c : IterState) → IsFurther a b → IsFurther b c → IsFurth
 further_on a b c ab bc = bc ∙ ap (λ (w : IterState). further w c.offset c.last) ab
 
 found_further : (old new : IterState) (frame : Frame) → Finds old frame new → IsFurther old new
-found_further old new frame f = f.comes ∙ ap (λ (l : Option ℕ). further old new.offset l) (sym (ap (λ (w : IterState). w.last) f.comes))
+found_further old new frame f =
+    f.comes ∙ ap (λ (l : Option ℕ). further old new.offset l) (sym (ap (λ (w : IterState). w.last) f.comes))
 
 behind_further : (n : ℕ) (state : IterState) → IsFurther state (behind n state)
 behind_further zero state = refl
@@ -42,7 +44,8 @@ passed_payload old new count p = ap (λ (w : IterState). w.payload) (passed_furt
 -- ---- the loop
 
 -- So many entries are filled, from a place up to one that ends there.
-pub record Filling (basic : Bool) (old : IterState) (before : List CFrame) (here : IterState) (after : List CFrame) (count end : ℕ) : Type 0 where
+pub record Filling (basic : Bool) (old : IterState) (before : List CFrame) (here : IterState) (after : List CFrame)
+    (count end : ℕ) : Type 0 where
   pub few : count ≤ length after
   pub all : length after ≡ length before
   pub place : here.offset ≡ end
@@ -55,7 +58,8 @@ kinds zero = inl refl
 kinds (suc n) = inr (omega arith)
 
 next_further : (here next new : IterState) (frame : Frame) → Finds here frame next
-    → (frame_kind_of frame ≡ 0 → (more : ℕ) × PassesPadding next more new) → (0 < frame_kind_of frame → new ≡ next) → IsFurther here new
+    → (frame_kind_of frame ≡ 0 → (more : ℕ) × PassesPadding next more new) → (0 < frame_kind_of frame → new ≡ next)
+    → IsFurther here new
 next_further here next new frame f run one =
     elim (kinds (frame_kind_of frame)) [
       | inl is ↦ let p = run is in further_on here next new (found_further here next frame f) (passed_further next new p.0 p.1)
@@ -65,15 +69,20 @@ next_further here next new frame f run one =
 pub filling_goes_on : (basic : Bool) (old : IterState) (before : List CFrame) (here : IterState) (after : List CFrame) (count end : ℕ)
     (next new : IterState) (frame : Frame) (entry : CFrame) (stop type : ℕ)
     → Filling basic old before here after count end → count < length after → (finds : Finds here frame next)
-    → ((basic ≡ true) × IsExtension (frame_kind_of frame) → ⊥) → (frame_kind_of frame ≡ 0 → (more : ℕ) × PassesPadding next more new)
+    → ((basic ≡ true) × IsExtension (frame_kind_of frame) → ⊥)
+    → (frame_kind_of frame ≡ 0 → (more : ℕ) × PassesPadding next more new)
     → (0 < frame_kind_of frame → new ≡ next)
-    → stop ≡ new.offset → type ≡ finds.found.type → entry ≡ frame_words end stop type frame → Filling basic old before new (set after count entry) (count + 1) stop
+    → stop ≡ new.offset → type ≡ finds.found.type → entry ≡ frame_words end stop type frame
+    → Filling basic old before new (set after count entry) (count + 1) stop
 filling_goes_on basic old before here after count end next new frame entry stop type s room f known run one e begins words =
     let same_words : entry ≡ frame_words here.offset new.offset f.found.type frame =
-    words ∙ ap (λ (n : ℕ). frame_words n stop type frame) (sym s.place) ∙ ap (λ (n : ℕ). frame_words here.offset n type frame) e
+    words ∙ ap (λ (n : ℕ). frame_words n stop type frame) (sym s.place)
+    ∙ ap (λ (n : ℕ). frame_words here.offset n type frame) e
     ∙ ap (λ (n : ℕ). frame_words here.offset new.offset n frame) begins in
-    let gives : GivesEntry basic here entry new = record { frame = frame; next = next; finds = f; known = known; run = run; one = one; words = same_words } in
-    let front : take (count + 1) (set after count entry) ≡ take count after ++ entry ∷ [] = take_more_set after count entry room in
+    let gives : GivesEntry basic here entry new =
+    record { frame = frame; next = next; finds = f; known = known; run = run; one = one; words = same_words } in
+    let front : take (count + 1) (set after count entry) ≡ take count after ++ entry ∷ [] =
+    take_more_set after count entry room in
     record {
       few = simp length-set (omega arith);
       all = simp length-set s.all;
@@ -84,10 +93,13 @@ filling_goes_on basic old before here after count end next new frame entry stop 
     }
 
 -- where it ends
-pub filling_ends : (basic : Bool) (old : IterState) (before : List CFrame) (here : IterState) (after : List CFrame) (count end : ℕ) (last : Option ℕ)
+pub filling_ends : (basic : Bool) (old : IterState) (before : List CFrame) (here : IterState) (after : List CFrame)
+    (count end : ℕ) (last : Option ℕ)
     → Filling basic old before here after count end → last ≡ here.last
     → (count ≡ length before) ⊎ HasNoFrame basic here → Fills basic old before (further old end last) after count
 filling_ends basic old before here after count end last s e full =
-    let is : here ≡ further old end last = s.comes ∙ ap (λ (n : ℕ). further old n here.last) s.place ∙ ap (further old end) (sym e) in
-    let fills : Fills basic old before here after count = record { few = rw (← s.all) s.few; shows = s.shows; kept = s.kept; full = full } in
+    let is : here ≡ further old end last =
+    s.comes ∙ ap (λ (n : ℕ). further old n here.last) s.place ∙ ap (further old end) (sym e) in
+    let fills : Fills basic old before here after count =
+    record { few = rw (← s.all) s.few; shows = s.shows; kept = s.kept; full = full } in
     subst (λ (w : IterState). Fills basic old before w after count) is fills

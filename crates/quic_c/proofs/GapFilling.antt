@@ -22,7 +22,8 @@ abbrev pub lowest : ℕ → List (ℕ × ℕ) → ℕ
 lowest low [] = low
 lowest low (range ∷ ranges) = lowest range.0 ranges
 
-gaps-append : (low : ℕ) (done : List (ℕ × ℕ)) (range : ℕ × ℕ) → gaps_below low (done ++ range ∷ []) ≡ gaps_below low done ++ gap_of (lowest low done) range ∷ []
+gaps-append : (low : ℕ) (done : List (ℕ × ℕ)) (range : ℕ × ℕ)
+    → gaps_below low (done ++ range ∷ []) ≡ gaps_below low done ++ gap_of (lowest low done) range ∷ []
 gaps-append low [] range = refl
 gaps-append low (first ∷ done) range = ap (λ (l : List CGap). gap_of low first ∷ l) (gaps-append first.0 done range)
 
@@ -31,7 +32,8 @@ lowest-append low [] range = refl
 lowest-append low (first ∷ done) range = lowest-append first.0 done range
 
 -- So many entries are filled, up to the blocks that are left.
-pub record GapFilling (least : ℕ) (ranges : List (ℕ × ℕ)) (before : List CGap) (left : List ℕ) (after : List CGap) (count : ℕ) : Type 0 where
+pub record GapFilling (least : ℕ) (ranges : List (ℕ × ℕ)) (before : List CGap) (left : List ℕ) (after : List CGap)
+    (count : ℕ) : Type 0 where
   pub few : count ≤ length after
   pub all : length after ≡ length before
   pub done : List (ℕ × ℕ)
@@ -42,7 +44,8 @@ pub record GapFilling (least : ℕ) (ranges : List (ℕ × ℕ)) (before : List 
   pub filled : take count after ≡ gaps_below least done
   pub kept : drop count after ≡ drop count before
 
-pub gaps_begin : (least : ℕ) (ranges : List (ℕ × ℕ)) (blocks : List ℕ) (before : List CGap) → AreBelow least ranges blocks → GapFilling least ranges before blocks before 0
+pub gaps_begin : (least : ℕ) (ranges : List (ℕ × ℕ)) (blocks : List ℕ) (before : List CGap)
+    → AreBelow least ranges blocks → GapFilling least ranges before blocks before 0
 gaps_begin least ranges blocks before encoded = record {
   few = omega arith;
   all = refl;
@@ -66,7 +69,8 @@ pub record NextGap (low : ℕ) (others : List (ℕ × ℕ)) (left : List ℕ) : 
   pub len : varint_at behind ≡ Ok (range.1 - range.0, rest)
   pub encoded : AreBelow range.0 ranges rest
 
-pub next_gap : (low : ℕ) (others : List (ℕ × ℕ)) (left : List ℕ) → 0 < length left → AreBelow low others left → NextGap low others left
+pub next_gap : (low : ℕ) (others : List (ℕ × ℕ)) (left : List ℕ) → 0 < length left → AreBelow low others left
+    → NextGap low others left
 next_gap low [] left some s = absurd (omega (arith, some, ap length s))
 next_gap low (range ∷ ranges) left some s = record {
   range = range;
@@ -79,21 +83,26 @@ next_gap low (range ∷ ranges) left some s = record {
   encoded = s.8;
 }
 
-pub gaps_go_on : (least : ℕ) (ranges : List (ℕ × ℕ)) (before : List CGap) (left : List ℕ) (after : List CGap) (count gap len : ℕ) (behind rest : List ℕ)
-    → GapFilling least ranges before left after count → count < length after → 0 < length left → varint_at left ≡ Ok (gap, behind) → varint_at behind ≡ Ok (len, rest)
+pub gaps_go_on : (least : ℕ) (ranges : List (ℕ × ℕ)) (before : List CGap) (left : List ℕ) (after : List CGap)
+    (count gap len : ℕ) (behind rest : List ℕ)
+    → GapFilling least ranges before left after count → count < length after → 0 < length left
+    → varint_at left ≡ Ok (gap, behind) → varint_at behind ≡ Ok (len, rest)
     → GapFilling least ranges before rest (set after count (record { gap = gap; len = len })) (count + 1)
 gaps_go_on least ranges before left after count gap len behind rest s room some one two =
     let n = next_gap (lowest least s.done) s.others left some s.encoded in
     let first : ◌≡◌ {A = ℕ × List ℕ} (lowest least s.done - (n.range.1 + 2), n.behind) (gap, behind) =
     ok_is (lowest least s.done - (n.range.1 + 2), n.behind) (gap, behind) (sym n.gap ∙ one) in
     let again : varint_at n.behind ≡ Ok (len, rest) = ap varint_at (ap (λ (x : ℕ × List ℕ). x.1) first) ∙ two in
-    let second : ◌≡◌ {A = ℕ × List ℕ} (n.range.1 - n.range.0, n.rest) (len, rest) = ok_is (n.range.1 - n.range.0, n.rest) (len, rest) (sym n.len ∙ again) in
+    let second : ◌≡◌ {A = ℕ × List ℕ} (n.range.1 - n.range.0, n.rest) (len, rest) =
+    ok_is (n.range.1 - n.range.0, n.rest) (len, rest) (sym n.len ∙ again) in
     let entry : CGap = record { gap = gap; len = len } in
     let is : gap_of (lowest least s.done) n.range ≡ entry =
     ap (λ (x : ℕ). record { gap = x; len = n.range.1 - n.range.0 }) (ap (λ (x : ℕ × List ℕ). x.0) first)
     ∙ ap (λ (x : ℕ). record { gap = gap; len = x }) (ap (λ (x : ℕ × List ℕ). x.0) second) in
-    let front : take (count + 1) (set after count entry) ≡ take count after ++ entry ∷ [] = take_more_set after count entry room in
-    let below : AreBelow n.range.0 n.ranges rest = subst (AreBelow n.range.0 n.ranges) (ap (λ (x : ℕ × List ℕ). x.1) second) n.encoded in
+    let front : take (count + 1) (set after count entry) ≡ take count after ++ entry ∷ [] =
+    take_more_set after count entry room in
+    let below : AreBelow n.range.0 n.ranges rest =
+    subst (AreBelow n.range.0 n.ranges) (ap (λ (x : ℕ × List ℕ). x.1) second) n.encoded in
     record {
       few = simp length-set (omega arith);
       all = simp length-set s.all;
@@ -102,24 +111,29 @@ gaps_go_on least ranges before left after count gap len behind rest s room some 
       parts = s.parts ∙ ap (λ (l : List (ℕ × ℕ)). s.done ++ l) n.are ∙ sym (append_assoc s.done (n.range ∷ []) n.ranges);
       encoded = subst (λ (k : ℕ). AreBelow k n.ranges rest) (sym (lowest-append least s.done n.range)) below;
       counted = length-append s.done (n.range ∷ []) ∙ ap (λ (k : ℕ). k + 1) s.counted;
-      filled = front ∙ ap (λ (l : List CGap). l ++ entry ∷ []) s.filled ∙ ap (λ (g : CGap). gaps_below least s.done ++ g ∷ []) (sym is) ∙ sym (gaps-append least s.done n.range);
+      filled = front ∙ ap (λ (l : List CGap). l ++ entry ∷ []) s.filled
+          ∙ ap (λ (g : CGap). gaps_below least s.done ++ g ∷ []) (sym is) ∙ sym (gaps-append least s.done n.range);
       kept = drop-set-lt (count + 1) after count entry (omega arith) ∙ drop_more_same after before count s.kept;
     }
 
 -- nothing is left just where no range is
-none_left : (low : ℕ) (others : List (ℕ × ℕ)) (left : List ℕ) → AreBelow low others left → length left ≡ 0 → length others ≡ 0
+none_left : (low : ℕ) (others : List (ℕ × ℕ)) (left : List ℕ) → AreBelow low others left → length left ≡ 0
+    → length others ≡ 0
 none_left low [] left s none = refl
 none_left low (range ∷ ranges) left s none =
     let some : 0 < length s.0 = varint_some (low - (range.1 + 2)) s.0 s.6 in
     absurd (omega (arith, none, some, ap length s.3, length-append s.0 (s.1 ++ s.2)))
 
-some_left : (low : ℕ) (others : List (ℕ × ℕ)) (left : List ℕ) → AreBelow low others left → 0 < length left → 0 < length others
+some_left : (low : ℕ) (others : List (ℕ × ℕ)) (left : List ℕ) → AreBelow low others left → 0 < length left
+    → 0 < length others
 some_left low [] left s some = absurd (omega (arith, some, ap length s))
 some_left low (range ∷ ranges) left s some = omega arith
 
-sizes : (least : ℕ) (ranges : List (ℕ × ℕ)) (before : List CGap) (left : List ℕ) (after : List CGap) (count : ℕ) (s : GapFilling least ranges before left after count)
+sizes : (least : ℕ) (ranges : List (ℕ × ℕ)) (before : List CGap) (left : List ℕ) (after : List CGap) (count : ℕ)
+    (s : GapFilling least ranges before left after count)
     → length ranges ≡ count + length s.others
-sizes least ranges before left after count s = ap length s.parts ∙ length-append s.done s.others ∙ ap (λ (k : ℕ). k + length s.others) s.counted
+sizes least ranges before left after count s =
+    ap length s.parts ∙ length-append s.done s.others ∙ ap (λ (k : ℕ). k + length s.others) s.counted
 
 pub all_filled : (least : ℕ) (ranges : List (ℕ × ℕ)) (before : List CGap) (left : List ℕ) (after : List CGap) (count : ℕ)
     → GapFilling least ranges before left after count → length left ≡ 0 → count ≡ length ranges
@@ -131,7 +145,8 @@ pub some_unfilled : (least : ℕ) (ranges : List (ℕ × ℕ)) (before : List CG
 some_unfilled least ranges before left after count s some =
     omega (arith, sizes least ranges before left after count s, some_left (lowest least s.done) s.others left s.encoded some)
 
-pub gaps_end : (least : ℕ) (ranges : List (ℕ × ℕ)) (before : List CGap) (left : List ℕ) (after : List CGap) (count : ℕ) → GapFilling least ranges before left after count
+pub gaps_end : (least : ℕ) (ranges : List (ℕ × ℕ)) (before : List CGap) (left : List ℕ) (after : List CGap) (count : ℕ)
+    → GapFilling least ranges before left after count
     → (count < length ranges → count ≡ length before) → FillsGaps least ranges before after count
 gaps_end least ranges before left after count s full =
     let front : take count ranges ≡ s.done = ap (take count) s.parts ∙ take_at s.done s.others count s.counted in
@@ -151,7 +166,8 @@ gap_is_there least ranges before left after count e s some h =
     let n = next_gap (lowest least s.done) s.others left some s.encoded in
     ok_is_not_err (sym n.gap ∙ h)
 
-pub len_is_there : (least : ℕ) (ranges : List (ℕ × ℕ)) (before : List CGap) (left : List ℕ) (after : List CGap) (count gap : ℕ) (behind : List ℕ) (e : Fault)
+pub len_is_there : (least : ℕ) (ranges : List (ℕ × ℕ)) (before : List CGap) (left : List ℕ) (after : List CGap)
+    (count gap : ℕ) (behind : List ℕ) (e : Fault)
     → GapFilling least ranges before left after count → 0 < length left
     → varint_at left ≡ Ok (gap, behind) → varint_at behind ≡ Err e → ⊥
 len_is_there least ranges before left after count gap behind e s some one h =
@@ -181,7 +197,8 @@ gaps_whole least ranges before (b ∷ left) after count is_empty s e =
 pub gaps_full : (least : ℕ) (ranges : List (ℕ × ℕ)) (before : List CGap) (left : List ℕ) (after : List CGap) (count : ℕ)
     → GapFilling least ranges before left after count → true ≡ (length left == 0) → count < length ranges
     → count ≡ length before
-gaps_full least ranges before [] after count s e fewer = absurd (omega (arith, fewer, all_filled least ranges before [] after count s refl))
+gaps_full least ranges before [] after count s e fewer =
+    absurd (omega (arith, fewer, all_filled least ranges before [] after count s refl))
 gaps_full least ranges before (b ∷ left) after count s e fewer = absurd (omega (arith, zero_of (length (b ∷ left)) e))
 
 -- ---- the first range of an ACK
@@ -199,7 +216,8 @@ pub record FirstGap (ack : Ack) (bytes : List ℕ) : Type 0 where
 pub first_gap : (ack : Ack) → AreBytes ack.additional.now → FirstGap ack ack.additional.now
 first_gap ack fits = by_ranges (ranges_acked ack) refl (acked ack.largest ack.additional.now fits ack.valid)
   where
-    by_ranges : (ranges : List (ℕ × ℕ)) → ranges_acked ack ≡ ranges → AreBlocks ack.largest ranges ack.additional.now → FirstGap ack ack.additional.now
+    by_ranges : (ranges : List (ℕ × ℕ)) → ranges_acked ack ≡ ranges → AreBlocks ack.largest ranges ack.additional.now
+        → FirstGap ack ack.additional.now
     by_ranges [] e s = absurd s
     by_ranges (range ∷ below) e s =
         let is : ◌≡◌ {A = ℕ × ℕ} range (range.0, ack.largest) = ap (λ (n : ℕ). (range.0, n)) s.3 in
@@ -221,10 +239,12 @@ pub record FirstReads (ack : Ack) (n : ℕ) (rest : List ℕ) : Type 0 where
   pub first : least + n ≡ ack.largest
   pub encoded : AreBelow least below rest
 
-pub first_reads : (ack : Ack) (bytes : List ℕ) (n : ℕ) (rest : List ℕ) → bytes ≡ ack.additional.now → AreBytes bytes → varint_at bytes ≡ Ok (n, rest) → FirstReads ack n rest
+pub first_reads : (ack : Ack) (bytes : List ℕ) (n : ℕ) (rest : List ℕ) → bytes ≡ ack.additional.now → AreBytes bytes
+    → varint_at bytes ≡ Ok (n, rest) → FirstReads ack n rest
 first_reads ack bytes n rest e fits h =
     let f = first_gap ack (subst AreBytes e fits) in
-    let same : ◌≡◌ {A = ℕ × List ℕ} (ack.largest - f.least, f.rest) (n, rest) = ok_is (ack.largest - f.least, f.rest) (n, rest) (sym f.len ∙ ap varint_at (sym e) ∙ h) in
+    let same : ◌≡◌ {A = ℕ × List ℕ} (ack.largest - f.least, f.rest) (n, rest) =
+    ok_is (ack.largest - f.least, f.rest) (n, rest) (sym f.len ∙ ap varint_at (sym e) ∙ h) in
     let is : ack.largest - f.least ≡ n = ap (λ (x : ℕ × List ℕ). x.0) same in
     record {
       least = f.least;
@@ -234,7 +254,8 @@ first_reads ack bytes n rest e fits h =
       encoded = subst (AreBelow f.least f.below) (ap (λ (x : ℕ × List ℕ). x.1) same) f.encoded;
     }
 
-pub first_is_there : (ack : Ack) (bytes : List ℕ) (reason : Fault) → bytes ≡ ack.additional.now → AreBytes bytes → varint_at bytes ≡ Err reason → ⊥
+pub first_is_there : (ack : Ack) (bytes : List ℕ) (reason : Fault) → bytes ≡ ack.additional.now → AreBytes bytes
+    → varint_at bytes ≡ Err reason → ⊥
 first_is_there ack bytes reason e fits h =
     let f = first_gap ack (subst AreBytes e fits) in
     ok_is_not_err (sym f.len ∙ ap varint_at (sym e) ∙ h)
@@ -250,9 +271,12 @@ above_test n m e = grind (arith, nat_tests)
 less : (n m : ℕ) → n ≤ m → (n ≡ m → ⊥) → n < m
 less n m le other = grind (arith, nat_tests)
 
-pub more_is : (count : ℕ) (ranges : List (ℕ × ℕ)) (is_whole : Bool) (more : ℕ) → count ≤ length ranges → IsTrue is_whole ↔ (count ≡ length ranges)
+pub more_is : (count : ℕ) (ranges : List (ℕ × ℕ)) (is_whole : Bool) (more : ℕ) → count ≤ length ranges
+    → IsTrue is_whole ↔ (count ≡ length ranges)
     → more ≡ (if is_whole then 0 else 4) → more ≡ more_flag count ranges
-more_is count ranges true more few whole e = e ∙ ap (λ (t : Bool). if t then 4 else 0) (above_test count (length ranges) (whole.0 refl))
+more_is count ranges true more few whole e =
+    e ∙ ap (λ (t : Bool). if t then 4 else 0) (above_test count (length ranges) (whole.0 refl))
 more_is count ranges false more few whole e =
-    let fewer : count < length ranges = less count (length ranges) few (λ same. let t : ◌≡◌ {A = Bool} false true = whole.1 same in cc) in
+    let fewer : count < length ranges =
+    less count (length ranges) few (λ same. let t : ◌≡◌ {A = Bool} false true = whole.1 same in cc) in
     e ∙ ap (λ (t : Bool). if t then 4 else 0) (below_test count (length ranges) fewer)

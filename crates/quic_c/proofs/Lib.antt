@@ -7,6 +7,7 @@ mod Fronts
 mod RangeFilling
 mod GapFilling
 mod AckGaps
+mod StoredAcks
 mod DataHeaders
 mod ReadingOn
 mod Types

@@ -56,7 +56,8 @@ meaning_by kind flags ns bytes token =
 
 -- the same of a frame
 abbrev parts_by : Frame → Meaning
-parts_by frame = meaning_by (frame_kind_of frame) (flags_of frame) (frame_numbers_of frame) (data_of frame) (token_of frame)
+parts_by frame =
+    meaning_by (frame_kind_of frame) (flags_of frame) (frame_numbers_of frame) (data_of frame) (token_of frame)
 
 meaning_is : (frame : Frame) → IsNoAck frame → meaning_of frame ≡ parts_by frame
 unfolding meaning_by
@@ -87,18 +88,24 @@ meaning_is (frames.AckFrequency f) here = refl
 meaning_is frames.ImmediateAck here = refl
 meaning_is frames.HandshakeDone here = refl
 
-same_parts : (f : ℕ → ℕ → List ℕ → List ℕ → List ℕ → Meaning) (a a' b b' : ℕ) (c c' d d' e e' : List ℕ) → a ≡ a' → b ≡ b' → c ≡ c' → d ≡ d' → e ≡ e'
+same_parts : (f : ℕ → ℕ → List ℕ → List ℕ → List ℕ → Meaning) (a a' b b' : ℕ) (c c' d d' e e' : List ℕ) → a ≡ a'
+    → b ≡ b' → c ≡ c' → d ≡ d' → e ≡ e'
     → f a b c d e ≡ f a' b' c' d' e'
 same_parts f a a' b b' c c' d d' e e' p q r s t = cc
 
-pub one_meaning : (words : CFrame) (bytes : List ℕ) (last : Bool) (one other : Frame) → CanWriteFrame words bytes last one → CanWriteFrame words bytes last other
+pub one_meaning : (words : CFrame) (bytes : List ℕ) (last : Bool) (one other : Frame)
+    → CanWriteFrame words bytes last one → CanWriteFrame words bytes last other
     → meaning_of one ≡ meaning_of other
 one_meaning words bytes last one other a b =
     let kinds : frame_kind_of one ≡ frame_kind_of other = sym a.described.kind ∙ b.described.kind in
-    let tails : tail_of one ≡ tail_of other = (keeps one a.kind).tail ∙ ap token_room kinds ∙ sym (keeps other b.kind).tail in
+    let tails : tail_of one ≡ tail_of other =
+    (keeps one a.kind).tail ∙ ap token_room kinds ∙ sym (keeps other b.kind).tail in
     let behind : List ℕ = drop words.data_len (drop words.data_offset bytes) in
-    let tokens : token_of one ≡ token_of other = sym a.described.token ∙ ap (λ (n : ℕ). take n behind) tails ∙ b.described.token in
+    let tokens : token_of one ≡ token_of other =
+    sym a.described.token ∙ ap (λ (n : ℕ). take n behind) tails ∙ b.described.token in
     meaning_is one a.kind
-    ∙ same_parts meaning_by (frame_kind_of one) (frame_kind_of other) (flags_of one) (flags_of other) (frame_numbers_of one) (frame_numbers_of other) (data_of one) (data_of other)
-    (token_of one) (token_of other) kinds (sym a.described.flags ∙ b.described.flags) (sym a.described.numbers ∙ b.described.numbers) (sym a.described.content ∙ b.described.content) tokens
+    ∙ same_parts meaning_by (frame_kind_of one) (frame_kind_of other) (flags_of one) (flags_of other)
+    (frame_numbers_of one) (frame_numbers_of other) (data_of one) (data_of other)
+    (token_of one) (token_of other) kinds (sym a.described.flags ∙ b.described.flags)
+    (sym a.described.numbers ∙ b.described.numbers) (sym a.described.content ∙ b.described.content) tokens
     ∙ sym (meaning_is other b.kind)

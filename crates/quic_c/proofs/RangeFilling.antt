@@ -21,7 +21,8 @@ abbrev pub left_at : ℕ → List ℕ → ℕ → CRangeIter
 left_at end left largest = blocks_at (end - length left) end largest
 
 -- So many entries are filled, up to the blocks that are left.
-pub record RangeFilling (old : CRangeIter) (payload : List ℕ) (before : List CRange) (left : List ℕ) (largest : ℕ) (after : List CRange) (count : ℕ) : Type 0 where
+pub record RangeFilling (old : CRangeIter) (payload : List ℕ) (before : List CRange) (left : List ℕ) (largest : ℕ)
+    (after : List CRange) (count : ℕ) : Type 0 where
   pub few : count ≤ length after
   pub all : length after ≡ length before
   pub ends : old.end ≤ length payload
@@ -31,25 +32,36 @@ pub record RangeFilling (old : CRangeIter) (payload : List ℕ) (before : List C
   pub kept : drop count after ≡ drop count before
 
 -- what a step over the bytes that are left means for the words
-pub range_of_left : (payload : List ℕ) (end largest least next : ℕ) (left rest : List ℕ) → 0 < length left → length left ≤ end → end ≤ length payload → largest < 2 ^ 62
-    → slice_range payload (end - length left) end ≡ left → first_range_at largest left ≡ Ok (least, next, rest) → length rest < length left → drop (length left - length rest) left ≡ rest
-    → (IsBlocks largest left → ranges_of largest left ≡ (least, largest) ∷ ranges_of next rest) → (IsBlocks largest left → blocks_left next rest ≡ Ok [])
+pub range_of_left : (payload : List ℕ) (end largest least next : ℕ) (left rest : List ℕ) → 0 < length left
+    → length left ≤ end → end ≤ length payload → largest < 2 ^ 62
+    → slice_range payload (end - length left) end ≡ left → first_range_at largest left ≡ Ok (least, next, rest)
+    → length rest < length left → drop (length left - length rest) left ≡ rest
+    → (IsBlocks largest left → ranges_of largest left ≡ (least, largest) ∷ ranges_of next rest)
+    → (IsBlocks largest left → blocks_left next rest ≡ Ok [])
     → GivesRange (left_at end left largest) payload (left_at end rest next) (range_words least (largest + 1))
 range_of_left payload end largest least next left rest some short within small is_slice step shorter tail first valid =
-    range_given payload (end - length left) end largest least next rest (omega arith) within small (rw is_slice step) (rw is_slice shorter) (rw is_slice tail) (rw is_slice first) (rw is_slice valid)
+    range_given payload (end - length left) end largest least next rest (omega arith) within small (rw is_slice step)
+    (rw is_slice shorter) (rw is_slice tail) (rw is_slice first) (rw is_slice valid)
 
 -- the bytes that are left don't begin with a range
-pub none_of_left : (payload : List ℕ) (end largest : ℕ) (left : List ℕ) (reason : Fault) → 0 < length left → length left ≤ end → slice_range payload (end - length left) end ≡ left
-    → first_range_at largest left ≡ Err reason → (IsBlocks largest left → ⊥) → HasNoRange (left_at end left largest) payload
+pub none_of_left : (payload : List ℕ) (end largest : ℕ) (left : List ℕ) (reason : Fault) → 0 < length left
+    → length left ≤ end → slice_range payload (end - length left) end ≡ left
+    → first_range_at largest left ≡ Err reason → (IsBlocks largest left → ⊥)
+    → HasNoRange (left_at end left largest) payload
 none_of_left payload end largest left reason some short is_slice step refused =
-    let lacks : LacksRange (left_at end left largest) payload = record { some = omega arith; reason = reason; step = rw is_slice step; refused = rw is_slice refused } in
+    let lacks : LacksRange (left_at end left largest) payload =
+    record { some = omega arith; reason = reason; step = rw is_slice step; refused = rw is_slice refused } in
     inr (inr (inr (inr lacks)))
 
-pub ranges_go_on : (old : CRangeIter) (payload : List ℕ) (before : List CRange) (left : List ℕ) (largest : ℕ) (after : List CRange) (count : ℕ) (rest : List ℕ) (next : ℕ) (entry : CRange)
-    → RangeFilling old payload before left largest after count → count < length after → length rest < length left → drop (length left - length rest) left ≡ rest
-    → GivesRange (left_at old.end left largest) payload (left_at old.end rest next) entry → RangeFilling old payload before rest next (set after count entry) (count + 1)
+pub ranges_go_on : (old : CRangeIter) (payload : List ℕ) (before : List CRange) (left : List ℕ) (largest : ℕ)
+    (after : List CRange) (count : ℕ) (rest : List ℕ) (next : ℕ) (entry : CRange)
+    → RangeFilling old payload before left largest after count → count < length after → length rest < length left
+    → drop (length left - length rest) left ≡ rest
+    → GivesRange (left_at old.end left largest) payload (left_at old.end rest next) entry
+    → RangeFilling old payload before rest next (set after count entry) (count + 1)
 ranges_go_on old payload before left largest after count rest next entry s room shorter tail gives =
-    let front : take (count + 1) (set after count entry) ≡ take count after ++ entry ∷ [] = take_more_set after count entry room in
+    let front : take (count + 1) (set after count entry) ≡ take count after ++ entry ∷ [] =
+    take_more_set after count entry room in
     let short = s.short in
     let k : old.end - length left + (length left - length rest) ≡ old.end - length rest = omega arith in
     record {
@@ -60,11 +72,15 @@ ranges_go_on old payload before left largest after count rest next entry s room 
       is_slice = sym (ap (λ (n : ℕ). slice_range payload n old.end) k)
           ∙ sym (part_of_part payload (old.end - length left) old.end (length left - length rest) (omega arith))
           ∙ ap (drop (length left - length rest)) s.is_slice ∙ tail;
-      shows = rw front (shows-append (StepsOver payload) old (take count after) (left_at old.end left largest) entry (left_at old.end rest next) s.shows gives);
+      shows = rw front (shows-append (StepsOver payload) old (take count after) (left_at old.end left largest) entry
+          (left_at old.end rest next) s.shows gives);
       kept = drop-set-lt (count + 1) after count entry (omega arith) ∙ drop_more_same after before count s.kept;
     }
 
-pub ranges_end : (old : CRangeIter) (payload : List ℕ) (before : List CRange) (left : List ℕ) (largest : ℕ) (after : List CRange) (count : ℕ)
+pub ranges_end : (old : CRangeIter) (payload : List ℕ) (before : List CRange) (left : List ℕ) (largest : ℕ)
+    (after : List CRange) (count : ℕ)
     → RangeFilling old payload before left largest after count
-    → (count ≡ length before) ⊎ HasNoRange (left_at old.end left largest) payload → FillsRanges old payload before (left_at old.end left largest) after count
-ranges_end old payload before left largest after count s full = record { few = rw (← s.all) s.few; shows = s.shows; kept = s.kept; full = full }
+    → (count ≡ length before) ⊎ HasNoRange (left_at old.end left largest) payload
+    → FillsRanges old payload before (left_at old.end left largest) after count
+ranges_end old payload before left largest after count s full =
+    record { few = rw (← s.all) s.few; shows = s.shows; kept = s.kept; full = full }

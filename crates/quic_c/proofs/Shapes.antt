@@ -19,15 +19,26 @@ four a b c d p q r s = (p, (q, (r, (s, (zero_fits, tt)))))
 two : (a b : ℕ) → a < 2 ^ 62 → b < 2 ^ 62 → AreNumeric (a ∷ b ∷ 0 ∷ 0 ∷ 0 ∷ [])
 two a b p q = four a b 0 0 p q zero_fits zero_fits
 
-plain : (kind : ℕ) (numbers : List ℕ) (len : ℕ) → AreNumeric numbers → len < 2 ^ 62 → (kind ≡ 0x18 → ⊥) → IsSound kind numbers len
-plain kind numbers len n l other = record { numeric = λ _. n; counted = λ _. l; ordered = λ e. absurd (other e); some = λ e. absurd (other e); few = λ e. absurd (other e) }
+plain : (kind : ℕ) (numbers : List ℕ) (len : ℕ) → AreNumeric numbers → len < 2 ^ 62 → (kind ≡ 0x18 → ⊥)
+    → IsSound kind numbers len
+plain kind numbers len n l other =
+    record {
+      numeric = λ _. n;
+      counted = λ _. l;
+      ordered = λ e. absurd (other e);
+      some = λ e. absurd (other e);
+      few = λ e. absurd (other e);
+    }
 
-pub sound : (frame : Frame) → IsNoAck frame → IsTypedFrame frame → InRange frame → IsSound (frame_kind_of frame) (frame_numbers_of frame) (length (data_of frame))
+pub sound : (frame : Frame) → IsNoAck frame → IsTypedFrame frame → InRange frame
+    → IsSound (frame_kind_of frame) (frame_numbers_of frame) (length (data_of frame))
 sound frames.Padding here typed ok = plain _ _ _ (two 0 0 zero_fits zero_fits) (zero_fits) (λ e. absurd (omega arith))
 sound (frames.Ack _) here typed ok = elim here [ ]
 sound frames.Ping here typed ok = plain _ _ _ (two 0 0 zero_fits zero_fits) (zero_fits) (λ e. absurd (omega arith))
-sound (frames.ResetStream r) here typed ok = plain _ _ _ (four _ _ _ 0 typed.0 typed.1.0 typed.1.1.0 zero_fits) (zero_fits) (λ e. absurd (omega arith))
-sound (frames.StopSending s) here typed ok = plain _ _ _ (two _ _ typed.0 typed.1.0) (zero_fits) (λ e. absurd (omega arith))
+sound (frames.ResetStream r) here typed ok =
+    plain _ _ _ (four _ _ _ 0 typed.0 typed.1.0 typed.1.1.0 zero_fits) (zero_fits) (λ e. absurd (omega arith))
+sound (frames.StopSending s) here typed ok =
+    plain _ _ _ (two _ _ typed.0 typed.1.0) (zero_fits) (λ e. absurd (omega arith))
 sound (frames.Crypto x) here typed ok = plain _ _ _ (two 0 _ zero_fits ok.0) (ok.1.0) (λ e. absurd (omega arith))
 sound (frames.NewToken t) here typed ok = plain _ _ _ (two 0 0 zero_fits zero_fits) (ok) (λ e. absurd (omega arith))
 sound (frames.Stream s) here typed ok = record {
@@ -38,16 +49,30 @@ sound (frames.Stream s) here typed ok = record {
   few = λ e. absurd (omega arith);
 }
 sound (frames.MaxData n) here typed ok = plain _ _ _ (two 0 _ zero_fits typed) (zero_fits) (λ e. absurd (omega arith))
-sound (frames.MaxStreamData id offset) here typed ok = plain _ _ _ (two _ _ typed ok) (zero_fits) (λ e. absurd (omega arith))
-sound (frames.MaxStreams dirs.Bi count) here typed ok = plain _ _ _ (two 0 _ zero_fits ok) (zero_fits) (λ e. absurd (omega arith))
-sound (frames.MaxStreams dirs.Uni count) here typed ok = plain _ _ _ (two 0 _ zero_fits ok) (zero_fits) (λ e. absurd (omega arith))
-sound (frames.DataBlocked offset) here typed ok = plain _ _ _ (two 0 _ zero_fits ok) (zero_fits) (λ e. absurd (omega arith))
-sound (frames.StreamDataBlocked id offset) here typed ok = plain _ _ _ (two _ _ typed ok) (zero_fits) (λ e. absurd (omega arith))
-sound (frames.StreamsBlocked dirs.Bi limit) here typed ok = plain _ _ _ (two 0 _ zero_fits ok) (zero_fits) (λ e. absurd (omega arith))
-sound (frames.StreamsBlocked dirs.Uni limit) here typed ok = plain _ _ _ (two 0 _ zero_fits ok) (zero_fits) (λ e. absurd (omega arith))
+sound (frames.MaxStreamData id offset) here typed ok =
+    plain _ _ _ (two _ _ typed ok) (zero_fits) (λ e. absurd (omega arith))
+sound (frames.MaxStreams dirs.Bi count) here typed ok =
+    plain _ _ _ (two 0 _ zero_fits ok) (zero_fits) (λ e. absurd (omega arith))
+sound (frames.MaxStreams dirs.Uni count) here typed ok =
+    plain _ _ _ (two 0 _ zero_fits ok) (zero_fits) (λ e. absurd (omega arith))
+sound (frames.DataBlocked offset) here typed ok =
+    plain _ _ _ (two 0 _ zero_fits ok) (zero_fits) (λ e. absurd (omega arith))
+sound (frames.StreamDataBlocked id offset) here typed ok =
+    plain _ _ _ (two _ _ typed ok) (zero_fits) (λ e. absurd (omega arith))
+sound (frames.StreamsBlocked dirs.Bi limit) here typed ok =
+    plain _ _ _ (two 0 _ zero_fits ok) (zero_fits) (λ e. absurd (omega arith))
+sound (frames.StreamsBlocked dirs.Uni limit) here typed ok =
+    plain _ _ _ (two 0 _ zero_fits ok) (zero_fits) (λ e. absurd (omega arith))
 sound (frames.NewConnectionId n) here typed ok =
-    record { numeric = λ _. two _ _ ok.0.0 ok.0.1.0; counted = λ _. omega (arith, ok.3); ordered = λ _. ok.1; some = λ _. ok.2; few = λ _. ok.3 }
-sound (frames.RetireConnectionId sequence) here typed ok = plain _ _ _ (two _ 0 ok zero_fits) (zero_fits) (λ e. absurd (omega arith))
+    record {
+      numeric = λ _. two _ _ ok.0.0 ok.0.1.0;
+      counted = λ _. omega (arith, ok.3);
+      ordered = λ _. ok.1;
+      some = λ _. ok.2;
+      few = λ _. ok.3;
+    }
+sound (frames.RetireConnectionId sequence) here typed ok =
+    plain _ _ _ (two _ 0 ok zero_fits) (zero_fits) (λ e. absurd (omega arith))
 sound (frames.PathChallenge n) here typed ok = record {
   numeric = λ e. cc;
   counted = λ _. zero_fits;
@@ -62,8 +87,10 @@ sound (frames.PathResponse n) here typed ok = record {
   some = λ e. absurd (omega arith);
   few = λ e. absurd (omega arith);
 }
-sound (frames.Close (closes.Connection x)) here typed ok = plain _ _ _ (two _ _ typed.0 typed.1.0) (ok.1) (λ e. absurd (omega arith))
-sound (frames.Close (closes.Application x)) here typed ok = plain _ _ _ (two _ 0 typed zero_fits) (ok) (λ e. absurd (omega arith))
+sound (frames.Close (closes.Connection x)) here typed ok =
+    plain _ _ _ (two _ _ typed.0 typed.1.0) (ok.1) (λ e. absurd (omega arith))
+sound (frames.Close (closes.Application x)) here typed ok =
+    plain _ _ _ (two _ 0 typed zero_fits) (ok) (λ e. absurd (omega arith))
 sound (frames.Datagram d) here typed ok = record {
   numeric = λ _. two 0 0 zero_fits zero_fits;
   counted = λ e. cc;
@@ -71,9 +98,12 @@ sound (frames.Datagram d) here typed ok = record {
   some = λ e. absurd (omega arith);
   few = λ e. absurd (omega arith);
 }
-sound (frames.AckFrequency f) here typed ok = plain _ _ _ (four _ _ _ _ typed.0 typed.1.0 typed.1.1.0 typed.1.1.1.0) (zero_fits) (λ e. absurd (omega arith))
-sound frames.ImmediateAck here typed ok = plain _ _ _ (two 0 0 zero_fits zero_fits) (zero_fits) (λ e. absurd (omega arith))
-sound frames.HandshakeDone here typed ok = plain _ _ _ (two 0 0 zero_fits zero_fits) (zero_fits) (λ e. absurd (omega arith))
+sound (frames.AckFrequency f) here typed ok =
+    plain _ _ _ (four _ _ _ _ typed.0 typed.1.0 typed.1.1.0 typed.1.1.1.0) (zero_fits) (λ e. absurd (omega arith))
+sound frames.ImmediateAck here typed ok =
+    plain _ _ _ (two 0 0 zero_fits zero_fits) (zero_fits) (λ e. absurd (omega arith))
+sound frames.HandshakeDone here typed ok =
+    plain _ _ _ (two 0 0 zero_fits zero_fits) (zero_fits) (λ e. absurd (omega arith))
 
 -- which of its words a frame takes
 pub record Keeps (frame : Frame) : Type 0 where
@@ -92,8 +122,10 @@ none_some : (s : Shape) → ◌≡◌ {A = Option Shape} (Some s) None → ⊥
 none_some s e = cc
 
 kept_by : (frame : Frame) (s : Shape) → shape_of (frame_kind_of frame) ≡ Some s
-    → kept_by_mask s.numbers (frame_numbers_of frame) ≡ frame_numbers_of frame → (if s.has_data then data_of frame else []) ≡ data_of frame
-    → ◌≡◌ {A = ℕ} (if frame_kind_of frame == 0x08 && flags_of frame == 1 then 1 else 0) (flags_of frame) → tail_of frame ≡ token_room (frame_kind_of frame) → Keeps frame
+    → kept_by_mask s.numbers (frame_numbers_of frame) ≡ frame_numbers_of frame
+    → (if s.has_data then data_of frame else []) ≡ data_of frame
+    → ◌≡◌ {A = ℕ} (if frame_kind_of frame == 0x08 && flags_of frame == 1 then 1 else 0) (flags_of frame)
+    → tail_of frame ≡ token_room (frame_kind_of frame) → Keeps frame
 kept_by frame s e numbers content flags tail = record {
   known = λ none. none_some s (sym e ∙ none);
   numbers = ap (λ (o : Option Shape). kept_numbers o (frame_numbers_of frame)) e ∙ numbers;
@@ -106,27 +138,42 @@ pub keeps : (frame : Frame) → IsNoAck frame → Keeps frame
 keeps frames.Padding here = kept_by frames.Padding bare_shape refl refl refl refl refl
 keeps (frames.Ack _) here = elim here [ ]
 keeps frames.Ping here = kept_by frames.Ping bare_shape refl refl refl refl refl
-keeps (frames.ResetStream r) here = kept_by (frames.ResetStream r) (shape true true true false false) refl refl refl refl refl
+keeps (frames.ResetStream r) here =
+    kept_by (frames.ResetStream r) (shape true true true false false) refl refl refl refl refl
 keeps (frames.StopSending s) here = kept_by (frames.StopSending s) both_shape refl refl refl refl refl
 keeps (frames.Crypto x) here = kept_by (frames.Crypto x) (shape false true false false true) refl refl refl refl refl
-keeps (frames.NewToken t) here = kept_by (frames.NewToken t) (shape false false false false true) refl refl refl refl refl
-keeps (frames.Stream s) here = kept_by (frames.Stream s) (shape true true false false true) refl refl refl (fin_kept s.fin) refl
+keeps (frames.NewToken t) here =
+    kept_by (frames.NewToken t) (shape false false false false true) refl refl refl refl refl
+keeps (frames.Stream s) here =
+    kept_by (frames.Stream s) (shape true true false false true) refl refl refl (fin_kept s.fin) refl
 keeps (frames.MaxData n) here = kept_by (frames.MaxData n) second_shape refl refl refl refl refl
-keeps (frames.MaxStreamData id offset) here = kept_by (frames.MaxStreamData id offset) both_shape refl refl refl refl refl
-keeps (frames.MaxStreams dirs.Bi count) here = kept_by (frames.MaxStreams dirs.Bi count) second_shape refl refl refl refl refl
-keeps (frames.MaxStreams dirs.Uni count) here = kept_by (frames.MaxStreams dirs.Uni count) second_shape refl refl refl refl refl
+keeps (frames.MaxStreamData id offset) here =
+    kept_by (frames.MaxStreamData id offset) both_shape refl refl refl refl refl
+keeps (frames.MaxStreams dirs.Bi count) here =
+    kept_by (frames.MaxStreams dirs.Bi count) second_shape refl refl refl refl refl
+keeps (frames.MaxStreams dirs.Uni count) here =
+    kept_by (frames.MaxStreams dirs.Uni count) second_shape refl refl refl refl refl
 keeps (frames.DataBlocked offset) here = kept_by (frames.DataBlocked offset) second_shape refl refl refl refl refl
-keeps (frames.StreamDataBlocked id offset) here = kept_by (frames.StreamDataBlocked id offset) both_shape refl refl refl refl refl
-keeps (frames.StreamsBlocked dirs.Bi limit) here = kept_by (frames.StreamsBlocked dirs.Bi limit) second_shape refl refl refl refl refl
-keeps (frames.StreamsBlocked dirs.Uni limit) here = kept_by (frames.StreamsBlocked dirs.Uni limit) second_shape refl refl refl refl refl
-keeps (frames.NewConnectionId n) here = kept_by (frames.NewConnectionId n) (shape true true false false true) refl refl refl refl refl
-keeps (frames.RetireConnectionId sequence) here = kept_by (frames.RetireConnectionId sequence) first_shape refl refl refl refl refl
+keeps (frames.StreamDataBlocked id offset) here =
+    kept_by (frames.StreamDataBlocked id offset) both_shape refl refl refl refl refl
+keeps (frames.StreamsBlocked dirs.Bi limit) here =
+    kept_by (frames.StreamsBlocked dirs.Bi limit) second_shape refl refl refl refl refl
+keeps (frames.StreamsBlocked dirs.Uni limit) here =
+    kept_by (frames.StreamsBlocked dirs.Uni limit) second_shape refl refl refl refl refl
+keeps (frames.NewConnectionId n) here =
+    kept_by (frames.NewConnectionId n) (shape true true false false true) refl refl refl refl refl
+keeps (frames.RetireConnectionId sequence) here =
+    kept_by (frames.RetireConnectionId sequence) first_shape refl refl refl refl refl
 keeps (frames.PathChallenge n) here = kept_by (frames.PathChallenge n) first_shape refl refl refl refl refl
 keeps (frames.PathResponse n) here = kept_by (frames.PathResponse n) first_shape refl refl refl refl refl
-keeps (frames.Close (closes.Connection x)) here = kept_by (frames.Close (closes.Connection x)) (shape true true false false true) refl refl refl refl refl
-keeps (frames.Close (closes.Application x)) here = kept_by (frames.Close (closes.Application x)) (shape true false false false true) refl refl refl refl refl
-keeps (frames.Datagram d) here = kept_by (frames.Datagram d) (shape false false false false true) refl refl refl refl refl
-keeps (frames.AckFrequency f) here = kept_by (frames.AckFrequency f) (shape true true true true false) refl refl refl refl refl
+keeps (frames.Close (closes.Connection x)) here =
+    kept_by (frames.Close (closes.Connection x)) (shape true true false false true) refl refl refl refl refl
+keeps (frames.Close (closes.Application x)) here =
+    kept_by (frames.Close (closes.Application x)) (shape true false false false true) refl refl refl refl refl
+keeps (frames.Datagram d) here =
+    kept_by (frames.Datagram d) (shape false false false false true) refl refl refl refl refl
+keeps (frames.AckFrequency f) here =
+    kept_by (frames.AckFrequency f) (shape true true true true false) refl refl refl refl refl
 keeps frames.ImmediateAck here = kept_by frames.ImmediateAck bare_shape refl refl refl refl refl
 keeps frames.HandshakeDone here = kept_by frames.HandshakeDone bare_shape refl refl refl refl refl
 
@@ -159,7 +206,8 @@ open_short (frames.AckFrequency f) here lt = zero_fits
 open_short frames.ImmediateAck here lt = zero_fits
 open_short frames.HandshakeDone here lt = zero_fits
 
-pub counted_short : (frame : Frame) → IsNoAck frame → InRange frame → length (open_data frame) < 2 ^ 62 → length (data_of frame) < 2 ^ 62
+pub counted_short : (frame : Frame) → IsNoAck frame → InRange frame → length (open_data frame) < 2 ^ 62
+    → length (data_of frame) < 2 ^ 62
 counted_short frames.Padding here ok lt = zero_fits
 counted_short (frames.Ack _) here ok lt = elim here [ ]
 counted_short frames.Ping here ok lt = zero_fits

@@ -31,7 +31,8 @@ cases_bool : (b : Bool) → (b ≡ true) ⊎ (b ≡ false)
 cases_bool true = inl refl
 cases_bool false = inr refl
 
-found_fits : (t : ℕ) (entries : List (ℕ × Row)) (r : Row) → all_fit entries ≡ true → lookup (λ u. t == u) entries ≡ Some r → t < 2 ^ 16
+found_fits : (t : ℕ) (entries : List (ℕ × Row)) (r : Row) → all_fit entries ≡ true
+    → lookup (λ u. t == u) entries ≡ Some r → t < 2 ^ 16
 unfolding all_fit
 found_fits t [] r fit e = absurd cc
 found_fits t (entry ∷ entries) r fit e =
@@ -49,11 +50,13 @@ some_is : {t u : ℕ} → ◌≡◌ {A = Option ℕ} (Some t) (Some u) → t ≡
 some_is e = cc
 
 -- the last type after a frame that was found is its type
-pub last_is : (old new : IterState) (frame : Frame) (finds : Finds old frame new) (t : ℕ) → new.last ≡ Some t → t ≡ finds.found.type
+pub last_is : (old new : IterState) (frame : Frame) (finds : Finds old frame new) (t : ℕ) → new.last ≡ Some t
+    → t ≡ finds.found.type
 last_is old new frame finds t e = some_is (sym e ∙ ap (λ (w : IterState). w.last) finds.comes)
 
 -- and it is one of the table
-pub last_fits : (old new : IterState) (frame : Frame) (finds : Finds old frame new) (t : ℕ) → new.last ≡ Some t → t < 2 ^ 16
+pub last_fits : (old new : IterState) (frame : Frame) (finds : Finds old frame new) (t : ℕ) → new.last ≡ Some t
+    → t < 2 ^ 16
 last_fits old new frame finds t e =
     let small = row_fits finds.found.type finds.stands.encoded.row finds.stands.encoded.in_table in
     omega (arith, small, last_is old new frame finds t e)
@@ -64,37 +67,58 @@ word_back : (t : ℕ) → t < 2 ^ 16 → type_in t ≡ Some t
 word_back t small = grind (arith, nat_tests)
 
 -- where an iterator is after a frame, by its end and its type
-pub behind_frame : (here next : IterState) (frame : Frame) (finds : Finds here frame next) (stop type : ℕ) → stop ≡ next.offset
+pub behind_frame : (here next : IterState) (frame : Frame) (finds : Finds here frame next) (stop type : ℕ)
+    → stop ≡ next.offset
     → type ≡ finds.found.type → type < 2 ^ 16 → further here stop (type_in type) ≡ next
 behind_frame here next frame finds stop type ends begins small =
-    ap (λ (n : ℕ). further here n (type_in type)) ends ∙ ap (λ (l : Option ℕ). further here next.offset l) (word_back type small ∙ ap (λ (n : ℕ). Some n) begins) ∙ sym finds.comes
+    ap (λ (n : ℕ). further here n (type_in type)) ends
+    ∙ ap (λ (l : Option ℕ). further here next.offset l) (word_back type small ∙ ap (λ (n : ℕ). Some n) begins)
+    ∙ sym finds.comes
 
 -- the same frame found between equal places
-found_between : (here next old new : IterState) (frame : Frame) (finds : Finds here frame next) → here ≡ old → next ≡ new → (f : Finds old frame new) × (f.found ≡ finds.found)
+found_between : (here next old new : IterState) (frame : Frame) (finds : Finds here frame next) → here ≡ old
+    → next ≡ new → (f : Finds old frame new) × (f.found ≡ finds.found)
 found_between here next old new frame finds p q =
-    subst (λ (w : IterState). (f : Finds w frame new) × (f.found ≡ finds.found)) p (subst (λ (w : IterState). (f : Finds here frame w) × (f.found ≡ finds.found)) q (finds, refl))
+    subst (λ (w : IterState). (f : Finds w frame new) × (f.found ≡ finds.found)) p
+    (subst (λ (w : IterState). (f : Finds here frame w) × (f.found ≡ finds.found)) q (finds, refl))
 
-pub gives_frame : (basic : Bool) (old new : CFrameIter) (payload : List ℕ) (out : CFrame) (here next : IterState) (frame : Frame) (type : ℕ) (finds : Finds here frame next)
-    → ((basic ≡ true) × IsExtension (frame_kind_of frame) → ⊥) → state_of old payload ≡ here → state_of new payload ≡ next → type ≡ finds.found.type
+pub gives_frame : (basic : Bool) (old new : CFrameIter) (payload : List ℕ) (out : CFrame) (here next : IterState)
+    (frame : Frame) (type : ℕ) (finds : Finds here frame next)
+    → ((basic ≡ true) × IsExtension (frame_kind_of frame) → ⊥) → state_of old payload ≡ here
+    → state_of new payload ≡ next → type ≡ finds.found.type
     → out ≡ frame_words old.offset new.offset type frame → GivesFrameWords basic old payload new out
 gives_frame basic old new payload out here next frame type finds known is_here is_next begins words =
-    let f = found_between here next (state_of old payload) (state_of new payload) frame finds (sym is_here) (sym is_next) in
-    record { frame = frame; finds = f.0; known = known; words = words ∙ ap (λ (n : ℕ). frame_words old.offset new.offset n frame) (begins ∙ ap (λ (x : TypedFrame). x.type) (sym f.1)) }
+    let f =
+    found_between here next (state_of old payload) (state_of new payload) frame finds (sym is_here) (sym is_next) in
+    record {
+      frame = frame;
+      finds = f.0;
+      known = known;
+      words = words
+          ∙ ap (λ (n : ℕ). frame_words old.offset new.offset n frame)
+          (begins ∙ ap (λ (x : TypedFrame). x.type) (sym f.1));
+    }
 
 -- if a test finds that a frame isn't one of the extension, and these have unknown types
-pub is_kept : (basic test : Bool) (frame : Frame) → IsTrue test ↔ (basic ≡ true) × IsExtension (frame_kind_of frame) → test ≡ false
+pub is_kept : (basic test : Bool) (frame : Frame) → IsTrue test ↔ (basic ≡ true) × IsExtension (frame_kind_of frame)
+    → test ≡ false
     → (basic ≡ true) × IsExtension (frame_kind_of frame) → ⊥
 is_kept basic test frame tests e x = false≢true (sym e ∙ tests.1 x)
 
 -- a frame of the extension is refused if these have unknown types
-pub unknown_refused : (basic : Bool) (here next : IterState) (frame : Frame) (reported : Invalid) → Finds here frame next
-    → (basic ≡ true) × IsExtension (frame_kind_of frame) → reported ≡ unknown_type (frame_kind_of frame) → IsRefusedFrame basic here reported
-unknown_refused basic here next frame reported finds is reports = inr (is.0, record { frame = frame; next = next; finds = finds; extension = is.1; is = reports })
+pub unknown_refused : (basic : Bool) (here next : IterState) (frame : Frame) (reported : Invalid)
+    → Finds here frame next
+    → (basic ≡ true) × IsExtension (frame_kind_of frame) → reported ≡ unknown_type (frame_kind_of frame)
+    → IsRefusedFrame basic here reported
+unknown_refused basic here next frame reported finds is reports =
+    inr (is.0, record { frame = frame; next = next; finds = finds; extension = is.1; is = reports })
 
-pub reads_front : (strict basic : Bool) (payload : List ℕ) (before : List CGap) (stop : ℕ) (words : CFrame) (after : List CGap) (frame : Frame) (next rest : IterState) (type : ℕ)
+pub reads_front : (strict basic : Bool) (payload : List ℕ) (before : List CGap) (stop : ℕ) (words : CFrame)
+    (after : List CGap) (frame : Frame) (next rest : IterState) (type : ℕ)
     → (finds : Finds (first_of strict payload) frame next) → ((basic ≡ true) × IsExtension (frame_kind_of frame) → ⊥)
     → (frame_kind_of frame ≡ 0 → (more : ℕ) × PassesPadding next more rest) → (0 < frame_kind_of frame → rest ≡ next)
-    → stop ≡ rest.offset → type ≡ finds.found.type → ShowsFront stop type frame before words after → ReadsFront strict basic payload before stop words after
+    → stop ≡ rest.offset → type ≡ finds.found.type → ShowsFront stop type frame before words after
+    → ReadsFront strict basic payload before stop words after
 reads_front strict basic payload before stop words after frame next rest type finds known run one ends begins shows =
     record {
       frame = frame;

@@ -36,13 +36,15 @@ len_begins payload state first e whole broken = record {
 }
 
 -- one more frame
-pub len_on : (payload : List ℕ) (total start stop n : ℕ) (state next : IterState) (frame : Frame) → BeginsNone → OneShortest
+pub len_on : (payload : List ℕ) (total start stop n : ℕ) (state next : IterState) (frame : Frame) → BeginsNone
+    → OneShortest
     → LenWalk payload total start state → Finds state frame next → stop ≡ next.offset
     → n ≡ length (shortest_frame (eqb stop (length payload)) (meaning_of frame)) → LenWalk payload (total + n) stop next
 len_on payload total start stop n state next frame begins one w f at counted =
     let size = length payload in
     let last = eqb next.offset size in
-    let there : n ≡ length (shortest_frame last (meaning_of frame)) = counted ∙ ap (λ (k : ℕ). length (shortest_frame (eqb k size) (meaning_of frame))) at in
+    let there : n ≡ length (shortest_frame last (meaning_of frame)) =
+    counted ∙ ap (λ (k : ℕ). length (shortest_frame (eqb k size) (meaning_of frame))) at in
     let span = span_of payload start size state next frame refl w.walks f in
     let some = span.some in
     let small = small_at payload start next.offset state next frame one w.walks f refl in
@@ -52,7 +54,9 @@ len_on payload total start stop n state next frame begins one w f at counted =
       sums = λ found encoded.
           let s = w.sums found encoded in
           let more = next_frame payload start size state next frame s.rest begins refl w.walks f s.left_are s.encoded in
-          let is = ap length (shortest_next f.found s.rest more.more last more.rest_is more.last_is) ∙ length-append (shortest_frame last f.found.frame) (shortest_frames (map frame_in more.more)) in
+          let is =
+          ap length (shortest_next f.found s.rest more.more last more.rest_is more.last_is)
+          ∙ length-append (shortest_frame last f.found.frame) (shortest_frames (map frame_in more.more)) in
           record {
             rest = more.more;
             left_are = more.left_are;
@@ -63,7 +67,8 @@ len_on payload total start stop n state next frame begins one w f at counted =
     subst (λ (k : ℕ). LenWalk payload (total + n) k next) (sym at) on
 
 -- each frame of PADDING is one byte more
-all_counted : (payload : List ℕ) (total start count k : ℕ) (state : IterState) → BeginsNone → OneShortest → LenWalk payload total start state
+all_counted : (payload : List ℕ) (total start count k : ℕ) (state : IterState) → BeginsNone → OneShortest
+    → LenWalk payload total start state
     → EachPads count state → k ≤ count → LenWalk payload (total + k) (start + k) (behind k state)
 all_counted payload total start count zero state begins one w each le =
     subst (λ (n : ℕ). LenWalk payload n (start + 0) state) (omega arith) (subst (λ (n : ℕ). LenWalk payload total n state) (omega arith) w)
@@ -73,18 +78,23 @@ all_counted payload total start count (suc k) state begins one w each le =
     let at : start + suc k ≡ (behind (suc k) state).offset = omega (arith, is) in
     let counted = sym (ap length (padding_is (eqb (start + suc k) (length payload)))) in
     subst (λ (n : ℕ). LenWalk payload n (start + suc k) (behind (suc k) state)) (omega arith)
-    (len_on payload (total + k) (start + k) (start + suc k) 1 (behind k state) (behind (suc k) state) frames.Padding begins one so_far (each k (omega arith)) at counted)
+    (len_on payload (total + k) (start + k) (start + suc k) 1 (behind k state) (behind (suc k) state) frames.Padding
+    begins one so_far (each k (omega arith)) at counted)
 
-pub len_passed : (payload : List ℕ) (total start count : ℕ) (state next : IterState) → BeginsNone → OneShortest → LenWalk payload total start state
+pub len_passed : (payload : List ℕ) (total start count : ℕ) (state next : IterState) → BeginsNone → OneShortest
+    → LenWalk payload total start state
     → PassesPadding state count next → LenWalk payload (total + count) (start + count) next
 len_passed payload total start count state next begins one w p =
-    subst (LenWalk payload (total + count) (start + count)) (sym p.comes) (all_counted payload total start count count state begins one w p.each (omega arith))
+    subst (LenWalk payload (total + count) (start + count)) (sym p.comes)
+    (all_counted payload total start count count state begins one w p.each (omega arith))
 
 -- by other names
-pub len_as : (payload : List ℕ) (total sum start later : ℕ) (state there : IterState) → LenWalk payload total start state → sum ≡ total
+pub len_as : (payload : List ℕ) (total sum start later : ℕ) (state there : IterState)
+    → LenWalk payload total start state → sum ≡ total
     → there ≡ state → later ≡ there.offset → LenWalk payload sum later there
 len_as payload total sum start later state there w sum-is is at =
-    let here : LenWalk payload sum start there = subst (λ (n : ℕ). LenWalk payload n start there) (sym sum-is) (subst (LenWalk payload total start) (sym is) w) in
+    let here : LenWalk payload sum start there =
+    subst (λ (n : ℕ). LenWalk payload n start there) (sym sum-is) (subst (LenWalk payload total start) (sym is) w) in
     subst (λ (n : ℕ). LenWalk payload sum n there) (sym here.walks.start_is ∙ sym at) here
 
 none_given : (rest : List TypedFrame) → [] ≡ map given rest → rest ≡ []

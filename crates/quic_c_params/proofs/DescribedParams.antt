@@ -25,25 +25,42 @@ segments_back (s ∷ l) =
 same_ip : (a b : Ipv6Addr) → ipv6_segments a ≡ ipv6_segments b → a ≡ b
 same_ip a b e = ap (λ (l : List ℕ). record { segments = l }) e
 
-same_v6 : (a s : SocketAddrV6) → v6_ip a ≡ v6_ip s → v6_port a ≡ v6_port s → v6_flowinfo a ≡ v6_flowinfo s → v6_scope_id a ≡ v6_scope_id s → a ≡ s
+same_v6 : (a s : SocketAddrV6) → v6_ip a ≡ v6_ip s → v6_port a ≡ v6_port s → v6_flowinfo a ≡ v6_flowinfo s
+    → v6_scope_id a ≡ v6_scope_id s → a ≡ s
 same_v6 a s ip port flow scope =
-    let whole : ◌≡◌ {A = SocketAddrV6} (record { ip = v6_ip a; port = v6_port a; flowinfo = v6_flowinfo a; scope_id = v6_scope_id a }) (record { ip = v6_ip s; port = v6_port s; flowinfo = v6_flowinfo s; scope_id = v6_scope_id s }) = cc in
+    let whole : ◌≡◌ {A = SocketAddrV6} (record {
+      ip = v6_ip a;
+      port = v6_port a;
+      flowinfo = v6_flowinfo a;
+      scope_id = v6_scope_id a;
+    }) (record {
+      ip = v6_ip s;
+      port = v6_port s;
+      flowinfo = v6_flowinfo s;
+      scope_id = v6_scope_id s;
+    }) =
+    cc in
     whole
 
-pub described_v6 : (o : Option SocketAddrV6) (a : SocketAddrV6) (ip : Ipv6Addr) (octets : List ℕ) (port : ℕ) → ipv6_segments ip ≡ segments_of octets → v6_ip a ≡ ip → v6_port a ≡ port
-    → v6_flowinfo a ≡ 0 → v6_scope_id a ≡ 0 → IfSome o IsEncodableV6 → true ≡ is_some o → octets ≡ octets_of_v6 o → port ≡ port_of_v6 o → Some a ≡ o
+pub described_v6 : (o : Option SocketAddrV6) (a : SocketAddrV6) (ip : Ipv6Addr) (octets : List ℕ) (port : ℕ)
+    → ipv6_segments ip ≡ segments_of octets → v6_ip a ≡ ip → v6_port a ≡ port
+    → v6_flowinfo a ≡ 0 → v6_scope_id a ≡ 0 → IfSome o IsEncodableV6 → true ≡ is_some o → octets ≡ octets_of_v6 o
+    → port ≡ port_of_v6 o → Some a ≡ o
 described_v6 None a ip octets port s i p f c reported there from at = cc
 described_v6 (Some x) a ip octets port s i p f c reported there from at =
-    let segments : ipv6_segments ip ≡ ipv6_segments (v6_ip x) = s ∙ ap segments_of from ∙ segments_back (ipv6_segments (v6_ip x)) in
+    let segments : ipv6_segments ip ≡ ipv6_segments (v6_ip x) =
+    s ∙ ap segments_of from ∙ segments_back (ipv6_segments (v6_ip x)) in
     ap Some (same_v6 a x (i ∙ same_ip ip (v6_ip x) segments) (p ∙ at) (f ∙ sym reported.1) (c ∙ sym reported.2))
 
 -- a record by its fields
 pub plain_is : (p : TransportParameters) → p.grease_transport_parameter ≡ None → p.write_order ≡ None → plain p ≡ p
 plain_is p g o =
-    ap (λ (w : Option (List ℕ)). record p { grease_transport_parameter = None; write_order = w }) (sym o) ∙ ap (λ (w : Option Reserved). record p { grease_transport_parameter = w }) (sym g)
+    ap (λ (w : Option (List ℕ)). record p { grease_transport_parameter = None; write_order = w }) (sym o)
+    ∙ ap (λ (w : Option Reserved). record p { grease_transport_parameter = w }) (sym g)
 
 pub same_fields : (p : TransportParameters) (x0 x1 x2 x3 x4 x5 x6 x7 x8 x9 x10 : ℕ) (x11 : Option (List ℕ)) (x12 : Bool) (x13 : Option ℕ)
-    (x14 : Option PreferredAddress) (x15 x16 x17 : Option (List ℕ)) (x18 : Bool) (x19 : Option ℕ) → p.grease_transport_parameter ≡ None → p.write_order ≡ None
+    (x14 : Option PreferredAddress) (x15 x16 x17 : Option (List ℕ)) (x18 : Bool) (x19 : Option ℕ)
+    → p.grease_transport_parameter ≡ None → p.write_order ≡ None
     → x0 ≡ p.max_idle_timeout
     → x1 ≡ p.max_udp_payload_size
     → x2 ≡ p.initial_max_data
@@ -117,14 +134,18 @@ same_fields p x0 x1 x2 x3 x4 x5 x6 x7 x8 x9 x10 x11 x12 x13 x14 x15 x16 x17 x18 
     whole ∙ plain_is p g o
 
 -- what the types of a record's fields hold
-pub typed_number : (o : Option ℕ) → IfSome (kept V.Number o) (IsTypedAs (row_of ids.MaxDatagramFrameSize).kind) → IfSome o (λ n. n < 2 ^ 62)
+pub typed_number : (o : Option ℕ) → IfSome (kept V.Number o) (IsTypedAs (row_of ids.MaxDatagramFrameSize).kind)
+    → IfSome o (λ n. n < 2 ^ 62)
 typed_number None t = tt
 typed_number (Some n) t = t
 
-pub typed_id : (o : Option (List ℕ)) → IfSome (kept V.Id o) (IsTypedAs (row_of ids.OriginalDestinationConnectionId).kind) → IfSome o (λ id. length id ≤ 20)
+pub typed_id : (o : Option (List ℕ))
+    → IfSome (kept V.Id o) (IsTypedAs (row_of ids.OriginalDestinationConnectionId).kind)
+    → IfSome o (λ id. length id ≤ 20)
 typed_id None t = tt
 typed_id (Some id) t = t
 
-pub typed_address : (o : Option PreferredAddress) → IfSome (kept V.Address o) (IsTypedAs (row_of ids.PreferredAddress).kind) → IfSome o IsTypedAddress
+pub typed_address : (o : Option PreferredAddress)
+    → IfSome (kept V.Address o) (IsTypedAs (row_of ids.PreferredAddress).kind) → IfSome o IsTypedAddress
 typed_address None t = tt
 typed_address (Some a) t = t

@@ -19,40 +19,49 @@ drop_seam xs zs n e = ap (λ (k : ℕ). drop k (xs ++ zs)) e ∙ drop-append_sea
 
 -- no move is one of nothing
 pub moved_none : (old : List CRange) (at from to : ℕ) → to ≤ from → old ≡ copy_within old from to at
-moved_none old at from to le = let none : to - from ≡ 0 = omega (arith, le) in rw none (paste_none old at (drop from old))
+moved_none old at from to le =
+    let none : to - from ≡ 0 = omega (arith, le) in rw none (paste_none old at (drop from old))
 
 -- the runs from `to` on were moved after those that take the place of others, and these were written
 module _ (old ys new vs : List CRange) (before from to after : ℕ) (some : before ≤ length old) (ordered : from ≤ to) (within : to ≤ before)
-    (count : after ≡ from + length vs + (before - to)) (room : after ≤ length old) (moved : ys ≡ copy_within old to before (from + length vs))
+    (count : after ≡ from + length vs + (before - to)) (room : after ≤ length old)
+    (moved : ys ≡ copy_within old to before (from + length vs))
     (is : new ≡ take from ys ++ (vs ++ drop (from + length vs) ys)) where
   kept : take (from + length vs + (before - to)) ys ≡ take (from + length vs) old ++ take (before - to) (drop to old)
   kept = ap (take (from + length vs + (before - to))) moved
-      ∙ take-paste old (from + length vs) (drop to old) (before - to) (omega (arith, count, room)) (omega (arith, some, within, length-drop to old))
+      ∙ take-paste old (from + length vs) (drop to old) (before - to) (omega (arith, count, room))
+      (omega (arith, some, within, length-drop to old))
 
   stays : drop (from + length vs + (before - to)) ys ≡ drop (from + length vs + (before - to)) old
   stays = ap (drop (from + length vs + (before - to))) moved
-      ∙ drop-paste old (from + length vs) (drop to old) (before - to) (omega (arith, count, room)) (omega (arith, some, within, length-drop to old))
+      ∙ drop-paste old (from + length vs) (drop to old) (before - to) (omega (arith, count, room))
+      (omega (arith, some, within, length-drop to old))
 
   in_front : take from ys ≡ take from old
   in_front =
       sym (take-take from (from + length vs + (before - to)) ys (omega arith)) ∙ ap (take from) kept
-      ∙ take-append-le from (take (from + length vs) old) (take (before - to) (drop to old)) (omega (arith, count, room, length-take (from + length vs) old))
+      ∙ take-append-le from (take (from + length vs) old) (take (before - to) (drop to old))
+      (omega (arith, count, room, length-take (from + length vs) old))
       ∙ take-take from (from + length vs) old (omega arith)
 
   next : take (before - to) (drop (from + length vs) ys) ≡ take (before - to) (drop to old)
   next =
       sym (drop-take (from + length vs) (before - to) ys) ∙ ap (drop (from + length vs)) kept
-      ∙ drop_seam (take (from + length vs) old) (take (before - to) (drop to old)) (from + length vs) (omega (arith, count, room, length-take (from + length vs) old))
+      ∙ drop_seam (take (from + length vs) old) (take (before - to) (drop to old)) (from + length vs)
+      (omega (arith, count, room, length-take (from + length vs) old))
 
   behind : drop (from + length vs) ys ≡ take (before - to) (drop to old) ++ drop (from + length vs + (before - to)) old
   behind =
-      sym (take-append-drop (before - to) (drop (from + length vs) ys)) ∙ ap (λ (l : List CRange). l ++ drop (before - to) (drop (from + length vs) ys)) next
+      sym (take-append-drop (before - to) (drop (from + length vs) ys))
+      ∙ ap (λ (l : List CRange). l ++ drop (before - to) (drop (from + length vs) ys)) next
       ∙ ap (λ (l : List CRange). take (before - to) (drop to old) ++ l) (drop-drop (before - to) (from + length vs) ys ∙ stays)
 
   parts : new ≡ (take from old ++ (vs ++ take (before - to) (drop to old))) ++ drop after old
   parts =
-      is ∙ ap (λ (l : List CRange). l ++ (vs ++ drop (from + length vs) ys)) in_front ∙ ap (λ (l : List CRange). take from old ++ (vs ++ l)) behind
-      ∙ ap (λ (l : List CRange). take from old ++ l) (sym (append_assoc vs (take (before - to) (drop to old)) (drop (from + length vs + (before - to)) old)))
+      is ∙ ap (λ (l : List CRange). l ++ (vs ++ drop (from + length vs) ys)) in_front
+      ∙ ap (λ (l : List CRange). take from old ++ (vs ++ l)) behind
+      ∙ ap (λ (l : List CRange). take from old ++ l) (sym (append_assoc vs (take (before - to) (drop to old))
+      (drop (from + length vs + (before - to)) old)))
       ∙ sym (append_assoc (take from old) (vs ++ take (before - to) (drop to old)) (drop (from + length vs + (before - to)) old))
       ∙ ap (λ (k : ℕ). (take from old ++ (vs ++ take (before - to) (drop to old))) ++ drop k old) (sym count)
 
@@ -72,21 +81,36 @@ module _ (old ys new vs : List CRange) (before from to after : ℕ) (some : befo
 
   moved_runs : take after new ≡ take from (take before old) ++ (vs ++ drop to (take before old))
   moved_runs =
-      let one : take from (take before old) ≡ take from old = take-take from before old (omega (arith, ordered, within)) in
+      let one : take from (take before old) ≡ take from old =
+      take-take from before old (omega (arith, ordered, within)) in
       let sum : before ≡ to + (before - to) = omega (arith, within) in
-      let two : drop to (take before old) ≡ take (before - to) (drop to old) = ap (λ (k : ℕ). drop to (take k old)) sum ∙ drop-take to (before - to) old in
-      ap (take after) parts ∙ take_seam (take from old ++ (vs ++ take (before - to) (drop to old))) (drop after old) after long
-      ∙ ap (λ (l : List CRange). l ++ (vs ++ take (before - to) (drop to old))) (sym one) ∙ ap (λ (l : List CRange). take from (take before old) ++ (vs ++ l)) (sym two)
+      let two : drop to (take before old) ≡ take (before - to) (drop to old) =
+      ap (λ (k : ℕ). drop to (take k old)) sum ∙ drop-take to (before - to) old in
+      ap (take after) parts
+      ∙ take_seam (take from old ++ (vs ++ take (before - to) (drop to old))) (drop after old) after long
+      ∙ ap (λ (l : List CRange). l ++ (vs ++ take (before - to) (drop to old))) (sym one)
+      ∙ ap (λ (l : List CRange). take from (take before old) ++ (vs ++ l)) (sym two)
 
   moved_behind : drop after new ≡ drop after old
   moved_behind = ap (drop after) parts ∙ drop_seam (take from old ++ (vs ++ take (before - to) (drop to old))) (drop after old) after long
 
   moved_length : length new ≡ length old
-  moved_length = omega (arith, ap length parts, length-append (take from old ++ (vs ++ take (before - to) (drop to old))) (drop after old), long, length-drop after old, room)
+  moved_length = omega (
+    arith,
+    ap length parts,
+    length-append
+        (take from old ++ (vs ++ take (before - to) (drop to old))) (drop after old),
+    long,
+    length-drop after old,
+    room,
+  )
 
-pub made : (old ys new : List CRange) (before after more : ℕ) (change : Splice) → before ≤ length old → FitsRoom (take before old) change → more ≡ length (words_of change.by)
-    → after ≡ change.from + more + (before - change.to) → after ≤ length old → ys ≡ copy_within old change.to before (change.from + more)
-    → new ≡ take change.from ys ++ (words_of change.by ++ drop (change.from + length (words_of change.by)) ys) → Made old before change new after
+pub made : (old ys new : List CRange) (before after more : ℕ) (change : Splice) → before ≤ length old
+    → FitsRoom (take before old) change → more ≡ length (words_of change.by)
+    → after ≡ change.from + more + (before - change.to) → after ≤ length old
+    → ys ≡ copy_within old change.to before (change.from + more)
+    → new ≡ take change.from ys ++ (words_of change.by ++ drop (change.from + length (words_of change.by)) ys)
+    → Made old before change new after
 made old ys new before after more change some fits more_is count room moved is =
     let ordered = fits.ordered in
     let in' = fits.within in
@@ -102,7 +126,8 @@ made old ys new before after more change some fits more_is count room moved is =
 
 -- ---- what the calls answer
 
-pub becomes : (test : ℕ → Bool) (old new : List CRange) (before after : ℕ) (change : Splice) → IsSet old before → Plans test (take before old) change
+pub becomes : (test : ℕ → Bool) (old new : List CRange) (before after : ℕ) (change : Splice) → IsSet old before
+    → Plans test (take before old) change
     → Made old before change new after → Becomes test old before new after
 becomes test old new before after change set plan made = record {
   set = set;
@@ -111,10 +136,12 @@ becomes test old new before after change set plan made = record {
   behind = made.behind;
 }
 
-pub lacks_room : (test : ℕ → Bool) (old : List CRange) (before : ℕ) (change : Splice) → IsSet old before → Plans test (take before old) change
+pub lacks_room : (test : ℕ → Bool) (old : List CRange) (before : ℕ) (change : Splice) → IsSet old before
+    → Plans test (take before old) change
     → SetNeedsMore old before change → LacksRoom test old before
 lacks_room test old before change set plan needs = record {
   set = set;
   full = needs.full;
-  more = λ runs h. ap length (IsRunsOf-unique test runs (runs_of (after_change (take before old) change)) h plan.runs.runs) ∙ many (after_change (take before old) change) ∙ needs.more;
+  more = λ runs h. ap length (IsRunsOf-unique test runs (runs_of (after_change (take before old) change)) h
+      plan.runs.runs) ∙ many (after_change (take before old) change) ∙ needs.more;
 }

@@ -16,7 +16,8 @@ use Rattle.quic_c_sets.specs.Sets.{range_of, runs_of}
 abbrev pub nowhere : CRange
 nowhere = record { start = 0; end = 0 }
 
-pub run_at : (words : List CRange) (k : ℕ) → get_or (runs_of words) k (record { start = 0; end = 0 }) ≡ range_of (get_or words k nowhere)
+pub run_at : (words : List CRange) (k : ℕ)
+    → get_or (runs_of words) k (record { start = 0; end = 0 }) ≡ range_of (get_or words k nowhere)
 run_at words k = get_or-map range_of words k nowhere
 
 pub many : (words : List CRange) → length (runs_of words) ≡ length words
@@ -34,66 +35,91 @@ at_place : (words : List CRange) (least at : ℕ) → at < length words → Runs
 at_place words least at lt = ap (λ (l : List CRange). RunsFrom least (runs_of l)) (drop-cons words at nowhere lt)
 
 pub not_at : (words : List CRange) (end at : ℕ) → at < length words → LooksOn words end at
-    → ((get_or words at nowhere).start ≤ end) ⊎ ((get_or words at nowhere).end ≤ (get_or words at nowhere).start) → IsMaximalRuns (runs_of words) → ⊥
+    → ((get_or words at nowhere).start ≤ end) ⊎ ((get_or words at nowhere).end ≤ (get_or words at nowhere).start)
+    → IsMaximalRuns (runs_of words) → ⊥
 not_at words end at lt l bad h =
     let here : RunsFrom (end + 1) (range_of (get_or words at nowhere) ∷ runs_of (drop (suc at) words)) =
     subst (λ (l : List CRange). RunsFrom (end + 1) (runs_of l)) (drop-cons words at nowhere lt) (l.further h) in
     elim bad [ inl touches ↦ omega (arith, here.0, touches) | inr none ↦ omega (arith, here.1, none) ]
 
-pub all_runs : (words : List CRange) (end at : ℕ) → length words ≤ at → LooksOn words end at → IsMaximalRuns (runs_of words)
-all_runs words end at le l = l.back (subst (λ (l : List CRange). RunsFrom (end + 1) (runs_of l)) (sym (drop_all at words le)) tt)
+pub all_runs : (words : List CRange) (end at : ℕ) → length words ≤ at → LooksOn words end at
+    → IsMaximalRuns (runs_of words)
+all_runs words end at le l =
+    l.back (subst (λ (l : List CRange). RunsFrom (end + 1) (runs_of l)) (sym (drop_all at words le)) tt)
 
 -- ---- where a number falls
 
 pub ends_place : (x i : ℕ) (words : List CRange) → i ≤ length words
-    → IsPartitionPoint (λ (w : CRange). ltb w.end x ≡ true) (λ w. ltb w.end x ≡ false) words i → ends_below (runs_of words) x ≡ i
+    → IsPartitionPoint (λ (w : CRange). ltb w.end x ≡ true) (λ w. ltb w.end x ≡ false) words i
+    → ends_below (runs_of words) x ≡ i
 ends_place x i [] le p = omega arith
 ends_place x zero (word ∷ words) le p = rw (p.1 0 word (omega arith) (omega arith)) refl
 ends_place x (suc i) (word ∷ words) le p =
     rw (p.0 0 word (omega arith) (omega arith))
-    (ap suc (ends_place x i words (omega arith) (λ k d lo hi. p.0 (suc k) d (omega arith) (omega arith), λ k d lo hi. p.1 (suc k) d (omega arith) (omega arith))))
+    (ap suc (ends_place x i words (omega arith) (
+      λ k d lo hi. p.0 (suc k) d (omega arith) (omega arith),
+      λ k d lo hi. p.1 (suc k) d (omega arith) (omega arith),
+    )))
 
 pub starts_place : (x i : ℕ) (words : List CRange) → i ≤ length words
-    → IsPartitionPoint (λ (w : CRange). leb w.start x ≡ true) (λ w. leb w.start x ≡ false) words i → starts_upto (runs_of words) x ≡ i
+    → IsPartitionPoint (λ (w : CRange). leb w.start x ≡ true) (λ w. leb w.start x ≡ false) words i
+    → starts_upto (runs_of words) x ≡ i
 starts_place x i [] le p = omega arith
 starts_place x zero (word ∷ words) le p = rw (p.1 0 word (omega arith) (omega arith)) refl
 starts_place x (suc i) (word ∷ words) le p =
     rw (p.0 0 word (omega arith) (omega arith))
-    (ap suc (starts_place x i words (omega arith) (λ k d lo hi. p.0 (suc k) d (omega arith) (omega arith), λ k d lo hi. p.1 (suc k) d (omega arith) (omega arith))))
+    (ap suc (starts_place x i words (omega arith) (
+      λ k d lo hi. p.0 (suc k) d (omega arith) (omega arith),
+      λ k d lo hi. p.1 (suc k) d (omega arith) (omega arith),
+    )))
 
-pub ends_ordered : (x : ℕ) (words : List CRange) → IsMaximalRuns (runs_of words) → IsPartitionedBy (λ (w : CRange). ltb w.end x) words
+pub ends_ordered : (x : ℕ) (words : List CRange) → IsMaximalRuns (runs_of words)
+    → IsPartitionedBy (λ (w : CRange). ltb w.end x) words
 ends_ordered x words h i j d le lt e =
-    let before = ends_partition x (runs_of words) h i j (range_of d) le (omega (arith, lt, many words)) (ap (λ (r : Range ℕ). ltb r.end x) (get_or-map range_of words j d) ∙ e) in
+    let before =
+    ends_partition x (runs_of words) h i j (range_of d) le (omega (arith, lt, many words))
+    (ap (λ (r : Range ℕ). ltb r.end x) (get_or-map range_of words j d) ∙ e) in
     ap (λ (r : Range ℕ). ltb r.end x) (sym (get_or-map range_of words i d)) ∙ before
 
-pub starts_ordered : (x : ℕ) (words : List CRange) → IsMaximalRuns (runs_of words) → IsPartitionedBy (λ (w : CRange). leb w.start x) words
+pub starts_ordered : (x : ℕ) (words : List CRange) → IsMaximalRuns (runs_of words)
+    → IsPartitionedBy (λ (w : CRange). leb w.start x) words
 starts_ordered x words h i j d le lt e =
-    let before = starts_partition x (runs_of words) h i j (range_of d) le (omega (arith, lt, many words)) (ap (λ (r : Range ℕ). leb r.start x) (get_or-map range_of words j d) ∙ e) in
+    let before =
+    starts_partition x (runs_of words) h i j (range_of d) le (omega (arith, lt, many words))
+    (ap (λ (r : Range ℕ). leb r.start x) (get_or-map range_of words j d) ∙ e) in
     ap (λ (r : Range ℕ). leb r.start x) (sym (get_or-map range_of words i d)) ∙ before
 
 pub all_end_below : (words : List CRange) (x : ℕ) → IsMaximalRuns (runs_of words) → 0 < length words
     → (get_or words (length words - 1) nowhere).end < x → ends_below (runs_of words) x ≡ length words
 all_end_below words x h some lt =
     let last : length words ≡ suc (length words - 1) = omega (arith, some) in
-    let end : (get_or (runs_of words) (length words - 1) (record { start = 0; end = 0 })).end < x = rw (run_at words (length words - 1)) lt in
-    ends_below-all 0 x (length words - 1) (record { start = 0; end = 0 }) (runs_of words) h (many words ∙ last) end ∙ sym last
+    let end : (get_or (runs_of words) (length words - 1) (record { start = 0; end = 0 })).end < x =
+    rw (run_at words (length words - 1)) lt in
+    ends_below-all 0 x (length words - 1) (record { start = 0; end = 0 }) (runs_of words) h (many words ∙ last) end
+    ∙ sym last
 
 pub others_end_below : (words : List CRange) (x : ℕ) → IsMaximalRuns (runs_of words) → 0 < length words
     → (get_or words (length words - 1) nowhere).start ≤ x → x ≤ (get_or words (length words - 1) nowhere).end
     → ends_below (runs_of words) x ≡ length words - 1
 others_end_below words x h some lo hi =
     let last : length words ≡ suc (length words - 1) = omega (arith, some) in
-    let from : (get_or (runs_of words) (length words - 1) (record { start = 0; end = 0 })).start ≤ x = rw (run_at words (length words - 1)) lo in
-    let to : x ≤ (get_or (runs_of words) (length words - 1) (record { start = 0; end = 0 })).end = rw (run_at words (length words - 1)) hi in
+    let from : (get_or (runs_of words) (length words - 1) (record { start = 0; end = 0 })).start ≤ x =
+    rw (run_at words (length words - 1)) lo in
+    let to : x ≤ (get_or (runs_of words) (length words - 1) (record { start = 0; end = 0 })).end =
+    rw (run_at words (length words - 1)) hi in
     ends_below-others 0 x (length words - 1) (record { start = 0; end = 0 }) (runs_of words) h (many words ∙ last) from to
 
 pub all_start_upto : (words : List CRange) (x : ℕ) → IsMaximalRuns (runs_of words) → 0 < length words
     → (get_or words (length words - 1) nowhere).start ≤ x → length words ≡ starts_upto (runs_of words) x
 all_start_upto words x h some le =
-    let from : (get_or (runs_of words) (length words - 1) (record { start = 0; end = 0 })).start ≤ x = rw (run_at words (length words - 1)) le in
-    let last = starts_upto-above 0 (length words - 1) x (record { start = 0; end = 0 }) (runs_of words) h (omega (arith, some, many words)) from in
+    let from : (get_or (runs_of words) (length words - 1) (record { start = 0; end = 0 })).start ≤ x =
+    rw (run_at words (length words - 1)) le in
+    let last =
+    starts_upto-above 0 (length words - 1) x (record { start = 0; end = 0 }) (runs_of words) h (omega (arith, some, many words)) from in
     omega (arith, last, starts_upto-length x (runs_of words), many words, some)
 
-pub member_at : (words : List CRange) (x k : ℕ) → IsMaximalRuns (runs_of words) → starts_upto (runs_of words) x ≡ suc k → ltb x (get_or words k nowhere).end ≡ member (runs_of words) x
+pub member_at : (words : List CRange) (x k : ℕ) → IsMaximalRuns (runs_of words) → starts_upto (runs_of words) x ≡ suc k
+    → ltb x (get_or words k nowhere).end ≡ member (runs_of words) x
 member_at words x k h e =
-    ap (λ (r : Range ℕ). ltb x r.end) (sym (run_at words k)) ∙ sym (member-place 0 x k (record { start = 0; end = 0 }) (runs_of words) h e)
+    ap (λ (r : Range ℕ). ltb x r.end) (sym (run_at words k))
+    ∙ sym (member-place 0 x k (record { start = 0; end = 0 }) (runs_of words) h e)

@@ -21,7 +21,8 @@ use Rattle.quic_c_sets.proofs.Placing.{many, nowhere}
 
 -- ---- numbers with encodings
 
-pub numeric_more : (ns : List ℕ) (i : ℕ) → i < length ns → get_or ns i 0 < 2 ^ 62 → AreNumeric (take i ns) → AreNumeric (take (suc i) ns)
+pub numeric_more : (ns : List ℕ) (i : ℕ) → i < length ns → get_or ns i 0 < 2 ^ 62 → AreNumeric (take i ns)
+    → AreNumeric (take (suc i) ns)
 numeric_more [] i lt small h = absurd (omega (arith, lt))
 numeric_more (n ∷ ns) zero lt small h = (small, tt)
 numeric_more (n ∷ ns) (suc i) lt small h = (h.0, numeric_more ns i (omega (arith, lt)) small h.1)
@@ -41,17 +42,21 @@ type_three (a ∷ b ∷ []) e = absurd (omega (arith, e))
 type_three (a ∷ b ∷ c ∷ []) e = refl
 type_three (a ∷ b ∷ c ∷ d ∷ counts) e = absurd (omega (arith, e))
 
-pub numbers_counted : (counts : List ℕ) → (length counts ≡ 0) ⊎ (length counts ≡ 3) → count_numbers (counts_in counts) ≡ counts
+pub numbers_counted : (counts : List ℕ) → (length counts ≡ 0) ⊎ (length counts ≡ 3)
+    → count_numbers (counts_in counts) ≡ counts
 numbers_counted [] three = refl
 numbers_counted (a ∷ []) three = elim three [ inl e ↦ absurd (omega (arith, e)) | inr e ↦ absurd (omega (arith, e)) ]
-numbers_counted (a ∷ b ∷ []) three = elim three [ inl e ↦ absurd (omega (arith, e)) | inr e ↦ absurd (omega (arith, e)) ]
+numbers_counted (a ∷ b ∷ []) three =
+    elim three [ inl e ↦ absurd (omega (arith, e)) | inr e ↦ absurd (omega (arith, e)) ]
 numbers_counted (a ∷ b ∷ c ∷ []) three = refl
-numbers_counted (a ∷ b ∷ c ∷ d ∷ counts) three = elim three [ inl e ↦ absurd (omega (arith, e)) | inr e ↦ absurd (omega (arith, e)) ]
+numbers_counted (a ∷ b ∷ c ∷ d ∷ counts) three =
+    elim three [ inl e ↦ absurd (omega (arith, e)) | inr e ↦ absurd (omega (arith, e)) ]
 
 -- ---- the runs below another one
 
 -- the last of the first words
-pub last_run : (words : List CRange) (left : ℕ) → left < length words → runs_of (take (left + 1) words) ≡ runs_of (take left words) ++ range_of (get_or words left nowhere) ∷ []
+pub last_run : (words : List CRange) (left : ℕ) → left < length words
+    → runs_of (take (left + 1) words) ≡ runs_of (take left words) ++ range_of (get_or words left nowhere) ∷ []
 last_run words left lt = map_more range_of words left nowhere lt
 
 -- the bytes of the runs below one are those of the next, and those of the runs below that
@@ -60,8 +65,10 @@ one_run : (above run : Range ℕ) (runs left : List (Range ℕ)) → left ≡ ru
 one_run above run runs left e some =
     let bytes = shortest_below run.start (ranges_in runs) in
     let gap : above.start - ((run.end - 1) + 2) ≡ above.start - run.end - 1 = omega (arith, some) in
-    let one : shortest_below above.start (ranges_in left) ≡ shortest_varint (above.start - ((run.end - 1) + 2)) ++ (shortest_varint (run.end - 1 - run.start) ++ bytes) =
-    ap (λ (l : List (Range ℕ)). shortest_below above.start (ranges_in l)) e ∙ ap (shortest_below above.start) (ranges_in-last runs run) in
+    let one : shortest_below above.start (ranges_in left) ≡ shortest_varint (above.start - ((run.end - 1) + 2))
+    ++ (shortest_varint (run.end - 1 - run.start) ++ bytes) =
+    ap (λ (l : List (Range ℕ)). shortest_below above.start (ranges_in l)) e
+    ∙ ap (shortest_below above.start) (ranges_in-last runs run) in
     one ∙ rw gap (simp (append_assoc, append-nil))
 
 -- the first words are still to be written below a run
@@ -78,16 +85,20 @@ pub record NextBelow (words : List CRange) (left : ℕ) (above run : CRange) : T
   pub apart : run.end < above.start
   pub numeric : AreNumeric (run_numbers (range_of above) (range_of run))
   pub below : AreBelow words left run
-  pub parts : bytes_below words (left + 1) above ≡ shortest_varints (run_numbers (range_of above) (range_of run)) ++ bytes_below words left run
+  pub parts : bytes_below words (left + 1) above ≡ shortest_varints (run_numbers (range_of above) (range_of run))
+      ++ bytes_below words left run
 
-pub next_below : (words : List CRange) (left next : ℕ) (above : CRange) → left ≡ next + 1 → AreBelow words left above → NextBelow words next above (get_or words next nowhere)
+pub next_below : (words : List CRange) (left next : ℕ) (above : CRange) → left ≡ next + 1 → AreBelow words left above
+    → NextBelow words next above (get_or words next nowhere)
 next_below words left next above e h =
     let run = get_or words next nowhere in
     let within = h.within in
     let bound = h.bound in
     let lt : next < length words = omega (arith, within, e) in
     let maximal : IsMaximalRuns (runs_of (take (next + 1) words) ++ range_of above ∷ []) = rw (← e) h.maximal in
-    let x = has_below (runs_of (take next words)) (runs_of (take (next + 1) words)) (range_of run) (range_of above) (last_run words next lt) maximal in
+    let x =
+    has_below (runs_of (take next words)) (runs_of (take (next + 1) words)) (range_of run) (range_of above)
+    (last_run words next lt) maximal in
     let some = x.some in
     let apart = x.apart in
     record {
@@ -95,7 +106,8 @@ next_below words left next above e h =
       apart = apart;
       numeric = (omega (arith, bound), (omega (arith, apart, bound), tt));
       below = record { within = omega (arith, lt); maximal = x.maximal; bound = omega (arith, some, apart, bound) };
-      parts = one_run (range_of above) (range_of run) (runs_of (take next words)) (runs_of (take (next + 1) words)) (last_run words next lt) some;
+      parts = one_run (range_of above) (range_of run) (runs_of (take next words)) (runs_of (take (next + 1) words))
+          (last_run words next lt) some;
     }
 
 -- ---- how many bytes they are
@@ -122,7 +134,8 @@ two_long a b rest =
       length-short b,
     )
 
-pub counted_more : (words : List CRange) (first above : CRange) (len left next : ℕ) → left ≡ next + 1 → CountedBelow words first len left above
+pub counted_more : (words : List CRange) (first above : CRange) (len left next : ℕ) → left ≡ next + 1
+    → CountedBelow words first len left above
     → CountedBelow words first (len + (size (above.start - (get_or words next nowhere).end - 1)
     + size ((get_or words next nowhere).end - 1 - (get_or words next nowhere).start))) next (get_or words next nowhere)
 counted_more words first above len left next e h =
@@ -130,32 +143,45 @@ counted_more words first above len left next e h =
     let x = next_below words left next above e h.below in
     let some = x.some in
     let apart = x.apart in
-    let counted : length (bytes_below words (length words) first) ≡ len + length (bytes_below words (next + 1) above) = rw (← e) h.counted in
+    let counted : length (bytes_below words (length words) first) ≡ len + length (bytes_below words (next + 1) above) =
+    rw (← e) h.counted in
     let small = h.small in
     record {
       below = x.below;
-      counted = omega (arith, counted, ap length x.parts, two_long (above.start - run.end - 1) (run.end - 1 - run.start) (bytes_below words next run));
+      counted = omega (
+        arith,
+        counted,
+        ap length x.parts,
+        two_long (above.start - run.end - 1) (run.end - 1 - run.start)
+            (bytes_below words next run),
+      );
       small = omega (arith, small, some, apart, size_least (above.start - run.end - 1), size_least (run.end - 1 - run.start));
     }
 
-pub all_below : (words : List CRange) (first : CRange) → bytes_below words (length words) first ≡ shortest_below first.start (ranges_in (runs_of words))
-all_below words first = ap (λ (l : List CRange). shortest_below first.start (ranges_in (runs_of l))) (take_all (length words) words (omega arith))
+pub all_below : (words : List CRange) (first : CRange)
+    → bytes_below words (length words) first ≡ shortest_below first.start (ranges_in (runs_of words))
+all_below words first =
+    ap (λ (l : List CRange). shortest_below first.start (ranges_in (runs_of l))) (take_all (length words) words (omega arith))
 
 -- ---- they are written
 
-pub record StoredBelow (words : List CRange) (first : CRange) (at : ℕ) (old : List ℕ) (left : ℕ) (above : CRange) (end : ℕ) (new : List ℕ) : Type 0 where
+pub record StoredBelow (words : List CRange) (first : CRange) (at : ℕ) (old : List ℕ) (left : ℕ) (above : CRange)
+    (end : ℕ) (new : List ℕ) : Type 0 where
   pub before : List ℕ
   pub below : AreBelow words left above
   pub stored : Stores before at old end new
   pub parts : bytes_below words (length words) first ≡ before ++ bytes_below words left above
 
-pub stored_more : (words : List CRange) (first above : CRange) (at left next end stop : ℕ) (old one new : List ℕ) → left ≡ next + 1 → StoredBelow words first at old left above end one
-    → Stores (shortest_varints (run_numbers (range_of above) (range_of (get_or words next nowhere)))) end one stop new → StoredBelow words first at old next (get_or words next nowhere) stop new
+pub stored_more : (words : List CRange) (first above : CRange) (at left next end stop : ℕ) (old one new : List ℕ)
+    → left ≡ next + 1 → StoredBelow words first at old left above end one
+    → Stores (shortest_varints (run_numbers (range_of above) (range_of (get_or words next nowhere)))) end one stop new
+    → StoredBelow words first at old next (get_or words next nowhere) stop new
 stored_more words first above at left next end stop old one new e h y =
     let run = get_or words next nowhere in
     let x = next_below words left next above e h.below in
     let now = shortest_varints (run_numbers (range_of above) (range_of run)) in
-    let parts : bytes_below words (length words) first ≡ h.before ++ bytes_below words (next + 1) above = rw (← e) h.parts in
+    let parts : bytes_below words (length words) first ≡ h.before ++ bytes_below words (next + 1) above =
+    rw (← e) h.parts in
     record {
       before = h.before ++ now;
       below = x.below;
@@ -164,15 +190,25 @@ stored_more words first above at left next end stop old one new e h y =
     }
 
 -- the next run has room
-pub room_below : (words : List CRange) (first above : CRange) (at left next end : ℕ) (old one : List ℕ) → left ≡ next + 1 → StoredBelow words first at old left above end one
-    → end + length (shortest_varints (run_numbers (range_of above) (range_of (get_or words next nowhere)))) ≤ at + length (bytes_below words (length words) first)
+pub room_below : (words : List CRange) (first above : CRange) (at left next end : ℕ) (old one : List ℕ)
+    → left ≡ next + 1 → StoredBelow words first at old left above end one
+    → end + length (shortest_varints (run_numbers (range_of above) (range_of (get_or words next nowhere)))) ≤ at
+    + length (bytes_below words (length words) first)
 room_below words first above at left next end old one e h =
     let run = get_or words next nowhere in
     let x = next_below words left next above e h.below in
     let now = shortest_varints (run_numbers (range_of above) (range_of run)) in
-    let parts : bytes_below words (length words) first ≡ h.before ++ bytes_below words (next + 1) above = rw (← e) h.parts in
+    let parts : bytes_below words (length words) first ≡ h.before ++ bytes_below words (next + 1) above =
+    rw (← e) h.parts in
     let so_far = h.stored.count in
-    omega (arith, so_far, ap length parts, length-append h.before (bytes_below words (next + 1) above), ap length x.parts, length-append now (bytes_below words next run))
+    omega (
+      arith,
+      so_far,
+      ap length parts,
+      length-append h.before (bytes_below words (next + 1) above),
+      ap length x.parts,
+      length-append now (bytes_below words next run),
+    )
 
 -- ---- whether there is an ACK
 
@@ -183,27 +219,36 @@ whole_set words count within some =
     let last : count ≡ count - 1 + 1 = omega (arith, some) in
     ap (λ (n : ℕ). runs_of (take n words)) last ∙ last_run words (count - 1) (omega (arith, within, some))
 
-pub all_small : (words : List CRange) (count : ℕ) → IsSet words count → 0 < count → (get_or words (count - 1) nowhere).end ≤ 2 ^ 62 → (n : ℕ)
+pub all_small : (words : List CRange) (count : ℕ) → IsSet words count → 0 < count
+    → (get_or words (count - 1) nowhere).end ≤ 2 ^ 62 → (n : ℕ)
     → member (first_runs count words) n ≡ true → n < 2 ^ 62
 all_small words count set some le n e =
-    let last = IsGreatest-last (range_of (get_or words (count - 1) nowhere)) (runs_of (take (count - 1) words)) (first_runs count words) (whole_set words count set.within some) set.maximal in
+    let last =
+    IsGreatest-last (range_of (get_or words (count - 1) nowhere)) (runs_of (take (count - 1) words))
+    (first_runs count words) (whole_set words count set.within some) set.maximal in
     let most = last.1.greatest n e in
     let nonempty = last.0 in
     omega (arith, most, nonempty, le)
 
-pub last_small : (words : List CRange) (count : ℕ) → IsSet words count → 0 < count → ((n : ℕ) → member (first_runs count words) n ≡ true → n < 2 ^ 62)
+pub last_small : (words : List CRange) (count : ℕ) → IsSet words count → 0 < count
+    → ((n : ℕ) → member (first_runs count words) n ≡ true → n < 2 ^ 62)
     → (get_or words (count - 1) nowhere).end ≤ 2 ^ 62
 last_small words count set some all =
-    let last = IsGreatest-last (range_of (get_or words (count - 1) nowhere)) (runs_of (take (count - 1) words)) (first_runs count words) (whole_set words count set.within some) set.maximal in
+    let last =
+    IsGreatest-last (range_of (get_or words (count - 1) nowhere)) (runs_of (take (count - 1) words))
+    (first_runs count words) (whole_set words count set.within some) set.maximal in
     let greatest = all ((get_or words (count - 1) nowhere).end - 1) last.1.present in
     let nonempty = last.0 in
     omega (arith, greatest, nonempty)
 
-pub last_some : (words : List CRange) (count : ℕ) → IsSet words count → 0 < count → (get_or words (count - 1) nowhere).start < (get_or words (count - 1) nowhere).end
+pub last_some : (words : List CRange) (count : ℕ) → IsSet words count → 0 < count
+    → (get_or words (count - 1) nowhere).start < (get_or words (count - 1) nowhere).end
 last_some words count set some =
-    (IsGreatest-last (range_of (get_or words (count - 1) nowhere)) (runs_of (take (count - 1) words)) (first_runs count words) (whole_set words count set.within some) set.maximal).0
+    (IsGreatest-last (range_of (get_or words (count - 1) nowhere)) (runs_of (take (count - 1) words))
+    (first_runs count words) (whole_set words count set.within some) set.maximal).0
 
-pub described_ack : (delay : ℕ) (words : List CRange) (count : ℕ) (counts : List ℕ) → IsSet words count → 0 < count → (get_or words (count - 1) nowhere).end ≤ 2 ^ 62 → delay < 2 ^ 62
+pub described_ack : (delay : ℕ) (words : List CRange) (count : ℕ) (counts : List ℕ) → IsSet words count → 0 < count
+    → (get_or words (count - 1) nowhere).end ≤ 2 ^ 62 → delay < 2 ^ 62
     → (length counts ≡ 0) ⊎ (length counts ≡ 3) → AreNumeric counts → DescribesSetAck delay words count counts
 described_ack delay words count counts set some le delayed three counted = record {
   set = set;
@@ -216,17 +261,22 @@ described_ack delay words count counts set some le delayed three counted = recor
 
 -- ---- the parts of an ACK
 
-pub ack_parts_of : (delay : ℕ) (words : List CRange) (count : ℕ) (counts : List ℕ) (ty : ℕ) → DescribesSetAck delay words count counts → ty ≡ ack_type (counts_in counts)
-    → SetParts delay (first_runs count words) (runs_of (take (count - 1) words)) (range_of (get_or words (count - 1) nowhere)) (counts_in counts) ty (count - 1)
+pub ack_parts_of : (delay : ℕ) (words : List CRange) (count : ℕ) (counts : List ℕ) (ty : ℕ)
+    → DescribesSetAck delay words count counts → ty ≡ ack_type (counts_in counts)
+    → SetParts delay (first_runs count words) (runs_of (take (count - 1) words))
+    (range_of (get_or words (count - 1) nowhere)) (counts_in counts) ty (count - 1)
 ack_parts_of delay words count counts ty described ty_is =
     let within = described.set.within in
-    let size_is : count ≡ length (first_runs count words) = omega (arith, within, many (take count words), length-take count words) in
-    set_parts delay (first_runs count words) (runs_of (take (count - 1) words)) (range_of (get_or words (count - 1) nowhere)) (counts_in counts) ty count
+    let size_is : count ≡ length (first_runs count words) =
+    omega (arith, within, many (take count words), length-take count words) in
+    set_parts delay (first_runs count words) (runs_of (take (count - 1) words))
+    (range_of (get_or words (count - 1) nowhere)) (counts_in counts) ty count
     (whole_set words count within described.some) ty_is size_is
     described.delayed described.set.maximal described.short
 
 -- the bytes of an ACK: its numbers, those of the runs below the first, and its counts
-pub whole_ack : (delay : ℕ) (words : List CRange) (count : ℕ) (counts : List ℕ) (ty : ℕ) → DescribesSetAck delay words count counts → ty ≡ ack_type (counts_in counts) → (last : Bool)
+pub whole_ack : (delay : ℕ) (words : List CRange) (count : ℕ) (counts : List ℕ) (ty : ℕ)
+    → DescribesSetAck delay words count counts → ty ≡ ack_type (counts_in counts) → (last : Bool)
     → shortest_frame last (ack_of delay (first_runs count words) (counts_in counts))
     ≡ shortest_varints (ty ∷ ((get_or words (count - 1) nowhere).end - 1) ∷ delay ∷ (count - 1)
     ∷ ((get_or words (count - 1) nowhere).end - 1 - (get_or words (count - 1) nowhere).start) ∷ [])
@@ -235,4 +285,5 @@ whole_ack delay words count counts ty described ty_is last =
     let run = get_or words (count - 1) nowhere in
     let head = shortest_varints (ty ∷ (run.end - 1) ∷ delay ∷ (count - 1) ∷ (run.end - 1 - run.start) ∷ []) in
     let below = shortest_below run.start (ranges_in (runs_of (take (count - 1) words))) in
-    (ack_parts_of delay words count counts ty described ty_is).parts last ∙ ap (λ (l : List ℕ). head ++ (below ++ shortest_varints l)) (numbers_counted counts described.three)
+    (ack_parts_of delay words count counts ty described ty_is).parts last
+    ∙ ap (λ (l : List ℕ). head ++ (below ++ shortest_varints l)) (numbers_counted counts described.three)

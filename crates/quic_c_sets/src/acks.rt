@@ -10,8 +10,8 @@ ghost use Rattle.quic_c_sets.specs.Sets.{first_runs, range_of, runs_of};
 
 use crate::places::is_set;
 use crate::words::CRange;
-use quic_frame_fields::frame::write_into::numbers_at;
 use quic_frame_fields::frame::write::{numbers_len, size_of};
+use quic_frame_fields::frame::write_into::numbers_at;
 
 // Whether each number has an encoding.
 fn are_numeric(numbers: &[u64]) -> bool

@@ -26,20 +26,24 @@ unfolding on_the_way_first
 counted_first payload state e = record { came = on_the_way_first payload state e; count = refl }
 
 -- the data of a frame that came
-came_len : (found : TypedFrame) (frame : Frame) → found.frame ≡ meaning_of frame → stream_len found ≡ data_len (meaning_of frame).name (meaning_of frame).values
+came_len : (found : TypedFrame) (frame : Frame) → found.frame ≡ meaning_of frame
+    → stream_len found ≡ data_len (meaning_of frame).name (meaning_of frame).values
 came_len found frame says = ap (λ (m : Meaning). data_len m.name m.values) says
 
-other_len : (frame : Frame) → ((s : Stream) → frame ≡ frames.Stream s → ⊥) → data_len (meaning_of frame).name (meaning_of frame).values ≡ 0
+other_len : (frame : Frame) → ((s : Stream) → frame ≡ frames.Stream s → ⊥)
+    → data_len (meaning_of frame).name (meaning_of frame).values ≡ 0
 other_len (frames.Stream s) other = absurd (other s refl)
 other_len (frames.Close (closes.Connection c)) other = refl
 other_len (frames.Close (closes.Application c)) other = refl
 other_len frame other = refl
 
-more : (found : List TypedFrame) (one : TypedFrame) (n m len : ℕ) → n ≡ min (streams_len found) most → stream_len one ≡ len → m ≡ min (n + len) most
+more : (found : List TypedFrame) (one : TypedFrame) (n m len : ℕ) → n ≡ min (streams_len found) most
+    → stream_len one ≡ len → m ≡ min (n + len) most
     → m ≡ min (streams_len (found ++ one ∷ [])) most
 more found one n m len so_far is then = omega (arith, so_far, is, then, sum_by_push stream_len found one)
 
-pub counted_other : (payload : List ℕ) (state next : IterState) (frame : Frame) (n : ℕ) → IsCounted payload state n → Finds state frame next
+pub counted_other : (payload : List ℕ) (state next : IterState) (frame : Frame) (n : ℕ) → IsCounted payload state n
+    → Finds state frame next
     → ((s : Stream) → frame ≡ frames.Stream s → ⊥) → IsCounted payload next n
 unfolding on_the_way_next
 counted_other payload state next frame n w f other = record {
@@ -47,7 +51,8 @@ counted_other payload state next frame n w f other = record {
   count = more w.came.found f.found n n 0 w.count (came_len f.found frame f.says ∙ other_len frame other) (omega (arith, w.count));
 }
 
-pub counted_stream : (payload : List ℕ) (state next : IterState) (frame : Frame) (s : Stream) (n m : ℕ) → IsCounted payload state n
+pub counted_stream : (payload : List ℕ) (state next : IterState) (frame : Frame) (s : Stream) (n m : ℕ)
+    → IsCounted payload state n
     → Finds state frame next → frame ≡ frames.Stream s
     → m ≡ min (n + length s.bytes.now) most → IsCounted payload next m
 unfolding on_the_way_next
@@ -58,8 +63,10 @@ counted_stream payload state next frame s n m w f is then = record {
 }
 
 -- nothing is left, and no frame was invalid: all data were counted
-pub all_counted : (payload : List ℕ) (start state : IterState) (n : ℕ) → start ≡ first_of false payload → IsCounted payload state n → left state ≡ []
+pub all_counted : (payload : List ℕ) (start state : IterState) (n : ℕ) → start ≡ first_of false payload
+    → IsCounted payload state n → left state ≡ []
     → IsEither false None payload → GivesFrames false payload start
-    → GivesBroken false payload start → (found : List TypedFrame) × AreFrames false found payload × (n ≡ min (streams_len found) most)
+    → GivesBroken false payload start
+    → (found : List TypedFrame) × AreFrames false found payload × (n ≡ min (streams_len found) most)
 all_counted payload start state n first w none either frames broken =
     (w.came.found, those_frames payload start state first w.came none either frames broken, w.count)

@@ -27,7 +27,8 @@ not_empty found bytes f none =
     absurd (omega (arith, ap length (sym f.parts ∙ none), length-append f.type_bytes f.field_bytes, s.width, two_power s.tag s.tag_fits))
 
 -- What an encoder wrote into an empty buffer is its content.
-pub content_is : {T E : Type 0} (result : Result T E) (x : T) (old new content bytes : List ℕ) → content ≡ new → OnOk result (new ≡ old ++ bytes)
+pub content_is : {T E : Type 0} (result : Result T E) (x : T) (old new content bytes : List ℕ) → content ≡ new
+    → OnOk result (new ≡ old ++ bytes)
     → result ≡ Ok x → old ≡ [] → content ≡ bytes
 content_is (Ok y) x old new content bytes is wrote e empty = is ∙ wrote ∙ ap (λ (l : List ℕ). l ++ bytes) empty
 content_is (Err f) x old new content bytes is wrote e empty = absurd (err_is_not_ok e)
@@ -36,7 +37,8 @@ content_is (Err f) x old new content bytes is wrote e empty = absurd (err_is_not
     err_is_not_ok e = cc
 
 -- An iterator over a payload of one frame has that frame left.
-pub one_left : (found : TypedFrame) (bytes payload : List ℕ) (it : IterState) → IsFrame false found bytes → payload ≡ bytes
+pub one_left : (found : TypedFrame) (bytes payload : List ℕ) (it : IterState) → IsFrame false found bytes
+    → payload ≡ bytes
     → ((fs : List TypedFrame) → AreFrames false fs payload → map unplaced (left it) ≡ map given fs)
     → map unplaced (left it) ≡ map given (found ∷ [])
 one_left found bytes payload it f is gives =
@@ -44,13 +46,15 @@ one_left found bytes payload it f is gives =
     gives (found ∷ []) (subst (AreFrames false (found ∷ [])) (sym is) one)
 
 -- The first item that it gives is that frame.
-pub gives_it : (found : TypedFrame) (it new : IterState) (item : Option (Result Frame InvalidFrame)) → map unplaced (left it) ≡ map given (found ∷ [])
+pub gives_it : (found : TypedFrame) (it new : IterState) (item : Option (Result Frame InvalidFrame))
+    → map unplaced (left it) ≡ map given (found ∷ [])
     → Advances it item new
     → (frame : Frame) × (item ≡ Some (Ok frame)) × (meaning_of frame ≡ found.frame)
 gives_it found it new None one a = absurd (omega (arith, ap length (ap (map unplaced) (sym a.0) ∙ one)))
 gives_it found it new (Some (Err e)) one a = cc (ap (map unplaced) (sym a.0) ∙ one)
 gives_it found it new (Some (Ok frame)) one a =
-    let here : map unplaced (Whole it.offset new.offset a.found ∷ left new) ≡ map given (found ∷ []) = ap (map unplaced) (sym a.first) ∙ one in
+    let here : map unplaced (Whole it.offset new.offset a.found ∷ left new) ≡ map given (found ∷ []) =
+    ap (map unplaced) (sym a.first) ∙ one in
     (frame, refl, sym a.says ∙ ap (λ (f : TypedFrame). f.frame) (same here))
   where
     same : {f g : TypedFrame} {rs : List (Result TypedFrame Invalid)} → given f ∷ rs ≡ given g ∷ [] → f ≡ g

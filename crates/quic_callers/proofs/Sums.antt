@@ -20,18 +20,23 @@ counted first next (suc n) m e on =
     let next_is : suc first ≡ next = omega (arith, on (omega arith)) in
     ap (count_from first) more ∙ ap (λ (k : ℕ). first ∷ count_from k (suc n)) next_is
 
-not_exhausted : (range : RangeInclusive ℕ) → 0 < range_inclusive_left gap range → range_inclusive_exhausted range ≡ false
+not_exhausted : (range : RangeInclusive ℕ) → 0 < range_inclusive_left gap range
+    → range_inclusive_exhausted range ≡ false
 not_exhausted range some = by_flag (range_inclusive_exhausted range) some
   where
-    by_flag : (b : Bool) → 0 < range_inclusive_len gap (range_inclusive_start range) (range_inclusive_end range) b → b ≡ false
+    by_flag : (b : Bool) → 0 < range_inclusive_len gap (range_inclusive_start range) (range_inclusive_end range) b
+        → b ≡ false
     by_flag true some = absurd (omega (arith, some))
     by_flag false some = refl
 
 -- a number that a range gave came first in it
-pub number_came : (old new : RangeInclusive ℕ) (x : ℕ) → x ≡ range_inclusive_start old → range_inclusive_left gap new + 1 ≡ range_inclusive_left gap old
-    → (range_inclusive_exhausted new ≡ false → range_inclusive_start new ≡ range_inclusive_start old + 1) → left_in old ≡ x ∷ left_in new
+pub number_came : (old new : RangeInclusive ℕ) (x : ℕ) → x ≡ range_inclusive_start old
+    → range_inclusive_left gap new + 1 ≡ range_inclusive_left gap old
+    → (range_inclusive_exhausted new ≡ false → range_inclusive_start new ≡ range_inclusive_start old + 1)
+    → left_in old ≡ x ∷ left_in new
 number_came old new x first fewer on =
-    counted (range_inclusive_start old) (range_inclusive_start new) (range_inclusive_left gap new) (range_inclusive_left gap old) fewer (λ some. on (not_exhausted new some))
+    counted (range_inclusive_start old) (range_inclusive_start new) (range_inclusive_left gap new)
+    (range_inclusive_left gap old) fewer (λ some. on (not_exhausted new some))
     ∙ ap (λ (n : ℕ). n ∷ left_in new) (sym first)
 
 -- the numbers that were added and those that are left, after another one

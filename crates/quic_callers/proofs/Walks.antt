@@ -20,7 +20,8 @@ pub record IsOnTheWay (payload : List ℕ) (state : IterState) : Type 0 where
   pub found : List TypedFrame
   pub items : map unplaced (left (first_of false payload)) ≡ map given found ++ map unplaced (left state)
 
-unfoldable pub on_the_way_first : (payload : List ℕ) (state : IterState) → state ≡ first_of false payload → IsOnTheWay payload state
+unfoldable pub on_the_way_first : (payload : List ℕ) (state : IterState) → state ≡ first_of false payload
+    → IsOnTheWay payload state
 on_the_way_first payload state e = record { found = []; items = ap (λ (w : IterState). map unplaced (left w)) (sym e) }
 
 pub push : (found : List TypedFrame) (one : TypedFrame) (rest : List (Result TypedFrame Invalid))
@@ -28,21 +29,24 @@ pub push : (found : List TypedFrame) (one : TypedFrame) (rest : List (Result Typ
 push [] one rest = refl
 push (first ∷ found) one rest = ap (λ (l : List (Result TypedFrame Invalid)). given first ∷ l) (push found one rest)
 
-unfoldable pub on_the_way_next : (payload : List ℕ) (state next : IterState) (frame : Frame) → IsOnTheWay payload state → Finds state frame next
+unfoldable pub on_the_way_next : (payload : List ℕ) (state next : IterState) (frame : Frame) → IsOnTheWay payload state
+    → Finds state frame next
     → IsOnTheWay payload next
 on_the_way_next payload state next frame w f = record {
   found = w.found ++ f.found ∷ [];
   items = w.items ∙ ap (λ l. map given w.found ++ map unplaced l) f.first ∙ push w.found f.found (map unplaced (left next));
 }
 
-no_error : (found others : List TypedFrame) (i : Invalid) → map given found ≡ map given others ++ Err i ∷ [] → {P : Type 0} → P
+no_error : (found others : List TypedFrame) (i : Invalid) → map given found ≡ map given others ++ Err i ∷ []
+    → {P : Type 0} → P
 no_error [] [] i e = cc
 no_error [] (other ∷ others) i e = cc
 no_error (first ∷ found) [] i e = cc
 no_error (first ∷ found) (other ∷ others) i e =
     let rest : map given found ≡ map given others ++ Err i ∷ [] = cc in no_error found others i rest
 
-same_error : (found others : List TypedFrame) (i j : Invalid) → map given found ++ Err i ∷ [] ≡ map given others ++ Err j ∷ [] → i ≡ j
+same_error : (found others : List TypedFrame) (i j : Invalid)
+    → map given found ++ Err i ∷ [] ≡ map given others ++ Err j ∷ [] → i ≡ j
 same_error [] [] i j e = cc
 same_error [] (other ∷ others) i j e = cc
 same_error (first ∷ found) [] i j e = cc
@@ -57,7 +61,8 @@ pub record IsMet (payload : List ℕ) (i : Invalid) : Type 0 where
   pub broken : IsBroken false None found payload type reason
   pub reported : invalid type reason ≡ i
 
-pub met : (payload : List ℕ) (start state : IterState) (i : Invalid) → start ≡ first_of false payload → IsOnTheWay payload state
+pub met : (payload : List ℕ) (start state : IterState) (i : Invalid) → start ≡ first_of false payload
+    → IsOnTheWay payload state
     → left state ≡ Broken i ∷ [] → IsEither false None payload
     → GivesFrames false payload start → GivesBroken false payload start → IsMet payload i
 met payload start state i first w here either frames broken = by_case either
@@ -76,12 +81,16 @@ met payload start state i first w here either frames broken = by_case either
     }
 
 -- the error that is made of what the walk met is the one that is reported of the payload
-pub tells : (payload : List ℕ) (i : InvalidFrame) (error : Error) → IsMet payload (invalid_of i) → IsErrorOf i.ty i.reason.now error → IsReported payload error
-tells payload i error m e = inr (m.found, m.type, m.reason, m.broken, subst (λ (x : Invalid). IsErrorOf x.type x.reason error) (sym m.reported) e)
+pub tells : (payload : List ℕ) (i : InvalidFrame) (error : Error) → IsMet payload (invalid_of i)
+    → IsErrorOf i.ty i.reason.now error → IsReported payload error
+tells payload i error m e =
+    inr (m.found, m.type, m.reason, m.broken, subst (λ (x : Invalid). IsErrorOf x.type x.reason error) (sym m.reported) e)
 
 -- What follows can't mend what the walk met, where it was reported for another reason than the end of the bytes.
 pub lost : (front : List ℕ) (i : InvalidFrame)
-    → ((strict : Bool) (found others : List TypedFrame) (bytes more : List ℕ) (type : Option ℕ) (reason : Fault) → AreBytes (bytes ++ more) → AreFrames strict found (bytes ++ more) → IsBroken strict None others bytes type reason → reason ≡ UnexpectedEnd)
+    → ((strict : Bool) (found others : List TypedFrame) (bytes more : List ℕ) (type : Option ℕ) (reason : Fault)
+    → AreBytes (bytes ++ more) → AreFrames strict found (bytes ++ more)
+    → IsBroken strict None others bytes type reason → reason ≡ UnexpectedEnd)
     → IsMet front (invalid_of i) → i.reason.now ≢ codes "unexpected end" → (more : List ℕ) (found : List TypedFrame) → AreBytes (front ++ more)
     → AreFrames false found (front ++ more) → ⊥
 lost front i last m final more found fits frames =
@@ -111,26 +120,30 @@ same_frames (first ∷ found) (other ∷ others) e =
     cc
 
 -- nothing is left, and no frame was invalid: the frames that came are those of the payload
-pub those_frames : (payload : List ℕ) (start state : IterState) → start ≡ first_of false payload → (w : IsOnTheWay payload state) → left state ≡ []
+pub those_frames : (payload : List ℕ) (start state : IterState) → start ≡ first_of false payload
+    → (w : IsOnTheWay payload state) → left state ≡ []
     → IsEither false None payload → GivesFrames false payload start
     → GivesBroken false payload start → AreFrames false w.found payload
 those_frames payload start state first w none either frames broken = by_case either
   where
     items : map unplaced (left start) ≡ map given w.found
-    items = ap (λ (o : IterState). map unplaced (left o)) first ∙ w.items ∙ ap (λ l. map given w.found ++ map unplaced l) none ∙ append-nil (map given w.found)
+    items = ap (λ (o : IterState). map unplaced (left o)) first ∙ w.items
+        ∙ ap (λ l. map given w.found ++ map unplaced l) none ∙ append-nil (map given w.found)
 
     by_case : IsEither false None payload → AreFrames false w.found payload
     by_case (inl s) = subst (λ found. AreFrames false found payload) (same_frames s.0 w.found (sym (frames s.0 s.1) ∙ items)) s.1
     by_case (inr s) = no_error w.found s.0 (invalid s.1 s.2) (sym items ∙ broken s.0 s.1 s.2 s.3)
 
 -- nothing is left, and no frame was invalid
-pub all_frames : (payload : List ℕ) (start state : IterState) → start ≡ first_of false payload → IsOnTheWay payload state → left state ≡ []
+pub all_frames : (payload : List ℕ) (start state : IterState) → start ≡ first_of false payload
+    → IsOnTheWay payload state → left state ≡ []
     → IsEither false None payload → GivesBroken false payload start
     → (found : List TypedFrame) × AreFrames false found payload
 all_frames payload start state first w none either broken = by_case either
   where
     items : map unplaced (left start) ≡ map given w.found
-    items = ap (λ (o : IterState). map unplaced (left o)) first ∙ w.items ∙ ap (λ l. map given w.found ++ map unplaced l) none ∙ append-nil (map given w.found)
+    items = ap (λ (o : IterState). map unplaced (left o)) first ∙ w.items
+        ∙ ap (λ l. map given w.found ++ map unplaced l) none ∙ append-nil (map given w.found)
 
     by_case : IsEither false None payload → (found : List TypedFrame) × AreFrames false found payload
     by_case (inl s) = s

@@ -21,7 +21,8 @@ pub record InFront (payload : List ℕ) (n : ℕ) (state : IterState) (found : L
   pub cut : IsCut payload n found others
   pub rest : List TypedFrame
   pub left_are : map unplaced (left state) ≡ map given rest
-  pub is_there : ((n ≡ state.offset) × (rest ≡ others)) ⊎ ((n < state.offset) × (length (shortest_frames (map frame_in others)) < length payload - n))
+  pub is_there : ((n ≡ state.offset) × (rest ≡ others)) ⊎ ((n < state.offset)
+      × (length (shortest_frames (map frame_in others)) < length payload - n))
 
 pub record FrontWalk (payload : List ℕ) (front start : ℕ) (state : IterState) : Type 0 where
   pub walks : Walks payload start state
@@ -39,7 +40,8 @@ front_begins payload state found first are s = record {
   is_there = inl (sym (ap (λ (w : IterState). w.offset) first), refl);
 }
 
-pub front_walk_begins : (payload : List ℕ) (state : IterState) → state ≡ first_of false payload → IsEither false None payload
+pub front_walk_begins : (payload : List ℕ) (state : IterState) → state ≡ first_of false payload
+    → IsEither false None payload
     → GivesFrames false payload state → GivesBroken false payload state
     → FrontWalk payload 0 0 state
 front_walk_begins payload state first e whole broken = record {
@@ -49,17 +51,22 @@ front_walk_begins payload state first e whole broken = record {
 }
 
 -- the frames that are left where all before are in their shortest encodings
-all_so_far : (payload : List ℕ) (n : ℕ) (state : IterState) (found : List TypedFrame) → (f : InFront payload n state found) → n ≡ state.offset
+all_so_far : (payload : List ℕ) (n : ℕ) (state : IterState) (found : List TypedFrame)
+    → (f : InFront payload n state found) → n ≡ state.offset
     → f.rest ≡ f.others
 all_so_far payload n state found f e = is f.is_there
   where
-    is : ((n ≡ state.offset) × (f.rest ≡ f.others)) ⊎ ((n < state.offset) × (length (shortest_frames (map frame_in f.others)) < length payload - n)) → f.rest ≡ f.others
+    is : ((n ≡ state.offset) × (f.rest ≡ f.others)) ⊎ ((n < state.offset)
+        × (length (shortest_frames (map frame_in f.others)) < length payload - n))
+        → f.rest ≡ f.others
     is (inl a) = a.1
     is (inr a) = let lt = a.0 in absurd (omega (arith, lt, e))
 
 -- one more frame in its shortest encoding
-pub front_grows : (payload : List ℕ) (start size : ℕ) (old new : IterState) (frame : Frame) (b : Bool) → BeginsNone → OneShortest
-    → size ≡ length payload → FrontWalk payload start start old → Finds old frame new → Tested b frame start new.offset size → b ≡ true
+pub front_grows : (payload : List ℕ) (start size : ℕ) (old new : IterState) (frame : Frame) (b : Bool) → BeginsNone
+    → OneShortest
+    → size ≡ length payload → FrontWalk payload start start old → Finds old frame new
+    → Tested b frame start new.offset size → b ≡ true
     → FrontWalk payload new.offset new.offset new
 front_grows payload start size old new frame b begins one len w f tested e =
     let stop = new.offset in
@@ -72,14 +79,18 @@ front_grows payload start size old new frame b begins one len w f tested e =
       in_front = λ found encoded.
           let a = w.in_front found encoded in
           let rest = all_so_far payload start old found a (sym w.walks.start_is) in
-          let n = next_frame payload start size old new frame a.others begins len w.walks f (a.left_are ∙ ap (map given) rest) a.cut.back in
+          let n =
+          next_frame payload start size old new frame a.others begins len w.walks f (a.left_are ∙ ap (map given) rest) a.cut.back in
           record {
             others = n.more;
             cut = record {
               back = n.encoded;
-              parts = a.cut.parts ∙ ap (λ (l : List ℕ). take start payload ++ l) (shortest_next f.found a.others n.more (eqb stop size) n.rest_is n.last_is ∙ ap (λ (l : List ℕ). l ++ shortest_frames (map frame_in n.more)) (sym is))
+              parts = a.cut.parts ∙ ap (λ (l : List ℕ). take start payload ++ l)
+                  (shortest_next f.found a.others n.more (eqb stop size) n.rest_is n.last_is
+                  ∙ ap (λ (l : List ℕ). l ++ shortest_frames (map frame_in n.more)) (sym is))
                   ∙ sym (append_assoc (take start payload) (slice_range payload start stop) (shortest_frames (map frame_in n.more)))
-                  ∙ ap (λ (l : List ℕ). l ++ shortest_frames (map frame_in n.more)) (take_on payload start stop (omega (arith, some)) s.within);
+                  ∙ ap (λ (l : List ℕ). l ++ shortest_frames (map frame_in n.more))
+                  (take_on payload start stop (omega (arith, some)) s.within);
               within = s.within;
             };
             rest = n.more;
@@ -89,8 +100,10 @@ front_grows payload start size old new frame b begins one len w f tested e =
     }
 
 -- the first frame that isn't
-pub front_ends : (payload : List ℕ) (start size : ℕ) (old new : IterState) (frame : Frame) (b : Bool) → BeginsNone → OneShortest → Shortest
-    → size ≡ length payload → FrontWalk payload start start old → Finds old frame new → Tested b frame start new.offset size → b ≡ false
+pub front_ends : (payload : List ℕ) (start size : ℕ) (old new : IterState) (frame : Frame) (b : Bool) → BeginsNone
+    → OneShortest → Shortest
+    → size ≡ length payload → FrontWalk payload start start old → Finds old frame new
+    → Tested b frame start new.offset size → b ≡ false
     → FrontWalk payload start new.offset new
 front_ends payload start size old new frame b begins one all len w f tested e =
     let stop = new.offset in
@@ -104,9 +117,13 @@ front_ends payload start size old new frame b begins one all len w f tested e =
       in_front = λ found encoded.
           let a = w.in_front found encoded in
           let rest = all_so_far payload start old found a (sym w.walks.start_is) in
-          let n = next_frame payload start size old new frame a.others begins len w.walks f (a.left_are ∙ ap (map given) rest) a.cut.back in
-          let is = ap length (shortest_next f.found a.others n.more (eqb stop size) n.rest_is n.last_is) ∙ length-append (shortest_frame (eqb stop size) f.found.frame) (shortest_frames (map frame_in n.more)) in
-          let fewer = at_most (drop stop payload) (shortest_frames (map frame_in n.more)) (all n.more (drop stop payload) n.encoded) in
+          let n =
+          next_frame payload start size old new frame a.others begins len w.walks f (a.left_are ∙ ap (map given) rest) a.cut.back in
+          let is =
+          ap length (shortest_next f.found a.others n.more (eqb stop size) n.rest_is n.last_is)
+          ∙ length-append (shortest_frame (eqb stop size) f.found.frame) (shortest_frames (map frame_in n.more)) in
+          let fewer =
+          at_most (drop stop payload) (shortest_frames (map frame_in n.more)) (all n.more (drop stop payload) n.encoded) in
           record {
             others = a.others;
             cut = a.cut;
@@ -117,7 +134,8 @@ front_ends payload start size old new frame b begins one all len w f tested e =
     }
 
 -- the frames after that
-pub front_stays : (payload : List ℕ) (front start : ℕ) (old new : IterState) (frame : Frame) → front ≢ start → FrontWalk payload front start old
+pub front_stays : (payload : List ℕ) (front start : ℕ) (old new : IterState) (frame : Frame) → front ≢ start
+    → FrontWalk payload front start old
     → Finds old frame new → FrontWalk payload front new.offset new
 front_stays payload front start old new frame differs w f =
     let h = here payload start old new frame w.walks f in
@@ -138,8 +156,11 @@ front_stays payload front start old new frame differs w f =
           };
     }
   where
-    later : old.offset ≡ start → start < new.offset → (others rest : List TypedFrame) → ((front ≡ old.offset) × (rest ≡ others)) ⊎ ((front < old.offset) × (length (shortest_frames (map frame_in others)) < length payload - front))
-        → {more : List TypedFrame} → ((front ≡ new.offset) × (more ≡ others)) ⊎ ((front < new.offset) × (length (shortest_frames (map frame_in others)) < length payload - front))
+    later : old.offset ≡ start → start < new.offset → (others rest : List TypedFrame)
+        → ((front ≡ old.offset) × (rest ≡ others)) ⊎ ((front < old.offset)
+        × (length (shortest_frames (map frame_in others)) < length payload - front))
+        → {more : List TypedFrame} → ((front ≡ new.offset) × (more ≡ others))
+        ⊎ ((front < new.offset) × (length (shortest_frames (map frame_in others)) < length payload - front))
     later is some others rest (inl a) = absurd (differs (a.0 ∙ is))
     later is some others rest (inr a) = inr (let lt = a.0 in omega (arith, lt, is, some), a.1)
 
@@ -162,7 +183,9 @@ front_done payload front start state some (inl a) w none =
       shorter = λ lt. shorter (w.walks.start_is ∙ at) f.others f.rest lt f.is_there;
     }
   where
-    shorter : state.offset ≡ length payload → (others rest : List TypedFrame) → front < length payload → ((front ≡ state.offset) × (rest ≡ others)) ⊎ ((front < state.offset) × (length (shortest_frames (map frame_in others)) < length payload - front))
+    shorter : state.offset ≡ length payload → (others rest : List TypedFrame) → front < length payload
+        → ((front ≡ state.offset) × (rest ≡ others)) ⊎ ((front < state.offset)
+        × (length (shortest_frames (map frame_in others)) < length payload - front))
         → length (shortest_frames (map frame_in others)) < length payload - front
     shorter is others rest lt (inl b) = let e = b.0 in absurd (omega (arith, lt, e, is))
     shorter is others rest lt (inr b) = b.1
@@ -172,7 +195,8 @@ front_done payload front start state some (inr b) w none =
 -- an invalid frame
 pub front_fails : (payload : List ℕ) (front start : ℕ) (state : IterState) (i : Invalid) → IsEither false None payload
     → FrontWalk payload front start state → left state ≡ Broken i ∷ []
-    → (found : List TypedFrame) × (type : Option ℕ) × (reason : Fault) × IsBroken false None found payload type reason × (i ≡ invalid type reason)
+    → (found : List TypedFrame) × (type : Option ℕ) × (reason : Fault) × IsBroken false None found payload type reason
+    × (i ≡ invalid type reason)
 front_fails payload front start state i (inl a) w is =
     let f = w.in_front a.0 a.1 in absurd (no_error f.rest i (sym (ap (map unplaced) is) ∙ f.left_are))
   where
@@ -186,15 +210,18 @@ front_fails payload front start state i (inr b) w is =
     error_is [] i j e = cc
     error_is (f ∷ rest) i j e = absurd cc
 
-pub grows_to : (payload : List ℕ) (front start stop : ℕ) (old new : IterState) (frame : Frame) (b : Bool) → BeginsNone → OneShortest → front ≡ start
+pub grows_to : (payload : List ℕ) (front start stop : ℕ) (old new : IterState) (frame : Frame) (b : Bool) → BeginsNone
+    → OneShortest → front ≡ start
     → FrontWalk payload front start old → Finds old frame new → stop ≡ new.offset
     → Tested b frame start stop (length payload) → b ≡ true → FrontWalk payload stop stop new
 grows_to payload front start stop old new frame b begins one same w f at tested e =
     let v = subst (λ (n : ℕ). FrontWalk payload n start old) same w in
     let t = subst (λ (n : ℕ). Tested b frame start n (length payload)) at tested in
-    subst (λ (n : ℕ). FrontWalk payload n n new) (sym at) (front_grows payload start (length payload) old new frame b begins one refl v f t e)
+    subst (λ (n : ℕ). FrontWalk payload n n new) (sym at) (front_grows payload start (length payload) old new frame b
+    begins one refl v f t e)
 
-pub ends_at : (payload : List ℕ) (front start stop : ℕ) (old new : IterState) (frame : Frame) (b : Bool) → BeginsNone → OneShortest → Shortest
+pub ends_at : (payload : List ℕ) (front start stop : ℕ) (old new : IterState) (frame : Frame) (b : Bool) → BeginsNone
+    → OneShortest → Shortest
     → front ≡ start → FrontWalk payload front start old → Finds old frame new → stop ≡ new.offset
     → Tested b frame start stop (length payload) → b ≡ false → FrontWalk payload front stop new
 ends_at payload front start stop old new frame b begins one all same w f at tested e =
@@ -203,12 +230,14 @@ ends_at payload front start stop old new frame b begins one all same w f at test
     let ended = front_ends payload start (length payload) old new frame b begins one all refl v f t e in
     subst (λ (n : ℕ). FrontWalk payload n stop new) (sym same) (subst (λ (n : ℕ). FrontWalk payload start n new) (sym at) ended)
 
-pub stays_at : (payload : List ℕ) (front start stop : ℕ) (old new : IterState) (frame : Frame) → front ≢ start → FrontWalk payload front start old
+pub stays_at : (payload : List ℕ) (front start stop : ℕ) (old new : IterState) (frame : Frame) → front ≢ start
+    → FrontWalk payload front start old
     → Finds old frame new → stop ≡ new.offset → FrontWalk payload front stop new
 stays_at payload front start stop old new frame differs w f at =
     subst (λ (n : ℕ). FrontWalk payload front n new) (sym at) (front_stays payload front start old new frame differs w f)
 
 -- by another name of the place
-pub front_is : (payload : List ℕ) (front same start : ℕ) (state : IterState) → same ≡ front → FrontWalk payload front start state
+pub front_is : (payload : List ℕ) (front same start : ℕ) (state : IterState) → same ≡ front
+    → FrontWalk payload front start state
     → FrontWalk payload same start state
 front_is payload front same start state e w = subst (λ (n : ℕ). FrontWalk payload n start state) (sym e) w

@@ -22,15 +22,18 @@ use Rattle.quic_canon.proofs.Cuts.{cut_there, length-slice_range, split_front, c
 -- what is used of the laws of payloads, beside those
 abbrev pub BeginsNone : Type 0
 BeginsNone =
-    (one other : TypedFrame) (bytes longer rest : List ℕ) → is_open one.type ≡ false → IsFrame false one bytes → IsFrame false other longer → longer ≡ bytes ++ rest → bytes ≡ longer
+    (one other : TypedFrame) (bytes longer rest : List ℕ) → is_open one.type ≡ false → IsFrame false one bytes
+    → IsFrame false other longer → longer ≡ bytes ++ rest → bytes ≡ longer
 
 abbrev pub OneShortest : Type 0
 OneShortest =
-    (last : Bool) (found : TypedFrame) (bytes : List ℕ) → IsFrame false found bytes → (is_open found.type ≡ true → last ≡ true) → AreOrExceed bytes (shortest_frame last found.frame)
+    (last : Bool) (found : TypedFrame) (bytes : List ℕ) → IsFrame false found bytes
+    → (is_open found.type ≡ true → last ≡ true) → AreOrExceed bytes (shortest_frame last found.frame)
 
 abbrev pub Exact : Type 0
 Exact =
-    (last : Bool) (t : ℕ) (frame : Frame) (bytes : List ℕ) → HasNoTypeZero frame → IsFrame false (found_as t frame) bytes → (is_open t ≡ true → last ≡ true) → CanStand last frame
+    (last : Bool) (t : ℕ) (frame : Frame) (bytes : List ℕ) → HasNoTypeZero frame
+    → IsFrame false (found_as t frame) bytes → (is_open t ≡ true → last ≡ true) → CanStand last frame
 
 -- ---- a frame that was found can be written
 
@@ -40,11 +43,16 @@ meaning_is frame found e = ap (λ (m : Meaning). let f : TypedFrame = record { t
 at_end : (m n : ℕ) → m ≡ n → eqb m n ≡ true
 at_end m n e = grind (arith, nat_tests)
 
-pub can_stand : (old new : IterState) (frame : Frame) (size : ℕ) → Exact → old.strict ≡ false → size ≡ length old.payload → Finds old frame new
+pub can_stand : (old new : IterState) (frame : Frame) (size : ℕ) → Exact → old.strict ≡ false
+    → size ≡ length old.payload → Finds old frame new
     → CanStand (eqb new.offset size) frame
 can_stand old new frame size exact any len f =
-    let s = subst (λ (x : TypedFrame). IsFrame false x (slice_range old.payload old.offset new.offset)) (meaning_is frame f.found f.says) (subst (λ (b : Bool). IsFrame b f.found (slice_range old.payload old.offset new.offset)) any f.stands.encoded) in
-    exact (eqb new.offset size) f.found.type frame (slice_range old.payload old.offset new.offset) f.distinct s (λ opens. at_end new.offset size (f.ends opens ∙ sym len))
+    let s =
+    subst (λ (x : TypedFrame). IsFrame false x (slice_range old.payload old.offset new.offset))
+    (meaning_is frame f.found f.says) (subst (λ (b : Bool). IsFrame b f.found
+    (slice_range old.payload old.offset new.offset)) any f.stands.encoded) in
+    exact (eqb new.offset size) f.found.type frame (slice_range old.payload old.offset new.offset) f.distinct s
+    (λ opens. at_end new.offset size (f.ends opens ∙ sym len))
 
 -- ---- what is left of a payload
 
@@ -66,7 +74,8 @@ front_is : (f : TypedFrame) (a b c d : List ℕ) → BeginsNone → a ++ b ≡ c
 front_is f a b c d begins e one other opens opens' =
     elim (cases_bool (is_open f.type)) [
       | inl open_type ↦
-          sym (append-nil a) ∙ ap (λ (l : List ℕ). a ++ l) (sym (opens open_type)) ∙ e ∙ ap (λ (l : List ℕ). c ++ l) (opens' open_type) ∙ append-nil c
+          sym (append-nil a) ∙ ap (λ (l : List ℕ). a ++ l) (sym (opens open_type)) ∙ e
+          ∙ ap (λ (l : List ℕ). c ++ l) (opens' open_type) ∙ append-nil c
       | inr closed ↦
           elim (cases_bool (leb (length a) (length c))) [
             | inl le ↦
@@ -86,10 +95,13 @@ pub record Here (payload : List ℕ) (start stop : ℕ) (found : TypedFrame) (ol
   pub first : map unplaced (left old) ≡ Ok found ∷ map unplaced (left new)
   pub done : (left new ≡ []) ↔ (stop ≡ length payload)
 
-pub here : (payload : List ℕ) (start : ℕ) (old new : IterState) (frame : Frame) → Walks payload start old → (f : Finds old frame new)
+pub here : (payload : List ℕ) (start : ℕ) (old new : IterState) (frame : Frame) → Walks payload start old
+    → (f : Finds old frame new)
     → Here payload start new.offset f.found old new
 here payload start old new frame w f = record {
-  stands = subst (λ (l : List ℕ). Stands false l start new.offset f.found) w.payload_is (subst (λ (n : ℕ). Stands false old.payload n new.offset f.found) w.start_is (subst (λ (b : Bool). Stands b old.payload old.offset new.offset f.found) w.strict_is f.stands));
+  stands = subst (λ (l : List ℕ). Stands false l start new.offset f.found) w.payload_is
+      (subst (λ (n : ℕ). Stands false old.payload n new.offset f.found) w.start_is
+      (subst (λ (b : Bool). Stands b old.payload old.offset new.offset f.found) w.strict_is f.stands));
   opens = λ e. f.ends e ∙ ap length w.payload_is;
   first = ap (map unplaced) f.first;
   done = ((λ e. f.is_done.0 e ∙ ap length w.payload_is), (λ e. f.is_done.1 (e ∙ sym (ap length w.payload_is))));
@@ -103,12 +115,14 @@ given_on found items (r ∷ rest) e =
     let tails : items ≡ map given rest = cc in
     (rest, ap (λ (f : TypedFrame). f ∷ rest) (sym head), tails)
 
-broken_on : (found : TypedFrame) (i : Invalid) (items : List Reported) (rest : List TypedFrame) → Ok found ∷ items ≡ map given rest ++ Err i ∷ []
+broken_on : (found : TypedFrame) (i : Invalid) (items : List Reported) (rest : List TypedFrame)
+    → Ok found ∷ items ≡ map given rest ++ Err i ∷ []
     → (more : List TypedFrame) × (items ≡ map given more ++ Err i ∷ [])
 broken_on found i items [] e = absurd cc
 broken_on found i items (r ∷ rest) e = let tails : items ≡ map given rest ++ Err i ∷ [] = cc in (rest, tails)
 
-pub walk_on : (payload : List ℕ) (start : ℕ) (old new : IterState) (frame : Frame) → Walks payload start old → Finds old frame new
+pub walk_on : (payload : List ℕ) (start : ℕ) (old new : IterState) (frame : Frame) → Walks payload start old
+    → Finds old frame new
     → Walks payload new.offset new
 walk_on payload start old new frame w f =
     let h = here payload start old new frame w f in
@@ -127,10 +141,12 @@ nothing_left : (items : List Item) → map unplaced items ≡ [] → items ≡ [
 nothing_left [] e = refl
 nothing_left (i ∷ items) e = absurd cc
 
-end_if : (more : List TypedFrame) (new : IterState) (b : Bool) → map unplaced (left new) ≡ map given more → (left new ≡ [] → b ≡ true)
+end_if : (more : List TypedFrame) (new : IterState) (b : Bool) → map unplaced (left new) ≡ map given more
+    → (left new ≡ [] → b ≡ true)
     → (b ≡ true → left new ≡ []) → is_end (map frame_in more) ≡ b
 end_if [] new b e to from = sym (to (nothing_left (left new) e))
-end_if (m ∷ more) new true e to from = absurd (let none : map unplaced (left new) ≡ [] = ap (map unplaced) (from refl) in cc (none, e))
+end_if (m ∷ more) new true e to from =
+    absurd (let none : map unplaced (left new) ≡ [] = ap (map unplaced) (from refl) in cc (none, e))
 end_if (m ∷ more) new false e to from = refl
 
 -- the frame that was found, in front of the others
@@ -144,25 +160,31 @@ pub record Next (payload : List ℕ) (start stop size : ℕ) (new : IterState) (
 pub from_test : (m n : ℕ) → eqb m n ≡ true → m ≡ n
 from_test m n e = grind (arith, nat_tests)
 
-pub next_frame : (payload : List ℕ) (start size : ℕ) (old new : IterState) (frame : Frame) (rest : List TypedFrame) → BeginsNone
+pub next_frame : (payload : List ℕ) (start size : ℕ) (old new : IterState) (frame : Frame) (rest : List TypedFrame)
+    → BeginsNone
     → size ≡ length payload → Walks payload start old → (f : Finds old frame new)
-    → map unplaced (left old) ≡ map given rest → AreFrames false rest (drop start payload) → Next payload start new.offset size new f.found rest
+    → map unplaced (left old) ≡ map given rest → AreFrames false rest (drop start payload)
+    → Next payload start new.offset size new f.found rest
 next_frame payload start size old new frame rest begins len w f are s =
     let h = here payload start old new frame w f in
     let g = given_on f.found (map unplaced (left new)) rest (sym h.first ∙ are) in
-    let t : AreFrames false (f.found ∷ g.0) (drop start payload) = subst (λ (l : List TypedFrame). AreFrames false l (drop start payload)) g.1 s in
+    let t : AreFrames false (f.found ∷ g.0) (drop start payload) =
+    subst (λ (l : List TypedFrame). AreFrames false l (drop start payload)) g.1 s in
     let stop = new.offset in
     let some = h.stands.some in
     let cut = cut_there payload start stop (omega (arith, some)) in
     let front : t.0 ≡ slice_range payload start stop =
-    front_is f.found t.0 t.1 (slice_range payload start stop) (drop stop payload) begins (sym t.2 ∙ cut) t.3 h.stands.encoded t.4 (λ e. drop_end payload stop (h.opens e)) in
-    let back : t.1 ≡ drop stop payload = same_back t.0 (slice_range payload start stop) t.1 (drop stop payload) (ap length front) (sym t.2 ∙ cut) in
+    front_is f.found t.0 t.1 (slice_range payload start stop) (drop stop payload) begins (sym t.2 ∙ cut) t.3
+    h.stands.encoded t.4 (λ e. drop_end payload stop (h.opens e)) in
+    let back : t.1 ≡ drop stop payload =
+    same_back t.0 (slice_range payload start stop) t.1 (drop stop payload) (ap length front) (sym t.2 ∙ cut) in
     record {
       more = g.0;
       rest_is = g.1;
       left_are = g.2;
       encoded = subst (AreFrames false g.0) back t.5;
-      last_is = end_if g.0 new (eqb stop size) g.2 (λ e. at_end stop size (h.done.0 e ∙ sym len)) (λ e. h.done.1 (from_test stop size e ∙ len));
+      last_is = end_if g.0 new (eqb stop size) g.2 (λ e. at_end stop size (h.done.0 e ∙ sym len))
+          (λ e. h.done.1 (from_test stop size e ∙ len));
     }
   where
     drop_end : (payload : List ℕ) (stop : ℕ) → stop ≡ length payload → drop stop payload ≡ []
@@ -175,7 +197,8 @@ next_frame payload start size old new frame rest begins len w f are s =
 -- ---- the frames at the front that are in their shortest encodings
 
 -- a span of the length of the shortest encoding is that
-span_is : (last : Bool) (found : TypedFrame) (bytes : List ℕ) → OneShortest → IsFrame false found bytes → (is_open found.type ≡ true → last ≡ true)
+span_is : (last : Bool) (found : TypedFrame) (bytes : List ℕ) → OneShortest → IsFrame false found bytes
+    → (is_open found.type ≡ true → last ≡ true)
     → length (shortest_frame last found.frame) ≡ length bytes → bytes ≡ shortest_frame last found.frame
 span_is last found bytes one f opens len = is (one last found bytes f opens)
   where
@@ -204,7 +227,8 @@ pub record Span (payload : List ℕ) (start stop size : ℕ) (found : TypedFrame
   pub encoded : IsFrame false found (slice_range payload start stop)
   pub last : is_open found.type ≡ true → eqb stop size ≡ true
 
-pub span_of : (payload : List ℕ) (start size : ℕ) (old new : IterState) (frame : Frame) → size ≡ length payload → Walks payload start old
+pub span_of : (payload : List ℕ) (start size : ℕ) (old new : IterState) (frame : Frame) → size ≡ length payload
+    → Walks payload start old
     → (f : Finds old frame new) → Span payload start new.offset size f.found
 span_of payload start size old new frame len w f =
     let h = here payload start old new frame w f in
@@ -225,41 +249,50 @@ pub frame_length : (frame : Frame) (found : TypedFrame) (last : Bool) → found.
     → length (shortest_frame last (meaning_of frame)) ≡ length (shortest_frame last found.frame)
 frame_length frame found last e = ap (λ (m : Meaning). length (shortest_frame last m)) (sym e)
 
-pub shortest_there : (payload : List ℕ) (start size : ℕ) (old new : IterState) (frame : Frame) (b : Bool) → OneShortest → size ≡ length payload
+pub shortest_there : (payload : List ℕ) (start size : ℕ) (old new : IterState) (frame : Frame) (b : Bool) → OneShortest
+    → size ≡ length payload
     → Walks payload start old → (f : Finds old frame new) → Tested b frame start new.offset size → b ≡ true
     → slice_range payload start new.offset ≡ shortest_frame (eqb new.offset size) f.found.frame
 shortest_there payload start size old new frame b one len w f tested e =
     let s = span_of payload start size old new frame len w f in
     let last = eqb new.offset size in
     let same = from_test (length (shortest_frame last (meaning_of frame))) (new.offset - start) (sym tested ∙ e) in
-    span_is last f.found (slice_range payload start new.offset) one s.encoded s.last (sym (frame_length frame f.found last f.says) ∙ same ∙ sym s.len)
+    span_is last f.found (slice_range payload start new.offset) one s.encoded s.last
+    (sym (frame_length frame f.found last f.says) ∙ same ∙ sym s.len)
 
-pub longer_there : (payload : List ℕ) (start size : ℕ) (old new : IterState) (frame : Frame) (b : Bool) → OneShortest → size ≡ length payload
+pub longer_there : (payload : List ℕ) (start size : ℕ) (old new : IterState) (frame : Frame) (b : Bool) → OneShortest
+    → size ≡ length payload
     → Walks payload start old → (f : Finds old frame new) → Tested b frame start new.offset size → b ≡ false
     → length (shortest_frame (eqb new.offset size) f.found.frame) < new.offset - start
 longer_there payload start size old new frame b one len w f tested e =
     let s = span_of payload start size old new frame len w f in
     let last = eqb new.offset size in
     let lt = span_exceeds last f.found (slice_range payload start new.offset) one s.encoded s.last
-    (λ h. true_is_not_false (sym (at_end (length (shortest_frame last (meaning_of frame))) (new.offset - start) (frame_length frame f.found last f.says ∙ h ∙ s.len)) ∙ sym tested ∙ e)) in
+    (λ h. true_is_not_false (sym (at_end (length (shortest_frame last (meaning_of frame))) (new.offset - start)
+    (frame_length frame f.found last f.says ∙ h ∙ s.len)) ∙ sym tested ∙ e)) in
     omega (arith, lt, s.len)
   where
     true_is_not_false : true ≡ false → ⊥
     true_is_not_false h = cc
 
-pub shortest_next : (found : TypedFrame) (rest more : List TypedFrame) (last : Bool) → rest ≡ found ∷ more → is_end (map frame_in more) ≡ last
+pub shortest_next : (found : TypedFrame) (rest more : List TypedFrame) (last : Bool) → rest ≡ found ∷ more
+    → is_end (map frame_in more) ≡ last
     → shortest_frames (map frame_in rest) ≡ shortest_frame last found.frame ++ shortest_frames (map frame_in more)
 shortest_next found rest more last is end =
-    ap (λ (l : List TypedFrame). shortest_frames (map frame_in l)) is ∙ ap (λ (b : Bool). shortest_frame b found.frame ++ shortest_frames (map frame_in more)) end
+    ap (λ (l : List TypedFrame). shortest_frames (map frame_in l)) is
+    ∙ ap (λ (b : Bool). shortest_frame b found.frame ++ shortest_frames (map frame_in more)) end
 
-not_done : (payload : List ℕ) (state : IterState) → IsEither false None payload → GivesFrames false payload state → GivesBroken false payload state
+not_done : (payload : List ℕ) (state : IterState) → IsEither false None payload → GivesFrames false payload state
+    → GivesBroken false payload state
     → left state ≡ [] → 0 ≡ length payload
-not_done payload state (inl a) whole broken none = sym (ap length (empty a.0 payload a.1 (sym (ap (map unplaced) none) ∙ whole a.0 a.1)))
+not_done payload state (inl a) whole broken none =
+    sym (ap length (empty a.0 payload a.1 (sym (ap (map unplaced) none) ∙ whole a.0 a.1)))
   where
     empty : (found : List TypedFrame) (bytes : List ℕ) → AreFrames false found bytes → [] ≡ map given found → bytes ≡ []
     empty [] bytes s e = s
     empty (f ∷ found) bytes s e = absurd cc
-not_done payload state (inr a) whole broken none = absurd (some a.0 (invalid a.1 a.2) (sym (ap (map unplaced) none) ∙ broken a.0 a.1 a.2 a.3))
+not_done payload state (inr a) whole broken none =
+    absurd (some a.0 (invalid a.1 a.2) (sym (ap (map unplaced) none) ∙ broken a.0 a.1 a.2 a.3))
   where
     some : (found : List TypedFrame) (i : Invalid) → [] ≡ map given found ++ Err i ∷ [] → ⊥
     some [] i e = cc
@@ -279,23 +312,31 @@ walk_begins payload state first e whole broken = record {
 
 -- ---- what a step gave
 
-pub finds_ok : (old new : IterState) (item : Result Frame InvalidFrame) (frame : Frame) → item ≡ Ok frame → Advances old (Some item) new → Finds old frame new
+pub finds_ok : (old new : IterState) (item : Result Frame InvalidFrame) (frame : Frame) → item ≡ Ok frame
+    → Advances old (Some item) new → Finds old frame new
 finds_ok old new item frame e a = subst (λ (r : Result Frame InvalidFrame). Advances old (Some r) new) e a
 
-pub fails_err : (old new : IterState) (item : Result Frame InvalidFrame) (i : InvalidFrame) → item ≡ Err i → Advances old (Some item) new
+pub fails_err : (old new : IterState) (item : Result Frame InvalidFrame) (i : InvalidFrame) → item ≡ Err i
+    → Advances old (Some item) new
     → left old ≡ Broken (invalid_of i) ∷ []
 fails_err old new item i e a = (subst (λ (r : Result Frame InvalidFrame). Advances old (Some r) new) e a).0
 
 -- the same by the number that the code holds
-pub stands_at : (payload : List ℕ) (start stop : ℕ) (old new : IterState) (frame : Frame) → Exact → Walks payload start old → Finds old frame new
+pub stands_at : (payload : List ℕ) (start stop : ℕ) (old new : IterState) (frame : Frame) → Exact
+    → Walks payload start old → Finds old frame new
     → stop ≡ new.offset → CanStand (eqb stop (length payload)) frame
 stands_at payload start stop old new frame exact w f at =
-    subst (λ (n : ℕ). CanStand (eqb n (length payload)) frame) (sym at) (can_stand old new frame (length payload) exact w.strict_is (sym (ap length w.payload_is)) f)
+    subst (λ (n : ℕ). CanStand (eqb n (length payload)) frame) (sym at)
+    (can_stand old new frame (length payload) exact w.strict_is (sym (ap length w.payload_is)) f)
 
-pub small_at : (payload : List ℕ) (start stop : ℕ) (old new : IterState) (frame : Frame) → OneShortest → Walks payload start old → Finds old frame new
+pub small_at : (payload : List ℕ) (start stop : ℕ) (old new : IterState) (frame : Frame) → OneShortest
+    → Walks payload start old → Finds old frame new
     → stop ≡ new.offset → length (shortest_frame (eqb stop (length payload)) (meaning_of frame)) ≤ stop - start
 small_at payload start stop old new frame one w f at =
     let s = span_of payload start (length payload) old new frame refl w f in
     let last = eqb new.offset (length payload) in
-    let le = at_most (slice_range payload start new.offset) (shortest_frame last f.found.frame) (one last f.found (slice_range payload start new.offset) s.encoded s.last) in
-    subst (λ (n : ℕ). length (shortest_frame (eqb n (length payload)) (meaning_of frame)) ≤ n - start) (sym at) (omega (arith, le, frame_length frame f.found last f.says, s.len))
+    let le =
+    at_most (slice_range payload start new.offset) (shortest_frame last f.found.frame)
+    (one last f.found (slice_range payload start new.offset) s.encoded s.last) in
+    subst (λ (n : ℕ). length (shortest_frame (eqb n (length payload)) (meaning_of frame)) ≤ n - start) (sym at)
+    (omega (arith, le, frame_length frame f.found last f.says, s.len))

@@ -16,9 +16,15 @@ as_short some others (inr longer) (inr shorter) = absurd (omega arith)
 -- a frame takes a byte
 frame_some : (strict : Bool) (found : TypedFrame) (bytes : List ℕ) → IsFrame strict found bytes → 0 < length bytes
 frame_some strict found bytes frame =
-    omega (arith, ap length frame.parts, length-append frame.type_bytes frame.field_bytes, (encoded_bound found.type frame.type_bytes frame.type_encoded.encoded).1)
+    omega (
+      arith,
+      ap length frame.parts,
+      length-append frame.type_bytes frame.field_bytes,
+      (encoded_bound found.type frame.type_bytes frame.type_encoded.encoded).1,
+    )
 
-found_some : (strict : Bool) (found : List TypedFrame) (frames : List Frame) (bytes : List ℕ) → AreFrames strict found bytes
+found_some : (strict : Bool) (found : List TypedFrame) (frames : List Frame) (bytes : List ℕ)
+    → AreFrames strict found bytes
     → map frame_in found ≡ map meaning_of frames → length bytes ≡ 0 → frames ≡ []
 found_some strict [] [] bytes are same none = refl
 found_some strict [] (frame ∷ frames) bytes are same none = absurd cc
@@ -26,6 +32,8 @@ found_some strict (found ∷ others) frames bytes are same none =
     absurd (omega (arith, none, frame_some strict found are.0 are.3, ap length are.2, length-append are.0 are.1))
 
 -- frames take a byte
-pub payload_some : (strict : Bool) (found : List TypedFrame) (frames : List Frame) (bytes : List ℕ) → AreFrames strict found bytes
+pub payload_some : (strict : Bool) (found : List TypedFrame) (frames : List Frame) (bytes : List ℕ)
+    → AreFrames strict found bytes
     → map frame_in found ≡ map meaning_of frames → frames ≢ [] → bytes ≢ []
-payload_some strict found frames bytes are same some none = some (found_some strict found frames bytes are same (ap length none))
+payload_some strict found frames bytes are same some none =
+    some (found_some strict found frames bytes are same (ap length none))

@@ -33,12 +33,14 @@ encoded_at p es i = get_or (encoded_entries p es) i []
 abbrev bytes_of_entry : Entry → List ℕ
 bytes_of_entry e = shortest_entry e.number e.bytes
 
-pub encoded_row : (p : TransportParameters) (es : List Entry) (i : ℕ) → i < parameter_count → encoded_at p es i ≡ written_for p (id_of_index i)
+pub encoded_row : (p : TransportParameters) (es : List Entry) (i : ℕ) → i < parameter_count
+    → encoded_at p es i ≡ written_for p (id_of_index i)
 encoded_row p es i lt =
     let w : List (List ℕ) = map (written_for p) ids in
     get_or_append_left w (map bytes_of_entry es) [] i lt ∙ get_or-map (written_for p) ids i MaxIdleTimeout [] lt
 
-pub encoded_further : (p : TransportParameters) (es : List Entry) (j : ℕ) (d : Entry) → j < length es → encoded_at p es (parameter_count + j) ≡ bytes_of_entry (get_or es j d)
+pub encoded_further : (p : TransportParameters) (es : List Entry) (j : ℕ) (d : Entry) → j < length es
+    → encoded_at p es (parameter_count + j) ≡ bytes_of_entry (get_or es j d)
 encoded_further p es j d lt =
     get_or-append-add (map (written_for p) ids) (map bytes_of_entry es) j [] ∙ get_or-map bytes_of_entry es j d [] lt
 
@@ -57,13 +59,16 @@ own (i ∷ os) = cond (nat_lt i parameter_count) (i ∷ own os) (own os)
 abbrev own_at : TransportParameterId → ℕ → ℕ
 own_at id i = cond (nat_lt i parameter_count) (is_at id i) 0
 
-times_cond : (id : TransportParameterId) (t : Bool) (i : ℕ) (os : List ℕ) → times id (cond t (i ∷ os) os) ≡ cond t (is_at id i) 0 + times id os
+times_cond : (id : TransportParameterId) (t : Bool) (i : ℕ) (os : List ℕ)
+    → times id (cond t (i ∷ os) os) ≡ cond t (is_at id i) 0 + times id os
 times_cond id true i os = refl
 times_cond id false i os = omega arith
 
 times_own : (id : TransportParameterId) (os : List ℕ) → times id (own os) ≡ sum_by (own_at id) os
 times_own id [] = refl
-times_own id (i ∷ os) = times_cond id (nat_lt i parameter_count) i (own os) ∙ ap (λ n. own_at id i + n) (times_own id os) ∙ sym (sum_by-cons (own_at id) i os)
+times_own id (i ∷ os) =
+    times_cond id (nat_lt i parameter_count) i (own os) ∙ ap (λ n. own_at id i + n) (times_own id os)
+    ∙ sym (sum_by-cons (own_at id) i os)
 
 not_below : (n : ℕ) → nat_lt (n + parameter_count) parameter_count ≡ false
 not_below n = grind (arith, nat_tests)
@@ -76,18 +81,22 @@ own_more : (id : TransportParameterId) (n : ℕ) → sum_by (own_at id) (downwar
 own_more id zero = own_downward id
 own_more id (suc n) =
     let all = sum_by-cons (own_at id) (n + parameter_count) (downward (n + parameter_count)) in
-    let none : own_at id (n + parameter_count) ≡ 0 = ap (λ t. cond t (is_at id (n + parameter_count)) 0) (not_below n) in
+    let none : own_at id (n + parameter_count) ≡ 0 =
+    ap (λ t. cond t (is_at id (n + parameter_count)) 0) (not_below n) in
     let next : suc n + parameter_count ≡ suc (n + parameter_count) = omega arith in
     ap (λ (m : ℕ). sum_by (own_at id) (downward m)) next ∙ all ∙ omega (arith, none, own_more id n)
 
-own_once : (n : ℕ) (order : List ℕ) → IsOrderOf (parameter_count + n) order → (id : TransportParameterId) → times id (own order) ≡ 1
+own_once : (n : ℕ) (order : List ℕ) → IsOrderOf (parameter_count + n) order → (id : TransportParameterId)
+    → times id (own order) ≡ 1
 own_once n order h id =
     let same : parameter_count + n ≡ n + parameter_count = omega arith in
-    times_own id order ∙ sum_by-IsPermutation (own_at id) (downward (parameter_count + n)) order (all_once (parameter_count + n) order h.width h.each)
+    times_own id order
+    ∙ sum_by-IsPermutation (own_at id) (downward (parameter_count + n)) order (all_once (parameter_count + n) order h.width h.each)
     ∙ ap (λ (m : ℕ). sum_by (own_at id) (downward m)) same ∙ own_more id n
 
 pub order_within : (n : ℕ) (order : List ℕ) → IsOrderOf n order → All (λ x. x < n) order
-order_within n order h = All-permutation (λ x. x < n) (downward n) order (all_once n order h.width h.each) (downward_below n n (omega arith))
+order_within n order h =
+    All-permutation (λ x. x < n) (downward n) order (all_once n order h.width h.each) (downward_below n n (omega arith))
 
 -- ---- what is read of such a list
 
@@ -107,24 +116,31 @@ abbrev Once : List ℕ → Type 0
 Once os = (id : TransportParameterId) → times id os ≤ 1
 
 abbrev Then : TransportParameters → List Entry → List ℕ → List ℕ → Type 0
-Then p es os mine = (before : List Given) (front : List ℕ) → Once mine → Free mine before → Reads before front → Reads (given_by p mine before) (front ++ flat_map (encoded_at p es) os)
+Then p es os mine =
+    (before : List Given) (front : List ℕ) → Once mine → Free mine before → Reads before front
+    → Reads (given_by p mine before) (front ++ flat_map (encoded_at p es) os)
 
-reads_row : (p : TransportParameters) (es : List Entry) (i : ℕ) (os mine : List ℕ) → IsSound p → i < parameter_count → Then p es os mine → Then p es (i ∷ os) (i ∷ mine)
+reads_row : (p : TransportParameters) (es : List Entry) (i : ℕ) (os mine : List ℕ) → IsSound p → i < parameter_count
+    → Then p es os mine → Then p es (i ∷ os) (i ∷ mine)
 reads_row p es i os mine s lt rest before front once free r =
     let o : TransportParameterId = id_of_index i in
     let here : 1 ≤ times o (i ∷ mine) = omega (arith, at_itself i) in
-    let x : Reads (add o (gives p o) before) (front ++ written_for p o) = reads_parameter p o before front s (free o here) r in
-    let y : Reads (add o (gives p o) before) (front ++ encoded_at p es i) = subst (λ (b : List ℕ). Reads (add o (gives p o) before) (front ++ b)) (sym (encoded_row p es i lt)) x in
+    let x : Reads (add o (gives p o) before) (front ++ written_for p o) =
+    reads_parameter p o before front s (free o here) r in
+    let y : Reads (add o (gives p o) before) (front ++ encoded_at p es i) =
+    subst (λ (b : List ℕ). Reads (add o (gives p o) before) (front ++ b)) (sym (encoded_row p es i lt)) x in
     let once' : Once mine = λ id. omega (arith, once id) in
     let free' : Free mine (add o (gives p o) before) = λ id h g.
     elim (given_after id o (gives p o) before g) [
-      | inl e ↦ let again : 1 ≤ times o mine = subst (λ (j : TransportParameterId). 1 ≤ times j mine) (sym e) h in omega (arith, at_itself i, again, once o)
+      | inl e ↦ let again : 1 ≤ times o mine = subst (λ (j : TransportParameterId). 1 ≤ times j mine) (sym e) h in omega
+          (arith, at_itself i, again, once o)
       | inr b ↦ free id (omega (arith, h)) b
     ] in
     subst (Reads (given_by p mine (add o (gives p o) before))) (append_assoc front (encoded_at p es i) (flat_map (encoded_at p es) os))
     (rest (add o (gives p o) before) (front ++ encoded_at p es i) once' free' y)
 
-reads_other : (p : TransportParameters) (es : List Entry) (i : ℕ) (os mine : List ℕ) → AreOthers es → parameter_count ≤ i → i < parameter_count + length es → Then p es os mine → Then p es (i ∷ os) mine
+reads_other : (p : TransportParameters) (es : List Entry) (i : ℕ) (os mine : List ℕ) → AreOthers es
+    → parameter_count ≤ i → i < parameter_count + length es → Then p es os mine → Then p es (i ∷ os) mine
 reads_other p es i os mine h le lt rest before front once free r =
     let j : ℕ = i - parameter_count in
     let d : Entry = record { number = 0; bytes = [] } in
@@ -132,29 +148,47 @@ reads_other p es i os mine h le lt rest before front once free r =
     let small : j < length es = omega (arith, le, lt) in
     let is : IsOther e = other_at es j d h small in
     let at : parameter_count + j ≡ i = omega (arith, le) in
-    let same : encoded_at p es i ≡ shortest_entry e.number e.bytes = ap (encoded_at p es) (sym at) ∙ encoded_further p es j d small in
+    let same : encoded_at p es i ≡ shortest_entry e.number e.bytes =
+    ap (encoded_at p es) (sym at) ∙ encoded_further p es j d small in
     let x : Reads before (front ++ encoded_at p es i) = subst (λ (b : List ℕ). Reads before (front ++ b)) (sym same)
-    (reads_entry before before front (shortest_entry e.number e.bytes) e r (is_entry e.number e.bytes is.numeric is.short) (Passed is.unknown refl)) in
-    subst (Reads (given_by p mine before)) (append_assoc front (encoded_at p es i) (flat_map (encoded_at p es) os)) (rest before (front ++ encoded_at p es i) once free x)
+    (reads_entry before before front (shortest_entry e.number e.bytes) e r
+    (is_entry e.number e.bytes is.numeric is.short) (Passed is.unknown refl)) in
+    subst (Reads (given_by p mine before)) (append_assoc front (encoded_at p es i) (flat_map (encoded_at p es) os))
+    (rest before (front ++ encoded_at p es i) once free x)
 
-reads_either : (t : Bool) (p : TransportParameters) (es : List Entry) (i : ℕ) (os mine : List ℕ) → nat_lt i parameter_count ≡ t → IsSound p → AreOthers es → i < parameter_count + length es → Then p es os mine → Then p es (i ∷ os) (cond t (i ∷ mine) mine)
+reads_either : (t : Bool) (p : TransportParameters) (es : List Entry) (i : ℕ) (os mine : List ℕ)
+    → nat_lt i parameter_count ≡ t → IsSound p → AreOthers es → i < parameter_count + length es → Then p es os mine
+    → Then p es (i ∷ os) (cond t (i ∷ mine) mine)
 reads_either true p es i os mine e s h lt rest = reads_row p es i os mine s (grind (arith, nat_tests)) rest
 reads_either false p es i os mine e s h lt rest = reads_other p es i os mine h (grind (arith, nat_tests)) lt rest
 
-reads_mixed : (p : TransportParameters) (es : List Entry) (os : List ℕ) → IsSound p → AreOthers es → below (parameter_count + length es) os → Then p es os (own os)
+reads_mixed : (p : TransportParameters) (es : List Entry) (os : List ℕ) → IsSound p → AreOthers es
+    → below (parameter_count + length es) os → Then p es os (own os)
 reads_mixed p es [] s h b = λ before front once free r. reads_none before front r
-reads_mixed p es (i ∷ os) s h b = reads_either (nat_lt i parameter_count) p es i os (own os) refl s h b.0 (reads_mixed p es os s h b.1)
+reads_mixed p es (i ∷ os) s h b =
+    reads_either (nat_lt i parameter_count) p es i os (own os) refl s h b.0 (reads_mixed p es os s h b.1)
 
-pub read_further : (p : TransportParameters) (es : List Entry) (order : List ℕ) → IsSound p → AreOthers es → IsOrderOf (parameter_count + length es) order → IsMeant (plain p) (flat_map (encoded_at p es) order)
+pub read_further : (p : TransportParameters) (es : List Entry) (order : List ℕ) → IsSound p → AreOthers es
+    → IsOrderOf (parameter_count + length es) order → IsMeant (plain p) (flat_map (encoded_at p es) order)
 read_further p es order s h o =
     let start : Reads [] [] = record { entries = []; list = record { encoded = refl; gives = refl } } in
     let one = own_once (length es) order o in
-    let r = reads_mixed p es order s h (all_below (parameter_count + length es) order (order_within (parameter_count + length es) order o)) [] [] (λ id. omega (arith, one id)) (λ id le g. g) start in
-    record { entries = r.entries; given = given_by p (own order) []; list = r.list; is_record = record { values = all_given p (own order) one; no_grease = refl; no_order = refl } }
+    let r =
+    reads_mixed p es order s h (all_below (parameter_count + length es) order
+    (order_within (parameter_count + length es) order o)) [] [] (λ id. omega (arith, one id)) (λ id le g. g)
+    start in
+    record {
+      entries = r.entries;
+      given = given_by p (own order) [];
+      list = r.list;
+      is_record = record { values = all_given p (own order) one; no_grease = refl; no_order = refl };
+    }
 
-pub answers_further : (side : Side) (p : TransportParameters) (es : List Entry) (order : List ℕ) → IsTypedRecord p → IsRecordInRange side p → AreOthers es → IsOrderOf (parameter_count + length es) order
+pub answers_further : (side : Side) (p : TransportParameters) (es : List Entry) (order : List ℕ) → IsTypedRecord p
+    → IsRecordInRange side p → AreOthers es → IsOrderOf (parameter_count + length es) order
     → IsReadAnswer side (flat_map (encoded_at p es) order) (Ok (plain p))
-answers_further side p es order t h others o = (read_further p es order (sound_of side p t h) others o, plain_valid side p h.valid)
+answers_further side p es order t h others o =
+    (read_further p es order (sound_of side p t h) others o, plain_valid side p h.valid)
 
 -- ---- the entries of a list
 
@@ -165,30 +199,41 @@ first_entry e es b h nil =
     omega (arith, entry_some e.number e.bytes h.front h.first)
 
 same_entry : (e d : Entry) → e.number ≡ d.number → e.bytes ≡ d.bytes → e ≡ d
-same_entry e d n b = ap (λ (m : ℕ). record { number = m; bytes = e.bytes }) n ∙ ap (λ (l : List ℕ). record { number = d.number; bytes = l }) b
+same_entry e d n b =
+    ap (λ (m : ℕ). record { number = m; bytes = e.bytes }) n
+    ∙ ap (λ (l : List ℕ). record { number = d.number; bytes = l }) b
 
 pub in_order_once : (es fs : List Entry) (b : List ℕ) → AreInOrder es b → AreInOrder fs b → es ≡ fs
 in_order_once [] [] b p q = refl
 in_order_once [] (f ∷ fs) b p q = absurd (first_entry f fs b q p)
 in_order_once (e ∷ es) [] b p q = absurd (first_entry e es b p q)
 in_order_once (e ∷ es) (f ∷ fs) b p q =
-    let u = entry_unique e.number f.number e.bytes f.bytes p.front q.front p.back q.back (sym p.whole ∙ q.whole) p.first q.first in
+    let u =
+    entry_unique e.number f.number e.bytes f.bytes p.front q.front p.back q.back (sym p.whole ∙ q.whole) p.first q.first in
     let rest : es ≡ fs = in_order_once es fs p.back p.second (subst (AreInOrder fs) (sym u.3) q.second) in
     ap (λ (x : Entry). x ∷ es) (same_entry e f u.0 u.1) ∙ ap (λ (l : List Entry). f ∷ l) rest
 
 -- entries, the last first, in front of others
-in_order_from : (es fs : List Entry) (a b : List ℕ) → AreEntries es a → AreInOrder fs b → AreInOrder (reverse_aux es fs) (a ++ b)
+in_order_from : (es fs : List Entry) (a b : List ℕ) → AreEntries es a → AreInOrder fs b
+    → AreInOrder (reverse_aux es fs) (a ++ b)
 in_order_from [] fs a b p q = subst (AreInOrder fs) (ap (λ l. l ++ b) (sym p)) q
 in_order_from (e ∷ es) fs a b p q =
     subst (AreInOrder (reverse_aux es (e ∷ fs))) (sym (append_assoc p.front p.back b) ∙ ap (λ l. l ++ b) (sym p.whole))
-    (in_order_from es (e ∷ fs) p.front (p.back ++ b) p.first (record { front = p.back; back = b; whole = refl; first = p.second; second = q }))
+    (in_order_from es (e ∷ fs) p.front (p.back ++ b) p.first
+    (record { front = p.back; back = b; whole = refl; first = p.second; second = q }))
 
-pub of_record : (side : Side) (b : List ℕ) (p : TransportParameters) → IsReadAnswer side b (Ok p) → (es : List Entry) × AreInOrder es b × IsRecordOf es p
+pub of_record : (side : Side) (b : List ℕ) (p : TransportParameters) → IsReadAnswer side b (Ok p)
+    → (es : List Entry) × AreInOrder es b × IsRecordOf es p
 of_record side b p h =
     let m : IsMeant p b = h.0 in (
       reverse m.entries,
       subst (AreInOrder (reverse m.entries)) (append-nil b) (in_order_from m.entries [] b [] m.list.encoded refl),
-      record { given = m.given; gives = subst (λ (l : List Entry). Give l m.given) (sym (reverse-reverse m.entries)) m.list.gives; is_record = m.is_record },
+      record {
+        given = m.given;
+        gives = subst (λ (l : List Entry). Give l m.given) (sym (reverse-reverse m.entries))
+            m.list.gives;
+        is_record = m.is_record;
+      },
     )
 
 -- the entry at the front

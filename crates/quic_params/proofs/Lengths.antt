@@ -31,12 +31,19 @@ short_below n = omega (arith, length-short n, size_below n)
 
 v4_below : (o : Option SocketAddrV4) → IfSome o IsSocketAddrV4 → length (v4_bytes o) ≤ 6
 v4_below None t = omega arith
-v4_below (Some s) t = omega (arith, length-append (ipv4_octets (v4_ip s)) (bytes_of 2 (v4_port s)), length-bytes_of 2 (v4_port s), t.0.0)
+v4_below (Some s) t =
+    omega (arith, length-append (ipv4_octets (v4_ip s)) (bytes_of 2 (v4_port s)), length-bytes_of 2 (v4_port s), t.0.0)
 
 v6_below : (o : Option SocketAddrV6) → IfSome o IsSocketAddrV6 → length (v6_bytes o) ≤ 18
 v6_below None t = omega arith
 v6_below (Some s) t =
-    omega (arith, length-append (ipv6_octets (v6_ip s)) (bytes_of 2 (v6_port s)), length-bytes_of 2 (v6_port s), octets_long (ipv6_segments (v6_ip s)), t.0.0)
+    omega (
+      arith,
+      length-append (ipv6_octets (v6_ip s)) (bytes_of 2 (v6_port s)),
+      length-bytes_of 2 (v6_port s),
+      octets_long (ipv6_segments (v6_ip s)),
+      t.0.0,
+    )
 
 address_below : (a : PreferredAddress) → IsTypedAddress a → length (encoding (V.Address a)) ≤ 61
 address_below a t =
@@ -61,15 +68,26 @@ value_below K.Address (V.Address a) t = address_below a t
 value_below _ _ t = elim t [ ]
 
 entry_below : (n : ℕ) (b : List ℕ) → length b ≤ 61 → length (shortest_entry n b) ≤ 77
-entry_below n b le = omega (arith, short_below n, short_below (length b), length-append (shortest_varint n) (shortest_varint (length b) ++ b), length-append (shortest_varint (length b)) b)
+entry_below n b le =
+    omega (
+      arith,
+      short_below n,
+      short_below (length b),
+      length-append (shortest_varint n)
+          (shortest_varint (length b) ++ b),
+      length-append (shortest_varint (length b)) b,
+    )
 
 either : (b : Bool) (l : List ℕ) → length l ≤ 77 → length (cond b l []) ≤ 77
 either true l le = le
 either false l le = omega arith
 
-encoded_below : (id : TransportParameterId) (o : Option Value) → IfSome o (IsTypedAs (row_of id).kind) → length (encoded_entry id o) ≤ 77
+encoded_below : (id : TransportParameterId) (o : Option Value) → IfSome o (IsTypedAs (row_of id).kind)
+    → length (encoded_entry id o) ≤ 77
 encoded_below id None t = omega arith
-encoded_below id (Some v) t = either (is_written (row_of id).kind v) (shortest_entry (row_of id).number (encoding v)) (entry_below (row_of id).number (encoding v) (value_below (row_of id).kind v t))
+encoded_below id (Some v) t =
+    either (is_written (row_of id).kind v) (shortest_entry (row_of id).number (encoding v))
+    (entry_below (row_of id).number (encoding v) (value_below (row_of id).kind v t))
 
 grease_below : (g : Option Reserved) → IfSome g IsFree → length (grease_bytes g) ≤ 77
 grease_below None t = omega arith
@@ -79,9 +97,12 @@ kind_below : (k : Kind) (a b : List ℕ) → length a ≤ 77 → length b ≤ 77
 kind_below K.Skipped a b l m = l
 kind_below _ a b l m = m
 
-pub for_below : (p : TransportParameters) → IsTypedRecord p → (id : TransportParameterId) → length (written_for p id) ≤ 77
+pub for_below : (p : TransportParameters) → IsTypedRecord p → (id : TransportParameterId)
+    → length (written_for p id) ≤ 77
 unfolding written_for
-for_below p t id = kind_below (row_of id).kind (grease_bytes p.grease_transport_parameter) (encoded_entry id (value_of p id)) (grease_below p.grease_transport_parameter t.grease) (encoded_below id (value_of p id) (t.values id))
+for_below p t id =
+    kind_below (row_of id).kind (grease_bytes p.grease_transport_parameter) (encoded_entry id (value_of p id))
+    (grease_below p.grease_transport_parameter t.grease) (encoded_below id (value_of p id) (t.values id))
 
 all_below : (f : ℕ → List ℕ) → ((i : ℕ) → length (f i) ≤ 77) → (l : List ℕ) → length (flat_map f l) ≤ 77 * length l
 all_below f h [] = omega arith
@@ -93,11 +114,23 @@ order_long (Some l) t = t.width
 
 pub written_below : (p : TransportParameters) → IsTypedRecord p → length (written p) ≤ 1617
 written_below p t =
-    omega (arith, all_below (λ i. written_for p (id_of_index i)) (λ i. for_below p t (id_of_index i)) (order_of p.write_order), order_long p.write_order t.order)
+    omega (
+      arith,
+      all_below (λ i. written_for p (id_of_index i)) (λ i. for_below p t (id_of_index i))
+          (order_of p.write_order),
+      order_long p.write_order t.order,
+    )
 
 pub header_below : (number len : ℕ) → length (shortest_varint number ++ shortest_varint len) ≤ 16
-header_below number len = omega (arith, short_below number, short_below len, length-append (shortest_varint number) (shortest_varint len))
+header_below number len =
+    omega (arith, short_below number, short_below len, length-append (shortest_varint number) (shortest_varint len))
 
 pub whole_below : (number : ℕ) (value : List ℕ) → length (shortest_entry number value) ≤ 16 + length value
 whole_below number value =
-    omega (arith, short_below number, short_below (length value), length-append (shortest_varint number) (shortest_varint (length value) ++ value), length-append (shortest_varint (length value)) value)
+    omega (
+      arith,
+      short_below number,
+      short_below (length value),
+      length-append (shortest_varint number) (shortest_varint (length value) ++ value),
+      length-append (shortest_varint (length value)) value,
+    )

@@ -33,9 +33,11 @@ whole k x b r t l =
     subst (IsNumber k x) (sym (t.split ∙ ap (λ s. t.front ++ s) (empty_of_length r none) ∙ append-nil t.front)) t.is
 
 -- they are the shortest encoding of a number that has no shorter one
-pub shortest_is : (t x n : ℕ) (b r : List ℕ) → t < 4 → Takes (IsNumber (2 ^ t) x) b r → length b ≡ 2 ^ t → x ≡ t * 2 ^ bits t + n → least t ≤ n → n < 2 ^ bits t
+pub shortest_is : (t x n : ℕ) (b r : List ℕ) → t < 4 → Takes (IsNumber (2 ^ t) x) b r → length b ≡ 2 ^ t
+    → x ≡ t * 2 ^ bits t + n → least t ≤ n → n < 2 ^ bits t
     → (n < 2 ^ 62) × (b ≡ shortest_varint n)
 shortest_is t x n b r lt taken l e low high =
     let i = whole (2 ^ t) x b r taken l in
-    let s : Encodes n b = record { tag = t; tag_fits = lt; bytes = i.bytes; width = i.width; fits = high; value = i.value ∙ e } in
+    let s : Encodes n b =
+    record { tag = t; tag_fits = lt; bytes = i.bytes; width = i.width; fits = high; value = i.value ∙ e } in
     ((encoded_bound n b s).0, is_short n b s (size_of t n lt low high ∙ sym l))

@@ -12,18 +12,22 @@ use Rattle.quic_params.specs.declared.value.Value.{Value}
 use Rattle.quic_text.specs.Printed.{Printed, Plain, line_bytes, is_plain}
 use Rattle.quic_text.specs.ParameterText.{value_lines, answer_lines}
 
-pub one_more : {X : Type 0} (f : X → List Printed) (xs : List X) (k : ℕ) (d x : X) (old mid new : List ℕ) → k < length xs → x ≡ get_or xs k d
+pub one_more : {X : Type 0} (f : X → List Printed) (xs : List X) (k : ℕ) (d x : X) (old mid new : List ℕ)
+    → k < length xs → x ≡ get_or xs k d
     → mid ≡ old ++ flat_map line_bytes (flat_map f (take k xs)) → new ≡ mid ++ flat_map line_bytes (f x)
     → new ≡ old ++ flat_map line_bytes (flat_map f (take (k + 1) xs))
 one_more {X = X} f xs k d x old mid new lt same so_far more =
     let lines : flat_map f (take (k + 1) xs) ≡ flat_map f (take k xs) ++ f x =
-    ap (flat_map f) (take_more xs k d lt) ∙ flat_map-append f (take k xs) (get_or xs k d ∷ []) ∙ ap (λ (l : List Printed). flat_map f (take k xs) ++ l) (append-nil (f (get_or xs k d)) ∙ ap f (sym same)) in
-    more ∙ ap (λ (l : List ℕ). l ++ flat_map line_bytes (f x)) so_far ∙ append_assoc old (flat_map line_bytes (flat_map f (take k xs))) (flat_map line_bytes (f x))
+    ap (flat_map f) (take_more xs k d lt) ∙ flat_map-append f (take k xs) (get_or xs k d ∷ [])
+    ∙ ap (λ (l : List Printed). flat_map f (take k xs) ++ l) (append-nil (f (get_or xs k d)) ∙ ap f (sym same)) in
+    more ∙ ap (λ (l : List ℕ). l ++ flat_map line_bytes (f x)) so_far
+    ∙ append_assoc old (flat_map line_bytes (flat_map f (take k xs))) (flat_map line_bytes (f x))
     ∙ ap (λ (l : List ℕ). old ++ l) (sym (ap (flat_map line_bytes) lines ∙ flat_map-append line_bytes (flat_map f (take k xs)) (f x)))
 
 pub all_of : {X : Type 0} (f : X → List Printed) (xs : List X) (k : ℕ) (old new : List ℕ) → length xs ≤ k
     → new ≡ old ++ flat_map line_bytes (flat_map f (take k xs)) → new ≡ old ++ flat_map line_bytes (flat_map f xs)
-all_of {X = X} f xs k old new le so_far = so_far ∙ ap (λ (l : List X). old ++ flat_map line_bytes (flat_map f l)) (take_all k xs le)
+all_of {X = X} f xs k old new le so_far =
+    so_far ∙ ap (λ (l : List X). old ++ flat_map line_bytes (flat_map f l)) (take_all k xs le)
   where
     take_all : {Y : Type 0} (k : ℕ) (ys : List Y) → length ys ≤ k → take k ys ≡ ys
     take_all zero [] le = refl
@@ -37,10 +41,13 @@ plain_value : (id : TransportParameterId) (o : Option Value) (others rest : List
 plain_value id None others rest = refl
 plain_value id (Some v) others rest = refl
 
-plain_lines : (p : TransportParameters) (xs : List TransportParameterId) (rest : List Printed) → list_all is_plain rest ≡ true
+plain_lines : (p : TransportParameters) (xs : List TransportParameterId) (rest : List Printed)
+    → list_all is_plain rest ≡ true
     → list_all is_plain (flat_map (λ id. value_lines id (value_written p id)) xs ++ rest) ≡ true
 plain_lines p [] rest h = h
-plain_lines p (x ∷ xs) rest h = plain_value x (value_written p x) (flat_map (λ id. value_lines id (value_written p id)) xs) rest ∙ plain_lines p xs rest h
+plain_lines p (x ∷ xs) rest h =
+    plain_value x (value_written p x) (flat_map (λ id. value_lines id (value_written p id)) xs) rest
+    ∙ plain_lines p xs rest h
 
 pub plain_record : (p : TransportParameters) → list_all is_plain (answer_lines (Ok p)) ≡ true
 plain_record p = plain_lines p ids (Plain (codes "ok") ∷ []) refl

@@ -9,7 +9,8 @@ pub all_waits : (old waits bytes : List ℕ) → waits ≡ bytes → AppendsAllB
 all_waits old waits bytes e = record { front = []; appended = sym (append-nil old); whole = sym e }
 
 -- some of what is held back is passed on, and more follows it
-pub passed_on : (old mid new held held' more waits bytes : List ℕ) → held ++ more ≡ waits → AppendsAllBut old mid waits bytes
+pub passed_on : (old mid new held held' more waits bytes : List ℕ) → held ++ more ≡ waits
+    → AppendsAllBut old mid waits bytes
     → AppendsAllBut mid new held' held → AppendsAllBut old new (held' ++ more) bytes
 passed_on old mid new held held' more waits bytes e h k = record {
   front = h.front ++ k.front;
@@ -20,7 +21,8 @@ passed_on old mid new held held' more waits bytes e h k = record {
 pub a_beginning : (old new rest bytes : List ℕ) → AppendsAllBut old new rest bytes → AppendsBeginning old new bytes
 a_beginning old new rest bytes h = record { front = h.front; rest = rest; appended = h.appended; whole = h.whole }
 
-pub beginning_passed : (old mid new held more waits bytes : List ℕ) → held ++ more ≡ waits → AppendsAllBut old mid waits bytes
+pub beginning_passed : (old mid new held more waits bytes : List ℕ) → held ++ more ≡ waits
+    → AppendsAllBut old mid waits bytes
     → AppendsBeginning mid new held → AppendsBeginning old new bytes
 beginning_passed old mid new held more waits bytes e h k = record {
   front = h.front ++ k.front;

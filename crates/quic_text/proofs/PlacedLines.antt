@@ -9,7 +9,8 @@ use Rattle.quic_text.specs.Printed.{Printed}
 use Rattle.quic_text.specs.FrameText.{item_line, frame_lines}
 
 -- the lines of items, one after the other
-lines_of_whole : (ps : List Placed) (others : List Item) → map item_line (map whole ps ++ others) ≡ map (λ p. item_line (whole p)) ps ++ map item_line others
+lines_of_whole : (ps : List Placed) (others : List Item)
+    → map item_line (map whole ps ++ others) ≡ map (λ p. item_line (whole p)) ps ++ map item_line others
 lines_of_whole [] others = refl
 lines_of_whole (p ∷ ps) others = ap (λ (l : List Printed). item_line (whole p) ∷ l) (lines_of_whole ps others)
 
@@ -17,16 +18,20 @@ lines_of_all : (ps : List Placed) → map item_line (map whole ps) ≡ map (λ p
 lines_of_all [] = refl
 lines_of_all (p ∷ ps) = ap (λ (l : List Printed). item_line (whole p) ∷ l) (lines_of_all ps)
 
-pub lines_some : (strict : Bool) (bytes : List ℕ) → bytes ≢ [] → frame_lines strict bytes ≡ map item_line (items_of strict 0 None bytes)
+pub lines_some : (strict : Bool) (bytes : List ℕ) → bytes ≢ []
+    → frame_lines strict bytes ≡ map item_line (items_of strict 0 None bytes)
 lines_some strict [] some = absurd (some refl)
 lines_some strict (b ∷ bytes) some = refl
 
 pub placed_printed : (strict : Bool) (ps : List Placed) (bytes : List ℕ) → bytes ≢ [] → ArePlaced strict 0 ps bytes
     → frame_lines strict bytes ≡ map (λ p. item_line (whole p)) ps
-placed_printed strict ps bytes some placed = lines_some strict bytes some ∙ ap (map item_line) (placed_items strict ps bytes placed) ∙ lines_of_all ps
+placed_printed strict ps bytes some placed =
+    lines_some strict bytes some ∙ ap (map item_line) (placed_items strict ps bytes placed) ∙ lines_of_all ps
 
-pub broken_printed : (strict : Bool) (ps : List Placed) (bytes : List ℕ) (type : Option ℕ) (reason : Fault) → bytes ≢ [] → AreBytes bytes
+pub broken_printed : (strict : Bool) (ps : List Placed) (bytes : List ℕ) (type : Option ℕ) (reason : Fault) → bytes ≢ []
+    → AreBytes bytes
     → IsPlacedBroken strict ps bytes type reason
     → frame_lines strict bytes ≡ map (λ p. item_line (whole p)) ps ++ item_line (Broken (invalid type reason)) ∷ []
 broken_printed strict ps bytes type reason some fits broken =
-    lines_some strict bytes some ∙ ap (map item_line) (broken_items strict ps bytes type reason fits broken) ∙ lines_of_whole ps (Broken (invalid type reason) ∷ [])
+    lines_some strict bytes some ∙ ap (map item_line) (broken_items strict ps bytes type reason fits broken)
+    ∙ lines_of_whole ps (Broken (invalid type reason) ∷ [])

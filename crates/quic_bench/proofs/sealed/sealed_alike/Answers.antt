@@ -20,6 +20,7 @@ returns-clause-alike g c =
     let packet = c.args.packet.now in
     let start : c.new-one.result.items ≡ c.new-other.result.items = search rules in
     let alike = sealed_same pair packet.header.now packet.number packet.frames.now _ _
-    (λ payload a b. c.one_packet.ensures.packet pair (contents_of packet payload) a b) (λ a b. c.one_packet.ensures.payload packet.frames.now a b)
+    (λ payload a b. c.one_packet.ensures.packet pair (contents_of packet payload) a b)
+    (λ a b. c.one_packet.ensures.payload packet.frames.now a b)
     _ _ start c.in_ok-seal.ensures.sealed c.in_ok-seal-2.ensures.sealed in
     c.eq.ensures ∙ reported_same _ _ _ _ c.as_slice.ensures.value c.as_slice-2.ensures.value alike

@@ -10,7 +10,8 @@ use Rattle.quic_bench.proofs.two_packets.sealed_and_opened.Goals as goal
 pub returns-in-Err-open_packet-clause-refused : goal.returns-in-Err-open_packet-clause-refused
 returns-in-Err-open_packet-clause-refused g c =
     let s = c.in-Ok.ensures.sealed in
-    not_given c.in-Err-open_packet.ensures c.args.first.now s.front s.back s.first_sealed (c.requires.front s.back) (c.from_vec-datagram.ensures ∙ s.text)
+    not_given c.in-Err-open_packet.ensures c.args.first.now s.front s.back s.first_sealed (c.requires.front s.back)
+    (c.from_vec-datagram.ensures ∙ s.text)
 
 pub unreachable-requires : goal.unreachable-requires
 unreachable-requires g c =
@@ -37,21 +38,34 @@ unreachable-requires g c =
       opens = g.met.P.PacketKey.opens keys.packet;
     } in
     let contents = contents_of second s.second_sealed.payload in
-    let opens = c.sealed_opens.ensures opening (s.back ++ []) contents [] lawful (begins opening second (s.back ++ []) s.back [] s.second_sealed c.requires.back refl) in
-    let cut : 0 < length opens.packet.bytes = c.ends.ensures.some opening.options (s.back ++ []) opens.packet.head opens.packet.header_end (length opens.packet.bytes) opens.first.cut in
+    let opens =
+    c.sealed_opens.ensures opening (s.back ++ []) contents [] lawful
+    (begins opening second (s.back ++ []) s.back [] s.second_sealed c.requires.back refl) in
+    let cut : 0 < length opens.packet.bytes =
+    c.ends.ensures.some opening.options (s.back ++ []) opens.packet.head opens.packet.header_end
+    (length opens.packet.bytes) opens.first.cut in
     let some : 0 < length s.back = some_bytes s.back opens.packet.bytes opens.first.text cut in
-    let back = given_back {opening = opening} c.in-Ok-open_packet.ensures c.args.first.now s.front s.back s.first_sealed (c.requires.front s.back) (c.from_vec-datagram.ensures ∙ s.text) in
+    let back =
+    given_back {opening = opening} c.in-Ok-open_packet.ensures c.args.first.now s.front s.back s.first_sealed
+    (c.requires.front s.back) (c.from_vec-datagram.ensures ∙ s.text) in
     some_left s.back c.in-Ok-open_packet.opened.1 back.left_is some c.in_default.is
 
 pub returns-in-Err-open_packet-2-clause-refused : goal.returns-in-Err-open_packet-2-clause-refused
 returns-in-Err-open_packet-2-clause-refused g c =
     let s = c.in-Ok.ensures.sealed in
-    let back = given_back c.in-Ok-open_packet.ensures c.args.first.now s.front s.back s.first_sealed (c.requires.front s.back) (c.from_vec-datagram.ensures ∙ s.text) in
-    not_given c.in-Err-open_packet-2.ensures c.args.second.now s.back [] s.second_sealed c.requires.back (left_is s.back c.in-Ok-open_packet.opened.1 c.in-Some.rest back.left_is c.in-Some.is)
+    let back =
+    given_back c.in-Ok-open_packet.ensures c.args.first.now s.front s.back s.first_sealed (c.requires.front s.back)
+    (c.from_vec-datagram.ensures ∙ s.text) in
+    not_given c.in-Err-open_packet-2.ensures c.args.second.now s.back [] s.second_sealed c.requires.back
+    (left_is s.back c.in-Ok-open_packet.opened.1 c.in-Some.rest back.left_is c.in-Some.is)
 
 pub returns-in-Ok-open_packet-2-clause-opened : goal.returns-in-Ok-open_packet-2-clause-opened
 returns-in-Ok-open_packet-2-clause-opened g c =
     let s = c.in-Ok.ensures.sealed in
-    let one = given_back c.in-Ok-open_packet.ensures c.args.first.now s.front s.back s.first_sealed (c.requires.front s.back) (c.from_vec-datagram.ensures ∙ s.text) in
-    let other = given_back c.in-Ok-open_packet-2.ensures c.args.second.now s.back [] s.second_sealed c.requires.back (left_is s.back c.in-Ok-open_packet.opened.1 c.in-Some.rest one.left_is c.in-Some.is) in
+    let one =
+    given_back c.in-Ok-open_packet.ensures c.args.first.now s.front s.back s.first_sealed (c.requires.front s.back)
+    (c.from_vec-datagram.ensures ∙ s.text) in
+    let other =
+    given_back c.in-Ok-open_packet-2.ensures c.args.second.now s.back [] s.second_sealed c.requires.back
+    (left_is s.back c.in-Ok-open_packet.opened.1 c.in-Some.rest one.left_is c.in-Some.is) in
     (carries one s.first_sealed.is_payload, carries other s.second_sealed.is_payload)

@@ -1,4 +1,4 @@
-use Rattle.quic_c.proofs.AckGaps.{FitsOn}
+use Rattle.quic_c.proofs.StoredAcks.{FitsOn}
 use Rattle.quic_c.proofs.ack_gaps.fit.Given as goal
 
 abbrev pub invariant-loop-gap : goal.invariant-loop-gap

@@ -1,4 +1,4 @@
-use Rattle.quic_c.proofs.AckGaps.{CountedOn}
+use Rattle.quic_c.proofs.StoredAcks.{CountedOn}
 use Rattle.quic_c.proofs.ack_gaps.gaps_len.Given as goal
 
 abbrev pub invariant-loop-gap : goal.invariant-loop-gap

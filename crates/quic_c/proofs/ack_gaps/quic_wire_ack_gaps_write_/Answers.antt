@@ -1,7 +1,8 @@
 use Rattle.std.proofs.Common.{ℕ, List, ◌∙◌, inl, inr, refl, subst, sym, arith}
 use Rattle.std.specs.Prelude.{Ok, Err}
 use Rattle.quic_frame_fields.specs.Putting.{Puts}
-use Rattle.quic_c.proofs.AckGaps.{is_of, longest, same_answer, ack_of_words, whole}
+use Rattle.quic_c.proofs.AckGaps.{is_of, longest, ack_of_words, whole}
+use Rattle.quic_c.proofs.StoredAcks.{same_answer}
 use Rattle.quic_c.proofs.ack_gaps.quic_wire_ack_gaps_write_.Goals as goal
 
 pub store_ack-requires-clause-room : goal.store_ack-requires-clause-room
@@ -9,7 +10,8 @@ store_ack-requires-clause-room c = omega (arith, longest c.args.ack.now c.args.g
 
 pub returns-then-is_ack-clause-wrote : goal.returns-then-is_ack-clause-wrote
 returns-then-is_ack-clause-wrote c = λ _ last low below s.
-    subst (λ (b : List ℕ). Puts (Ok c.store_ack.result) b c.args.out.now c.store_ack.new.dest) (sym (whole last c.args.ack.now c.args.gaps.now low below s)) c.store_ack.ensures
+    subst (λ (b : List ℕ). Puts (Ok c.store_ack.result) b c.args.out.now c.store_ack.new.dest)
+    (sym (whole last c.args.ack.now c.args.gaps.now low below s)) c.store_ack.ensures
 
 pub returns-then-is_ack-clause-described : goal.returns-then-is_ack-clause-described
 returns-then-is_ack-clause-described c = inr (ack_of_words c.args.ack.now c.args.gaps.now (c.if-is_ack.ensures.0 refl))

@@ -1,4 +1,4 @@
-use Rattle.quic_c.proofs.AckGaps.{StoredOn}
+use Rattle.quic_c.proofs.StoredAcks.{StoredOn}
 use Rattle.quic_c.proofs.ack_gaps.store_gaps.Given as goal
 
 abbrev pub invariant-loop-gap : goal.invariant-loop-gap

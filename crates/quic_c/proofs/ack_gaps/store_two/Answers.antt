@@ -1,6 +1,6 @@
 use Rattle.std.proofs.Common.{List, ℕ, subst, sym, arith}
 use Rattle.quic_frame_fields.specs.Putting.{Stores}
-use Rattle.quic_c.proofs.AckGaps.{both_small, few_two, stored_two, short_two}
+use Rattle.quic_c.proofs.StoredAcks.{both_small, few_two, stored_two, short_two}
 use Rattle.quic_c.proofs.ack_gaps.store_two.Goals as goal
 
 pub overflow_cast-one : goal.overflow_cast-one
@@ -14,8 +14,10 @@ store_bytes-requires c = omega (arith, c.requires.room, few_two c.args.one c.arg
 
 pub returns-then-one-other-clause-stores : goal.returns-then-one-other-clause-stores
 returns-then-one-other-clause-stores c =
-    subst (λ (l : List ℕ). Stores l c.args.at c.args.dest.now c.store_bytes.result c.store_bytes.new.dest) (sym (short_two c.args.one c.args.other c.if-one-other.true)) c.store_bytes.ensures.stores
+    subst (λ (l : List ℕ). Stores l c.args.at c.args.dest.now c.store_bytes.result c.store_bytes.new.dest)
+    (sym (short_two c.args.one c.args.other c.if-one-other.true)) c.store_bytes.ensures.stores
 
 pub returns-clause-stores : goal.returns-clause-stores
 returns-clause-stores c =
-    stored_two c.args.one c.args.other c.args.dest.now c.store-at.new.dest c.store.new.dest c.args.at c.store-at.result c.store.result c.store-at.ensures.stores c.store.ensures.stores
+    stored_two c.args.one c.args.other c.args.dest.now c.store-at.new.dest c.store.new.dest c.args.at c.store-at.result
+    c.store.result c.store-at.ensures.stores c.store.ensures.stores

@@ -6,7 +6,8 @@ use Rattle.quic_c.proofs.acks.quic_wire_ack_ranges_init_.Goals as goal
 pub returns-clause-place : goal.returns-clause-place
 returns-clause-place c = λ _.
     let facts = c.in-Some.ensures in
-    place_given c.args.payload.now c.args.frame.now c.in-Some.largest c.in-Some.blocks.now c.in-Some.rest.now (omega arith) (omega arith) facts.gives facts.bound facts.valid facts.stand
+    place_given c.args.payload.now c.args.frame.now c.in-Some.largest c.in-Some.blocks.now c.in-Some.rest.now
+    (omega arith) (omega arith) facts.gives facts.bound facts.valid facts.stand
 
 pub returns-clause-refused : goal.returns-clause-refused
 returns-clause-refused c = grind (arith, common_steps)

@@ -17,7 +17,8 @@ returns-in-Ok-clause-frames c =
     let some : 0 < c.in-Ok.filled.count = elim (kinds c.in-Ok.filled.count) [
       | inl none ↦
           let over : left (first_of false c.args.payload.now) ≡ [] = rw front at (facts.none none room) in
-          let nothing : c.args.payload.now ≡ [] = all_read false 0 None c.args.payload.now (λ i. (c.type_inv.payload i).fits) over in
+          let nothing : c.args.payload.now ≡ [] =
+          all_read false 0 None c.args.payload.now (λ i. (c.type_inv.payload i).fits) over in
           absurd (search rules)
       | inr some ↦ some
     ] in
@@ -26,7 +27,8 @@ returns-in-Ok-clause-frames c =
 pub returns-in-Err-clause-invalid : goal.returns-in-Err-clause-invalid
 returns-in-Err-clause-invalid c =
     let s = c.in-Err.ensures.invalid in
-    let it : IsRefusedFrame false (state_of (at_front 0) c.args.payload.now) (invalid_of c.in-Err.invalid) = rw c.in-Some.ensures.state at s.0 in
+    let it : IsRefusedFrame false (state_of (at_front 0) c.args.payload.now) (invalid_of c.in-Err.invalid) =
+    rw c.in-Some.ensures.state at s.0 in
     let room : 0 < length c.args.out.now = search rules in
     let reported = c.show_invalid.result in
     λ _. record {

@@ -21,10 +21,18 @@ returns-in-None g c = record {
 
 pub returns-in-Some-Err : goal.returns-in-Some-Err
 returns-in-Some-Err g c =
-    let s = subst (λ f. Advances c.args.iter.now (Some f) c.next.new.self) c.in-Some-Err.field-0-is c.in-Some-Err.ensures.steps in
-    let here : left (state_of c.args.frames.now c.args.iter.now.payload) ≡ Broken (invalid_of c.in-Some-Err.invalid) ∷ [] = ap left c.requires.state ∙ s.0 in
-    let gives : GivesInvalid c.args.basic c.args.frames.now c.args.iter.now.payload c.refuse-in-Some-Err.new.frames c.refuse-in-Some-Err.new.out =
-    record { reported = invalid_of c.in-Some-Err.invalid; first = inl here; over = c.refuse-in-Some-Err.ensures.over; words = c.refuse-in-Some-Err.ensures.words } in
+    let s =
+    subst (λ f. Advances c.args.iter.now (Some f) c.next.new.self) c.in-Some-Err.field-0-is c.in-Some-Err.ensures.steps in
+    let here : left (state_of c.args.frames.now c.args.iter.now.payload) ≡ Broken (invalid_of c.in-Some-Err.invalid) ∷ [] =
+    ap left c.requires.state ∙ s.0 in
+    let gives : GivesInvalid c.args.basic c.args.frames.now c.args.iter.now.payload c.refuse-in-Some-Err.new.frames
+    c.refuse-in-Some-Err.new.out =
+    record {
+      reported = invalid_of c.in-Some-Err.invalid;
+      first = inl here;
+      over = c.refuse-in-Some-Err.ensures.over;
+      words = c.refuse-in-Some-Err.ensures.words;
+    } in
     record {
       answers = search rules;
       frame = search rules;
@@ -39,9 +47,11 @@ returns-else-is_unknown g c =
     let frame = c.in-Some-Ok.frame in
     let type = c.type_read-ty.result in
     let stop = c.offset-end.result in
-    let finds : Finds c.args.iter.now frame c.next.new.self = subst (λ f. Advances c.args.iter.now (Some f) c.next.new.self) c.in-Some-Ok.field-0-is c.in-Some-Ok.ensures.steps in
+    let finds : Finds c.args.iter.now frame c.next.new.self =
+    subst (λ f. Advances c.args.iter.now (Some f) c.next.new.self) c.in-Some-Ok.field-0-is c.in-Some-Ok.ensures.steps in
     let begins = c.type_read-ty.ensures.value c.args.iter.now frame finds in
-    let on = behind_frame c.args.iter.now c.next.new.self frame finds stop type c.offset-end.ensures.value begins c.type_read-ty.ensures.fits in
+    let on =
+    behind_frame c.args.iter.now c.next.new.self frame finds stop type c.offset-end.ensures.value begins c.type_read-ty.ensures.fits in
     let known = is_kept c.args.basic _ frame c.is_unknown.ensures c.if-is_unknown.false in
     record {
       answers = inl refl;
@@ -57,10 +67,13 @@ pub returns-then-is_unknown : goal.returns-then-is_unknown
 returns-then-is_unknown g c =
     let frame = c.in-Some-Ok.frame in
     let reported = invalid_of c.unknown.result in
-    let finds : Finds c.args.iter.now frame c.next.new.self = subst (λ f. Advances c.args.iter.now (Some f) c.next.new.self) c.in-Some-Ok.field-0-is c.in-Some-Ok.ensures.steps in
-    let reports : reported ≡ unknown_type (frame_kind_of frame) = c.unknown.ensures ∙ ap (λ p. unknown_type p.kind) c.parts_of.ensures in
+    let finds : Finds c.args.iter.now frame c.next.new.self =
+    subst (λ f. Advances c.args.iter.now (Some f) c.next.new.self) c.in-Some-Ok.field-0-is c.in-Some-Ok.ensures.steps in
+    let reports : reported ≡ unknown_type (frame_kind_of frame) =
+    c.unknown.ensures ∙ ap (λ p. unknown_type p.kind) c.parts_of.ensures in
     let here : IsRefusedFrame c.args.basic c.args.iter.now reported =
-    unknown_refused c.args.basic c.args.iter.now c.next.new.self frame reported finds (c.is_unknown.ensures.0 c.if-is_unknown.true) reports in
+    unknown_refused c.args.basic c.args.iter.now c.next.new.self frame reported finds
+    (c.is_unknown.ensures.0 c.if-is_unknown.true) reports in
     let first : IsRefusedFrame c.args.basic (state_of c.args.frames.now c.args.iter.now.payload) reported =
     subst (λ (w : IterState). IsRefusedFrame c.args.basic w reported) (sym c.requires.state) here in
     let gives : GivesInvalid c.args.basic c.args.frames.now c.args.iter.now.payload c.refuse.new.frames c.refuse.new.out =

@@ -18,14 +18,16 @@ pub unreachable-requires-in_default-number : goal.unreachable-requires-in_defaul
 unreachable-requires-in_default-number c =
     let here = c.loop-count in
     let asked = c.requires in
-    len_is_there asked.0 asked.1 c.args.gaps.now here.left.now here.gaps here.count c.in-Ok.gap c.in-Ok.behind.now _ (here.invariant asked.0 asked.1 asked.2)
+    len_is_there asked.0 asked.1 c.args.gaps.now here.left.now here.gaps here.count c.in-Ok.gap c.in-Ok.behind.now _
+    (here.invariant asked.0 asked.1 asked.2)
     (some_of (length here.left.now) c.if-not-is_empty.ensures) c.in-Ok.ensures c.in_default-number.ensures
 
 pub loop-count-preserved : goal.loop-count-preserved
 loop-count-preserved c = λ least ranges are.
     let here = c.loop-count in
     let some = some_of (length here.left.now) c.if-not-is_empty.ensures in
-    gaps_go_on least ranges c.args.gaps.now here.left.now here.gaps here.count c.in-Ok.gap c.in-Ok-number.len c.in-Ok.behind.now c.in-Ok-number.rest.now
+    gaps_go_on least ranges c.args.gaps.now here.left.now here.gaps here.count c.in-Ok.gap c.in-Ok-number.len
+    c.in-Ok.behind.now c.in-Ok-number.rest.now
     (here.invariant least ranges are) c.loop-count-test.true some
     c.in-Ok.ensures c.in-Ok-number.ensures
 
@@ -36,10 +38,12 @@ returns-clause-fills c = λ least ranges are.
     elim c.loop-count-test.branch [
       | then-loop-count-test+else-not-is_empty w ↦ gaps_end least ranges c.args.gaps.now here.left.now here.gaps here.count s
           (λ fewer. gaps_full least ranges c.args.gaps.now here.left.now here.gaps here.count s w.if-not-is_empty.ensures fewer)
-      | else-loop-count-test w ↦ gaps_end least ranges c.args.gaps.now here.left.now here.gaps here.count s (λ fewer. omega (arith, s.few, s.all, w.loop-count-test.false))
+      | else-loop-count-test w ↦ gaps_end least ranges c.args.gaps.now here.left.now here.gaps here.count s
+          (λ fewer. omega (arith, s.few, s.all, w.loop-count-test.false))
     ]
 
 pub returns-clause-whole : goal.returns-clause-whole
 returns-clause-whole c = λ least ranges are.
     let here = c.loop-count in
-    gaps_whole least ranges c.args.gaps.now here.left.now here.gaps here.count c.is_empty-2.result (here.invariant least ranges are) c.is_empty-2.ensures
+    gaps_whole least ranges c.args.gaps.now here.left.now here.gaps here.count c.is_empty-2.result
+    (here.invariant least ranges are) c.is_empty-2.ensures

@@ -5,7 +5,8 @@ use Rattle.quic_c.proofs.front.fill_gaps.Given as goal
 
 -- The entries before the count tell the ranges that were passed.
 abbrev pub invariant-loop-count : goal.invariant-loop-count
-invariant-loop-count l = (least : ℕ) (ranges : List (ℕ × ℕ)) → AreBelow least ranges l.fn.blocks → GapFilling least ranges l.fn.gaps l.left l.gaps l.count
+invariant-loop-count l =
+    (least : ℕ) (ranges : List (ℕ × ℕ)) → AreBelow least ranges l.fn.blocks → GapFilling least ranges l.fn.gaps l.left l.gaps l.count
 
 abbrev pub decreases-loop-count : goal.decreases-loop-count
 decreases-loop-count l = length l.gaps - l.count

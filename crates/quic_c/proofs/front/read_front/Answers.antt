@@ -10,14 +10,18 @@ use Rattle.quic_c.proofs.front.read_front.Goals as goal
 
 pub returns-in-None : goal.returns-in-None
 returns-in-None g c =
-    let over : left (first_of c.args.strict c.args.payload.now) ≡ [] = rw c.in-Some.ensures.state at c.in-None.ensures.steps.0 in
-    let nothing : c.args.payload.now ≡ [] = all_read c.args.strict 0 None c.args.payload.now (λ i. (c.type_inv.payload i).fits) over in
+    let over : left (first_of c.args.strict c.args.payload.now) ≡ [] =
+    rw c.in-Some.ensures.state at c.in-None.ensures.steps.0 in
+    let nothing : c.args.payload.now ≡ [] =
+    all_read c.args.strict 0 None c.args.payload.now (λ i. (c.type_inv.payload i).fits) over in
     search rules
 
 pub returns-in-Some-Err : goal.returns-in-Some-Err
 returns-in-Some-Err g c =
-    let s = subst (λ f. Advances c.in-Some.iter (Some f) c.next.new.self) c.in-Some-Err.field-0-is c.in-Some-Err.ensures.steps in
-    let first : left (first_of c.args.strict c.args.payload.now) ≡ Broken (invalid_of c.in-Some-Err.invalid) ∷ [] = rw c.in-Some.ensures.state at s.0 in
+    let s =
+    subst (λ f. Advances c.in-Some.iter (Some f) c.next.new.self) c.in-Some-Err.field-0-is c.in-Some-Err.ensures.steps in
+    let first : left (first_of c.args.strict c.args.payload.now) ≡ Broken (invalid_of c.in-Some-Err.invalid) ∷ [] =
+    rw c.in-Some.ensures.state at s.0 in
     let reports : ReportsNone c.args.strict c.args.basic c.args.payload.now c.show_invalid-in-Some-Err.result =
     record { reported = invalid_of c.in-Some-Err.invalid; first = inl first; is = c.show_invalid-in-Some-Err.ensures } in
     record {
@@ -32,13 +36,16 @@ pub returns-else-is_unknown : goal.returns-else-is_unknown
 returns-else-is_unknown g c =
     let frame = c.in-Some-Ok.frame in
     let here : c.in-Some.iter ≡ first_of c.args.strict c.args.payload.now = c.in-Some.ensures.state in
-    let steps : Finds c.in-Some.iter frame c.next.new.self = subst (λ f. Advances c.in-Some.iter (Some f) c.next.new.self) c.in-Some-Ok.field-0-is c.in-Some-Ok.ensures.steps in
-    let finds : Finds (first_of c.args.strict c.args.payload.now) frame c.next.new.self = subst (λ w. Finds w frame c.next.new.self) here steps in
+    let steps : Finds c.in-Some.iter frame c.next.new.self =
+    subst (λ f. Advances c.in-Some.iter (Some f) c.next.new.self) c.in-Some-Ok.field-0-is c.in-Some-Ok.ensures.steps in
+    let finds : Finds (first_of c.args.strict c.args.payload.now) frame c.next.new.self =
+    subst (λ w. Finds w frame c.next.new.self) here steps in
     let begins = c.type_read-ty.ensures.value (first_of c.args.strict c.args.payload.now) frame finds in
     let known = is_kept c.args.basic _ frame c.is_unknown.ensures c.if-is_unknown.false in
     let ends = c.pass_run-end.ensures in
     let reads =
-    reads_front c.args.strict c.args.basic c.args.payload.now c.args.gaps.now c.pass_run-end.result c.show_front.result c.show_front.new.gaps frame c.next.new.self c.pass_run-end.new.iter
+    reads_front c.args.strict c.args.basic c.args.payload.now c.args.gaps.now c.pass_run-end.result c.show_front.result
+    c.show_front.new.gaps frame c.next.new.self c.pass_run-end.new.iter
     c.type_read-ty.result finds known ends.run ends.one ends.end begins c.show_front.ensures in
     let is : to_z w64 c.pass_run-end.result ≡ pos c.pass_run-end.result = search rules in
     record {
@@ -53,11 +60,17 @@ pub returns-then-is_unknown : goal.returns-then-is_unknown
 returns-then-is_unknown g c =
     let frame = c.in-Some-Ok.frame in
     let reported = invalid_of c.unknown.result in
-    let steps : Finds c.in-Some.iter frame c.next.new.self = subst (λ f. Advances c.in-Some.iter (Some f) c.next.new.self) c.in-Some-Ok.field-0-is c.in-Some-Ok.ensures.steps in
-    let finds : Finds (first_of c.args.strict c.args.payload.now) frame c.next.new.self = subst (λ w. Finds w frame c.next.new.self) c.in-Some.ensures.state steps in
-    let is_unknown : reported ≡ unknown_type (frame_kind_of frame) = c.unknown.ensures ∙ ap (λ p. unknown_type p.kind) c.parts_of.ensures in
-    let first = unknown_refused c.args.basic (first_of c.args.strict c.args.payload.now) c.next.new.self frame reported finds (c.is_unknown.ensures.0 c.if-is_unknown.true) is_unknown in
-    let reports : ReportsNone c.args.strict c.args.basic c.args.payload.now c.show_invalid.result = record { reported = reported; first = first; is = c.show_invalid.ensures } in
+    let steps : Finds c.in-Some.iter frame c.next.new.self =
+    subst (λ f. Advances c.in-Some.iter (Some f) c.next.new.self) c.in-Some-Ok.field-0-is c.in-Some-Ok.ensures.steps in
+    let finds : Finds (first_of c.args.strict c.args.payload.now) frame c.next.new.self =
+    subst (λ w. Finds w frame c.next.new.self) c.in-Some.ensures.state steps in
+    let is_unknown : reported ≡ unknown_type (frame_kind_of frame) =
+    c.unknown.ensures ∙ ap (λ p. unknown_type p.kind) c.parts_of.ensures in
+    let first =
+    unknown_refused c.args.basic (first_of c.args.strict c.args.payload.now) c.next.new.self frame reported finds
+    (c.is_unknown.ensures.0 c.if-is_unknown.true) is_unknown in
+    let reports : ReportsNone c.args.strict c.args.basic c.args.payload.now c.show_invalid.result =
+    record { reported = reported; first = first; is = c.show_invalid.ensures } in
     record {
       answers = inr (inl refl);
       empty = search rules;

@@ -5,20 +5,26 @@ use Rattle.quic_c.proofs.GapFilling.{first_reads, first_is_there, more_is}
 use Rattle.quic_c.proofs.front.show_ack.Goals as goal
 
 pub unreachable-requires : goal.unreachable-requires
-unreachable-requires c = first_is_there c.args.ack.now c.additional-blocks.result.now _ c.additional-blocks.ensures c.are_bytes.ensures c.in_default.ensures
+unreachable-requires c =
+    first_is_there c.args.ack.now c.additional-blocks.result.now _ c.additional-blocks.ensures c.are_bytes.ensures c.in_default.ensures
 
 pub fill_gaps-count-requires : goal.fill_gaps-count-requires
 fill_gaps-count-requires c =
-    let f = first_reads c.args.ack.now c.additional-blocks.result.now c.in-Ok.first c.in-Ok.below.now c.additional-blocks.ensures c.are_bytes.ensures c.in-Ok.ensures in
+    let f =
+    first_reads c.args.ack.now c.additional-blocks.result.now c.in-Ok.first c.in-Ok.below.now
+    c.additional-blocks.ensures c.are_bytes.ensures c.in-Ok.ensures in
     (f.least, f.below, f.encoded)
 
 pub returns : goal.returns
 returns c =
-    let f = first_reads c.args.ack.now c.additional-blocks.result.now c.in-Ok.first c.in-Ok.below.now c.additional-blocks.ensures c.are_bytes.ensures c.in-Ok.ensures in
+    let f =
+    first_reads c.args.ack.now c.additional-blocks.result.now c.in-Ok.first c.in-Ok.below.now
+    c.additional-blocks.ensures c.are_bytes.ensures c.in-Ok.ensures in
     let filled = c.fill_gaps-count.ensures.fills f.least f.below f.encoded in
     let whole = c.fill_gaps-count.ensures.whole f.least f.below f.encoded in
     let count = c.fill_gaps-count.result.0 in
-    let more = more_is count f.below c.fill_gaps-count.result.1 c.more_flag.result filled.one_each whole c.more_flag.ensures.value in
+    let more =
+    more_is count f.below c.fill_gaps-count.result.1 c.more_flag.result filled.one_each whole c.more_flag.ensures.value in
     let flags : c.args.words.flags ≡ counts_flag c.args.ack.now.ecn = ap (λ (w : CFrame). w.flags) c.requires in
     record {
       least = f.least;
@@ -27,5 +33,9 @@ returns c =
       first = f.first;
       gaps = filled;
       flags = omega (arith, flags, more);
-      others = ap (λ (w : CFrame). record w { flags = c.args.words.flags + c.more_flag.result; data_offset = count; data_len = c.in-Ok.first }) c.requires;
+      others = ap (λ (w : CFrame). record w {
+        flags = c.args.words.flags + c.more_flag.result;
+        data_offset = count;
+        data_len = c.in-Ok.first;
+      }) c.requires;
     }

@@ -6,10 +6,13 @@ use Rattle.quic_frames.specs.IterState.{IterState}
 use Rattle.quic_c_canon.proofs.canonical.begin.Goals as goal
 
 pub returns-clause-either : goal.returns-clause-either
-returns-clause-either c = c.read_from_a_place.ensures.either false c.args.payload.now 0 None (λ i. (c.type_inv.payload i).fits)
+returns-clause-either c =
+    c.read_from_a_place.ensures.either false c.args.payload.now 0 None (λ i. (c.type_inv.payload i).fits)
 
 pub returns-clause-frames : goal.returns-clause-frames
-returns-clause-frames c = λ found s. ap (λ (w : IterState). map unplaced (left w)) c.in-Some.ensures.state ∙ c.read_from_a_place.ensures.frames false c.args.payload.now 0 None found s
+returns-clause-frames c =
+    λ found s. ap (λ (w : IterState). map unplaced (left w)) c.in-Some.ensures.state
+    ∙ c.read_from_a_place.ensures.frames false c.args.payload.now 0 None found s
 
 pub returns-clause-broken : goal.returns-clause-broken
 returns-clause-broken c = λ found type reason s.

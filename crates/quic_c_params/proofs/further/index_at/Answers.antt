@@ -4,7 +4,8 @@ use Rattle.quic_c_params.proofs.Others.{asked_at, asked_some, below_all}
 use Rattle.quic_c_params.proofs.further.index_at.Goals as goal
 
 pub returns-then-is_empty-clause-value : goal.returns-then-is_empty-clause-value
-returns-then-is_empty-clause-value c = asked_at c.args.count c.args.order.now c.args.place (search rules) c.requires.place
+returns-then-is_empty-clause-value c =
+    asked_at c.args.count c.args.order.now c.args.place (search rules) c.requires.place
 
 pub returns-else-is_empty-clause-below : goal.returns-else-is_empty-clause-below
 returns-else-is_empty-clause-below c =

@@ -9,6 +9,7 @@ pub returns-else-is_order-clause-none : goal.returns-else-is_order-clause-none
 returns-else-is_order-clause-none c = λ _ es f o.
     let mine = c.in_ok-count.ensures.some in
     let same = in_order_once mine.0 es c.args.further.now mine.1.encoded f.encoded in
-    let e : parameter_count + length es ≡ parameter_count + c.in_ok-count.field-0 = omega (arith, ap length same, mine.2) in
+    let e : parameter_count + length es ≡ parameter_count + c.in_ok-count.field-0 =
+    omega (arith, ap length same, mine.2) in
     let yes = c.is_order.ensures.1 (subst (λ (n : ℕ). IsOrderOf n (asked n c.args.order.now)) e o) in
     false≢true (sym c.if-is_order.false ∙ yes)

@@ -15,7 +15,9 @@ returns-clause-wrote c = λ _.
     let order = subst (λ (n : ℕ). IsOrderOf n (asked n c.args.order.now)) r.2 r.3 in
     let list : List ℕ = listed p r.0 c.args.order.now in
     let len : c.list_len-len.result ≡ length list = c.list_len-len.ensures r.0 r.1.encoded in
-    let read = c.further.ensures c.in-Some.reader p r.0 (asked (parameter_count + length r.0) c.args.order.now) c.type_bounds-2.ensures s.1 r.1.others order in
+    let read =
+    c.further.ensures c.in-Some.reader p r.0 (asked (parameter_count + length r.0) c.args.order.now)
+    c.type_bounds-2.ensures s.1 r.1.others order in
     record {
       params = p;
       entries = r.0;
@@ -24,6 +26,11 @@ returns-clause-wrote c = λ _.
         further_are = r.1;
         order_is = order;
       };
-      wrote = record { count_is = len; front = c.store_list.ensures r.0 r.1.encoded ∙ ap (λ (n : ℕ). list ++ drop n c.args.dest.now) (sym len) };
-      read_back = subst (λ (q : TransportParameters). IsReadAnswer c.in-Some.reader list (Ok q)) (plain_is p s.0.no_grease s.0.no_order) read;
+      wrote = record {
+        count_is = len;
+        front = c.store_list.ensures r.0 r.1.encoded
+            ∙ ap (λ (n : ℕ). list ++ drop n c.args.dest.now) (sym len);
+      };
+      read_back = subst (λ (q : TransportParameters). IsReadAnswer c.in-Some.reader list (Ok q))
+          (plain_is p s.0.no_grease s.0.no_order) read;
     }

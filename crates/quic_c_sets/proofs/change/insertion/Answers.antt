@@ -5,15 +5,20 @@ use Rattle.quic_c_sets.proofs.change.insertion.Goals.{else-first-x-via-then-firs
 
 pub returns-then-from-to-clause-some : goal.returns-then-from-to-clause-some
 returns-then-from-to-clause-some c =
-    plan_plain c.args.runs.now c.args.x c.count_ends_below-from.result c.count_starts_upto-to.result c.requires (omega arith) c.count_ends_below-from.ensures.count
+    plan_plain c.args.runs.now c.args.x c.count_ends_below-from.result c.count_starts_upto-to.result c.requires
+    (omega arith) c.count_ends_below-from.ensures.count
     c.count_starts_upto-to.ensures.count (omega arith)
 
 pub returns-then-x-first-clause-none : goal.returns-then-x-first-clause-none
 returns-then-x-first-clause-none c =
-    plan_inside c.args.runs.now c.args.x c.count_ends_below-from.result c.requires (omega arith) c.count_ends_below-from.ensures.count (omega arith) c.if-first-x.true c.if-x-first.true
+    plan_inside c.args.runs.now c.args.x c.count_ends_below-from.result c.requires (omega arith)
+    c.count_ends_below-from.ensures.count (omega arith) c.if-first-x.true c.if-x-first.true
 
 pub returns-clause-some : goal.returns-clause-some
 returns-clause-some c =
     plan_touching c.args.runs.now c.args.x c.count_ends_below-from.result c.count_starts_upto-to.result _ _ c.requires (omega arith)
     c.count_ends_below-from.ensures.count c.count_starts_upto-to.ensures.count c.if-from-to.false c.min-start.ensures c.max-end.ensures
-    (λ le le'. elim c.else-first-x.branch [ else-first-x-via-then-first-x+else-x-first w ↦ omega arith | else-first-x-via-else-first-x w ↦ omega arith ])
+    (λ le le'. elim c.else-first-x.branch [
+      | else-first-x-via-then-first-x+else-x-first w ↦ omega arith
+      | else-first-x-via-else-first-x w ↦ omega arith
+    ])

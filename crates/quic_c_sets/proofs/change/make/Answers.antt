@@ -12,4 +12,5 @@ returns-clause-made c _ =
       | then-change-len w ↦ w.runs-is ∙ w.copy_within.ensures.after
       | else-change-len w ↦ w.runs-is ∙ moved_none old at c.args.change.to c.args.count.now w.if-change-len.false
     ] in
-    made old c.if-change-len.runs c.write.new.runs c.args.count.now _ c.len.result c.args.change c.requires.within c.requires.fits c.len.ensures.count refl (omega arith) moved c.write.ensures
+    made old c.if-change-len.runs c.write.new.runs c.args.count.now _ c.len.result c.args.change c.requires.within
+    c.requires.fits c.len.ensures.count refl (omega arith) moved c.write.ensures

@@ -11,5 +11,6 @@ returns-clause-some c =
 
 pub returns-then-from-to-clause-none : goal.returns-then-from-to-clause-none
 returns-then-from-to-clause-none c =
-    IsRunsOf-apart (runs_of c.args.runs.now) (range_of c.args.x) c.count_ends_below-from.result c.count_starts_upto-to.result c.requires (omega arith)
+    IsRunsOf-apart (runs_of c.args.runs.now) (range_of c.args.x) c.count_ends_below-from.result
+    c.count_starts_upto-to.result c.requires (omega arith)
     c.count_ends_below-from.ensures.count c.count_starts_upto-to.ensures.count c.if-from-to.true

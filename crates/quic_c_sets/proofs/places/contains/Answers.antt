@@ -8,10 +8,13 @@ use Rattle.quic_c_sets.proofs.places.contains.Goals as goal
 
 pub returns-then-after-gt0 : goal.returns-then-after-gt0
 returns-then-after-gt0 c =
-    let count : starts_upto (runs_of c.args.runs.now) c.args.x ≡ suc (c.count_starts_upto-after.result - 1) = sym c.count_starts_upto-after.ensures.count ∙ (omega arith) in
+    let count : starts_upto (runs_of c.args.runs.now) c.args.x ≡ suc (c.count_starts_upto-after.result - 1) =
+    sym c.count_starts_upto-after.ensures.count ∙ (omega arith) in
     member_at c.args.runs.now c.args.x (c.count_starts_upto-after.result - 1) c.requires count
 
 pub returns-else-after-gt0 : goal.returns-else-after-gt0
 returns-else-after-gt0 c =
-    let none : starts_upto (runs_of c.args.runs.now) c.args.x ≡ 0 = sym c.count_starts_upto-after.ensures.count ∙ (omega arith) in
-    le-ltb 0 c.count_starts_upto-after.result (omega arith) ∙ sym (member-before 0 c.args.x (runs_of c.args.runs.now) c.requires none)
+    let none : starts_upto (runs_of c.args.runs.now) c.args.x ≡ 0 =
+    sym c.count_starts_upto-after.ensures.count ∙ (omega arith) in
+    le-ltb 0 c.count_starts_upto-after.result (omega arith)
+    ∙ sym (member-before 0 c.args.x (runs_of c.args.runs.now) c.requires none)

@@ -15,5 +15,6 @@ pub returns-then-runs-len-clause-count : goal.returns-then-runs-len-clause-count
 returns-then-runs-len-clause-count c =
     elim c.if-runs-len-2.branch [
       | then-runs-len-2 w ↦ w.result-is ∙ sym (all_end_below c.args.runs.now c.args.x c.requires (omega arith) w.if-runs-len-2.true)
-      | else-runs-len-2 w ↦ w.result-is ∙ sym (others_end_below c.args.runs.now c.args.x c.requires (omega arith) c.if-runs-len.true w.if-runs-len-2.false)
+      | else-runs-len-2 w ↦ w.result-is ∙ sym (others_end_below c.args.runs.now c.args.x c.requires (omega arith)
+          c.if-runs-len.true w.if-runs-len-2.false)
     ]

@@ -11,4 +11,5 @@ returns-clause-count c =
     sym (starts_place c.args.x c.partition_point.result c.args.runs.now c.partition_point.ensures.bound point)
 
 pub returns-then-runs-len-clause-count : goal.returns-then-runs-len-clause-count
-returns-then-runs-len-clause-count c = all_start_upto c.args.runs.now c.args.x c.requires (omega arith) c.if-runs-len.true
+returns-then-runs-len-clause-count c =
+    all_start_upto c.args.runs.now c.args.x c.requires (omega arith) c.if-runs-len.true

@@ -16,4 +16,5 @@ returns-in_err-code-clause-cut g c = on_err c.from_residual-in_err-code.result (
 pub returns-in_err-final_offset-clause-cut : goal.returns-in_err-final_offset-clause-cut
 returns-in_err-final_offset-clause-cut g c = on_err c.from_residual-in_err-final_offset.result (λ id code offset.
     cut_second Encodes (Follows (Encodes code) (IsNumber 8 offset)) _ _ c.in_ok-id.id id encodes_unique c.in_ok-id.ensures.ok
-    (cut_second Encodes (IsNumber 8 offset) _ _ c.in_ok-code.code code encodes_unique c.in_ok-code.ensures.ok (c.in_err-final_offset.ensures.cut offset)))
+    (cut_second Encodes (IsNumber 8 offset) _ _ c.in_ok-code.code code encodes_unique c.in_ok-code.ensures.ok
+    (c.in_err-final_offset.ensures.cut offset)))

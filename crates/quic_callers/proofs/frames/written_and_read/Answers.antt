@@ -9,15 +9,20 @@ pub unreachable-requires : goal.unreachable-requires
 unreachable-requires c =
     let m = meaning_of c.args.frame.now in
     let encoded = (c.read_back.ensures.one false true c.args.frame.now c.type_bounds-2.ensures c.requires.stands).0 in
-    let content = content_is c.encode.result c.in_ok-encode.field-0 _ _ _ (shortest_frame true m) c.deref.ensures.value c.encode.ensures.ok c.in_ok-encode.was c.requires.empty in
+    let content =
+    content_is c.encode.result c.in_ok-encode.field-0 _ _ _ (shortest_frame true m) c.deref.ensures.value
+    c.encode.ensures.ok c.in_ok-encode.was c.requires.empty in
     not_empty (as_written true m) (shortest_frame true m) encoded (sym content ∙ c.in_default.ensures.empty.0 refl)
 
 pub unreachable-requires-in-None : goal.unreachable-requires-in-None
 unreachable-requires-in-None c =
     let m = meaning_of c.args.frame.now in
     let encoded = (c.read_back.ensures.one false true c.args.frame.now c.type_bounds-2.ensures c.requires.stands).0 in
-    let content = content_is c.encode.result c.in_ok-encode.field-0 _ _ _ (shortest_frame true m) c.deref.ensures.value c.encode.ensures.ok c.in_ok-encode.was c.requires.empty in
-    let one = one_left (as_written true m) (shortest_frame true m) _ c.in-Ok.frames encoded content c.in-Ok.ensures.frames in
+    let content =
+    content_is c.encode.result c.in_ok-encode.field-0 _ _ _ (shortest_frame true m) c.deref.ensures.value
+    c.encode.ensures.ok c.in_ok-encode.was c.requires.empty in
+    let one =
+    one_left (as_written true m) (shortest_frame true m) _ c.in-Ok.frames encoded content c.in-Ok.ensures.frames in
     let first = gives_it (as_written true m) c.in-Ok.frames c.next.new.self c.next.result one c.next.ensures.steps in
     let given = first.1 in
     cc
@@ -26,8 +31,11 @@ pub unreachable-requires-in-Some-Err : goal.unreachable-requires-in-Some-Err
 unreachable-requires-in-Some-Err c =
     let m = meaning_of c.args.frame.now in
     let encoded = (c.read_back.ensures.one false true c.args.frame.now c.type_bounds-2.ensures c.requires.stands).0 in
-    let content = content_is c.encode.result c.in_ok-encode.field-0 _ _ _ (shortest_frame true m) c.deref.ensures.value c.encode.ensures.ok c.in_ok-encode.was c.requires.empty in
-    let one = one_left (as_written true m) (shortest_frame true m) _ c.in-Ok.frames encoded content c.in-Ok.ensures.frames in
+    let content =
+    content_is c.encode.result c.in_ok-encode.field-0 _ _ _ (shortest_frame true m) c.deref.ensures.value
+    c.encode.ensures.ok c.in_ok-encode.was c.requires.empty in
+    let one =
+    one_left (as_written true m) (shortest_frame true m) _ c.in-Ok.frames encoded content c.in-Ok.ensures.frames in
     let first = gives_it (as_written true m) c.in-Ok.frames c.next.new.self c.next.result one c.next.ensures.steps in
     let given = first.1 in
     cc
@@ -36,8 +44,11 @@ pub returns : goal.returns
 returns c =
     let m = meaning_of c.args.frame.now in
     let encoded = (c.read_back.ensures.one false true c.args.frame.now c.type_bounds-2.ensures c.requires.stands).0 in
-    let content = content_is c.encode.result c.in_ok-encode.field-0 _ _ _ (shortest_frame true m) c.deref.ensures.value c.encode.ensures.ok c.in_ok-encode.was c.requires.empty in
-    let one = one_left (as_written true m) (shortest_frame true m) _ c.in-Ok.frames encoded content c.in-Ok.ensures.frames in
+    let content =
+    content_is c.encode.result c.in_ok-encode.field-0 _ _ _ (shortest_frame true m) c.deref.ensures.value
+    c.encode.ensures.ok c.in_ok-encode.was c.requires.empty in
+    let one =
+    one_left (as_written true m) (shortest_frame true m) _ c.in-Ok.frames encoded content c.in-Ok.ensures.frames in
     let first = gives_it (as_written true m) c.in-Ok.frames c.next.new.self c.next.result one c.next.ensures.steps in
     let given = first.1 in
     let same : c.in-Some-Ok.read ≡ first.0 = cc in

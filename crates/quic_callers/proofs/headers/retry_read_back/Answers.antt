@@ -11,20 +11,36 @@ use Rattle.quic_callers.proofs.headers.retry_read_back.Goals as goal
 
 pub returns-clause-back : goal.returns-clause-back
 returns-clause-back g c =
-    let context : DecodeOptions = record { parsed = g.C.ConnectionIdParser.parsed c.args.parser.now; versions = c.args.versions.now; grease = c.args.grease } in
-    let dst : length c.args.ids.0 ≤ 20 = omega (arith, c.as_slice-dst.ensures.short, ap length c.as_slice-dst.ensures.value) in
-    let src : length c.args.ids.1 ≤ 20 = omega (arith, c.as_slice-src.ensures.short, ap length c.as_slice-src.ensures.value) in
+    let context : DecodeOptions =
+    record { parsed = g.C.ConnectionIdParser.parsed c.args.parser.now; versions = c.args.versions.now; grease = c.args.grease } in
+    let dst : length c.args.ids.0 ≤ 20 =
+    omega (arith, c.as_slice-dst.ensures.short, ap length c.as_slice-dst.ensures.value) in
+    let src : length c.args.ids.1 ≤ 20 =
+    omega (arith, c.as_slice-src.ensures.short, ap length c.as_slice-src.ensures.value) in
     let h : ProtectedHeader = head.Retry c.args.ids.0 c.args.ids.1 c.args.version in
-    let is = c.written.ensures.retry context (length c.in-Some.datagram.items) c.args.version c.args.ids.0 c.args.ids.1 c.args.behind.now (omega (arith, c.ranges.version.fits)) (c.requires.some, c.requires.known) dst src in
-    let there = subst (λ (bytes : List ℕ). HeaderAt context (length c.in-Some.datagram.items) bytes h c.args.behind.now) (sym c.in-Some.ensures) is in
-    packet_of _ _ _ _ _ (c.cut_alone.ensures h (header_bytes (header.Retry c.args.ids.0 c.args.ids.1 c.args.version)) c.args.behind.now c.in-Some.ensures refl there)
+    let is =
+    c.written.ensures.retry context (length c.in-Some.datagram.items) c.args.version c.args.ids.0 c.args.ids.1
+    c.args.behind.now (omega (arith, c.ranges.version.fits)) (c.requires.some, c.requires.known) dst src in
+    let there =
+    subst (λ (bytes : List ℕ). HeaderAt context (length c.in-Some.datagram.items) bytes h c.args.behind.now)
+    (sym c.in-Some.ensures) is in
+    packet_of _ _ _ _ _ (c.cut_alone.ensures h (header_bytes (header.Retry c.args.ids.0 c.args.ids.1 c.args.version))
+    c.args.behind.now c.in-Some.ensures refl there)
 
 pub returns-clause-refused : goal.returns-clause-refused
 returns-clause-refused g c =
-    let context : DecodeOptions = record { parsed = g.C.ConnectionIdParser.parsed c.args.parser.now; versions = c.args.versions.now; grease = c.args.grease } in
-    let dst : length c.args.ids.0 ≤ 20 = omega (arith, c.as_slice-dst.ensures.short, ap length c.as_slice-dst.ensures.value) in
-    let src : length c.args.ids.1 ≤ 20 = omega (arith, c.as_slice-src.ensures.short, ap length c.as_slice-src.ensures.value) in
+    let context : DecodeOptions =
+    record { parsed = g.C.ConnectionIdParser.parsed c.args.parser.now; versions = c.args.versions.now; grease = c.args.grease } in
+    let dst : length c.args.ids.0 ≤ 20 =
+    omega (arith, c.as_slice-dst.ensures.short, ap length c.as_slice-dst.ensures.value) in
+    let src : length c.args.ids.1 ≤ 20 =
+    omega (arith, c.as_slice-src.ensures.short, ap length c.as_slice-src.ensures.value) in
     let h : ProtectedHeader = head.Retry c.args.ids.0 c.args.ids.1 c.args.version in
-    let is = c.written.ensures.retry context (length c.in-Some.datagram.items) c.args.version c.args.ids.0 c.args.ids.1 c.args.behind.now (omega (arith, c.ranges.version.fits)) (c.requires.some, c.requires.known) dst src in
-    let there = subst (λ (bytes : List ℕ). HeaderAt context (length c.in-Some.datagram.items) bytes h c.args.behind.now) (sym c.in-Some.ensures) is in
-    refusal_of _ _ _ _ _ (c.cut_alone.ensures h (header_bytes (header.Retry c.args.ids.0 c.args.ids.1 c.args.version)) c.args.behind.now c.in-Some.ensures refl there)
+    let is =
+    c.written.ensures.retry context (length c.in-Some.datagram.items) c.args.version c.args.ids.0 c.args.ids.1
+    c.args.behind.now (omega (arith, c.ranges.version.fits)) (c.requires.some, c.requires.known) dst src in
+    let there =
+    subst (λ (bytes : List ℕ). HeaderAt context (length c.in-Some.datagram.items) bytes h c.args.behind.now)
+    (sym c.in-Some.ensures) is in
+    refusal_of _ _ _ _ _ (c.cut_alone.ensures h (header_bytes (header.Retry c.args.ids.0 c.args.ids.1 c.args.version))
+    c.args.behind.now c.in-Some.ensures refl there)

@@ -5,15 +5,20 @@ use Rattle.quic_callers.proofs.Counts.{counted_first, counted_other, counted_str
 use Rattle.quic_callers.proofs.payloads.all_stream_data.Goals as goal
 
 pub loop-item-init : goal.loop-item-init
-loop-item-init c =
-    (tt, tt, counted_first c.args.payload.now c.into_iter-item-iterator.result (c.into_iter-item-iterator.ensures.into_iter_gives ∙ c.in_ok-item-items.ensures.first))
+loop-item-init c = (
+  tt,
+  tt,
+  counted_first c.args.payload.now c.into_iter-item-iterator.result
+      (c.into_iter-item-iterator.ensures.into_iter_gives ∙ c.in_ok-item-items.ensures.first),
+)
 
 pub loop-item-preserved-in-Stream : goal.loop-item-preserved-in-Stream
 loop-item-preserved-in-Stream c =
     let finds = subst (λ r. Advances c.loop-item.item-iterator (Some r) c.next.new.self) c.in-Ok.is c.in-Some.ensures.steps in (
       tt,
       tt,
-      counted_stream c.args.payload.now c.loop-item.item-iterator c.next.new.self c.in-Ok.frame c.in-Stream.stream c.loop-item.count c.saturating_add-count.result
+      counted_stream c.args.payload.now c.loop-item.item-iterator c.next.new.self c.in-Ok.frame c.in-Stream.stream
+          c.loop-item.count c.saturating_add-count.result
           c.loop-item.invariant.2 finds c.in-Stream.is c.saturating_add-count.ensures,
     )
 
@@ -22,17 +27,21 @@ loop-item-preserved c =
     let finds = subst (λ r. Advances c.loop-item.item-iterator (Some r) c.next.new.self) c.in-Ok.is c.in-Some.ensures.steps in (
       tt,
       tt,
-      counted_other c.args.payload.now c.loop-item.item-iterator c.next.new.self c.in-Ok.frame c.loop-item.count c.loop-item.invariant.2 finds c.in_default.not-Stream,
+      counted_other c.args.payload.now c.loop-item.item-iterator c.next.new.self c.in-Ok.frame c.loop-item.count
+          c.loop-item.invariant.2 finds c.in_default.not-Stream,
     )
 
 pub returns-in-Err-clause-err : goal.returns-in-Err-clause-err
 returns-in-Err-clause-err c =
-    let steps = subst (λ r. Advances c.loop-item.item-iterator (Some r) c.next.new.self) c.in-Err.is c.in-Some.ensures.steps in
+    let steps =
+    subst (λ r. Advances c.loop-item.item-iterator (Some r) c.next.new.self) c.in-Err.is c.in-Some.ensures.steps in
     let begun = c.in_ok-item-items.ensures in
     tells c.args.payload.now c.in-Err.invalid c.to_error.result
-    (met c.args.payload.now c.in_ok-item-items.item-items c.loop-item.item-iterator (invalid_of c.in-Err.invalid) begun.first c.loop-item.invariant.2.came steps.0 begun.either begun.frames begun.broken) c.to_error.ensures
+    (met c.args.payload.now c.in_ok-item-items.item-items c.loop-item.item-iterator (invalid_of c.in-Err.invalid)
+    begun.first c.loop-item.invariant.2.came steps.0 begun.either begun.frames begun.broken) c.to_error.ensures
 
 pub returns-clause-ok : goal.returns-clause-ok
 returns-clause-ok c =
     let begun = c.in_ok-item-items.ensures in
-    all_counted c.args.payload.now c.in_ok-item-items.item-items c.loop-item.item-iterator c.loop-item.count begun.first c.loop-item.invariant.2 c.in-None.ensures.steps.0 begun.either begun.frames begun.broken
+    all_counted c.args.payload.now c.in_ok-item-items.item-items c.loop-item.item-iterator c.loop-item.count begun.first
+    c.loop-item.invariant.2 c.in-None.ensures.steps.0 begun.either begun.frames begun.broken

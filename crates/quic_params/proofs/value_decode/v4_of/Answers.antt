@@ -12,7 +12,8 @@ pub returns : goal.returns
 returns c =
     let n : ¬ (IsUnspecifiedV4 c.args.ip × (c.args.port ≡ 0)) = λ r.
     elim c.else-is_unspecified.branch [
-      | else-is_unspecified-via-then-is_unspecified+else-port-eq0 w ↦ let p : c.args.port ≡ 0 = r.1 in absurd (omega (arith, w.if-port-eq0.false))
+      | else-is_unspecified-via-then-is_unspecified+else-port-eq0 w ↦ let p : c.args.port
+          ≡ 0 = r.1 in absurd (omega (arith, w.if-port-eq0.false))
       | else-is_unspecified-via-else-is_unspecified w ↦ absurd (false≢true (sym w.if-is_unspecified.false ∙ c.is_unspecified.ensures.1 r.0))
     ] in
     some_v4 c.new.result c.args.ip c.args.port c.new.ensures.ip c.new.ensures.port n

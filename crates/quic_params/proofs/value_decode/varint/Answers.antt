@@ -11,4 +11,5 @@ returns-else-rest-eq0-clause-value c = λ n. part_number c.in-Ok.n n _ _ c.in-Ok
 
 pub returns-then-rest-eq0-clause-value : goal.returns-then-rest-eq0-clause-value
 returns-then-rest-eq0-clause-value c =
-    subst (λ (n : ℕ). Encodes n c.args.bytes.now) (sym c.from_u64_unchecked.ensures) (whole_number c.in-Ok.n _ _ c.in-Ok.ensures.ok (omega arith))
+    subst (λ (n : ℕ). Encodes n c.args.bytes.now) (sym c.from_u64_unchecked.ensures)
+    (whole_number c.in-Ok.n _ _ c.in-Ok.ensures.ok (omega arith))

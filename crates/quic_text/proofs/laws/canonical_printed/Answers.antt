@@ -9,4 +9,5 @@ pub returns-clause-broken : goal.returns-clause-broken
 returns-clause-broken c = broken_printed
 
 pub returns-clause-strict : goal.returns-clause-strict
-returns-clause-strict c = λ payload least l. let f = c.one_least.ensures.strict payload least l in plain_frames true f.0 least l.same.some f.1
+returns-clause-strict c =
+    λ payload least l. let f = c.one_least.ensures.strict payload least l in plain_frames true f.0 least l.same.some f.1

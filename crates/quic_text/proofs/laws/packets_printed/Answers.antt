@@ -10,8 +10,12 @@ use Rattle.quic_text.proofs.laws.packets_printed.Goals as goal
 
 pub returns-clause-lines : goal.returns-clause-lines
 returns-clause-lines c = λ len bytes packets refusal fits are.
-    ap (λ (r : List PlacedPacket × Option Refusal). row_lines r.0 r.1) (packets_again (with_ids_of (count len)) bytes packets refusal fits are)
+    ap (λ (r : List PlacedPacket × Option Refusal). row_lines r.0 r.1)
+    (packets_again (with_ids_of (count len)) bytes packets refusal fits are)
 
 pub returns-clause-some : goal.returns-clause-some
-returns-clause-some c = λ len bytes fits.
-    ((packets_in (with_ids_of (count len)) bytes).0, (packets_in (with_ids_of (count len)) bytes).1, packets_found (with_ids_of (count len)) bytes fits (fixed_takes (count len)))
+returns-clause-some c = λ len bytes fits. (
+  (packets_in (with_ids_of (count len)) bytes).0,
+  (packets_in (with_ids_of (count len)) bytes).1,
+  packets_found (with_ids_of (count len)) bytes fits (fixed_takes (count len)),
+)

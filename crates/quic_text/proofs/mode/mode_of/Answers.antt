@@ -4,7 +4,8 @@ use Rattle.quic_text.specs.IdLens.{IsIdLen}
 use Rattle.std.proofs.lemmas.Grind.{common_steps}
 use Rattle.quic_text.proofs.mode.mode_of.Goals as goal
 
-two_words : (words : List (Bor (List ℕ))) (other : Bor (List ℕ)) (first : List ℕ) → 2 ≤ length words → length words < 3 → (get_or words 0 other).now ≡ first
+two_words : (words : List (Bor (List ℕ))) (other : Bor (List ℕ)) (first : List ℕ) → 2 ≤ length words → length words < 3
+    → (get_or words 0 other).now ≡ first
     → map (λ word. word.now) words ≡ first ∷ (get_or words 1 other).now ∷ []
 two_words [] other first some few e = absurd (omega (arith, some))
 two_words (a ∷ []) other first some few e = absurd (omega (arith, some))

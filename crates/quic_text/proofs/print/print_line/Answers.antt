@@ -14,6 +14,9 @@ returns-in_err-push_str-in-None g c = search (rules, nothing_begun)
 
 pub returns-in_ok-push_str-in-None : goal.returns-in_ok-push_str-in-None
 returns-in_ok-push_str-in-None g c =
-    let none : IsErr (decode_of (without_return c.args.line.now)) = rw (sym c.trim_return.ensures) (c.in_ok-payload.ensures.none c.in-None.is) in
-    let same = c.in_ok-push_str-in-None.ensures.bytes ∙ ap (λ xs. string_bytes c.args.text.now ++ xs) (sym (not_encoded c.args.mode (decode_of (without_return c.args.line.now)) none)) in
+    let none : IsErr (decode_of (without_return c.args.line.now)) =
+    rw (sym c.trim_return.ensures) (c.in_ok-payload.ensures.none c.in-None.is) in
+    let same =
+    c.in_ok-push_str-in-None.ensures.bytes
+    ∙ ap (λ xs. string_bytes c.args.text.now ++ xs) (sym (not_encoded c.args.mode (decode_of (without_return c.args.line.now)) none)) in
     search (rules, all_waits)

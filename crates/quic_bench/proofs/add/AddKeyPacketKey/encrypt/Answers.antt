@@ -15,4 +15,5 @@ returns c =
     let front_len : length (take h xs) ≡ h = omega (arith, length-take h xs) in
     let part_len : length part ≡ length xs - 2 - h = length-between xs h (length xs - 2) (omega arith) in
     rw (front_len, part_len, c.copy_from_slice.ensures.after, c.add_all.ensures)
-    (put_mid-then_end xs (map (add_byte (c.args.number % 256)) part) _ h c.requires (length-map part (add_byte (c.args.number % 256)) ∙ part_len))
+    (put_mid-then_end xs (map (add_byte (c.args.number % 256)) part) _ h c.requires
+    (length-map part (add_byte (c.args.number % 256)) ∙ part_len))

@@ -13,12 +13,15 @@ one_more n i h = grind arith
 pub loop-id-preserved : goal.loop-id-preserved
 loop-id-preserved c = λ k lt. elim (one_more c.loop-id.id-index k lt) [
   | inl before ↦ c.loop-id.invariant k before
-  | inr e ↦ subst (λ j. IfSome (value_of c.args.self.now (id_of_index j)) (IsTypedAs (row_of (id_of_index j)).kind)) (sym e) (subst (λ o. IfSome o (IsTypedAs (row_of (id_of_index c.loop-id.id-index)).kind)) c.get-value.ensures.value c.get-value.ensures.typed)
+  | inr e ↦ subst (λ j. IfSome (value_of c.args.self.now (id_of_index j)) (IsTypedAs (row_of (id_of_index j)).kind))
+      (sym e) (subst (λ o. IfSome o (IsTypedAs (row_of (id_of_index c.loop-id.id-index)).kind))
+      c.get-value.ensures.value c.get-value.ensures.typed)
 ]
 
 pub returns : goal.returns
 returns c = record {
-  values = λ id. subst (λ i. IfSome (value_of c.args.self.now i) (IsTypedAs (row_of i).kind)) (at_place id) (c.loop-id.invariant (row_of id).index (omega (arith, index_below id, c.loop-id-test.false)));
+  values = λ id. subst (λ i. IfSome (value_of c.args.self.now i) (IsTypedAs (row_of i).kind)) (at_place id)
+      (c.loop-id.invariant (row_of id).index (omega (arith, index_below id, c.loop-id-test.false)));
   grease = c.grease_bounds.ensures;
   order = c.order_bounds.ensures;
 }

@@ -7,4 +7,5 @@ use Rattle.quic_params.specs.Table.{row_of}
 use Rattle.quic_params.proofs.record.TransportParameters.type_bounds.Given as goal
 
 abbrev pub invariant-loop-id : goal.invariant-loop-id
-invariant-loop-id l = (k : ℕ) → k < l.id-index → IfSome (value_of l.self (id_of_index k)) (IsTypedAs (row_of (id_of_index k)).kind)
+invariant-loop-id l =
+    (k : ℕ) → k < l.id-index → IfSome (value_of l.self (id_of_index k)) (IsTypedAs (row_of (id_of_index k)).kind)

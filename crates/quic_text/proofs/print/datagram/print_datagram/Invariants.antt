@@ -11,7 +11,9 @@ use Rattle.quic_text.proofs.print.datagram.print_datagram.Given as goal
 
 abbrev pub invariant-loop-left : goal.invariant-loop-left
 invariant-loop-left g l = record {
-  passed : Waits l.parser.expected_len l.start l.left.items (g.W.Sink.taken l.fn.sink) (g.W.Sink.taken l.sink) (string_bytes l.text) (string_bytes l.fn.text ++ flat_map line_bytes (datagram_lines (count l.fn.id_len) l.datagram));
+  passed : Waits l.parser.expected_len l.start l.left.items (g.W.Sink.taken l.fn.sink) (g.W.Sink.taken l.sink)
+      (string_bytes l.text) (string_bytes l.fn.text ++ flat_map line_bytes
+      (datagram_lines (count l.fn.id_len) l.datagram));
   clean : LeadsClean (with_ids_of l.parser.expected_len) l.start l.left.items (datagram_lines (count l.fn.id_len) l.datagram);
   within : l.start + length l.left.items ≡ length l.datagram;
   fits : AreBytes l.left.items;

@@ -20,9 +20,13 @@ returns-in_err-pass_on_pieces g c = record {
         let old = c.loop-item.frames in
         let new = c.next.new.self in
         let finds : Finds old c.in-Ok-item.frame new = rw c.in-Ok-item.is at c.in-Some.ensures.steps in
-        let same = text_more old new c.in-Ok-item.frame (string_bytes c.loop-item.text) (string_bytes c.print_frame.new.text) _ finds (rw (← c.offset-end.ensures.value, ← c.loop-item.invariant.start, ← c.ty.ensures) c.in_ok-print_frame.ensures) refl in
+        let same =
+        text_more old new c.in-Ok-item.frame (string_bytes c.loop-item.text) (string_bytes c.print_frame.new.text) _
+        finds (rw (← c.offset-end.ensures.value, ← c.loop-item.invariant.start, ← c.ty.ensures)
+        c.in_ok-print_frame.ensures) refl in
         on_err c.from_residual-in_err-pass_on_pieces.result
-        (beginning_passed _ _ _ (string_bytes c.print_frame.new.text) (flat_map line_bytes (map item_line (left new))) _ _ same c.loop-item.invariant.passed c.in_err-pass_on_pieces.ensures.err);
+        (beginning_passed _ _ _ (string_bytes c.print_frame.new.text) (flat_map line_bytes (map item_line (left new))) _
+        _ same c.loop-item.invariant.passed c.in_err-pass_on_pieces.ensures.err);
     failed = search rules;
     read = search rules;
   };
@@ -34,9 +38,13 @@ loop-item-preserved g c =
     let old = c.loop-item.frames in
     let new = c.next.new.self in
     let finds : Finds old c.in-Ok-item.frame new = rw c.in-Ok-item.is at c.in-Some.ensures.steps in
-    let same = text_more old new c.in-Ok-item.frame (string_bytes c.loop-item.text) (string_bytes c.print_frame.new.text) _ finds (rw (← c.offset-end.ensures.value, ← c.loop-item.invariant.start, ← c.ty.ensures) c.in_ok-print_frame.ensures) refl in
+    let same =
+    text_more old new c.in-Ok-item.frame (string_bytes c.loop-item.text) (string_bytes c.print_frame.new.text) _
+    finds (rw (← c.offset-end.ensures.value, ← c.loop-item.invariant.start, ← c.ty.ensures)
+    c.in_ok-print_frame.ensures) refl in
     record {
-      passed = passed_on _ _ _ (string_bytes c.print_frame.new.text) _ (flat_map line_bytes (map item_line (left new))) _ _ same c.loop-item.invariant.passed c.in_ok-pass_on_pieces.ensures.ok;
+      passed = passed_on _ _ _ (string_bytes c.print_frame.new.text) _ (flat_map line_bytes (map item_line (left new)))
+          _ _ same c.loop-item.invariant.passed c.in_ok-pass_on_pieces.ensures.ok;
       clean = sym (clean_more old new c.in-Ok-item.frame finds) ∙ c.loop-item.invariant.clean;
       start = c.offset-end.ensures.value;
       failed = c.in_ok-pass_on_pieces.ensures.failed ∙ or-false _ ∙ c.loop-item.invariant.failed;

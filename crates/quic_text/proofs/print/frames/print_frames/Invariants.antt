@@ -10,7 +10,9 @@ use Rattle.quic_text.proofs.print.frames.print_frames.Given as goal
 -- what waits, with the lines of what is left, is all but what was passed on
 abbrev pub invariant-loop-item : goal.invariant-loop-item
 invariant-loop-item g l = record {
-  passed : AppendsAllBut (g.W.Sink.taken l.fn.sink) (g.W.Sink.taken l.sink) (string_bytes l.text ++ flat_map line_bytes (map item_line (left l.frames))) (string_bytes l.fn.text ++ flat_map line_bytes (frame_lines l.strict l.payload));
+  passed : AppendsAllBut (g.W.Sink.taken l.fn.sink) (g.W.Sink.taken l.sink)
+      (string_bytes l.text ++ flat_map line_bytes (map item_line (left l.frames)))
+      (string_bytes l.fn.text ++ flat_map line_bytes (frame_lines l.strict l.payload));
   clean : list_all is_plain (map item_line (left l.frames)) ≡ list_all is_plain (frame_lines l.strict l.payload);
   start : l.start ≡ l.frames.offset;
   failed : g.W.Sink.has_failed l.sink ≡ g.W.Sink.has_failed l.fn.sink;

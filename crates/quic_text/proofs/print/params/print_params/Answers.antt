@@ -15,7 +15,8 @@ pub returns-in_ok-push_str-in-Err-IllegalValue-clause-bytes :
     goal.returns-in_ok-push_str-in-Err-IllegalValue-clause-bytes
 returns-in_ok-push_str-in-Err-IllegalValue-clause-bytes c =
     c.in_ok-push_str-in-Err-IllegalValue.ensures.bytes
-    ∙ ap (λ a. string_bytes c.args.text.now ++ flat_map line_bytes (answer_lines a)) (sym (sym c.answer.ensures ∙ c.in-Err-IllegalValue.is ∙ ap Err c.in-Err-IllegalValue.field-0-is))
+    ∙ ap (λ a. string_bytes c.args.text.now ++ flat_map line_bytes (answer_lines a))
+    (sym (sym c.answer.ensures ∙ c.in-Err-IllegalValue.is ∙ ap Err c.in-Err-IllegalValue.field-0-is))
 
 pub returns-in_ok-push_str-in-Ok-clause-bytes : goal.returns-in_ok-push_str-in-Ok-clause-bytes
 returns-in_ok-push_str-in-Ok-clause-bytes c = grind (arith, common_steps)

@@ -8,8 +8,11 @@ use Rattle.quic_text.proofs.print.params.print_record.Goals as goal
 
 pub loop-id-preserved : goal.loop-id-preserved
 loop-id-preserved c =
-    one_more (λ id. value_lines id (value_written c.args.params.now id)) ids c.loop-id.id-index MaxIdleTimeout (get_or ids c.loop-id.id-index MaxIdleTimeout) _ _ _ (omega (arith, c.loop-id-test.true)) refl c.loop-id.invariant c.in_ok-print_parameter.ensures
+    one_more (λ id. value_lines id (value_written c.args.params.now id)) ids c.loop-id.id-index MaxIdleTimeout
+    (get_or ids c.loop-id.id-index MaxIdleTimeout) _ _ _ (omega (arith, c.loop-id-test.true)) refl
+    c.loop-id.invariant c.in_ok-print_parameter.ensures
 
 pub returns : goal.returns
 returns c =
-    all_of (λ id. value_lines id (value_written c.args.params.now id)) ids c.loop-id.id-index _ _ (omega (arith, c.loop-id-test.false)) c.loop-id.invariant
+    all_of (λ id. value_lines id (value_written c.args.params.now id)) ids c.loop-id.id-index _ _
+    (omega (arith, c.loop-id-test.false)) c.loop-id.invariant

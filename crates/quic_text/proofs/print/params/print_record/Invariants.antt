@@ -10,4 +10,5 @@ use Rattle.quic_text.proofs.print.params.print_record.Given as goal
 -- the lines of the first parameters
 abbrev pub invariant-loop-id : goal.invariant-loop-id
 invariant-loop-id l =
-    string_bytes l.text ≡ string_bytes l.fn.text ++ flat_map line_bytes (flat_map (λ id. value_lines id (value_written l.params id)) (take l.id-index ids))
+    string_bytes l.text ≡ string_bytes l.fn.text ++ flat_map line_bytes
+    (flat_map (λ id. value_lines id (value_written l.params id)) (take l.id-index ids))

@@ -37,7 +37,7 @@ unreachable-requires g c =
       opens = g.met.P.PacketKey.opens keys.packet;
     } in
     let contents = contents_of second s.second_sealed.payload in
-    let opens = c.sealed_opens.ensures opening (s.back ++ []) contents [] lawful (begins opening second (s.back ++ []) s.back [] s.second_sealed c.requires.back refl) in
+    let opens = c.sealed_opens.ensures.opens opening (s.back ++ []) contents [] lawful (begins opening second (s.back ++ []) s.back [] s.second_sealed c.requires.back refl) in
     let cut : 0 < length opens.packet.bytes = c.ends.ensures.some opening.options (s.back ++ []) opens.packet.head opens.packet.header_end (length opens.packet.bytes) opens.first.cut in
     let some : 0 < length s.back = some_bytes s.back opens.packet.bytes opens.first.text cut in
     let back = given_back {opening = opening} c.in-Ok-open_packet.ensures c.args.first.now s.front s.back s.first_sealed (c.requires.front s.back) (c.from_vec-datagram.ensures ∙ s.text) in

@@ -53,7 +53,7 @@ WRITTEN = {
     "0-RTT": ("long_front (long_first version (kind.Standard ty) (number_size number)) version dst src",
               "<front..> ++ (len ++ number_bytes number)"),
     "Retry": ("long_front (first_byte version kind.Retry) version dst src", "<front..>"),
-    "1-RTT": ("(64 + bit spin 32 + bit key_phase 4 + (number_size number - 1)) ∷ dst",
+    "1-RTT": ("(64 + bit_value spin 32 + bit_value key_phase 4 + (number_size number - 1)) ∷ dst",
               "<front..> ++ number_bytes number"),
 }
 WRITTEN["Handshake"] = WRITTEN["0-RTT"]

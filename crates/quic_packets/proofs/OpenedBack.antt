@@ -24,8 +24,29 @@ use Rattle.quic_header_encode.specs.Writing.{header_size, size_in}
 use Rattle.quic_packets.specs.Pairs.{IsLawful, KeyPair}
 use Rattle.quic_packets.specs.Sealing.{PacketContents, Sealed, plain_packet, sealed_header, protected_len}
 use Rattle.quic_packets.specs.Opening.{
-  PacketAnswer, BeginsSealed, CutsFirst, ExpandsIn, IsDecode, IsReadBack, OpenedPacket, Opening, Opens, OpensFirst, OpensPacket, OpensPlain,
-  OpensWithKey, Refuses, RefusesPacket, RefusesWithKey, ReturnsSealed, UnlockedPacket, Unlocks, packet_of, payload_opened, returned, returned_by,
+  PacketAnswer,
+  BeginsSealed,
+  CutsFirst,
+  ExpandsIn,
+  IsDecode,
+  IsReadBack,
+  OpenedPacket,
+  Opening,
+  Opens,
+  OpensFirst,
+  OpensPacket,
+  OpensPlain,
+  OpensWithKey,
+  Refuses,
+  RefusesPacket,
+  RefusesWithKey,
+  ReturnsSealed,
+  UnlockedPacket,
+  Unlocks,
+  packet_of,
+  payload_opened,
+  returned,
+  returned_by,
 }
 use Rattle.quic_packets.proofs.Sealings.{header_length}
 use Rattle.quic_packets.proofs.Parts.{expands_same}

@@ -53,14 +53,14 @@ WRITTEN = {
     "0-RTT": ("long_front (long_first version (kind.Standard ty) (number_size number)) version dst src",
               "<front..> ++ (len ++ number_bytes number)"),
     "Retry": ("long_front (first_byte version kind.Retry) version dst src", "<front..>"),
-    "1-RTT": ("(64 + bit spin 32 + bit key_phase 4 + (number_size number - 1)) ∷ dst",
+    "1-RTT": ("(64 + bit_value spin 32 + bit_value key_phase 4 + (number_size number - 1)) ∷ dst",
               "<front..> ++ number_bytes number"),
 }
 WRITTEN["Handshake"] = WRITTEN["0-RTT"]
 # What the values of a row are to a header, in order.
 MEANT = {
     "Version Negotiation": "(first ≡ 0x80 + random) × (values ≡ Number <version> ∷ Bytes dst ∷ Bytes src ∷ [])",
-    "Initial": "(count left : ℕ) × (h.token_pos.start + count ≡ h.token_pos.end) × (h.token_pos.end + left ≡ whole)"
+    "Initial": "(count left : ℕ) × (h.token_pos.start + count ≡ h.token_pos.end) × (h.token_pos.end + left ≡ datagram_len)"
                " × (values ≡ Number h.version ∷ Bytes h.dst_cid ∷ Bytes h.src_cid ∷ Number count ∷ Number left"
                " ∷ Number h.len ∷ [])",
     "0-RTT": "(long_type version first ≡ kind.Standard ty)"
@@ -92,7 +92,7 @@ def lines_of(field):
 
 def meant(head):
     """What is in the holes of the text that a header should have."""
-    return stated(GRAMMAR, "IsHeader", f"whole first values {head.read}", MEANT[head.title])
+    return stated(GRAMMAR, "IsHeader", f"datagram_len first values {head.read}", MEANT[head.title])
 
 
 def is_protected(head):
@@ -197,10 +197,10 @@ def checked(head):
 
 def reading():
     """How headers are read."""
-    stated(GRAMMAR, "HeaderAt", "context whole bytes h rest", (
+    stated(GRAMMAR, "HeaderAt", "context datagram_len bytes h rest", (
         "(first : ℕ) × (text : List ℕ) × (values : List HeaderValue) × (bytes ≡ first ∷ text) × (is_fixed context first ≡"
         " true) × AreHeaderFields context (header_row_of first (num (take 4 text))) [] values text rest"
-        " × IsHeader whole first values h"))
+        " × IsHeader datagram_len first values h"))
     stated(GRAMMAR, "AreHeaderFields", "context (field ∷ fields) before after bytes rest", (
         "(values : List HeaderValue) × (left : List ℕ) × BeginsWithField context field before values bytes left"
         " × AreHeaderFields context fields (before ++ values) after left rest"))

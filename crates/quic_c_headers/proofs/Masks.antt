@@ -7,7 +7,7 @@ use Rattle.std.proofs.lemmas.Bool.{cases_eq, cases_lt}
 use Rattle.std.proofs.lemmas.Bool.Decides.{nat_tests}
 use lib.Bits.{xor_assoc, xor_self, xor_zero_r, xor_shr}
 use Rattle.quic_crypto.specs.Keys.{first_unit, number_len}
-use Rattle.quic_c_headers.specs.Protecting.{masked}
+use Rattle.quic_c_headers.specs.Protecting.{masked_packet}
 use Rattle.quic_c_headers.specs.Unprotecting.{unmasked_first, unmasked_at, unmasked}
 
 xor_twice : (a s : ℕ) → bit_xor (bit_xor a s) s ≡ a
@@ -87,7 +87,7 @@ bytes_back start at n mask bytes x behind room =
       ]
     ])
 
-pub masked_back : (at : ℕ) (mask bytes : List ℕ) → 0 < at → at + 4 ≤ length bytes → unmasked at mask (masked at mask bytes) ≡ bytes
+pub masked_back : (at : ℕ) (mask bytes : List ℕ) → 0 < at → at + 4 ≤ length bytes → unmasked at mask (masked_packet at mask bytes) ≡ bytes
 masked_back at mask bytes behind room =
     let f : ℕ = get_or bytes 0 0 in
     let x : ℕ = unmasked_first mask f in

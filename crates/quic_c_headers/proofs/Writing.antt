@@ -14,7 +14,7 @@ use Rattle.quic_header_encode.specs.declared.long_type.HeaderKind.TheVariants as
 use Rattle.quic_header_encode.specs.declared.header.Header.{Header}
 use Rattle.quic_header_encode.specs.Storing.{begun_by, header_of, number_bits, carries_length, token_by, type_bits}
 use Rattle.quic_header_encode.specs.Starts.{long_front}
-use Rattle.quic_header_encode.specs.Writing.{bit, header_with}
+use Rattle.quic_header_encode.specs.Writing.{bit_value, header_with}
 use Rattle.quic_c_headers.specs.declared.words.HeaderFields.{HeaderFields}
 use Rattle.quic_c_headers.specs.Headers.{part_of, said_bytes, CanWriteHeader}
 use Rattle.quic_c_headers.specs.Reading.{kind_word}
@@ -34,17 +34,17 @@ clear_by kind.VersionNegotiate flags = false
 abbrev pub header_said : HeaderKind → HeaderFields → List ℕ → List ℕ → List ℕ → Header
 header_said k words dst src token = header_of k words.flags words.version dst src token (part_of words.number_len words.number)
 
-bit_at : (x n : ℕ) → x < 2 → bit (nat_eq x 1) n ≡ n * x
+bit_at : (x n : ℕ) → x < 2 → bit_value (nat_eq x 1) n ≡ n * x
 bit_at x n lt = grind (arith, nat_tests)
 
 -- the bits of flags
-clear_is : (f : ℕ) → bit (has_bit 64 f) 64 ≡ 64 * (f / 64 % 2)
+clear_is : (f : ℕ) → bit_value (has_bit 64 f) 64 ≡ 64 * (f / 64 % 2)
 clear_is f = bit_at (f / 64 % 2) 64 (omega arith)
 
-spin_is : (f : ℕ) → bit (has_bit 32 f) 32 ≡ 32 * (f / 32 % 2)
+spin_is : (f : ℕ) → bit_value (has_bit 32 f) 32 ≡ 32 * (f / 32 % 2)
 spin_is f = bit_at (f / 32 % 2) 32 (omega arith)
 
-phase_is : (f : ℕ) → bit (has_bit 4 f) 4 ≡ 4 * (f / 4 % 2)
+phase_is : (f : ℕ) → bit_value (has_bit 4 f) 4 ≡ 4 * (f / 4 % 2)
 phase_is f = bit_at (f / 4 % 2) 4 (omega arith)
 
 -- the part of a number that is written
@@ -206,13 +206,13 @@ bytes_said kind.Handshake len words dst src token s e same =
     (omega (arith, clear_is words.flags)) (same (s.len (omega (arith, e))))
 bytes_said kind.Retry len words dst src token s e same =
     ap (λ (f : ℕ). begun_by f (header_with (replicate 0 0) (header_said kind.Retry words dst src token)))
-    (let g : first_word kind.Retry words.flags + type_bits kind.Retry words.version + 0 ≡ 192 + type_bits kind.Retry words.version - bit (has_bit 64 words.flags) 64 =
+    (let g : first_word kind.Retry words.flags + type_bits kind.Retry words.version + 0 ≡ 192 + type_bits kind.Retry words.version - bit_value (has_bit 64 words.flags) 64 =
     omega (arith, clear_is words.flags) in g)
 bytes_said kind.Short len words dst src token s e same =
     let number : PacketNumber = part_of words.number_len words.number in
     ap (λ (f : ℕ). f ∷ (dst ++ number_bytes number))
     (let g : first_word kind.Short words.flags + 0 + (number_size number - 1)
-    ≡ 64 + bit (has_bit 32 words.flags) 32 + bit (has_bit 4 words.flags) 4 + (number_size number - 1) - bit (has_bit 64 words.flags) 64 =
+    ≡ 64 + bit_value (has_bit 32 words.flags) 32 + bit_value (has_bit 4 words.flags) 4 + (number_size number - 1) - bit_value (has_bit 64 words.flags) 64 =
     omega (arith, clear_is words.flags, spin_is words.flags, phase_is words.flags) in g)
 bytes_said kind.VersionNegotiate len words dst src token s e same =
     ap (λ (f : ℕ). begun_by f (header_with (replicate 0 0) (header_said kind.VersionNegotiate words dst src token)))

@@ -9,7 +9,7 @@ use Rattle.quic_header_encode.specs.declared.header.Header.{Header}
 use Rattle.quic_header_encode.specs.declared.header.Header.TheVariants as header
 use Rattle.quic_header_encode.specs.Storing.{begun_by}
 use Rattle.quic_header_encode.specs.Queries.{dst_in, number_in}
-use Rattle.quic_header_encode.specs.Writing.{bit, header_with, IsWritable}
+use Rattle.quic_header_encode.specs.Writing.{bit_value, header_with, IsWritable}
 use Rattle.quic_c_headers.specs.declared.words.HeaderFields.{HeaderFields}
 
 -- the part of a number that is written in so many bytes
@@ -100,4 +100,4 @@ pub record CanWriteHeader (words : HeaderFields) (dst src token : List ℕ) (cle
 -- says so
 abbrev pub said_bytes : ℕ → Bool → Header → List ℕ
 said_bytes len clear head =
-    let bytes = header_with (replicate len 0) head in begun_by (slice_index bytes 0 - bit clear 64) bytes
+    let bytes = header_with (replicate len 0) head in begun_by (slice_index bytes 0 - bit_value clear 64) bytes

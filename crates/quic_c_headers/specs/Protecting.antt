@@ -5,7 +5,7 @@ use Rattle.quic_c_headers.specs.Unprotecting.{unmasked_first, unmasked_at}
 
 -- A mask is applied to a header whose number begins at a place; the number's size is in the first byte before that. A
 -- byte is joined to its mask by exclusive or, so applying and removing a mask are the same.
-abbrev pub masked : ℕ → List ℕ → List ℕ → List ℕ
-masked at mask bytes =
+abbrev pub masked_packet : ℕ → List ℕ → List ℕ → List ℕ
+masked_packet at mask bytes =
     let first = slice_index bytes 0 in
     unmasked_at at mask (number_len first) (slice_set bytes 0 (unmasked_first mask first))

@@ -1,5 +1,5 @@
 //! Numbers of variable length, and packet numbers.
-ghost use Rattle.std.specs.Prelude.{◌≡◌, ◌+◌, ◌-◌, ◌*◌, ◌%◌, ◌^◌, ◌<◌, ◌≤◌, ◌⊎◌, ◌↔◌, ◌++◌, ℕ, List, length, take, drop, pos, negsuc};
+ghost use Rattle.std.specs.Prelude.{◌≡◌, ◌+◌, ◌-◌, ◌*◌, ◌%◌, ◌^◌, ◌<◌, ◌≤◌, ◌⊎◌, ◌↔◌, ◌++◌, ℕ, length, take, drop, pos, negsuc};
 ghost use Rattle.quic_base.specs.Codec.{NoFront, Takes};
 ghost use Rattle.quic_base.specs.Varint.{Encodes};
 ghost use Rattle.quic_crypto.specs.PacketNumbers.{Expands, SizeFor};

@@ -3,7 +3,7 @@ ghost use Rattle.std.specs.Prelude.{◌≡◌, ◌⊎◌, ◌↔◌, ◌<◌, �
 ghost use Rattle.quic_crypto.specs.Keys.{number_len};
 ghost use Rattle.quic_crypto.specs.PacketNumbers.{number_size};
 ghost use Rattle.quic_header_encode.specs.Storing.{with_len, TakesLen};
-ghost use Rattle.quic_c_headers.specs.Protecting.{masked};
+ghost use Rattle.quic_c_headers.specs.Protecting.{masked_packet};
 ghost use Rattle.quic_c_headers.specs.Unprotecting.{unmasked_first, unmasked_at, unmasked, GivesNumber, HasNumber, StandsAt};
 
 use quic_crypto::packet_number::PacketNumber;
@@ -111,7 +111,7 @@ pub extern "C" fn quic_wire_unprotect_(
 #[unsafe(no_mangle)]
 pub extern "C" fn quic_wire_protect_(packet: &mut [u8], place: usize, mask: &[u8; 5]) -> i32
     ensures answers { (result ≡ negsuc 2) ⊎ (result ≡ pos (number_len (slice_index packet.old 0))) }
-    ensures protected { (result ≡ negsuc 2) ⊎ (packet.new ≡ masked place mask.now packet.old) }
+    ensures protected { (result ≡ negsuc 2) ⊎ (packet.new ≡ masked_packet place mask.now packet.old) }
     ensures back { (result ≡ negsuc 2) ⊎ (unmasked place mask.now packet.new ≡ packet.old) }
     ensures short { (result ≡ negsuc 2) ↔ (HasNumber place (length packet.old) → ⊥) }
     ensures same { result ≡ negsuc 2 → packet.new ≡ packet.old }

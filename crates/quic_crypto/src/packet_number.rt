@@ -1,6 +1,6 @@
 //! Truncated packet numbers (RFC 9000, section 17.1).
 ghost use Rattle.std.specs.Prelude.{◌≡◌, ℕ, ◌+◌, ◌-◌, ◌*◌, ◌%◌, ◌^◌, ◌<◌, ◌≤◌, ◌++◌, length, IfOk, OnOk, OnErr};
-ghost use Rattle.quic_base.specs.Codec.{Takes, IsBegun, KeepsRoom};
+ghost use Rattle.quic_base.specs.Codec.{Takes, KeepsRoom};
 ghost use Rattle.quic_crypto.specs.PacketNumbers.{low_part, number_size, window_of, number_bytes, IsInRange, Expands, SizeFor, NumberAt};
 
 use bytes::{Buf, BufMut};

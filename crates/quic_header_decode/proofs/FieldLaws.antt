@@ -1,5 +1,5 @@
 -- The fields of a header: read as functions, and in the words of their encodings.
-use Rattle.std.specs.Prelude.{◌≡◌, ℕ, ◌+◌, ◌-◌, ◌<◌, ◌≤◌, ◌^◌, true, false, List, [], ◌∷◌, ◌++◌, length, take, drop, Option, Some, None, nat_lt, ◌||◌}
+use Rattle.std.specs.Prelude.{◌≡◌, ℕ, ◌+◌, ◌-◌, ◌<◌, ◌≤◌, ◌^◌, false, List, [], ◌∷◌, ◌++◌, length, take, drop, Option, Some, None, nat_lt, ◌||◌}
 use Rattle.std.proofs.Common.{sym, ap, subst, ◌∙◌, arith, refl, suc, inl, inr, length-append}
 use Rattle.std.proofs.lemmas.List.{take-append-drop, length-take}
 use Rattle.std.proofs.Math.Seq.{drop-append_seam, take-append_seam}
@@ -10,8 +10,8 @@ use Rattle.quic_base.specs.Varint.{Encodes}
 use Rattle.quic_base.specs.Reading.{number_at}
 use Rattle.quic_base.specs.ConnectionId.{IsLongId, long_id}
 use Rattle.quic_base.proofs.PublicLaws as law
-use Rattle.quic_header_decode.specs.Fields.{byte_at, word_at, long_id_at}
-use Rattle.quic_header_decode.proofs.Steps.{chosen, none_some, some_same, pair_parts, option_cases, otherwise, taken, some_pair, take_front, drop_front, some_none}
+use Rattle.quic_header_decode.specs.Fields.{word_at, long_id_at}
+use Rattle.quic_header_decode.proofs.Steps.{chosen, none_some, some_same, pair_parts, option_cases, otherwise, some_pair, take_front, drop_front}
 
 -- no front of the bytes is an id after its length
 abbrev pub NoId : List ℕ → Type 0

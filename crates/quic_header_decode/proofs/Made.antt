@@ -32,11 +32,11 @@ pub fixed_set : (context : DecodeOptions) (first : ℕ) → first / 64 % 2 ≡ 1
 fixed_set context first is = or_right context.grease (has_bit 0x40 first) (grind (arith, nat_tests))
 
 -- what is after the first byte
-abbrev behind : ℕ → List ℕ → List ℕ → List ℕ → List ℕ
-behind version dst src rest = bytes_of 4 version ++ (long_id dst ++ (long_id src ++ rest))
+abbrev after_first : ℕ → List ℕ → List ℕ → List ℕ → List ℕ
+after_first version dst src rest = bytes_of 4 version ++ (long_id dst ++ (long_id src ++ rest))
 
 -- a front and what follows it, part by part
-joined : (first version : ℕ) (dst src rest : List ℕ) → long_front first version dst src ++ rest ≡ first ∷ behind version dst src rest
+joined : (first version : ℕ) (dst src rest : List ℕ) → long_front first version dst src ++ rest ≡ first ∷ after_first version dst src rest
 joined first version dst src rest =
     append_assoc (first ∷ bytes_of 4 version) (long_id dst ++ long_id src) rest
     ∙ ap (λ (xs : List ℕ). (first ∷ bytes_of 4 version) ++ xs) (append_assoc (long_id dst) (long_id src) rest)
@@ -45,7 +45,7 @@ made : (context : DecodeOptions) (whole : ℕ) (bytes : List ℕ) (first version
     → LongStart context bytes first version dst src left → AreHeaderFields context (row_behind_ids first version) (id_values version dst src) values left rest
     → IsHeader whole first values h → HeaderAt context whole bytes h rest
 made context whole bytes first version dst src left rest values h start others is =
-    let text : List ℕ = behind version dst src left in
+    let text : List ℕ = after_first version dst src left in
     let ids : Ids text version dst src left =
     record { word = bytes_of 4 version; is_word = law.is_number_4 version start.range; dst_len = start.dst_len; src_len = start.src_len; text_is = refl } in
     let above : 128 ≤ first = start.long in

@@ -80,37 +80,37 @@ field_at context Token before bytes =
 field_at context Length before bytes = number_next bytes
 field_at context ShortId before bytes = context.parsed bytes >>= λ id. Ok (Bytes id.0 ∷ [], drop id.1 bytes)
 
-shown : (a c : List HeaderValue) (b d : List ℕ) → a ≡ c → b ≡ d → (let r : Result Taken Refusal = Ok (a, b) in r) ≡ Ok (c, d)
-shown a c b d e f =
+same_ok : (a c : List HeaderValue) (b d : List ℕ) → a ≡ c → b ≡ d → (let r : Result Taken Refusal = Ok (a, b) in r) ≡ Ok (c, d)
+same_ok a c b d e f =
     ap (λ (x : List HeaderValue). let r : Result Taken Refusal = Ok (x, b) in r) e ∙ ap (λ (y : List ℕ). let r : Result Taken Refusal = Ok (c, y) in r) f
 
 -- a field that comes first is read
 
 id_next_again : (values : List HeaderValue) (front rest id : List ℕ) → values ≡ Bytes id ∷ [] → length id ≤ 20 → front ≡ length id ∷ id → id_next (front ++ rest) ≡ Ok (values, rest)
 id_next_again values front rest id is short text =
-    then_ok _ _ (id, rest) _ (some_of _ bad_id _ (ap (λ (xs : List ℕ). long_id_at (xs ++ rest)) text ∙ id_again id rest short)) (shown _ values rest rest (sym is) refl)
+    then_ok _ _ (id, rest) _ (some_of _ bad_id _ (ap (λ (xs : List ℕ). long_id_at (xs ++ rest)) text ∙ id_again id rest short)) (same_ok _ values rest rest (sym is) refl)
 
 field_again : (context : DecodeOptions) (field : HeaderField) (before values : List HeaderValue) (front rest : List ℕ)
     → IsHeaderField context field before values front rest → field_at context field before (front ++ rest) ≡ Ok (values, rest)
 field_again context Version before values front rest d =
-    then_ok _ _ (d.0, rest) _ (some_of _ at_end _ (word_of front rest d.0 d.2.width d.2.value)) (shown _ values rest rest (sym d.1) refl)
+    then_ok _ _ (d.0, rest) _ (some_of _ at_end _ (word_of front rest d.0 d.2.width d.2.value)) (same_ok _ values rest rest (sym d.1) refl)
 field_again context DestinationId before values front rest d = id_next_again values front rest d.0 d.1 d.2 d.3
 field_again context SourceId before values front rest d = id_next_again values front rest d.0 d.1 d.2 d.3
 field_again context (Supported version) before values front rest d =
-    otherwise _ _ _ _ (known_again context.versions version d.2) (shown [] values (front ++ rest) rest (sym d.0) (ap (λ (xs : List ℕ). xs ++ rest) d.1))
+    otherwise _ _ _ _ (known_again context.versions version d.2) (same_ok [] values (front ++ rest) rest (sym d.0) (ap (λ (xs : List ℕ). xs ++ rest) d.1))
 field_again context TokenLength before values front rest d =
-    then_ok _ _ (d.0, rest) _ (some_of _ at_end _ (var_again d.0 front rest d.2)) (shown _ values rest rest (sym d.1) refl)
+    then_ok _ _ (d.0, rest) _ (some_of _ at_end _ (var_again d.0 front rest d.2)) (same_ok _ values rest rest (sym d.1) refl)
 field_again context Token before values front rest d =
     let count : ℕ = token_length_of before in
     let long : length (front ++ rest) ≡ length front + length rest = length-append front rest in
     let width : length front ≡ count = d.1 in
     let test : nat_lt (length (front ++ rest)) count ≡ false = grind (arith, nat_tests) in
     let left : drop count (front ++ rest) ≡ rest = drop_front front rest count width in
-    otherwise _ _ _ _ test (shown _ values _ rest (ap (λ (xs : List ℕ). Number (length xs) ∷ []) left ∙ sym d.0) left)
+    otherwise _ _ _ _ test (same_ok _ values _ rest (ap (λ (xs : List ℕ). Number (length xs) ∷ []) left ∙ sym d.0) left)
 field_again context Length before values front rest d =
-    then_ok _ _ (d.0, rest) _ (some_of _ at_end _ (var_again d.0 front rest d.2)) (shown _ values rest rest (sym d.1) refl)
+    then_ok _ _ (d.0, rest) _ (some_of _ at_end _ (var_again d.0 front rest d.2)) (same_ok _ values rest rest (sym d.1) refl)
 field_again context ShortId before values front rest d =
-    then_ok _ _ (d.0, length front) _ d.2 (shown _ values _ rest (sym d.1) (drop_front front rest (length front) refl))
+    then_ok _ _ (d.0, length front) _ d.2 (same_ok _ values _ rest (sym d.1) (drop_front front rest (length front) refl))
 
 -- and a field that is read comes first
 

@@ -200,8 +200,8 @@ typed_reported kind.Initial whole dst src version bytes s d v e = elim (bind_err
 ]
 
 -- the ids of an unknown version after the first byte
-abbrev Behind : List ℕ → List ℕ → ℕ → List ℕ → List ℕ → Type 0
-Behind versions text version dst src =
+abbrev HasUnknownIds : List ℕ → List ℕ → ℕ → List ℕ → List ℕ → Type 0
+HasUnknownIds versions text version dst src =
     (number : List ℕ) × (rest : List ℕ) × (text ≡ number ++ (long_id dst ++ (long_id src ++ rest))) × IsNumber 4 version number × (version ≢ 0)
     × (Contains versions version → ⊥)
 
@@ -209,14 +209,14 @@ named : (src s dst d : List ℕ) (version v : ℕ) → (let r : Read = Err (Unsu
 named src s dst d version v e = (cc, cc, cc)
 
 unknown_behind : (versions text src s dst d : List ℕ) (version v : ℕ) → (let r : Read = Err (Unsupported s d v) in r) ≡ Err (Unsupported src dst version)
-    → Behind versions text v d s → Behind versions text version dst src
+    → HasUnknownIds versions text v d s → HasUnknownIds versions text version dst src
 unknown_behind versions text src s dst d version v e h =
     let names = named src s dst d version v e in
-    subst (λ (n : ℕ). Behind versions text n dst src) names.2
-    (subst (λ (x : List ℕ). Behind versions text v x src) names.1 (subst (λ (x : List ℕ). Behind versions text v d x) names.0 h))
+    subst (λ (n : ℕ). HasUnknownIds versions text n dst src) names.2
+    (subst (λ (x : List ℕ). HasUnknownIds versions text v x src) names.1 (subst (λ (x : List ℕ). HasUnknownIds versions text v d x) names.0 h))
 
 wide_unknown : (versions : List ℕ) (whole first : ℕ) (text src dst : List ℕ) (version : ℕ) → AreBytes text
-    → wide_at versions whole first text ≡ Err (Unsupported src dst version) → Behind versions text version dst src
+    → wide_at versions whole first text ≡ Err (Unsupported src dst version) → HasUnknownIds versions text version dst src
 unfolding wide_at
 wide_unknown versions whole first text src dst version fits e = elim (bind_err (ok_or (word_at text) at_end) _ (Unsupported src dst version) e) [
   | inl bad ↦ absurd (let end = (option_err (word_at text) at_end (Unsupported src dst version) bad).1 in cc)
@@ -255,7 +255,7 @@ wide_unknown versions whole first text src dst version fits e = elim (bind_err (
       ]
 ]
 
-unknown_again : (versions : List ℕ) (whole first : ℕ) (text src dst : List ℕ) (version : ℕ) → Behind versions text version dst src
+unknown_again : (versions : List ℕ) (whole first : ℕ) (text src dst : List ℕ) (version : ℕ) → HasUnknownIds versions text version dst src
     → wide_at versions whole first text ≡ Err (Unsupported src dst version)
 unfolding wide_at
 unknown_again versions whole first text src dst version (number, rest, split, is, some, none) =

@@ -1,5 +1,5 @@
 -- Which bytes are the header of a packet, and why others aren't (RFC 9000, section 17).
-use Rattle.std.specs.Prelude.{◌≡◌, ◌≢◌, ℕ, ◌+◌, ◌/◌, ◌%◌, ◌<◌, ◌≤◌, ◌⊎◌, Bool, true, false, List, [], ◌∷◌, ◌++◌, length, take, Result, Some, Ok, Err, Contains, nat_le, ◌==◌, ◌||◌, if◌then◌else◌, MatchOption, codes}
+use Rattle.std.specs.Prelude.{◌≡◌, ◌≢◌, ℕ, ◌+◌, ◌<◌, ◌≤◌, ◌⊎◌, Bool, true, false, List, [], ◌∷◌, ◌++◌, length, take, Result, Some, Ok, Err, Contains, nat_le, ◌==◌, ◌||◌, if◌then◌else◌, MatchOption, codes}
 use Rattle.quic_base.specs.Number.{has_bit, IsNumber, num}
 use Rattle.quic_base.specs.Varint.{Encodes}
 use Rattle.quic_base.specs.ConnectionId.{long_id}
@@ -131,27 +131,27 @@ StopsWithinRow context (field ∷ fields) before bytes e =
 -- ---- headers
 
 -- The header that a first byte and the values of its row say. The spin bit is 0x20 (section 17.3.1). Places are counted
--- from the end of whole bytes.
+-- from the end of the datagram, of this length.
 abbrev pub IsHeader : ℕ → ℕ → List HeaderValue → ProtectedHeader → Type 0
-IsHeader whole first values (head.Short spin dst) =
+IsHeader datagram_len first values (head.Short spin dst) =
     (is_long first ≡ false) × (spin ≡ has_bit 0x20 first) × (values ≡ Bytes dst ∷ [])
-IsHeader whole first values (head.VersionNegotiate random dst src) =
+IsHeader datagram_len first values (head.VersionNegotiate random dst src) =
     (first ≡ 0x80 + random) × (values ≡ Number 0 ∷ Bytes dst ∷ Bytes src ∷ [])
-IsHeader whole first values (head.Retry dst src version) =
+IsHeader datagram_len first values (head.Retry dst src version) =
     (version ≢ 0) × (long_type version first ≡ kind.Retry) × (values ≡ Number version ∷ Bytes dst ∷ Bytes src ∷ [])
-IsHeader whole first values (head.Long ty dst src len version) =
+IsHeader datagram_len first values (head.Long ty dst src len version) =
     (long_type version first ≡ kind.Standard ty) × (values ≡ Number version ∷ Bytes dst ∷ Bytes src ∷ Number len ∷ [])
-IsHeader whole first values (head.Initial h) =
-    (count left : ℕ) × (h.token_pos.start + count ≡ h.token_pos.end) × (h.token_pos.end + left ≡ whole)
+IsHeader datagram_len first values (head.Initial h) =
+    (count left : ℕ) × (h.token_pos.start + count ≡ h.token_pos.end) × (h.token_pos.end + left ≡ datagram_len)
     × (values ≡ Number h.version ∷ Bytes h.dst_cid ∷ Bytes h.src_cid ∷ Number count ∷ Number left ∷ Number h.len ∷ [])
 
 -- The bytes begin with this header, and rest follows it.
 abbrev pub HeaderAt : DecodeOptions → ℕ → List ℕ → ProtectedHeader → List ℕ → Type 0
-HeaderAt context whole bytes h rest =
+HeaderAt context datagram_len bytes h rest =
     (first : ℕ) × (text : List ℕ) × (values : List HeaderValue) × (bytes ≡ first ∷ text)
     × (is_fixed context first ≡ true)
     × AreHeaderFields context (header_row_of first (num (take 4 text))) [] values text rest
-    × IsHeader whole first values h
+    × IsHeader datagram_len first values h
 
 -- The bytes begin with no header, and this is the refusal: of the first byte, or of the first field that is not there.
 abbrev pub Refused : DecodeOptions → List ℕ → Refusal → Type 0
@@ -162,8 +162,8 @@ Refused context (first ∷ text) e =
 
 -- the bytes begin with this header, which these bytes follow, or are refused with this error
 abbrev pub HeaderAnswer : DecodeOptions → ℕ → List ℕ → Result (ProtectedHeader × List ℕ) Refusal → Type 0
-HeaderAnswer context whole bytes (Ok found) = HeaderAt context whole bytes found.0 found.1
-HeaderAnswer context whole bytes (Err e) = Refused context bytes e
+HeaderAnswer context datagram_len bytes (Ok found) = HeaderAt context datagram_len bytes found.0 found.1
+HeaderAnswer context datagram_len bytes (Err e) = Refused context bytes e
 
 -- a version whose headers are read further than their ids
 abbrev pub IsKnownVersion : DecodeOptions → ℕ → Type 0

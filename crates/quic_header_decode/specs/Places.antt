@@ -98,40 +98,40 @@ ArePlaces kind.Short x = (1 + x.dst_len ≡ x.header_end) × (x.src_len ≡ 0) �
 ArePlaces kind.VersionNegotiate x = (ids_end x ≡ x.header_end) × IsNowhere x.token × (x.len ≡ 0) × (x.version ≡ 0)
 
 -- The fields are within the header, and the header within so many bytes.
-pub record ArePlacesWithin (x : HeaderPlaces) (whole : ℕ) : Type 0 where
+pub record ArePlacesWithin (x : HeaderPlaces) (datagram_len : ℕ) : Type 0 where
   pub fields : ArePlaces x.kind x
   pub dst_few : x.dst_len ≤ 20
   pub src_few : x.src_len ≤ 20
   pub token_order : x.token.start ≤ x.token.end
   pub token_within : x.token.end ≤ x.header_end
   pub first : 0 < x.header_end
-  pub head : x.header_end ≤ whole
+  pub head : x.header_end ≤ datagram_len
 
 -- what a long header has before its type's fields
-pub record IsLongFront (x : HeaderPlaces) (whole : ℕ) : Type 0 where
+pub record IsLongFront (x : HeaderPlaces) (datagram_len : ℕ) : Type 0 where
   pub ids : ids_end x ≡ x.header_end
   pub dst_few : x.dst_len ≤ 20
   pub src_few : x.src_len ≤ 20
   pub start : x.token.start ≡ 0
   pub end : x.token.end ≡ 0
   pub len : x.len ≡ 0
-  pub head : x.header_end ≤ whole
+  pub head : x.header_end ≤ datagram_len
 
 -- the ids of an unknown version are within so many bytes
 abbrev pub IsSeen : Result HeaderPlaces ReadError → ℕ → Type 0
-IsSeen (Ok x) whole = ArePlacesWithin x whole
-IsSeen (Err (error.UnsupportedVersion version dst_len src_len)) whole = (dst_len ≤ 255) × (src_len ≤ 255)
-    × (6 + dst_len + 1 + src_len ≤ whole)
-IsSeen (Err error.UnexpectedEnd) whole = Unit {0}
-IsSeen (Err error.SmallPacket) whole = Unit {0}
-IsSeen (Err error.MalformedCid) whole = Unit {0}
-IsSeen (Err error.TokenOutOfBounds) whole = Unit {0}
+IsSeen (Ok x) datagram_len = ArePlacesWithin x datagram_len
+IsSeen (Err (error.UnsupportedVersion version dst_len src_len)) datagram_len = (dst_len ≤ 255) × (src_len ≤ 255)
+    × (6 + dst_len + 1 + src_len ≤ datagram_len)
+IsSeen (Err error.UnexpectedEnd) datagram_len = Unit {0}
+IsSeen (Err error.SmallPacket) datagram_len = Unit {0}
+IsSeen (Err error.MalformedCid) datagram_len = Unit {0}
+IsSeen (Err error.TokenOutOfBounds) datagram_len = Unit {0}
 
 -- where a packet ends in so many bytes
 abbrev pub ends_at : HeaderPlaces → ℕ → Option ℕ
-ends_at x whole =
-    if carries_length x.kind then (if nat_lt whole (x.header_end + x.len) then None else Some (x.header_end + x.len))
-    else Some whole
+ends_at x datagram_len =
+    if carries_length x.kind then (if nat_lt datagram_len (x.header_end + x.len) then None else Some (x.header_end + x.len))
+    else Some datagram_len
 
 -- ---- which bytes these are
 

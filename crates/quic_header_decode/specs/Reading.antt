@@ -31,15 +31,15 @@ abbrev pub bad_id : Refusal
 bad_id = Invalid (codes "malformed cid")
 
 unfoldable pub typed_at : LongHeaderType → ℕ → List ℕ → List ℕ → ℕ → List ℕ → Result (ProtectedHeader × List ℕ) Refusal
-typed_at kind.Retry whole dst src version bytes = Ok (head.Retry dst src version, bytes)
-typed_at (kind.Standard ty) whole dst src version bytes = do
+typed_at kind.Retry datagram_len dst src version bytes = Ok (head.Retry dst src version, bytes)
+typed_at (kind.Standard ty) datagram_len dst src version bytes = do
   len ← ok_or (number_at bytes) at_end
   Ok (head.Long ty dst src len.0 version, len.1)
-typed_at kind.Initial whole dst src version bytes = do
+typed_at kind.Initial datagram_len dst src version bytes = do
   token ← ok_or (number_at bytes) at_end
   if nat_lt (length token.1) token.0 then Err (Invalid (codes "token out of bounds"))
       else (ok_or (number_at (drop token.0 token.1)) at_end >>= λ len.
-      let start = whole - length token.1 in
+      let start = datagram_len - length token.1 in
       Ok (
         head.Initial (record {
           dst_cid = dst;
@@ -53,17 +53,17 @@ typed_at kind.Initial whole dst src version bytes = do
       ))
 
 unfoldable pub long_at : List ℕ → ℕ → ℕ → List ℕ → Result (ProtectedHeader × List ℕ) Refusal
-long_at versions whole first bytes = do
+long_at versions datagram_len first bytes = do
   version ← ok_or (word_at bytes) at_end
   dst ← ok_or (long_id_at version.1) bad_id
   src ← ok_or (long_id_at dst.1) bad_id
   if nat_eq version.0 0 then Ok (head.VersionNegotiate (first - 128) dst.0 src.0, src.1)
       else (if not (list_any (λ known. nat_eq known version.0) versions) then Err (Unsupported src.0 dst.0 version.0)
-      else typed_at (long_type version.0 first) whole dst.0 src.0 version.0 src.1)
+      else typed_at (long_type version.0 first) datagram_len dst.0 src.0 version.0 src.1)
 
 -- a long header whose ids may be longer, where its version isn't known
 unfoldable pub wide_at : List ℕ → ℕ → ℕ → List ℕ → Result (ProtectedHeader × List ℕ) Refusal
-wide_at versions whole first bytes = do
+wide_at versions datagram_len first bytes = do
   version ← ok_or (word_at bytes) at_end
   dst ← ok_or (wide_id_at version.1) bad_id
   src ← ok_or (wide_id_at dst.1) bad_id
@@ -71,23 +71,23 @@ wide_at versions whole first bytes = do
       then Err (Unsupported src.0 dst.0 version.0)
       else (if nat_lt 20 (length dst.0) || nat_lt 20 (length src.0) then Err bad_id
       else (if nat_eq version.0 0 then Ok (head.VersionNegotiate (first - 128) dst.0 src.0, src.1)
-      else typed_at (long_type version.0 first) whole dst.0 src.0 version.0 src.1))
+      else typed_at (long_type version.0 first) datagram_len dst.0 src.0 version.0 src.1))
 
 unfoldable pub header_at : DecodeOptions → ℕ → List ℕ → Result (ProtectedHeader × List ℕ) Refusal
-header_at context whole bytes = do
+header_at context datagram_len bytes = do
   first ← ok_or (byte_at bytes) at_end
   if not context.grease && nat_eq (first.0 / 64 % 2) 0 then Err (Invalid (codes "fixed bit unset"))
       else (if nat_lt first.0 128
       then (context.parsed first.1 >>= λ id. Ok (head.Short (nat_eq (first.0 / 32 % 2) 1) id.0, drop id.1 first.1))
-      else long_at context.versions whole first.0 first.1)
+      else long_at context.versions datagram_len first.0 first.1)
 
 -- a header whose fixed bit isn't checked, with ids of so many bytes in short ones, and of any length in long ones
 unfoldable pub wide_header_at : ℕ → List ℕ → ℕ → List ℕ → Result (ProtectedHeader × List ℕ) Refusal
-wide_header_at id_len versions whole bytes = do
+wide_header_at id_len versions datagram_len bytes = do
   first ← ok_or (byte_at bytes) at_end
   if nat_lt first.0 128
       then (fixed_parsed id_len first.1 >>= λ id. Ok (head.Short (nat_eq (first.0 / 32 % 2) 1) id.0, drop id.1 first.1))
-      else wide_at versions whole first.0 first.1
+      else wide_at versions datagram_len first.0 first.1
 
 -- the length that a header says
 abbrev pub len_in : ProtectedHeader → Option ℕ

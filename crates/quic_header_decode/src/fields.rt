@@ -1,5 +1,5 @@
 //! The fields of headers, read from bytes at a place, which moves to the end of what was read.
-ghost use Rattle.std.specs.Prelude.{◌≡◌, ◌+◌, ◌<◌, ◌≤◌, Some, None, drop, length, slice_range, IfSome, MatchOption};
+ghost use Rattle.std.specs.Prelude.{◌≡◌, ◌+◌, ◌<◌, ◌≤◌, Some, None, drop, length, IfSome, MatchOption};
 ghost use Rattle.quic_base.specs.Number.{AreBytes};
 ghost use Rattle.quic_base.specs.Reading.{number_at};
 ghost use Rattle.quic_header_decode.specs.Fields.{Reads, word_at, long_id_at};

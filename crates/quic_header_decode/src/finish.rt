@@ -1,5 +1,5 @@
 //! Takes the protection off headers (RFC 9001, section 5.4).
-ghost use Rattle.std.specs.Prelude.{◌≡◌, ◌≤◌, ◌<◌, ◌++◌, length, take, drop, IfOk, IfErr, IsTrue, IsSome, IfSome, true, false, slice_range};
+ghost use Rattle.std.specs.Prelude.{◌≡◌, ◌≤◌, ◌<◌, ◌/◌, ◌%◌, ◌++◌, length, take, drop, IfOk, IfErr, IsTrue, IsSome, IfSome, true, false, nat_eq, slice_index, slice_range};
 ghost use Rattle.quic_crypto.specs.Keys.{HasSample};
 ghost use Rattle.quic_header_decode.specs.Finish.{sample_refusal, IsUnfinished, IsNumberIn};
 ghost use Rattle.quic_header_decode.specs.Headers.{is_protected, IsOpened, IsOpenedBy};
@@ -10,9 +10,11 @@ use crate::decode_error::PacketDecodeError;
 use crate::packet::Packet;
 use crate::protected::{ProtectedHeader, ProtectedInitialHeader};
 use bytes::{Bytes, BytesMut};
+use quic_base::ids::ConnectionId;
 use quic_crypto::crypto::HeaderKey;
 use quic_crypto::packet_number::PacketNumber;
 use quic_header_encode::header::{Header, InitialHeader};
+use quic_header_encode::long_type::LongType;
 
 impl PartialDecode {
     /// Takes the protection off the packet's header, and cuts the packet after the header, which ends with the packet
@@ -85,29 +87,9 @@ impl PartialDecode {
                 src_cid,
                 len: _,
                 version,
-            } => finish_with(
-                packet,
-                end,
-                Header::Long {
-                    ty,
-                    dst_cid,
-                    src_cid,
-                    number,
-                    version,
-                },
-            ),
+            } => finish_long(packet, end, ty, dst_cid, src_cid, number, version),
             ProtectedHeader::Short { spin, dst_cid } => {
-                let key_phase = packet.as_slice()[0] / 4 % 2 == 1;
-                finish_with(
-                    packet,
-                    end,
-                    Header::Short {
-                        spin,
-                        key_phase,
-                        dst_cid,
-                        number,
-                    },
-                )
+                finish_short(packet, end, spin, dst_cid, number)
             }
             _ => unreachable!(),
         }
@@ -219,6 +201,60 @@ fn split_header(mut packet: BytesMut, end: usize) -> Result<(Bytes, BytesMut), P
         Ok(head) => Ok((head, packet)),
         Err(_) => Err(PacketDecodeError::OutOfMemory),
     }
+}
+
+// A Handshake or 0-RTT packet.
+#[inline(always)]
+fn finish_long(
+    packet: BytesMut,
+    end: usize,
+    ty: LongType,
+    dst_cid: ConnectionId,
+    src_cid: ConnectionId,
+    number: PacketNumber,
+    version: u32,
+) -> Result<Packet, PacketDecodeError>
+    requires { end ≤ length packet.items }
+    ensures header { IfOk result (λ x. x.header ≡ Header.Long ty dst_cid src_cid number version) }
+    ensures whole { IfOk result (λ x. x.header_data ++ x.payload.items ≡ packet.items) }
+    ensures len { IfOk result (λ x. length x.header_data ≡ end) }
+    ensures err { IfErr result (λ e. refusal_of e ≡ NoMemory) }
+{
+    let header = Header::Long {
+        ty,
+        dst_cid,
+        src_cid,
+        number,
+        version,
+    };
+    finish_with(packet, end, header)
+}
+
+// A 1-RTT packet, whose key phase is in its first byte.
+#[inline(always)]
+fn finish_short(
+    packet: BytesMut,
+    end: usize,
+    spin: bool,
+    dst_cid: ConnectionId,
+    number: PacketNumber,
+) -> Result<Packet, PacketDecodeError>
+    requires some { 0 < length packet.items }
+    requires room { end ≤ length packet.items }
+    ensures header { IfOk result (λ x. x.header
+        ≡ Header.Short spin (nat_eq (slice_index packet.items 0 / 4 % 2) 1) dst_cid number) }
+    ensures whole { IfOk result (λ x. x.header_data ++ x.payload.items ≡ packet.items) }
+    ensures len { IfOk result (λ x. length x.header_data ≡ end) }
+    ensures err { IfErr result (λ e. refusal_of e ≡ NoMemory) }
+{
+    let key_phase = packet.as_slice()[0] / 4 % 2 == 1;
+    let header = Header::Short {
+        spin,
+        key_phase,
+        dst_cid,
+        number,
+    };
+    finish_with(packet, end, header)
 }
 
 // An Initial packet, whose token is a part of its header.

@@ -1,6 +1,6 @@
 -- Headers as they are written over bytes: what a header says, with a first byte whose fixed bit may be clear (RFC
 -- 9287), and with as many zeros in place of its length as are asked for.
-use Rattle.std.specs.Prelude.{◌≡◌, ℕ, ◌+◌, ◌-◌, ◌*◌, ◌/◌, ◌%◌, ◌<◌, ◌≤◌, ◌^◌, ◌⊎◌, Bool, true, false, List, [], ◌∷◌, ◌++◌, length, take, drop, replicate, ◌==◌, if◌then◌else◌}
+use Rattle.std.specs.Prelude.{◌≡◌, ℕ, ◌+◌, ◌-◌, ◌*◌, ◌%◌, ◌<◌, ◌≤◌, ◌^◌, ◌⊎◌, Bool, true, false, List, [], ◌∷◌, ◌++◌, length, take, drop, replicate, ◌==◌, if◌then◌else◌}
 use Rattle.quic_base.specs.Number.{has_bit, bytes_of}
 use Rattle.quic_base.specs.Varint.{shortest_varint, size}
 use Rattle.quic_crypto.specs.declared.packet_number.PacketNumber.{PacketNumber}

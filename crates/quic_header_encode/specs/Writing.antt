@@ -24,9 +24,9 @@ long_first version ty count = first_byte version ty + (count - 1)
 abbrev pub no_length : List ℕ
 no_length = 0 ∷ 0 ∷ []
 
--- a bit of a first byte
-abbrev pub bit : Bool → ℕ → ℕ
-bit b n = if b then n else 0
+-- the value of a bit of a first byte, by whether it is set
+abbrev pub bit_value : Bool → ℕ → ℕ
+bit_value is_set n = if is_set then n else 0
 
 -- the fields of a header before its length and its number
 abbrev pub header_front : Header → List ℕ
@@ -36,7 +36,7 @@ header_front (header.Initial h) =
 header_front (header.Long ty dst src number version) = long_front
     (long_first version (kind.Standard ty) (number_size number)) version dst src
 header_front (header.Retry dst src version) = long_front (first_byte version kind.Retry) version dst src
-header_front (header.Short spin key_phase dst number) = (64 + bit spin 32 + bit key_phase 4 + (number_size number - 1))
+header_front (header.Short spin key_phase dst number) = (64 + bit_value spin 32 + bit_value key_phase 4 + (number_size number - 1))
     ∷ dst
 header_front (header.VersionNegotiate random src dst) = long_front (bit_or 128 random) 0 dst src
 

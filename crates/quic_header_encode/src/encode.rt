@@ -5,7 +5,7 @@ ghost use Rattle.quic_crypto.specs.PacketNumbers.{IsInRange};
 ghost use Rattle.quic_header_encode.specs.declared.header.Header.TheVariants as header;
 ghost use Rattle.quic_header_encode.specs.declared.long_type.LongHeaderType.TheVariants as kind;
 ghost use Rattle.quic_header_encode.specs.Storing.{kind_of, stored_bytes, stored_len, padded_id, padded_room, HasStoreRoom, IsStorable, IsShortToken, StoresHeader};
-ghost use Rattle.quic_header_encode.specs.Writing.{bit, header_size, place_in, header_bytes, AppendsHeader, IsWritable, size_in, has_length, finished, HasRoom};
+ghost use Rattle.quic_header_encode.specs.Writing.{bit_value, header_size, place_in, header_bytes, AppendsHeader, IsWritable, size_in, has_length, finished, HasRoom};
 
 use crate::header::{Header, InitialHeader};
 use crate::long_type::{HeaderKind, LongType};
@@ -25,19 +25,6 @@ pub struct PartialEncode {
     /// How many bytes the packet number has, which ends the header, and whether the header has a length, which comes
     /// before the number; `None` for Retry and version negotiation.
     pub pn: Option<(usize, bool)>,
-}
-
-// Appends bytes for which there is room.
-pub(crate) fn append(out: &mut Vec<u8>, bytes: &[u8])
-    requires { vec_len out.old + length bytes.now ≤ vec_capacity out.old }
-    ensures items { out.new.items ≡ out.old.items ++ bytes.now }
-    ensures len { vec_len out.new ≡ vec_len out.old + length bytes.now }
-    ensures capacity { vec_capacity out.old ≤ vec_capacity out.new }
-{
-    match out.extend_from_slice(bytes) {
-        Ok(()) => (),
-        Err(_) => unreachable!(),
-    }
 }
 
 // How many bytes of room suffice for a short header, for a long one without a token, and for an Initial one whose token
@@ -77,7 +64,9 @@ fn put<const ROOM: usize>(head: HeaderRef<'_, Padded<'_>>, out: &mut Vec<u8>) ->
         return false;
     }
     let begin = out.len();
-    append(out, &[0; ROOM]);
+    let Ok(()) = out.extend_from_slice(&[0; ROOM]) else {
+        unreachable!()
+    };
     let len = head.store::<true>(&mut out.as_mut_slice()[begin..]);
     out.truncate(begin + len);
     true
@@ -107,7 +96,7 @@ fn long_kind(ty: LongType) -> HeaderKind
 // The bits of a short header's first byte other than its number length.
 #[inline(always)]
 fn short_first(spin: bool, key_phase: bool) -> u8
-    ensures value { result ≡ 64 + bit spin 32 + bit key_phase 4 }
+    ensures value { result ≡ 64 + bit_value spin 32 + bit_value key_phase 4 }
     ensures few { result ≤ 100 }
 {
     let spin = if spin { 0x20 } else { 0 };
@@ -183,6 +172,48 @@ fn short_ref<'a>(
     }
 }
 
+// The header of a Retry packet.
+#[inline(always)]
+fn retry_ref<'a>(
+    version: u32,
+    dst_cid: &'a ConnectionId,
+    src_cid: &'a ConnectionId,
+) -> HeaderRef<'a, Padded<'a>>
+    ensures { StoresHeader padded_id result (header.Retry dst_cid.now src_cid.now version) }
+{
+    HeaderRef {
+        kind: HeaderKind::Retry,
+        first: LONG_FIRST,
+        version,
+        dst_cid: padded(dst_cid),
+        src_cid: padded(src_cid),
+        token: &[],
+        number: &NO_NUMBER,
+        length_len: 2,
+    }
+}
+
+// The header of a version negotiation.
+#[inline(always)]
+fn negotiation_ref<'a>(
+    random: u8,
+    dst_cid: &'a ConnectionId,
+    src_cid: &'a ConnectionId,
+) -> HeaderRef<'a, Padded<'a>>
+    ensures { StoresHeader padded_id result (header.VersionNegotiate random src_cid.now dst_cid.now) }
+{
+    HeaderRef {
+        kind: HeaderKind::VersionNegotiate,
+        first: 0x80 | random,
+        version: 0,
+        dst_cid: padded(dst_cid),
+        src_cid: padded(src_cid),
+        token: &[],
+        number: &NO_NUMBER,
+        length_len: 2,
+    }
+}
+
 impl Header {
     // The same header, with ids and a token that are borrowed.
     fn borrowed(&self) -> HeaderRef<'_, Padded<'_>>
@@ -202,16 +233,7 @@ impl Header {
                 dst_cid,
                 src_cid,
                 version,
-            } => HeaderRef {
-                kind: HeaderKind::Retry,
-                first: LONG_FIRST,
-                version: *version,
-                dst_cid: padded(dst_cid),
-                src_cid: padded(src_cid),
-                token: &[],
-                number: &NO_NUMBER,
-                length_len: 2,
-            },
+            } => retry_ref(*version, dst_cid, src_cid),
             Self::Short {
                 spin,
                 key_phase,
@@ -222,16 +244,7 @@ impl Header {
                 random,
                 src_cid,
                 dst_cid,
-            } => HeaderRef {
-                kind: HeaderKind::VersionNegotiate,
-                first: 0x80 | *random,
-                version: 0,
-                dst_cid: padded(dst_cid),
-                src_cid: padded(src_cid),
-                token: &[],
-                number: &NO_NUMBER,
-                length_len: 2,
-            },
+            } => negotiation_ref(*random, dst_cid, src_cid),
         }
     }
 

@@ -1,7 +1,7 @@
 -- What was sealed is cut and opened.
 use Rattle.std.specs.Prelude.{◌≡◌, ℕ, ◌+◌, ◌/◌, ◌%◌, ◌<◌, ◌^◌, true, List, [], ◌∷◌, ◌++◌, length, take, drop, Some, MatchOption, nat_lt, slice_range}
 use Rattle.std.proofs.Common.{sym, ap, ◌∙◌, arith, refl, subst, get_or, length-append}
-use Rattle.quic_base.specs.Number.{AreBytes}
+use Rattle.quic_base.specs.Number.{AreBytes, num, bytes_of}
 use Rattle.quic_crypto.specs.Keys.{HasSample, Protects, first_unit}
 use Rattle.quic_crypto.specs.declared.packet_number.PacketNumber.{PacketNumber}
 use Rattle.quic_crypto.specs.declared.packet_number.PacketNumber.TheVariants.{U8, U16, U24, U32}
@@ -16,7 +16,6 @@ use Rattle.quic_header_decode.specs.Headers.{IsOpenedBy}
 use Rattle.quic_packets.proofs.Sealings.{middle, number_length}
 use Rattle.quic_packets.proofs.Parts.{same_front, number_same}
 use Rattle.quic_header_decode.proofs.Steps.{take_front, drop_front}
-use Rattle.quic_base.specs.Number.{num, bytes_of}
 use Rattle.quic_base.proofs.PublicLaws as law
 
 -- the keys that open are those that sealed

@@ -18,11 +18,36 @@ use Rattle.quic_header_decode.specs.Grammar.{Cut, CutAnswer, Uncut}
 use Rattle.quic_header_decode.specs.Reading.{DecodeOptions, IsRest}
 use Rattle.quic_header_decode.specs.Headers.{IsOpenedBy}
 use Rattle.quic_header_decode.specs.Packet.{CutPacket}
+use Rattle.quic_header_decode.specs.Queries.{space_of}
 use Rattle.quic_header_encode.specs.Queries.{space_in}
 use Rattle.quic_header_encode.specs.Writing.{header_size, size_in}
 use Rattle.quic_packets.specs.Pairs.{IsLawful, KeyPair}
 use Rattle.quic_packets.specs.Sealing.{PacketContents, Sealed, plain_packet, sealed_header, protected_len}
-use Rattle.quic_packets.specs.Opening.{PacketAnswer, BeginsSealed, CutsFirst, ExpandsIn, IsDecode, IsReadBack, OpenedPacket, Opening, Opens, OpensFirst, OpensPacket, OpensPlain, OpensWithKey, Refuses, RefusesPacket, RefusesWithKey, ReturnsSealed, UnlockedPacket, Unlocks, packet_of, payload_opened, returned, returned_by}
+use Rattle.quic_packets.specs.Opening.{
+  PacketAnswer,
+  BeginsSealed,
+  CutsFirst,
+  ExpandsIn,
+  IsDecode,
+  IsReadBack,
+  OpenedPacket,
+  Opening,
+  Opens,
+  OpensFirst,
+  OpensPacket,
+  OpensPlain,
+  OpensWithKey,
+  Refuses,
+  RefusesPacket,
+  RefusesWithKey,
+  ReturnsSealed,
+  UnlockedPacket,
+  Unlocks,
+  packet_of,
+  payload_opened,
+  returned,
+  returned_by,
+}
 use Rattle.quic_packets.proofs.Sealings.{header_length}
 use Rattle.quic_packets.proofs.Parts.{expands_same}
 use Rattle.quic_packets.proofs.Opened.{Lawful, front_bytes, cut_same}
@@ -184,6 +209,29 @@ packet_refuses opening contents packet rest given found e part =
     let cut : CutPacket = sealed_cut found.cut.0 contents packet in
     key_refuses (opening.keys (space_in contents.header)) opening.options (opening.expected (space_in contents.header)) contents packet rest given found e
     (subst (λ (o : Option SpaceId). MatchOption o (e ≡ error.OutOfMemory) (λ space. RefusesWithKey (opening.keys space) (opening.expected space) cut e)) found.cut.2 part)
+
+-- what is cut of bytes that begin with a sealed packet is that packet
+cut_of_sealed : (opening : Opening) (bytes : List ℕ) (contents : PacketContents) (rest : List ℕ) → IsLawful (opening.keys (space_in contents.header))
+    → (begins : BeginsSealed opening bytes contents rest) → (packet : CutPacket) (left : List ℕ) → CutsFirst opening.options bytes packet left
+    → (found : FoundIn opening contents begins.packet rest) × (packet ≡ sealed_cut found.cut.0 contents begins.packet) × (left ≡ rest)
+cut_of_sealed opening bytes contents rest laws begins packet left first =
+    let found = found_in opening contents begins.packet rest (given_in opening bytes contents rest laws begins) in
+    let same = one_cut opening.options bytes packet (sealed_cut found.cut.0 contents begins.packet) left rest first (sealed_first opening bytes contents rest begins found) in
+    (found, same.0, same.1)
+
+pub sealed_cut_there : (opening : Opening) (bytes : List ℕ) (contents : PacketContents) (rest : List ℕ) → IsLawful (opening.keys (space_in contents.header))
+    → (begins : BeginsSealed opening bytes contents rest) → (packet : CutPacket) (left : List ℕ) → CutsFirst opening.options bytes packet left
+    → (packet.bytes ≡ begins.packet) × (left ≡ rest)
+sealed_cut_there opening bytes contents rest laws begins packet left first =
+    let same = cut_of_sealed opening bytes contents rest laws begins packet left first in
+    (ap (λ (x : CutPacket). x.bytes) same.1, same.2)
+
+pub sealed_space : (opening : Opening) (bytes : List ℕ) (contents : PacketContents) (rest : List ℕ) → IsLawful (opening.keys (space_in contents.header))
+    → BeginsSealed opening bytes contents rest → (packet : CutPacket) (left : List ℕ) → CutsFirst opening.options bytes packet left
+    → space_of packet.head ≡ Some (space_in contents.header)
+sealed_space opening bytes contents rest laws begins packet left first =
+    let same = cut_of_sealed opening bytes contents rest laws begins packet left first in
+    ap (λ (x : CutPacket). space_of x.head) same.1 ∙ same.0.cut.2
 
 -- ---- the first packet
 

@@ -5,7 +5,7 @@ use Rattle.std.proofs.lemmas.List.{map-append}
 use Rattle.bytes.specs.Filled.{Filled}
 use Rattle.quic_packets.specs.declared.opening.Opened.{Opened}
 use Rattle.quic_packets.specs.Sealing.{IsAppended, PacketContents}
-use Rattle.quic_packets.specs.Opening.{AreReturned, BeginsSealed, OpenedPacket, Opening, Opens, OpensAll, OpensFirst, OpensSome, ReturnsSealed, SealedRow, followed, last, more, only, packet_of, returned_by, start, step}
+use Rattle.quic_packets.specs.Opening.{AreReturned, BeginsSealed, OpenedPacket, Opening, Opens, OpensFirst, OpensRow, ReturnsSealed, SealedRow, end_row, last, more, packet_of, returned_by, start, step}
 
 -- what a call that opens a packet promises of sealed bytes
 abbrev pub ReturnsWhere : Opening → List ℕ → Opened → Option Filled → Type 0
@@ -20,7 +20,7 @@ pub record Progress (opening : Opening) (packets : List PacketContents) (before 
   pub row : SealedRow opening others left
 
 pub record Kept (opening : Opening) (before : List Opened) (bytes : List ℕ) (now : List Opened) (left : List ℕ) : Type 0 where
-  pub steps : IsAppended (λ added. OpensSome opening bytes (map packet_of added) left) before now
+  pub steps : IsAppended (λ added. OpensRow opening bytes (map packet_of added) (Some left)) before now
   pub progress : (packets : List PacketContents) → SealedRow opening packets bytes → Progress opening packets before now left
 
 -- the first packet of a row, and the others
@@ -73,17 +73,12 @@ kept_start opening before bytes = record {
   progress = λ packets row. record { done = []; others = packets; all = refl; returned = ([], refl, sym (append-nil before)); row = row };
 }
 
-steps_more : (opening : Opening) (bytes : List ℕ) (added : List OpenedPacket) (left : List ℕ) (opened : OpenedPacket) (next : List ℕ)
-    → OpensSome opening bytes added left → Opens opening left opened next → 0 < length next → OpensSome opening bytes (added ++ (opened ∷ [])) next
-steps_more opening _ _ _ opened next (start bytes) opens some = step bytes next next opened [] opens some (start next)
-steps_more opening _ _ _ opened next (step bytes rest left first others found behind steps) opens some =
-    step bytes rest next first (others ++ (opened ∷ [])) found behind (steps_more opening rest others left opened next steps opens some)
-
-steps_all : (opening : Opening) (bytes : List ℕ) (added : List OpenedPacket) (left : List ℕ) (opened : OpenedPacket)
-    → OpensSome opening bytes added left → Opens opening left opened [] → OpensAll opening bytes (added ++ (opened ∷ []))
-steps_all opening _ _ _ opened (start bytes) opens = only bytes opened opens
-steps_all opening _ _ _ opened (step bytes rest left first others found behind steps) opens =
-    followed bytes rest first (others ++ (opened ∷ [])) found behind (steps_all opening rest others left opened steps opens)
+-- what is left is opened too
+rows_joined : (opening : Opening) (bytes : List ℕ) (added : List OpenedPacket) (left : List ℕ) (others : List OpenedPacket) (end : Option (List ℕ))
+    → OpensRow opening bytes added (Some left) → OpensRow opening left others end → OpensRow opening bytes (added ++ others) end
+rows_joined opening _ _ _ others end (start bytes) row = row
+rows_joined opening _ _ left others end (step bytes rest _ first behind found some steps) row =
+    step bytes rest end first (behind ++ others) found some (rows_joined opening rest behind left others end steps row)
 
 pub kept_step : (opening : Opening) (before : List Opened) (bytes : List ℕ) (now : List Opened) (left : List ℕ) (new : List Opened) (opened : Opened) (next : Filled)
     → Kept opening before bytes now left → OpensFirst opening left opened (Some next) → ReturnsWhere opening left opened (Some next) → new ≡ now ++ (opened ∷ [])
@@ -94,8 +89,9 @@ kept_step opening before bytes now left new opened next it opens returns same =
     record {
       steps = (
         it.steps.0 ++ (opened ∷ []),
-        subst (λ (xs : List OpenedPacket). OpensSome opening bytes xs next.items) (sym (map-append packet_of it.steps.0 (opened ∷ [])))
-            (steps_more opening bytes (map packet_of it.steps.0) left (packet_of opened) next.items it.steps.1 there some),
+        subst (λ (xs : List OpenedPacket). OpensRow opening bytes xs (Some next.items)) (sym (map-append packet_of it.steps.0 (opened ∷ [])))
+            (rows_joined opening bytes (map packet_of it.steps.0) left (packet_of opened ∷ []) (Some next.items) it.steps.1
+            (step left next.items (Some next.items) (packet_of opened) [] there some (start next.items))),
         appended_one before now new it.steps.0 opened it.steps.2 same,
       );
       progress = λ packets row.
@@ -112,7 +108,7 @@ kept_step opening before bytes now left new opened next it opens returns same =
 
 -- all packets were opened
 pub record All (opening : Opening) (before : List Opened) (bytes : List ℕ) (now : List Opened) : Type 0 where
-  pub opened : IsAppended (λ added. OpensAll opening bytes (map packet_of added)) before now
+  pub opened : IsAppended (λ added. OpensRow opening bytes (map packet_of added) None) before now
   pub returned : (packets : List PacketContents) → SealedRow opening packets bytes → IsAppended (AreReturned opening packets) before now
 
 -- the last packet ends the steps
@@ -122,8 +118,9 @@ pub kept_end : (opening : Opening) (before : List Opened) (bytes : List ℕ) (no
 kept_end opening before bytes now left new opened it opens returns same = record {
   opened = (
     it.steps.0 ++ (opened ∷ []),
-    subst (OpensAll opening bytes) (sym (map-append packet_of it.steps.0 (opened ∷ [])))
-        (steps_all opening bytes (map packet_of it.steps.0) left (packet_of opened) it.steps.1 (subst (Opens opening left (packet_of opened)) opens.left_is opens.opens)),
+    subst (λ (xs : List OpenedPacket). OpensRow opening bytes xs None) (sym (map-append packet_of it.steps.0 (opened ∷ [])))
+        (rows_joined opening bytes (map packet_of it.steps.0) left (packet_of opened ∷ []) None it.steps.1
+        (end_row left (packet_of opened) (subst (Opens opening left (packet_of opened)) opens.left_is opens.opens))),
     appended_one before now new it.steps.0 opened it.steps.2 same,
   );
   returned = λ packets row.

@@ -28,7 +28,7 @@ use Rattle.quic_header_decode.specs.Headers.{IsOpenedBy}
 use Rattle.quic_header_decode.specs.Queries.{space_of}
 use Rattle.quic_header_encode.specs.Queries.{space_in}
 use Rattle.quic_header_decode.specs.Finish.{IsNumberIn}
-use Rattle.quic_header_encode.specs.Writing.{header_size, long_first, bit, size_in, has_number}
+use Rattle.quic_header_encode.specs.Writing.{header_size, long_first, bit_value, size_in, has_number}
 use Rattle.quic_packets.specs.Pairs.{KeyPair}
 use Rattle.quic_packets.specs.Sealing.{sealed_header, protected_len}
 use Rattle.quic_packets.specs.Opening.{IsReadBack}
@@ -275,7 +275,7 @@ initial_sealed seal key laws context i n payload packet rest sealed read =
 
 -- the bits of a short header's first byte
 abbrev short_first : Bool → Bool → ℕ → ℕ
-short_first spin key_phase size = 64 + bit spin 32 + bit key_phase 4 + (size - 1)
+short_first spin key_phase size = 64 + bit_value spin 32 + bit_value key_phase 4 + (size - 1)
 
 record ShortByte (spin key_phase : Bool) (size b : ℕ) : Type 0 where
   short : b < 128

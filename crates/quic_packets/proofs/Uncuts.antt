@@ -13,7 +13,7 @@ use Rattle.quic_header_decode.specs.Queries.{space_of}
 use Rattle.quic_header_decode.specs.Reading.{DecodeOptions}
 use Rattle.quic_packets.specs.declared.opening.OpenError.{OpenError}
 use Rattle.quic_packets.specs.declared.opening.OpenError.TheVariants as refused
-use Rattle.quic_packets.specs.Opening.{CutsFirst, IsDecode, Opening, RefusesPacket}
+use Rattle.quic_packets.specs.Opening.{CutsFirst, IsDecode, Opening}
 use Rattle.quic_packets.specs.Opening as rule
 
 -- a refusal that is not for memory was the answer

@@ -147,19 +147,15 @@ pub record OpensFirst (opening : Opening) (bytes : List ℕ) (opened : Opened) (
   pub opens : Opens opening bytes (packet_of opened) rest
   pub left_is : IsRest left rest
 
--- these packets are opened one after another, and then these bytes are left
-pub data OpensSome (opening : Opening) : List ℕ → List OpenedPacket → List ℕ → Type 0 where
-  start : (bytes : List ℕ) → OpensSome opening bytes [] bytes
-  step : (bytes rest left : List ℕ) (opened : OpenedPacket) (others : List OpenedPacket)
+-- These packets are opened one after another, and then these bytes are left, or none, once nothing follows the last
+-- packet.
+pub data OpensRow (opening : Opening) : List ℕ → List OpenedPacket → Option (List ℕ) → Type 0 where
+  start : (bytes : List ℕ) → OpensRow opening bytes [] (Some bytes)
+  end_row : (bytes : List ℕ) (opened : OpenedPacket) → Opens opening bytes opened []
+      → OpensRow opening bytes (opened ∷ []) None
+  step : (bytes rest : List ℕ) (left : Option (List ℕ)) (opened : OpenedPacket) (others : List OpenedPacket)
       → Opens opening bytes opened rest → 0 < length rest
-      → OpensSome opening rest others left → OpensSome opening bytes (opened ∷ others) left
-
--- these packets are opened one after another, and nothing follows the last
-pub data OpensAll (opening : Opening) : List ℕ → List OpenedPacket → Type 0 where
-  only : (bytes : List ℕ) (opened : OpenedPacket) → Opens opening bytes opened [] → OpensAll opening bytes (opened ∷ [])
-  followed : (bytes rest : List ℕ) (opened : OpenedPacket) (others : List OpenedPacket)
-      → Opens opening bytes opened rest → 0 < length rest
-      → OpensAll opening rest others → OpensAll opening bytes (opened ∷ others)
+      → OpensRow opening rest others left → OpensRow opening bytes (opened ∷ others) left
 
 -- ---- sealed bytes
 
@@ -244,9 +240,9 @@ left_size (Some left) = 1 + length left.items
 -- a call that opens all packets, and appends them; if one is refused, it has appended those before it
 pub record DatagramAnswer {X : Type 0} (opening : Opening) (bytes : List ℕ) (result : Result X OpenError)
     (old new : List Opened) : Type 0 where
-  pub opened : IfOk result (λ _. IsAppended (λ added. OpensAll opening bytes (map packet_of added)) old new)
+  pub opened : IfOk result (λ _. IsAppended (λ added. OpensRow opening bytes (map packet_of added) None) old new)
   pub refused : IfErr result (λ e. (left : List ℕ) × Refuses opening left e
-      × IsAppended (λ added. OpensSome opening bytes (map packet_of added) left) old new)
+      × IsAppended (λ added. OpensRow opening bytes (map packet_of added) (Some left)) old new)
   pub sealed : (packets : List PacketContents) → SealedRow opening packets bytes
       → MatchResult result (λ _. IsAppended (AreReturned opening packets) old new)
       (λ e. (e ≡ error.OutOfMemory) × ReturnsFront opening packets old new)

@@ -1,9 +1,11 @@
 //! Laws about sealed packets that no single call's contract gives. The functions do nothing.
-ghost use Rattle.std.specs.Prelude.{◌≡◌, List, ℕ};
+ghost use Rattle.std.specs.Prelude.{◌≡◌, List, Some, ℕ};
 ghost use Rattle.quic_crypto.specs.PacketNumbers.{Expands, low_part, window_of};
 ghost use Rattle.quic_frames.specs.Written.{IsPayload};
+ghost use Rattle.quic_header_decode.specs.Packet.{CutPacket};
+ghost use Rattle.quic_header_decode.specs.Queries.{space_of};
 ghost use Rattle.quic_header_encode.specs.Queries.{space_in};
-ghost use Rattle.quic_packets.specs.Opening.{BeginsSealed, Opening, Opens, returned_by};
+ghost use Rattle.quic_packets.specs.Opening.{BeginsSealed, CutsFirst, Opening, Opens, returned_by};
 ghost use Rattle.quic_packets.specs.Pairs.{IsLawful, KeyPair};
 ghost use Rattle.quic_packets.specs.Sealing.{PacketContents, Sealed};
 
@@ -25,9 +27,17 @@ pub fn one_packet()
 {}
 
 /// A packet that was sealed by lawful keys can be opened by them, whatever bytes follow it: it is cut where it ends,
-/// and gives its header, its number and its payload.
+/// its number's space is that of its header, and it gives its header, its number and its payload.
 pub fn sealed_opens()
-    ensures { (opening : Opening) (bytes : List ℕ) (contents : PacketContents) (rest : List ℕ)
+    ensures opens { (opening : Opening) (bytes : List ℕ) (contents : PacketContents) (rest : List ℕ)
         → IsLawful (opening.keys (space_in contents.header)) → BeginsSealed opening bytes contents rest
         → Opens opening bytes (returned_by opening contents) rest }
+    ensures cut { (opening : Opening) (bytes : List ℕ) (contents : PacketContents) (rest : List ℕ)
+        → IsLawful (opening.keys (space_in contents.header)) → (begins : BeginsSealed opening bytes contents rest)
+        → (packet : CutPacket) (left : List ℕ) → CutsFirst opening.options bytes packet left
+        → (packet.bytes ≡ begins.packet) × (left ≡ rest) }
+    ensures space { (opening : Opening) (bytes : List ℕ) (contents : PacketContents) (rest : List ℕ)
+        → IsLawful (opening.keys (space_in contents.header)) → BeginsSealed opening bytes contents rest
+        → (packet : CutPacket) (left : List ℕ) → CutsFirst opening.options bytes packet left
+        → space_of packet.head ≡ Some (space_in contents.header) }
 {}

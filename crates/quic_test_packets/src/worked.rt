@@ -1,6 +1,6 @@
 //! Keys and headers of the worked rows.
-ghost use Rattle.std.specs.Prelude.{◌≡◌, ◌≤◌, ◌<◌, ◌^◌, ◌++◌, IsTrue, List, [], Ok, ℕ, length};
-ghost use Rattle.quic_header_encode.specs.Writing.{IsWritable, has_number};
+ghost use Rattle.std.specs.Prelude.{◌≡◌, ◌≤◌, ◌<◌, ◌^◌, ◌++◌, List, [], Ok, ℕ, length};
+ghost use Rattle.quic_header_encode.specs.Writing.{IsWritable};
 ghost use Rattle.quic_header_decode.specs.Grammar.{IsKnownVersion};
 ghost use Rattle.quic_header_decode.specs.Reading.{DecodeOptions};
 ghost use Rattle.quic_packets.specs.Opening.{ExpandsIn, IsReadBack};
@@ -54,7 +54,6 @@ pub fn initial(token: &'static [u8]) -> Header
 /// The header of a Handshake packet for the id `aa`, with the number 0 in one byte.
 pub fn handshake(version: u32) -> Header
     ensures writable { IsWritable result }
-    ensures numbered { IsTrue (has_number result) }
     ensures low { IsLowPart result 0 }
     ensures found { ExpandsIn result 0 0 }
     ensures read { (context : DecodeOptions) (rest : List ℕ) → IsKnownVersion context version
@@ -73,7 +72,6 @@ pub fn handshake(version: u32) -> Header
 pub fn short(id: &[u8], number: u64) -> Header
     requires { length id.now ≤ 20 }
     ensures writable { IsWritable result }
-    ensures numbered { IsTrue (has_number result) }
     ensures low { IsLowPart result number }
     ensures found { number ≤ 128 → ExpandsIn result 0 number }
     ensures read { (context : DecodeOptions)

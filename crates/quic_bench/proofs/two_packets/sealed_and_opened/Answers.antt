@@ -39,7 +39,7 @@ unreachable-requires g c =
     } in
     let contents = contents_of second s.second_sealed.payload in
     let opens =
-    c.sealed_opens.ensures opening (s.back ++ []) contents [] lawful
+    c.sealed_opens.ensures.opens opening (s.back ++ []) contents [] lawful
     (begins opening second (s.back ++ []) s.back [] s.second_sealed c.requires.back refl) in
     let cut : 0 < length opens.packet.bytes =
     c.ends.ensures.some opening.options (s.back ++ []) opens.packet.head opens.packet.header_end

@@ -13,7 +13,7 @@ use Rattle.quic_header_encode.specs.declared.long_type.LongHeaderType.TheVariant
 use Rattle.quic_header_encode.specs.declared.long_type.LongType.TheVariants.{Handshake, ZeroRtt}
 use Rattle.quic_header_encode.specs.Types.{version_2, types_of, long_type, type_number, first_byte, place_of}
 use Rattle.quic_header_encode.specs.Starts.{long_front}
-use Rattle.quic_header_encode.specs.Writing.{long_first, bit}
+use Rattle.quic_header_encode.specs.Writing.{long_first, bit_value}
 use Rattle.quic_header_decode.proofs.Made.{fixed_set, initial_header, long_header, retry_header, short_header, negotiation_header}
 use Rattle.quic_header_decode.proofs.laws.written.Goals as goal
 
@@ -103,7 +103,7 @@ returns-clause-negotiation c = λ context whole random dst src rest free fixed d
 -- ---- short headers
 
 abbrev short_first : Bool → Bool → ℕ → ℕ
-short_first spin key_phase low = 64 + bit spin 32 + bit key_phase 4 + low
+short_first spin key_phase low = 64 + bit_value spin 32 + bit_value key_phase 4 + low
 
 record ShortByte (spin : Bool) (first : ℕ) : Type 0 where
   short : first < 128

@@ -11,7 +11,14 @@ use Rattle.quic_packets.proofs.seal.seal_packet.Goals as goal
 pub returns-clause-sealed : goal.returns-clause-sealed
 returns-clause-sealed g c =
     let h : Header = c.args.header.now in
-    let keys : KeyPair = record { sample_len = g.H.HeaderKey.sample_len c.args.keys.now.header; tag_size = g.P.PacketKey.tag_size c.args.keys.now.packet; protected = g.H.HeaderKey.protected c.args.keys.now.header; unprotected = g.H.HeaderKey.unprotected c.args.keys.now.header; sealed = g.P.PacketKey.sealed c.args.keys.now.packet; opened = g.P.PacketKey.opened c.args.keys.now.packet } in
+    let keys : KeyPair = record {
+      sample_len = g.H.HeaderKey.sample_len c.args.keys.now.header;
+      tag_size = g.P.PacketKey.tag_size c.args.keys.now.packet;
+      protected = g.H.HeaderKey.protected c.args.keys.now.header;
+      unprotected = g.H.HeaderKey.unprotected c.args.keys.now.header;
+      sealed = g.P.PacketKey.sealed c.args.keys.now.packet;
+      opened = g.P.PacketKey.opened c.args.keys.now.packet;
+    } in
     let kept : c.reserve.new.self.items ≡ c.args.out.now.items = c.reserve.ensures.items in
     let tag : c.tag_len-tag.result ≡ keys.tag_size = c.tag_len-tag.ensures in
     let done = sealed_end keys h c.args.number (payload_of c.args.frames.now) c.args.out.now.items c.write_packet-partial.new.out.items c.finish_last.new.out.items

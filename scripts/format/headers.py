@@ -20,15 +20,15 @@ NEGOTIATION = "quic_c_headers/specs/Negotiation"
 
 # A header: its section in RFC 9000, its name in ProtectedHeader and in Header with what they hold, its type.
 Figure = collections.namedtuple("Figure", "title section read written type")
-LONG = ("(head.Long ty dst src len version)", "(header.Long ty dst src number version)")
+LONG = ("(protected.Long ty dst src len version)", "(header.Long ty dst src number version)")
 ALL = [
-    Figure("Version Negotiation", "17.2.1", "(head.VersionNegotiate random dst src)",
+    Figure("Version Negotiation", "17.2.1", "(protected.VersionNegotiate random dst src)",
          "(header.VersionNegotiate random src dst)", None),
-    Figure("Initial", "17.2.2", "(head.Initial h)", "(header.Initial h)", "kind.Initial"),
+    Figure("Initial", "17.2.2", "(protected.Initial h)", "(header.Initial h)", "kind.Initial"),
     Figure("0-RTT", "17.2.3", *LONG, "kind.Standard ZeroRtt"),
     Figure("Handshake", "17.2.4", *LONG, "kind.Standard Handshake"),
-    Figure("Retry", "17.2.5", "(head.Retry dst src version)", "(header.Retry dst src version)", "kind.Retry"),
-    Figure("1-RTT", "17.3.1", "(head.Short spin dst)", "(header.Short spin key_phase dst number)", None),
+    Figure("Retry", "17.2.5", "(protected.Retry dst src version)", "(header.Retry dst src version)", "kind.Retry"),
+    Figure("1-RTT", "17.3.1", "(protected.Short spin dst)", "(header.Short spin key_phase dst number)", None),
 ]
 # The RFC's names of fields.
 NAMES = {

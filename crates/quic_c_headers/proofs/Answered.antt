@@ -9,7 +9,7 @@ use Rattle.quic_header_decode.specs.declared.places.HeaderPlaces.{HeaderPlaces}
 use Rattle.quic_header_decode.specs.declared.places.ReadError.{ReadError}
 use Rattle.quic_header_decode.specs.declared.places.ReadError.TheVariants as error
 use Rattle.quic_header_decode.specs.declared.protected.ProtectedHeader.{ProtectedHeader}
-use Rattle.quic_header_decode.specs.declared.protected.ProtectedHeader.TheVariants as head
+use Rattle.quic_header_decode.specs.declared.protected.ProtectedHeader.TheVariants as protected
 use Rattle.quic_header_decode.specs.declared.protected.ProtectedInitialHeader.{ProtectedInitialHeader}
 use Rattle.quic_header_decode.specs.Grammar.{Cut, HeaderAt}
 use Rattle.quic_header_decode.specs.Places.{any_fixed, dst_part, src_part, dst_place, ends_at, header_placed, ids_end, header_in, refusal_in, seen_in, ArePlaces, ArePlacesWithin, IsSeen, ReadAnswer}
@@ -29,12 +29,12 @@ AreSame kind.Retry src other p q len n version v = (src ≡ other) × (version �
 AreSame kind.Short src other p q len n version v = Unit {0}
 AreSame kind.VersionNegotiate src other p q len n version v = src ≡ other
 
-initial_is : (h g : ProtectedInitialHeader) → head.Initial h ≡ head.Initial g → h ≡ g
+initial_is : (h g : ProtectedInitialHeader) → protected.Initial h ≡ protected.Initial g → h ≡ g
 initial_is h g e = cc
 
-same_said : (k l : HeaderKind) (first f : ℕ) (dst d src s : List ℕ) (p q : Place) (len n version v : ℕ) → header_placed k first dst src p len version ≡ header_placed l f d s q n v
+same_described : (k l : HeaderKind) (first f : ℕ) (dst d src s : List ℕ) (p q : Place) (len n version v : ℕ) → header_placed k first dst src p len version ≡ header_placed l f d s q n v
     → (k ≡ l) × (dst ≡ d) × AreSame k src s p q len n version v
-same_said kind.Initial kind.Initial first f dst d src s p q len n version v e =
+same_described kind.Initial kind.Initial first f dst d src s p q len n version v e =
     let same = initial_is _ _ e in (
       refl,
       ap (λ (h : ProtectedInitialHeader). h.dst_cid) same,
@@ -46,12 +46,12 @@ same_said kind.Initial kind.Initial first f dst d src s p q len n version v e =
         ap (λ (h : ProtectedInitialHeader). h.version) same,
       ),
     )
-same_said kind.ZeroRtt kind.ZeroRtt first f dst d src s p q len n version v e = (refl, cc, (cc, cc, cc))
-same_said kind.Handshake kind.Handshake first f dst d src s p q len n version v e = (refl, cc, (cc, cc, cc))
-same_said kind.Retry kind.Retry first f dst d src s p q len n version v e = (refl, cc, (cc, cc))
-same_said kind.Short kind.Short first f dst d src s p q len n version v e = (refl, cc, tt)
-same_said kind.VersionNegotiate kind.VersionNegotiate first f dst d src s p q len n version v e = (refl, cc, cc)
-same_said k l first f dst d src s p q len n version v e = absurd cc
+same_described kind.ZeroRtt kind.ZeroRtt first f dst d src s p q len n version v e = (refl, cc, (cc, cc, cc))
+same_described kind.Handshake kind.Handshake first f dst d src s p q len n version v e = (refl, cc, (cc, cc, cc))
+same_described kind.Retry kind.Retry first f dst d src s p q len n version v e = (refl, cc, (cc, cc))
+same_described kind.Short kind.Short first f dst d src s p q len n version v e = (refl, cc, tt)
+same_described kind.VersionNegotiate kind.VersionNegotiate first f dst d src s p q len n version v e = (refl, cc, cc)
+same_described k l first f dst d src s p q len n version v e = absurd cc
 
 -- ---- the places of a header
 
@@ -133,8 +133,8 @@ made k l first f version v dst_len d src_len s start a end b len n header_end h 
 
 same_places : (packet : List ℕ) (x y : HeaderPlaces) → ArePlacesWithin x (length packet) → ArePlacesWithin y (length packet) → x.first ≡ y.first
     → header_in packet x ≡ header_in packet y → drop x.header_end packet ≡ drop y.header_end packet → x ≡ y
-same_places packet x y one two first said behind =
-    let same = same_said x.kind y.kind x.first y.first (dst_part packet x) (dst_part packet y) (src_part packet x) (src_part packet y) x.token y.token x.len y.len x.version y.version said in
+same_places packet x y one two first words behind =
+    let same = same_described x.kind y.kind x.first y.first (dst_part packet x) (dst_part packet y) (src_part packet x) (src_part packet y) x.token y.token x.len y.len x.version y.version words in
     let head : x.header_end ≡ y.header_end = omega (arith, one.head, two.head, simp length-drop at (ap length behind)) in
     let fields : ArePlaces x.kind y = subst (λ (k : HeaderKind). ArePlaces k y) (sym same.0) two.fields in
     let here = dst_within x.kind x one.fields in

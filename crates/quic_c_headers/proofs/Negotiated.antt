@@ -13,7 +13,7 @@ use Rattle.quic_header_encode.specs.Starts.{long_front}
 use Rattle.quic_header_encode.specs.declared.long_type.HeaderKind.TheVariants as kind
 use Rattle.quic_header_encode.proofs.Stores.{stays}
 use Rattle.quic_header_decode.specs.declared.places.HeaderPlaces.{HeaderPlaces}
-use Rattle.quic_header_decode.specs.declared.protected.ProtectedHeader.TheVariants as head
+use Rattle.quic_header_decode.specs.declared.protected.ProtectedHeader.TheVariants as protected
 use Rattle.quic_header_decode.specs.Grammar.{HeaderAt}
 use Rattle.quic_header_decode.specs.Places.{any_fixed}
 use Rattle.quic_header_decode.specs.Reading.{DecodeOptions}
@@ -114,7 +114,7 @@ places packet dst src = record {
 
 -- the header that is there, by its parts
 header_at : (context : DecodeOptions) (packet dst src rest d s left : List ℕ) (random : ℕ) → d ≡ dst → s ≡ src → left ≡ rest
-    → HeaderAt context (length packet) packet (head.VersionNegotiate random dst src) rest → HeaderAt context (length packet) packet (head.VersionNegotiate random d s) left
+    → HeaderAt context (length packet) packet (protected.VersionNegotiate random dst src) rest → HeaderAt context (length packet) packet (protected.VersionNegotiate random d s) left
 header_at context packet dst src rest d s left random e f g h = rw (e, f, g) h
 
 pub reported : (id_len : ℕ) (versions packet dst src rest : List ℕ) (old : CHeader) → IsNegotiation packet dst src rest → length dst ≤ 20 → length src ≤ 20

@@ -25,54 +25,54 @@ no_token kind dst src token some dst_few src_few =
 
 pub shaped : (words : HeaderFields) (dst src token : List ℕ) (clear : Bool) (head : Header) → CanWriteHeader words dst src token clear head → IsShaped words dst src token
 shaped words dst src token clear (header.Initial h) can =
-    let k : words.kind ≡ 0 = can.says.kind in
+    let k : words.kind ≡ 0 = can.described.kind in
     record {
       known = omega (arith, k);
-      numbered = with_number words h.number can.says.number (λ _. can.says.len);
-      named = λ _. can.says.version.1;
+      numbered = with_number words h.number can.described.number (λ _. can.described.len);
+      named = λ _. can.described.version.1;
       parts = record {
         dst_few = can.dst_few;
-        src_few = λ _. can.says.src_is.1;
-        token_short = λ _. subst (λ (t : List ℕ). length t < 2 ^ 62) (sym can.says.token_is) can.writable.0;
+        src_few = λ _. can.described.src_is.1;
+        token_short = λ _. subst (λ (t : List ℕ). length t < 2 ^ 62) (sym can.described.token_is) can.writable.0;
       };
     }
 shaped words dst src token clear (header.Long ZeroRtt to from number version) can =
-    let k : words.kind ≡ 1 = can.says.kind in
+    let k : words.kind ≡ 1 = can.described.kind in
     record {
       known = omega (arith, k);
-      numbered = with_number words number can.says.number (λ _. can.says.len);
-      named = λ _. can.says.version.1;
-      parts = no_token words.kind dst src token (omega (arith, k)) can.dst_few can.says.src_is.1;
+      numbered = with_number words number can.described.number (λ _. can.described.len);
+      named = λ _. can.described.version.1;
+      parts = no_token words.kind dst src token (omega (arith, k)) can.dst_few can.described.src_is.1;
     }
 shaped words dst src token clear (header.Long Handshake to from number version) can =
-    let k : words.kind ≡ 2 = can.says.kind in
+    let k : words.kind ≡ 2 = can.described.kind in
     record {
       known = omega (arith, k);
-      numbered = with_number words number can.says.number (λ _. can.says.len);
-      named = λ _. can.says.version.1;
-      parts = no_token words.kind dst src token (omega (arith, k)) can.dst_few can.says.src_is.1;
+      numbered = with_number words number can.described.number (λ _. can.described.len);
+      named = λ _. can.described.version.1;
+      parts = no_token words.kind dst src token (omega (arith, k)) can.dst_few can.described.src_is.1;
     }
 shaped words dst src token clear (header.Retry to from version) can =
-    let k : words.kind ≡ 3 = can.says.kind in
+    let k : words.kind ≡ 3 = can.described.kind in
     record {
       known = omega (arith, k);
       numbered = without_number words (inl k);
-      named = λ _. can.says.version.1;
-      parts = no_token words.kind dst src token (omega (arith, k)) can.dst_few can.says.src_is.1;
+      named = λ _. can.described.version.1;
+      parts = no_token words.kind dst src token (omega (arith, k)) can.dst_few can.described.src_is.1;
     }
 shaped words dst src token clear (header.Short spin key_phase to number) can =
-    let k : words.kind ≡ 4 = can.says.kind in
+    let k : words.kind ≡ 4 = can.described.kind in
     record {
       known = omega (arith, k);
-      numbered = with_number words number can.says.number (λ e. absurd (omega (arith, k, e)));
+      numbered = with_number words number can.described.number (λ e. absurd (omega (arith, k, e)));
       named = λ e. absurd (omega (arith, k, e));
       parts = record { dst_few = can.dst_few; src_few = λ other. absurd (other k); token_short = λ e. absurd (omega (arith, k, e)) };
     }
 shaped words dst src token clear (header.VersionNegotiate random from to) can =
-    let k : words.kind ≡ 5 = can.says.kind in
+    let k : words.kind ≡ 5 = can.described.kind in
     record {
       known = omega (arith, k);
       numbered = without_number words (inr k);
       named = λ e. absurd (omega (arith, k, e));
-      parts = no_token words.kind dst src token (omega (arith, k)) can.dst_few can.says.src_is.1;
+      parts = no_token words.kind dst src token (omega (arith, k)) can.dst_few can.described.src_is.1;
     }

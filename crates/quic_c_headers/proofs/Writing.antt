@@ -16,7 +16,7 @@ use Rattle.quic_header_encode.specs.Storing.{begun_by, header_of, number_bits, c
 use Rattle.quic_header_encode.specs.Starts.{long_front}
 use Rattle.quic_header_encode.specs.Writing.{bit_value, header_with}
 use Rattle.quic_c_headers.specs.declared.words.HeaderFields.{HeaderFields}
-use Rattle.quic_c_headers.specs.Headers.{part_of, said_bytes, CanWriteHeader}
+use Rattle.quic_c_headers.specs.Headers.{part_of, described_bytes, CanWriteHeader}
 use Rattle.quic_c_headers.specs.Reading.{kind_word}
 use Rattle.quic_c_headers.specs.Shapes.{first_word, numbered_bytes, numbered_first, short_bytes, IsNumbered, IsShaped}
 use Rattle.quic_c_headers.specs.Written.{WrotePacketHeader}
@@ -31,8 +31,8 @@ clear_by kind.Short flags = has_bit 64 flags
 clear_by kind.VersionNegotiate flags = false
 
 -- the header that they describe
-abbrev pub header_said : HeaderKind → HeaderFields → List ℕ → List ℕ → List ℕ → Header
-header_said k words dst src token = header_of k words.flags words.version dst src token (part_of words.number_len words.number)
+abbrev pub header_described : HeaderKind → HeaderFields → List ℕ → List ℕ → List ℕ → Header
+header_described k words dst src token = header_of k words.flags words.version dst src token (part_of words.number_len words.number)
 
 bit_at : (x n : ℕ) → x < 2 → bit_value (nat_eq x 1) n ≡ n * x
 bit_at x n lt = grind (arith, nat_tests)
@@ -72,78 +72,78 @@ numbered words s kind =
     let n = s.number kind in (n.2, part_says words.number_len words.number n.0 n.1)
 
 -- the facts about a sender's id
-source_said : (words : HeaderFields) (dst src token from : List ℕ) → IsShaped words dst src token → (words.kind ≢ 4 → from ≡ src) → words.kind ≢ 4
+source_described : (words : HeaderFields) (dst src token from : List ℕ) → IsShaped words dst src token → (words.kind ≢ 4 → from ≡ src) → words.kind ≢ 4
     → (src ≡ from) × (length src ≤ 20)
-source_said words dst src token from s source other = (sym (source other), s.parts.src_few other)
+source_described words dst src token from s source other = (sym (source other), s.parts.src_few other)
 
-pub can_said : (k : HeaderKind) (words : HeaderFields) (dst src token from own : List ℕ) → IsShaped words dst src token → kind_word k ≡ words.kind
-    → (words.kind ≢ 4 → from ≡ src) → (words.kind ≡ 0 → own ≡ token) → CanWriteHeader words dst src token (clear_by k words.flags) (header_said k words dst from own)
-can_said kind.Initial words dst src token from own s e source mine =
+pub can_described : (k : HeaderKind) (words : HeaderFields) (dst src token from own : List ℕ) → IsShaped words dst src token → kind_word k ≡ words.kind
+    → (words.kind ≢ 4 → from ≡ src) → (words.kind ≡ 0 → own ≡ token) → CanWriteHeader words dst src token (clear_by k words.flags) (header_described k words dst from own)
+can_described kind.Initial words dst src token from own s e source mine =
     let n = numbered words s.numbered (inl (omega (arith, e))) in
     record {
-      says = record {
+      described = record {
         kind = sym e;
         flags = refl;
         version = (refl, s.named (omega (arith, e)));
         number = (n.0, n.1.0, n.1.1);
         len = s.numbered.len (omega (arith, e));
         dst_is = refl;
-        src_is = source_said words dst src token from s source (λ z. omega (arith, e, z));
+        src_is = source_described words dst src token from s source (λ z. omega (arith, e, z));
         token_is = sym (mine (sym e));
       };
       dst_few = s.parts.dst_few;
       writable = (subst (λ (t : List ℕ). length t < 2 ^ 62) (sym (mine (sym e))) (s.parts.token_short (sym e)), n.1.2);
     }
-can_said kind.ZeroRtt words dst src token from own s e source mine =
+can_described kind.ZeroRtt words dst src token from own s e source mine =
     let n = numbered words s.numbered (inl (omega (arith, e))) in
     record {
-      says = record {
+      described = record {
         kind = sym e;
         flags = refl;
         version = (refl, s.named (omega (arith, e)));
         number = (n.0, n.1.0, n.1.1);
         len = s.numbered.len (omega (arith, e));
         dst_is = refl;
-        src_is = source_said words dst src token from s source (λ z. omega (arith, e, z));
+        src_is = source_described words dst src token from s source (λ z. omega (arith, e, z));
         token_is = tt;
       };
       dst_few = s.parts.dst_few;
       writable = n.1.2;
     }
-can_said kind.Handshake words dst src token from own s e source mine =
+can_described kind.Handshake words dst src token from own s e source mine =
     let n = numbered words s.numbered (inl (omega (arith, e))) in
     record {
-      says = record {
+      described = record {
         kind = sym e;
         flags = refl;
         version = (refl, s.named (omega (arith, e)));
         number = (n.0, n.1.0, n.1.1);
         len = s.numbered.len (omega (arith, e));
         dst_is = refl;
-        src_is = source_said words dst src token from s source (λ z. omega (arith, e, z));
+        src_is = source_described words dst src token from s source (λ z. omega (arith, e, z));
         token_is = tt;
       };
       dst_few = s.parts.dst_few;
       writable = n.1.2;
     }
-can_said kind.Retry words dst src token from own s e source mine = record {
-  says = record {
+can_described kind.Retry words dst src token from own s e source mine = record {
+  described = record {
     kind = sym e;
     flags = refl;
     version = (refl, s.named (omega (arith, e)));
     number = tt;
     len = tt;
     dst_is = refl;
-    src_is = source_said words dst src token from s source (λ z. omega (arith, e, z));
+    src_is = source_described words dst src token from s source (λ z. omega (arith, e, z));
     token_is = tt;
   };
   dst_few = s.parts.dst_few;
   writable = tt;
 }
-can_said kind.Short words dst src token from own s e source mine =
+can_described kind.Short words dst src token from own s e source mine =
     let n = numbered words s.numbered (inr (sym e)) in
     record {
-      says = record {
+      described = record {
         kind = sym e;
         flags = (refl, refl, refl);
         version = tt;
@@ -156,15 +156,15 @@ can_said kind.Short words dst src token from own s e source mine =
       dst_few = s.parts.dst_few;
       writable = n.1.2;
     }
-can_said kind.VersionNegotiate words dst src token from own s e source mine = record {
-  says = record {
+can_described kind.VersionNegotiate words dst src token from own s e source mine = record {
+  described = record {
     kind = sym e;
     flags = (refl, refl);
     version = tt;
     number = tt;
     len = tt;
     dst_is = refl;
-    src_is = source_said words dst src token from s source (λ z. omega (arith, e, z));
+    src_is = source_described words dst src token from s source (λ z. omega (arith, e, z));
     token_is = tt;
   };
   dst_few = s.parts.dst_few;
@@ -177,8 +177,8 @@ begun_same : (f g : ℕ) (h : ℕ → List ℕ) (a b : ℕ) → f ≡ g → a �
 begun_same f g h a b e same = ap (λ (x : ℕ). begun_by x (h a)) e ∙ ap (λ (n : ℕ). begun_by g (h n)) same
 
 -- what is written of them
-abbrev pub stored_said : HeaderKind → ℕ → HeaderFields → List ℕ → List ℕ → List ℕ → List ℕ
-stored_said k len words dst src token =
+abbrev pub stored_described : HeaderKind → ℕ → HeaderFields → List ℕ → List ℕ → List ℕ → List ℕ
+stored_described k len words dst src token =
     let number = part_of words.number_len words.number in
     begun_by (first_word k words.flags + type_bits k words.version + number_bits k number)
     (header_with (replicate len 0) (header_of k (first_word k words.flags) words.version dst src token number))
@@ -186,52 +186,52 @@ stored_said k len words dst src token =
 pub stored_as : (k : HeaderKind) (f len : ℕ) (words : HeaderFields) (dst src token : List ℕ) (number : PacketNumber) → f ≡ first_word k words.flags
     → number ≡ part_of words.number_len words.number
     → begun_by (f + type_bits k words.version + number_bits k number) (header_with (replicate len 0) (header_of k f words.version dst src token number))
-    ≡ stored_said k len words dst src token
+    ≡ stored_described k len words dst src token
 stored_as k f len words dst src token number e is =
     ap (λ (g : ℕ). begun_by (g + type_bits k words.version + number_bits k number) (header_with (replicate len 0) (header_of k g words.version dst src token number))) e
     ∙ ap (λ (p : PacketNumber). begun_by (first_word k words.flags + type_bits k words.version + number_bits k p)
     (header_with (replicate len 0) (header_of k (first_word k words.flags) words.version dst src token p))) is
 
-pub bytes_said : (k : HeaderKind) (len : ℕ) (words : HeaderFields) (dst src token : List ℕ) → IsNumbered words → kind_word k ≡ words.kind
+pub bytes_described : (k : HeaderKind) (len : ℕ) (words : HeaderFields) (dst src token : List ℕ) → IsNumbered words → kind_word k ≡ words.kind
     → ((words.length_len ≡ 2) ⊎ (words.length_len ≡ 4) → len ≡ words.length_len)
-    → stored_said k len words dst src token ≡ said_bytes words.length_len (clear_by k words.flags) (header_said k words dst src token)
-bytes_said kind.Initial len words dst src token s e same =
-    begun_same _ _ (λ n. header_with (replicate n 0) (header_said kind.Initial words dst src token)) len words.length_len
+    → stored_described k len words dst src token ≡ described_bytes words.length_len (clear_by k words.flags) (header_described k words dst src token)
+bytes_described kind.Initial len words dst src token s e same =
+    begun_same _ _ (λ n. header_with (replicate n 0) (header_described kind.Initial words dst src token)) len words.length_len
     (omega (arith, clear_is words.flags)) (same (s.len (omega (arith, e))))
-bytes_said kind.ZeroRtt len words dst src token s e same =
-    begun_same _ _ (λ n. header_with (replicate n 0) (header_said kind.ZeroRtt words dst src token)) len words.length_len
+bytes_described kind.ZeroRtt len words dst src token s e same =
+    begun_same _ _ (λ n. header_with (replicate n 0) (header_described kind.ZeroRtt words dst src token)) len words.length_len
     (omega (arith, clear_is words.flags)) (same (s.len (omega (arith, e))))
-bytes_said kind.Handshake len words dst src token s e same =
-    begun_same _ _ (λ n. header_with (replicate n 0) (header_said kind.Handshake words dst src token)) len words.length_len
+bytes_described kind.Handshake len words dst src token s e same =
+    begun_same _ _ (λ n. header_with (replicate n 0) (header_described kind.Handshake words dst src token)) len words.length_len
     (omega (arith, clear_is words.flags)) (same (s.len (omega (arith, e))))
-bytes_said kind.Retry len words dst src token s e same =
-    ap (λ (f : ℕ). begun_by f (header_with (replicate 0 0) (header_said kind.Retry words dst src token)))
+bytes_described kind.Retry len words dst src token s e same =
+    ap (λ (f : ℕ). begun_by f (header_with (replicate 0 0) (header_described kind.Retry words dst src token)))
     (let g : first_word kind.Retry words.flags + type_bits kind.Retry words.version + 0 ≡ 192 + type_bits kind.Retry words.version - bit_value (has_bit 64 words.flags) 64 =
     omega (arith, clear_is words.flags) in g)
-bytes_said kind.Short len words dst src token s e same =
+bytes_described kind.Short len words dst src token s e same =
     let number : PacketNumber = part_of words.number_len words.number in
     ap (λ (f : ℕ). f ∷ (dst ++ number_bytes number))
     (let g : first_word kind.Short words.flags + 0 + (number_size number - 1)
     ≡ 64 + bit_value (has_bit 32 words.flags) 32 + bit_value (has_bit 4 words.flags) 4 + (number_size number - 1) - bit_value (has_bit 64 words.flags) 64 =
     omega (arith, clear_is words.flags, spin_is words.flags, phase_is words.flags) in g)
-bytes_said kind.VersionNegotiate len words dst src token s e same =
-    ap (λ (f : ℕ). begun_by f (header_with (replicate 0 0) (header_said kind.VersionNegotiate words dst src token)))
+bytes_described kind.VersionNegotiate len words dst src token s e same =
+    ap (λ (f : ℕ). begun_by f (header_with (replicate 0 0) (header_described kind.VersionNegotiate words dst src token)))
     (let g : bit_or 128 (words.flags % 128) + 0 + 0 ≡ bit_or 128 (words.flags % 128) - 0 = omega arith in g)
 
 -- ---- what was written
 
-pub written : (n : ℕ) (old new bytes said : List ℕ) → n ≤ length new → take n new ≡ bytes → drop n new ≡ drop n old → bytes ≡ said
-    → (new ≡ said ++ drop n old) × (n ≡ length said)
-written n old new bytes said within front back same = (
-  sym (take-append-drop n new) ∙ ap (λ (xs : List ℕ). xs ++ drop n new) (front ∙ same) ∙ ap (λ (xs : List ℕ). said ++ xs) back,
+pub written : (n : ℕ) (old new bytes words : List ℕ) → n ≤ length new → take n new ≡ bytes → drop n new ≡ drop n old → bytes ≡ words
+    → (new ≡ words ++ drop n old) × (n ≡ length words)
+written n old new bytes words within front back same = (
+  sym (take-append-drop n new) ∙ ap (λ (xs : List ℕ). xs ++ drop n new) (front ∙ same) ∙ ap (λ (xs : List ℕ). words ++ xs) back,
   sym (length-take-le n new within) ∙ ap length (front ∙ same),
 )
 
 -- ---- short headers
 
 pub short_can : (words : HeaderFields) (dst : List ℕ) → IsShaped words dst [] [] → words.kind ≡ 4
-    → CanWriteHeader words dst [] [] (clear_by kind.Short words.flags) (header_said kind.Short words dst [] [])
-short_can words dst s e = can_said kind.Short words dst [] [] [] [] s (sym e) (λ _. refl) (λ _. refl)
+    → CanWriteHeader words dst [] [] (clear_by kind.Short words.flags) (header_described kind.Short words dst [] [])
+short_can words dst s e = can_described kind.Short words dst [] [] [] [] s (sym e) (λ _. refl) (λ _. refl)
 
 low_bytes : (len number : ℕ) → 1 ≤ len → len ≤ 4 → number_bytes (part_of len number) ≡ bytes_of len number
 unfolding bytes_of
@@ -251,24 +251,24 @@ low_bytes len number some few =
     ]
 
 -- the bytes written for a short header are the header that its words describe
-pub short_said : (words : HeaderFields) (dst : List ℕ) → IsShaped words dst [] [] → words.kind ≡ 4
-    → short_bytes words dst ≡ said_bytes words.length_len (clear_by kind.Short words.flags) (header_said kind.Short words dst [] [])
-short_said words dst s e =
+pub short_described : (words : HeaderFields) (dst : List ℕ) → IsShaped words dst [] [] → words.kind ≡ 4
+    → short_bytes words dst ≡ described_bytes words.length_len (clear_by kind.Short words.flags) (header_described kind.Short words dst [] [])
+short_described words dst s e =
     let n = s.numbered.number (inr e) in
     let part : PacketNumber = part_of words.number_len words.number in
     let size : words.number_len ≡ number_size part = (part_says words.number_len words.number n.0 n.1).0 in
     let byte : first_word kind.Short words.flags + (words.number_len - 1) ≡ first_word kind.Short words.flags + 0 + (number_size part - 1) = omega (arith, size) in
     ap (λ (xs : List ℕ). (first_word kind.Short words.flags + (words.number_len - 1)) ∷ (dst ++ xs)) (sym (low_bytes words.number_len words.number n.0 n.1))
     ∙ ap (λ (f : ℕ). f ∷ (dst ++ number_bytes part)) byte
-    ∙ bytes_said kind.Short words.length_len words dst [] [] s.numbered (sym e) (λ _. refl)
+    ∙ bytes_described kind.Short words.length_len words dst [] [] s.numbered (sym e) (λ _. refl)
 
 pub short_wrote : (words : HeaderFields) (dst old new : List ℕ) (n : ℕ) → IsShaped words dst [] [] → words.kind ≡ 4
     → n ≤ length new → take n new ≡ short_bytes words dst → drop n new ≡ drop n old → WrotePacketHeader words dst [] [] old new n
 short_wrote words dst old new n s e within front back =
-    let all = written n old new _ _ within front back (short_said words dst s e) in
+    let all = written n old new _ _ within front back (short_described words dst s e) in
     record {
       clear = clear_by kind.Short words.flags;
-      head = header_said kind.Short words dst [] [];
+      head = header_described kind.Short words dst [] [];
       can = short_can words dst s e;
       front = all.0;
       count_is = all.1;
@@ -285,9 +285,9 @@ with_length kind.Short words e has = absurd (search (rules, has))
 with_length kind.VersionNegotiate words e has = absurd (search (rules, has))
 
 -- the bytes written for one, field after field, are the header that its words describe
-pub numbered_said : (k : HeaderKind) (words : HeaderFields) (dst src token : List ℕ) → IsTrue (carries_length k) → 1 ≤ words.number_len → words.number_len ≤ 4
-    → numbered_bytes k words dst src token ≡ stored_said k words.length_len words dst src token
-numbered_said kind.Initial words dst src token has some few =
+pub numbered_described : (k : HeaderKind) (words : HeaderFields) (dst src token : List ℕ) → IsTrue (carries_length k) → 1 ≤ words.number_len → words.number_len ≤ 4
+    → numbered_bytes k words dst src token ≡ stored_described k words.length_len words dst src token
+numbered_described kind.Initial words dst src token has some few =
     let part : PacketNumber = part_of words.number_len words.number in
     let size : words.number_len ≡ number_size part = (part_says words.number_len words.number some few).0 in
     let own : List ℕ = token_by kind.Initial token in
@@ -295,7 +295,7 @@ numbered_said kind.Initial words dst src token has some few =
     ap (λ (xs : List ℕ). (long_front (numbered_first kind.Initial words) words.version dst src ++ own) ++ (replicate words.length_len 0 ++ xs))
     (sym (low_bytes words.number_len words.number some few))
     ∙ ap (λ (n : ℕ). (192 - 64 * (words.flags / 64 % 2) + type_bits kind.Initial words.version + (n - 1)) ∷ ((ids ++ own) ++ (replicate words.length_len 0 ++ number_bytes part))) size
-numbered_said kind.ZeroRtt words dst src token has some few =
+numbered_described kind.ZeroRtt words dst src token has some few =
     let part : PacketNumber = part_of words.number_len words.number in
     let size : words.number_len ≡ number_size part = (part_says words.number_len words.number some few).0 in
     let front : List ℕ = long_front (numbered_first kind.ZeroRtt words) words.version dst src in
@@ -303,7 +303,7 @@ numbered_said kind.ZeroRtt words dst src token has some few =
     ap (λ (xs : List ℕ). xs ++ (replicate words.length_len 0 ++ bytes_of words.number_len words.number)) (append-nil front)
     ∙ ap (λ (xs : List ℕ). front ++ (replicate words.length_len 0 ++ xs)) (sym (low_bytes words.number_len words.number some few))
     ∙ ap (λ (n : ℕ). (192 - 64 * (words.flags / 64 % 2) + type_bits kind.ZeroRtt words.version + (n - 1)) ∷ (ids ++ (replicate words.length_len 0 ++ number_bytes part))) size
-numbered_said kind.Handshake words dst src token has some few =
+numbered_described kind.Handshake words dst src token has some few =
     let part : PacketNumber = part_of words.number_len words.number in
     let size : words.number_len ≡ number_size part = (part_says words.number_len words.number some few).0 in
     let front : List ℕ = long_front (numbered_first kind.Handshake words) words.version dst src in
@@ -311,6 +311,6 @@ numbered_said kind.Handshake words dst src token has some few =
     ap (λ (xs : List ℕ). xs ++ (replicate words.length_len 0 ++ bytes_of words.number_len words.number)) (append-nil front)
     ∙ ap (λ (xs : List ℕ). front ++ (replicate words.length_len 0 ++ xs)) (sym (low_bytes words.number_len words.number some few))
     ∙ ap (λ (n : ℕ). (192 - 64 * (words.flags / 64 % 2) + type_bits kind.Handshake words.version + (n - 1)) ∷ (ids ++ (replicate words.length_len 0 ++ number_bytes part))) size
-numbered_said kind.Retry words dst src token has some few = absurd (search (rules, has))
-numbered_said kind.Short words dst src token has some few = absurd (search (rules, has))
-numbered_said kind.VersionNegotiate words dst src token has some few = absurd (search (rules, has))
+numbered_described kind.Retry words dst src token has some few = absurd (search (rules, has))
+numbered_described kind.Short words dst src token has some few = absurd (search (rules, has))
+numbered_described kind.VersionNegotiate words dst src token has some few = absurd (search (rules, has))

@@ -92,12 +92,12 @@ pub record DescribesHeader (words : HeaderFields) (dst src token : List ℕ) (cl
 
 -- They describe a header that can be written: the receiver's id has at most 20 bytes.
 pub record CanWriteHeader (words : HeaderFields) (dst src token : List ℕ) (clear : Bool) (head : Header) : Type 0 where
-  pub says : DescribesHeader words dst src token clear head
+  pub described : DescribesHeader words dst src token clear head
   pub dst_few : length dst ≤ 20
   pub writable : IsWritable head
 
 -- the bytes that are written: the header's, with so many zeros as its length, and with its fixed bit cleared if `clear`
 -- says so
-abbrev pub said_bytes : ℕ → Bool → Header → List ℕ
-said_bytes len clear head =
+abbrev pub described_bytes : ℕ → Bool → Header → List ℕ
+described_bytes len clear head =
     let bytes = header_with (replicate len 0) head in begun_by (slice_index bytes 0 - bit_value clear 64) bytes

@@ -21,15 +21,15 @@ use quic_header_encode::store::{
 
 // Whether a header of the kind can have this number and these sizes of the number and the length.
 #[inline(always)]
-fn is_numbered(said: &HeaderFields) -> bool
-    requires { said.now.kind ≤ 5 }
-    ensures { IsTrue result ↔ IsNumbered said.now }
+fn is_numbered(words: &HeaderFields) -> bool
+    requires { words.now.kind ≤ 5 }
+    ensures { IsTrue result ↔ IsNumbered words.now }
 {
-    if said.kind == 3 || said.kind == 5 {
+    if words.kind == 3 || words.kind == 5 {
         return true;
     }
-    let fits = said.kind == 4 || said.length_len == 2 || said.length_len == 4;
-    0 < said.number_len && said.number_len <= 4 && said.number < 1 << 62 && fits
+    let fits = words.kind == 4 || words.length_len == 2 || words.length_len == 4;
+    0 < words.number_len && words.number_len <= 4 && words.number < 1 << 62 && fits
 }
 
 // Whether a header of the kind can have these ids and this token.
@@ -42,13 +42,13 @@ fn are_parts(kind: u8, dst: &[u8], src: &[u8], token: &[u8]) -> bool
 
 // Whether a header of the kind can have these words, ids and token.
 #[inline(always)]
-fn is_shaped(said: &HeaderFields, dst: &[u8], src: &[u8], token: &[u8]) -> bool
-    ensures { IsTrue result ↔ IsShaped said.now dst.now src.now token.now }
+fn is_shaped(words: &HeaderFields, dst: &[u8], src: &[u8], token: &[u8]) -> bool
+    ensures { IsTrue result ↔ IsShaped words.now dst.now src.now token.now }
 {
-    said.kind <= 5
-        && (said.kind >= 4 || said.version != 0)
-        && is_numbered(said)
-        && are_parts(said.kind, dst, src, token)
+    words.kind <= 5
+        && (words.kind >= 4 || words.version != 0)
+        && is_numbered(words)
+        && are_parts(words.kind, dst, src, token)
 }
 
 // The sender's id, if the header has one.
@@ -98,11 +98,11 @@ pub(crate) fn first_word(kind: HeaderKind, flags: u8) -> u8
 
 // How many bytes the length takes, if the header has one.
 #[inline(always)]
-fn stored_length_len(said: &HeaderFields) -> usize
+fn stored_length_len(words: &HeaderFields) -> usize
     ensures known { (result ≡ 2) ⊎ (result ≡ 4) }
-    ensures same { (said.now.length_len ≡ 2) ⊎ (said.now.length_len ≡ 4) → result ≡ said.now.length_len }
+    ensures same { (words.now.length_len ≡ 2) ⊎ (words.now.length_len ≡ 4) → result ≡ words.now.length_len }
 {
-    if said.length_len == 4 { 4 } else { 2 }
+    if words.length_len == 4 { 4 } else { 2 }
 }
 
 // The first byte of a short header. All its flags are taken over at once, and the fixed bit, which is clear if its flag
@@ -119,26 +119,26 @@ fn short_first(flags: u8, number_len: u8) -> u8
 
 // Stores a short header at the front, field after field, and answers where it ends.
 #[inline(never)]
-fn store_short_parts(said: &HeaderFields, dst: &[u8], dest: &mut [u8]) -> usize
-    requires fits { HasShortRoom said.now dst.now (length dest.old) }
-    ensures { StoresShort said.now dst.now dest.old dest.new result }
+fn store_short_parts(words: &HeaderFields, dst: &[u8], dest: &mut [u8]) -> usize
+    requires fits { HasShortRoom words.now dst.now (length dest.old) }
+    ensures { StoresShort words.now dst.now dest.old dest.new result }
 {
-    let first = short_first(said.flags, said.number_len);
+    let first = short_first(words.flags, words.number_len);
     let at = store_short(dest, first, Exact(dst));
-    store_low(dest, at, said.number, said.number_len as usize)
+    store_low(dest, at, words.number, words.number_len as usize)
 }
 
 // The same for a header of more than four bytes: the number's lowest four bytes are stored, however many it has, and
 // then the id, over those that are too many.
 #[inline(always)]
-fn store_short_covered(said: &HeaderFields, dst: &[u8], dest: &mut [u8]) -> usize
-    requires fits { HasShortRoom said.now dst.now (length dest.old) }
-    requires many { 5 ≤ short_size said.now dst.now }
-    ensures { StoresShort said.now dst.now dest.old dest.new result }
+fn store_short_covered(words: &HeaderFields, dst: &[u8], dest: &mut [u8]) -> usize
+    requires fits { HasShortRoom words.now dst.now (length dest.old) }
+    requires many { 5 ≤ short_size words.now dst.now }
+    ensures { StoresShort words.now dst.now dest.old dest.new result }
 {
-    let behind_first = dst.len() + said.number_len as usize;
-    store_array(dest, 0, [short_first(said.flags, said.number_len)]);
-    let [_, _, _, _, fourth, third, second, last] = said.number.to_be_bytes();
+    let behind_first = dst.len() + words.number_len as usize;
+    store_array(dest, 0, [short_first(words.flags, words.number_len)]);
+    let [_, _, _, _, fourth, third, second, last] = words.number.to_be_bytes();
     store_array(dest, behind_first - 3, [fourth, third, second, last]);
     Exact(dst).store(dest, 1);
     behind_first + 1
@@ -150,52 +150,52 @@ fn store_short_covered(said: &HeaderFields, dst: &[u8], dest: &mut [u8]) -> usiz
 /// than 20 bytes, the number is 2^62 or more, or the number isn't written in 1 to 4 bytes. Bytes after the header don't
 /// change, and none changes if nothing is written.
 #[unsafe(no_mangle)]
-pub extern "C" fn quic_wire_short_write_(said: &HeaderFields, dst: &[u8], dest: &mut [u8]) -> i64
+pub extern "C" fn quic_wire_short_write_(words: &HeaderFields, dst: &[u8], dest: &mut [u8]) -> i64
     ensures wrote { (result ≡ negsuc 3) ⊎ (result ≡ negsuc 0) ⊎ ((count : ℕ) × (result ≡ pos count)
-        × WrotePacketHeader said.now dst.now [] [] dest.old dest.new count) }
-    ensures room { result ≡ negsuc 3 → PacketHeaderNeedsMore said.now dst.now [] [] (length dest.old) }
-    ensures refused { result ≡ negsuc 0 → (said.now.kind ≢ 4) ⊎ DescribesNoHeader said.now dst.now [] [] }
-    ensures short { (result ≡ negsuc 0) ⊎ (said.now.kind ≡ 4) }
+        × WrotePacketHeader words.now dst.now [] [] dest.old dest.new count) }
+    ensures room { result ≡ negsuc 3 → PacketHeaderNeedsMore words.now dst.now [] [] (length dest.old) }
+    ensures refused { result ≡ negsuc 0 → (words.now.kind ≢ 4) ⊎ DescribesNoHeader words.now dst.now [] [] }
+    ensures short { (result ≡ negsuc 0) ⊎ (words.now.kind ≡ 4) }
     ensures same { (result ≡ negsuc 3) ⊎ (result ≡ negsuc 0) → dest.new ≡ dest.old }
 {
-    if said.kind != 4 || !is_shaped(said, dst, &[], &[]) {
+    if words.kind != 4 || !is_shaped(words, dst, &[], &[]) {
         return -1;
     }
-    let behind_first = dst.len() + said.number_len as usize;
+    let behind_first = dst.len() + words.number_len as usize;
     if dest.len() <= behind_first {
         return -4;
     }
     if behind_first < 4 {
-        return store_short_parts(said, dst, dest) as i64;
+        return store_short_parts(words, dst, dest) as i64;
     }
-    store_short_covered(said, dst, dest) as i64
+    store_short_covered(words, dst, dest) as i64
 }
 
 // Stores a long header up to its ids' end at the front.
 #[inline(always)]
 fn store_front(
     kind: HeaderKind,
-    said: &HeaderFields,
+    words: &HeaderFields,
     dst: &[u8],
     src: &[u8],
     dest: &mut [u8],
 ) -> usize
     requires typed { IsTyped kind }
-    requires some { 1 ≤ said.now.number_len }
-    requires few { said.now.number_len ≤ 4 }
+    requires some { 1 ≤ words.now.number_len }
+    requires few { words.now.number_len ≤ 4 }
     requires dst_few { length dst.now ≤ 20 }
     requires src_few { length src.now ≤ 20 }
     requires room { 7 + length dst.now + length src.now ≤ length dest.old }
     ensures end { result ≡ 7 + length dst.now + length src.now }
     ensures front { take result dest.new
-        ≡ long_front (numbered_first kind said.now) said.now.version dst.now src.now }
+        ≡ long_front (numbered_first kind words.now) words.now.version dst.now src.now }
     ensures back { drop result dest.new ≡ drop result dest.old }
     ensures len { length dest.new ≡ length dest.old }
 {
-    let first = 192 - 64 * (said.flags / 64 % 2)
-        + kind.type_bits(said.version)
-        + (said.number_len - 1);
-    store_long_start(dest, first, said.version, Exact(dst), Exact(src))
+    let first = 192 - 64 * (words.flags / 64 % 2)
+        + kind.type_bits(words.version)
+        + (words.number_len - 1);
+    store_long_start(dest, first, words.version, Exact(dst), Exact(src))
 }
 
 // Stores the token of an Initial header after its length.
@@ -216,87 +216,87 @@ fn store_own_token(kind: HeaderKind, dest: &mut [u8], at: usize, token: &[u8]) -
 
 // Stores the length, which is 0, and the number.
 #[inline(always)]
-fn store_end(said: &HeaderFields, dest: &mut [u8], at: usize) -> usize
-    requires known { (said.now.length_len ≡ 2) ⊎ (said.now.length_len ≡ 4) }
-    requires some { 1 ≤ said.now.number_len }
-    requires few { said.now.number_len ≤ 4 }
-    requires room { at + (said.now.length_len + said.now.number_len) ≤ length dest.old }
-    ensures end { result ≡ at + (said.now.length_len + said.now.number_len) }
+fn store_end(words: &HeaderFields, dest: &mut [u8], at: usize) -> usize
+    requires known { (words.now.length_len ≡ 2) ⊎ (words.now.length_len ≡ 4) }
+    requires some { 1 ≤ words.now.number_len }
+    requires few { words.now.number_len ≤ 4 }
+    requires room { at + (words.now.length_len + words.now.number_len) ≤ length dest.old }
+    ensures end { result ≡ at + (words.now.length_len + words.now.number_len) }
     ensures front { take result dest.new ≡ take at dest.old
-        ++ (replicate said.now.length_len 0 ++ bytes_of said.now.number_len said.now.number) }
+        ++ (replicate words.now.length_len 0 ++ bytes_of words.now.number_len words.now.number) }
     ensures back { drop result dest.new ≡ drop result dest.old }
     ensures len { length dest.new ≡ length dest.old }
 {
-    let at = store_no_length(dest, at, said.length_len as usize);
-    store_low(dest, at, said.number, said.number_len as usize)
+    let at = store_no_length(dest, at, words.length_len as usize);
+    store_low(dest, at, words.number, words.number_len as usize)
 }
 
 // Stores the header of a packet with a number and a length at the front.
 #[inline(always)]
 fn store_numbered(
     kind: HeaderKind,
-    said: &HeaderFields,
+    words: &HeaderFields,
     dst: &[u8],
     src: &[u8],
     token: &[u8],
     dest: &mut [u8],
 ) -> usize
     requires typed { IsTyped kind }
-    requires known { (said.now.length_len ≡ 2) ⊎ (said.now.length_len ≡ 4) }
-    requires some { 1 ≤ said.now.number_len }
-    requires few { said.now.number_len ≤ 4 }
+    requires known { (words.now.length_len ≡ 2) ⊎ (words.now.length_len ≡ 4) }
+    requires some { 1 ≤ words.now.number_len }
+    requires few { words.now.number_len ≤ 4 }
     requires dst_few { length dst.now ≤ 20 }
     requires src_few { length src.now ≤ 20 }
     requires numeric { length token.now < 2 ^ 62 }
-    requires room { numbered_size kind said.now dst.now src.now token.now ≤ length dest.old }
-    ensures end { result ≡ numbered_size kind said.now dst.now src.now token.now }
-    ensures front { take result dest.new ≡ numbered_bytes kind said.now dst.now src.now token.now }
+    requires room { numbered_size kind words.now dst.now src.now token.now ≤ length dest.old }
+    ensures end { result ≡ numbered_size kind words.now dst.now src.now token.now }
+    ensures front { take result dest.new ≡ numbered_bytes kind words.now dst.now src.now token.now }
     ensures back { drop result dest.new ≡ drop result dest.old }
     ensures len { length dest.new ≡ length dest.old }
 {
-    let at = store_front(kind, said, dst, src, dest);
+    let at = store_front(kind, words, dst, src, dest);
     let at = store_own_token(kind, dest, at, token);
-    store_end(said, dest, at)
+    store_end(words, dest, at)
 }
 
 // Writes a header of a kind, as `quic_wire_header_write_` does.
 #[inline(always)]
 fn write_as(
     kind: HeaderKind,
-    said: &HeaderFields,
+    words: &HeaderFields,
     dst: &[u8],
     src: &[u8],
     token: &[u8],
     dest: &mut [u8],
 ) -> i64
-    requires kind { kind_word kind ≡ said.now.kind }
+    requires kind { kind_word kind ≡ words.now.kind }
     ensures wrote { (result ≡ negsuc 3) ⊎ (result ≡ negsuc 0) ⊎ ((count : ℕ) × (result ≡ pos count)
-        × WrotePacketHeader said.now dst.now src.now token.now dest.old dest.new count) }
-    ensures room { result ≡ negsuc 3 → PacketHeaderNeedsMore said.now dst.now src.now token.now (length dest.old) }
-    ensures refused { result ≡ negsuc 0 → DescribesNoHeader said.now dst.now src.now token.now }
+        × WrotePacketHeader words.now dst.now src.now token.now dest.old dest.new count) }
+    ensures room { result ≡ negsuc 3 → PacketHeaderNeedsMore words.now dst.now src.now token.now (length dest.old) }
+    ensures refused { result ≡ negsuc 0 → DescribesNoHeader words.now dst.now src.now token.now }
     ensures same { (result ≡ negsuc 3) ⊎ (result ≡ negsuc 0) → dest.new ≡ dest.old }
 {
-    if !is_shaped(said, dst, src, token) {
+    if !is_shaped(words, dst, src, token) {
         return -1;
     }
-    let number = written_part(said.number, said.number_len);
-    let source = source_of(said.kind, src);
-    let own = token_of(said.kind, token);
+    let number = written_part(words.number, words.number_len);
+    let source = source_of(words.kind, src);
+    let own = token_of(words.kind, token);
     let head = HeaderRef {
         kind,
-        first: first_word(kind, said.flags),
-        version: said.version,
+        first: first_word(kind, words.flags),
+        version: words.version,
         dst_cid: Exact(dst),
         src_cid: Exact(source),
         token: own,
         number: &number,
-        length_len: stored_length_len(said),
+        length_len: stored_length_len(words),
     };
     if !head.fits(dest.len()) {
         return -4;
     }
     if kind.has_len() {
-        store_numbered(kind, said, dst, src, own, dest) as i64
+        store_numbered(kind, words, dst, src, own, dest) as i64
     } else {
         head.store::<false>(dest) as i64
     }
@@ -312,25 +312,25 @@ fn write_as(
 /// Nothing changes then. A version negotiation is written with any low bits of its first byte.
 #[unsafe(no_mangle)]
 pub extern "C" fn quic_wire_header_write_(
-    said: &HeaderFields,
+    words: &HeaderFields,
     dst: &[u8],
     src: &[u8],
     token: &[u8],
     dest: &mut [u8],
 ) -> i64
     ensures wrote { (result ≡ negsuc 3) ⊎ (result ≡ negsuc 0) ⊎ ((count : ℕ) × (result ≡ pos count)
-        × WrotePacketHeader said.now dst.now src.now token.now dest.old dest.new count) }
-    ensures room { result ≡ negsuc 3 → PacketHeaderNeedsMore said.now dst.now src.now token.now (length dest.old) }
-    ensures refused { result ≡ negsuc 0 → DescribesNoHeader said.now dst.now src.now token.now }
+        × WrotePacketHeader words.now dst.now src.now token.now dest.old dest.new count) }
+    ensures room { result ≡ negsuc 3 → PacketHeaderNeedsMore words.now dst.now src.now token.now (length dest.old) }
+    ensures refused { result ≡ negsuc 0 → DescribesNoHeader words.now dst.now src.now token.now }
     ensures same { (result ≡ negsuc 3) ⊎ (result ≡ negsuc 0) → dest.new ≡ dest.old }
 {
-    match said.kind {
-        0 => write_as(HeaderKind::Initial, said, dst, src, token, dest),
-        1 => write_as(HeaderKind::ZeroRtt, said, dst, src, token, dest),
-        2 => write_as(HeaderKind::Handshake, said, dst, src, token, dest),
-        3 => write_as(HeaderKind::Retry, said, dst, src, token, dest),
-        4 => write_as(HeaderKind::Short, said, dst, src, token, dest),
-        5 => write_as(HeaderKind::VersionNegotiate, said, dst, src, token, dest),
+    match words.kind {
+        0 => write_as(HeaderKind::Initial, words, dst, src, token, dest),
+        1 => write_as(HeaderKind::ZeroRtt, words, dst, src, token, dest),
+        2 => write_as(HeaderKind::Handshake, words, dst, src, token, dest),
+        3 => write_as(HeaderKind::Retry, words, dst, src, token, dest),
+        4 => write_as(HeaderKind::Short, words, dst, src, token, dest),
+        5 => write_as(HeaderKind::VersionNegotiate, words, dst, src, token, dest),
         _ => -1,
     }
 }

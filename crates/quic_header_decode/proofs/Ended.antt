@@ -17,8 +17,8 @@ use Rattle.quic_header_decode.proofs.Steps.{chosen, none_some, some_same}
 abbrev End : HeaderKind → ℕ → ℕ → ℕ → Option ℕ
 End k at len whole = cond (carries_length k) (cond (nat_lt whole (at + len)) None (Some (at + len))) (Some whole)
 
-said : (at len whole q : ℕ) → cond (nat_lt whole (at + len)) None (Some (at + len)) ≡ Some q → (q ≡ at + len) × (q ≤ whole)
-said at len whole q e = elim (chosen {A = Option ℕ} (nat_lt whole (at + len)) None (Some (at + len)) (Some q) e) [
+values_are : (at len whole q : ℕ) → cond (nat_lt whole (at + len)) None (Some (at + len)) ≡ Some q → (q ≡ at + len) × (q ≤ whole)
+values_are at len whole q e = elim (chosen {A = Option ℕ} (nat_lt whole (at + len)) None (Some (at + len)) (Some q) e) [
   | inl past ↦ absurd (none_some q past.1)
   | inr within ↦
       let same : at + len ≡ q = some_same within.1 in
@@ -34,9 +34,9 @@ lacking at len whole e = elim (chosen {A = Option ℕ} (nat_lt whole (at + len))
 
 ended : (k : HeaderKind) (first : ℕ) (dst src : List ℕ) (token : Place) (at len version whole q : ℕ) → End k at len whole ≡ Some q
     → MatchOption (len_in (header_placed k first dst src token len version)) (q ≡ whole) (λ n. q ≡ at + n) × (q ≤ whole)
-ended kind.Initial first dst src token at len version whole q e = said at len whole q e
-ended kind.ZeroRtt first dst src token at len version whole q e = said at len whole q e
-ended kind.Handshake first dst src token at len version whole q e = said at len whole q e
+ended kind.Initial first dst src token at len version whole q e = values_are at len whole q e
+ended kind.ZeroRtt first dst src token at len version whole q e = values_are at len whole q e
+ended kind.Handshake first dst src token at len version whole q e = values_are at len whole q e
 ended kind.Retry first dst src token at len version whole q e = (let same : whole ≡ q = some_same e in (sym same, omega arith))
 ended kind.Short first dst src token at len version whole q e = (let same : whole ≡ q = some_same e in (sym same, omega arith))
 ended kind.VersionNegotiate first dst src token at len version whole q e = (let same : whole ≡ q = some_same e in (sym same, omega arith))

@@ -7,7 +7,7 @@ use Rattle.std.proofs.lemmas.Bool.Decides.{nat_tests}
 use Rattle.quic_base.specs.Number.{num}
 use Rattle.quic_base.specs.ConnectionId.{long_id}
 use Rattle.quic_header_decode.specs.declared.protected.ProtectedHeader.{ProtectedHeader}
-use Rattle.quic_header_decode.specs.declared.protected.ProtectedHeader.TheVariants as head
+use Rattle.quic_header_decode.specs.declared.protected.ProtectedHeader.TheVariants as protected
 use Rattle.quic_header_encode.specs.declared.long_type.LongHeaderType.{LongHeaderType}
 use Rattle.quic_header_encode.specs.declared.long_type.LongHeaderType.TheVariants as kind
 use Rattle.quic_header_encode.specs.Types.{long_type}
@@ -30,30 +30,30 @@ replaced front rest other bytes q len split at =
 
 -- values of other headers
 no_id : (whole first len : ℕ) (values : List HeaderValue) (id : List ℕ) (h : ProtectedHeader) → IsHeader whole first values h → len_in h ≡ Some len → values ≡ Bytes id ∷ [] → ⊥
-no_id whole first len values id (head.Short spin dst) is has said = cc
-no_id whole first len values id (head.VersionNegotiate random dst src) is has said = cc
-no_id whole first len values id (head.Retry dst src version) is has said = cc
-no_id whole first len values id (head.Long ty dst src n version) (type, is) has said = (let e : Bytes id ∷ [] ≡ Number version ∷ Bytes dst ∷ Bytes src ∷ Number n ∷ [] = sym said ∙ is in cc)
-no_id whole first len values id (head.Initial h) (count, left, start, stop, is) has said =
-    (let e : Bytes id ∷ [] ≡ Number h.version ∷ Bytes h.dst_cid ∷ Bytes h.src_cid ∷ Number count ∷ Number left ∷ Number h.len ∷ [] = sym said ∙ is in cc)
+no_id whole first len values id (protected.Short spin dst) is has values_are = cc
+no_id whole first len values id (protected.VersionNegotiate random dst src) is has values_are = cc
+no_id whole first len values id (protected.Retry dst src version) is has values_are = cc
+no_id whole first len values id (protected.Long ty dst src n version) (type, is) has values_are = (let e : Bytes id ∷ [] ≡ Number version ∷ Bytes dst ∷ Bytes src ∷ Number n ∷ [] = sym values_are ∙ is in cc)
+no_id whole first len values id (protected.Initial h) (count, left, start, stop, is) has values_are =
+    (let e : Bytes id ∷ [] ≡ Number h.version ∷ Bytes h.dst_cid ∷ Bytes h.src_cid ∷ Number count ∷ Number left ∷ Number h.len ∷ [] = sym values_are ∙ is in cc)
 
 no_ids : (whole first len version : ℕ) (dst src : List ℕ) (values : List HeaderValue) (h : ProtectedHeader) → IsHeader whole first values h → len_in h ≡ Some len → values ≡ id_values version dst src → ⊥
-no_ids whole first len v d s values (head.Short spin dst) is has said = cc
-no_ids whole first len v d s values (head.VersionNegotiate random dst src) is has said = cc
-no_ids whole first len v d s values (head.Retry dst src version) is has said = cc
-no_ids whole first len v d s values (head.Long ty dst src n version) (type, is) has said = (let e : id_values v d s ≡ Number version ∷ Bytes dst ∷ Bytes src ∷ Number n ∷ [] = sym said ∙ is in cc)
-no_ids whole first len v d s values (head.Initial h) (count, left, start, stop, is) has said =
-    (let e : id_values v d s ≡ Number h.version ∷ Bytes h.dst_cid ∷ Bytes h.src_cid ∷ Number count ∷ Number left ∷ Number h.len ∷ [] = sym said ∙ is in cc)
+no_ids whole first len v d s values (protected.Short spin dst) is has values_are = cc
+no_ids whole first len v d s values (protected.VersionNegotiate random dst src) is has values_are = cc
+no_ids whole first len v d s values (protected.Retry dst src version) is has values_are = cc
+no_ids whole first len v d s values (protected.Long ty dst src n version) (type, is) has values_are = (let e : id_values v d s ≡ Number version ∷ Bytes dst ∷ Bytes src ∷ Number n ∷ [] = sym values_are ∙ is in cc)
+no_ids whole first len v d s values (protected.Initial h) (count, left, start, stop, is) has values_are =
+    (let e : id_values v d s ≡ Number h.version ∷ Bytes h.dst_cid ∷ Bytes h.src_cid ∷ Number count ∷ Number left ∷ Number h.len ∷ [] = sym values_are ∙ is in cc)
 
 -- a header without a token has no place
 kept : (whole whole' first v n len : ℕ) (d s : List ℕ) (values : List HeaderValue) (h : ProtectedHeader) → IsHeader whole first values h → len_in h ≡ Some len
     → values ≡ Number v ∷ Bytes d ∷ Bytes s ∷ Number n ∷ [] → IsHeader whole' first values h
-kept whole whole' first v n len d s values (head.Short spin dst) is has said = absurd cc
-kept whole whole' first v n len d s values (head.VersionNegotiate random dst src) is has said = absurd cc
-kept whole whole' first v n len d s values (head.Retry dst src version) is has said = absurd cc
-kept whole whole' first v n len d s values (head.Long ty dst src m version) is has said = is
-kept whole whole' first v n len d s values (head.Initial h) (count, left, start, stop, is) has said =
-    absurd (let e : Number v ∷ Bytes d ∷ Bytes s ∷ Number n ∷ [] ≡ Number h.version ∷ Bytes h.dst_cid ∷ Bytes h.src_cid ∷ Number count ∷ Number left ∷ Number h.len ∷ [] = sym said ∙ is in cc)
+kept whole whole' first v n len d s values (protected.Short spin dst) is has values_are = absurd cc
+kept whole whole' first v n len d s values (protected.VersionNegotiate random dst src) is has values_are = absurd cc
+kept whole whole' first v n len d s values (protected.Retry dst src version) is has values_are = absurd cc
+kept whole whole' first v n len d s values (protected.Long ty dst src m version) is has values_are = is
+kept whole whole' first v n len d s values (protected.Initial h) (count, left, start, stop, is) has values_are =
+    absurd (let e : Number v ∷ Bytes d ∷ Bytes s ∷ Number n ∷ [] ≡ Number h.version ∷ Bytes h.dst_cid ∷ Bytes h.src_cid ∷ Number count ∷ Number left ∷ Number h.len ∷ [] = sym values_are ∙ is in cc)
 
 -- the values of a header with a token
 abbrev six : ℕ → List ℕ → List ℕ → ℕ → ℕ → ℕ → List HeaderValue
@@ -62,13 +62,13 @@ six v d s count left n = Number v ∷ Bytes d ∷ Bytes s ∷ Number count ∷ N
 -- and where one has a token, its place goes by what follows it
 shifted : (whole whole' first v count left left' n len : ℕ) (d s : List ℕ) (values : List HeaderValue) (h : ProtectedHeader) → IsHeader whole first values h → len_in h ≡ Some len
     → values ≡ six v d s count left n → whole' + left ≡ whole + left' → IsHeader whole' first (six v d s count left' n) h
-shifted whole whole' first v count left left' n len d s values (head.Short spin dst) is has said moved = absurd cc
-shifted whole whole' first v count left left' n len d s values (head.VersionNegotiate random dst src) is has said moved = absurd cc
-shifted whole whole' first v count left left' n len d s values (head.Retry dst src version) is has said moved = absurd cc
-shifted whole whole' first v count left left' n len d s values (head.Long ty dst src m version) (type, is) has said moved =
-    absurd (let e : six v d s count left n ≡ Number version ∷ Bytes dst ∷ Bytes src ∷ Number m ∷ [] = sym said ∙ is in cc)
-shifted whole whole' first v count left left' n len d s values (head.Initial h) (count0, left0, start, stop, is) has said moved =
-    let e : six v d s count left n ≡ six h.version h.dst_cid h.src_cid count0 left0 h.len = sym said ∙ is in
+shifted whole whole' first v count left left' n len d s values (protected.Short spin dst) is has values_are moved = absurd cc
+shifted whole whole' first v count left left' n len d s values (protected.VersionNegotiate random dst src) is has values_are moved = absurd cc
+shifted whole whole' first v count left left' n len d s values (protected.Retry dst src version) is has values_are moved = absurd cc
+shifted whole whole' first v count left left' n len d s values (protected.Long ty dst src m version) (type, is) has values_are moved =
+    absurd (let e : six v d s count left n ≡ Number version ∷ Bytes dst ∷ Bytes src ∷ Number m ∷ [] = sym values_are ∙ is in cc)
+shifted whole whole' first v count left left' n len d s values (protected.Initial h) (count0, left0, start, stop, is) has values_are moved =
+    let e : six v d s count left n ≡ six h.version h.dst_cid h.src_cid count0 left0 h.len = sym values_are ∙ is in
     let same : left ≡ left0 = cc in
     (count0, left', start, omega (arith, stop, moved, same), (let all : six v d s count left' n ≡ six h.version h.dst_cid h.src_cid count0 left' h.len = cc in all))
 
@@ -81,19 +81,19 @@ record Moves (context : DecodeOptions) (fields : List HeaderField) (before : Lis
 
 typed_moves : (context : DecodeOptions) (whole first len version : ℕ) (dst src left rest : List ℕ) (values : List HeaderValue) (h : ProtectedHeader) → IsHeader whole first values h → len_in h ≡ Some len
     → (ty : LongHeaderType) → AreHeaderFields context (typed_row ty) (id_values version dst src) values left rest → Moves context (typed_row ty) (id_values version dst src) whole first left rest h
-typed_moves context whole first len version dst src left rest values h is has kind.Retry (said, same) = absurd (no_ids whole first len version dst src values h is has said)
-typed_moves context whole first len version dst src left rest values h is has (kind.Standard ty) (v, back, (f, split, (n, is1, encoded)), (said, same)) =
-    let all : values ≡ Number version ∷ Bytes dst ∷ Bytes src ∷ Number n ∷ [] = said ∙ ap (λ (xs : List HeaderValue). id_values version dst src ++ xs) is1 in
+typed_moves context whole first len version dst src left rest values h is has kind.Retry (values_are, same) = absurd (no_ids whole first len version dst src values h is has values_are)
+typed_moves context whole first len version dst src left rest values h is has (kind.Standard ty) (v, back, (f, split, (n, is1, encoded)), (values_are, same)) =
+    let all : values ≡ Number version ∷ Bytes dst ∷ Bytes src ∷ Number n ∷ [] = values_are ∙ ap (λ (xs : List HeaderValue). id_values version dst src ++ xs) is1 in
     record {
       front = f;
       split = split ∙ ap (λ (xs : List ℕ). f ++ xs) same;
-      moved = λ other whole' sum. (values, (v, other, (f, refl, (n, is1, encoded)), (said, refl)), kept whole whole' first version n len dst src values h is has all);
+      moved = λ other whole' sum. (values, (v, other, (f, refl, (n, is1, encoded)), (values_are, refl)), kept whole whole' first version n len dst src values h is has all);
     }
 typed_moves context whole first len version dst src left rest values h is has kind.Initial
-    (v1, t1, (f1, split1, (count, is1, encoded1)), (v2, t2, (token, split2, (is2, width)), (v3, t3, (f3, split3, (n, is3, encoded3)), (said, same)))) =
+    (v1, t1, (f1, split1, (count, is1, encoded1)), (v2, t2, (token, split2, (is2, width)), (v3, t3, (f3, split3, (n, is3, encoded3)), (values_are, same)))) =
     let base : List HeaderValue = id_values version dst src in
     let all : values ≡ six version dst src count (length t2) n =
-    said ∙ (let eq : ((base ++ v1) ++ v2) ++ v3 ≡ ((base ++ Number count ∷ []) ++ Number (length t2) ∷ []) ++ Number n ∷ [] = rw (is1, is2, is3) in eq) in
+    values_are ∙ (let eq : ((base ++ v1) ++ v2) ++ v3 ≡ ((base ++ Number count ∷ []) ++ Number (length t2) ∷ []) ++ Number n ∷ [] = rw (is1, is2, is3) in eq) in
     let inner : t2 ≡ f3 ++ rest = split3 ∙ ap (λ (xs : List ℕ). f3 ++ xs) same in
     let tail : (xs : List ℕ) → (f1 ++ (token ++ f3)) ++ xs ≡ f1 ++ (token ++ (f3 ++ xs)) =
     λ xs. append_assoc f1 (token ++ f3) xs ∙ ap (λ (ys : List ℕ). f1 ++ ys) (append_assoc token f3 xs) in
@@ -121,11 +121,11 @@ typed_moves context whole first len version dst src left rest values h is has ki
 behind_moves : (context : DecodeOptions) (whole first len version : ℕ) (dst src left rest : List ℕ) (values : List HeaderValue) (h : ProtectedHeader) → IsHeader whole first values h → len_in h ≡ Some len
     → (none : Bool) (ty : LongHeaderType) → AreHeaderFields context (cond none [] (Supported version ∷ typed_row ty)) (id_values version dst src) values left rest
     → Moves context (cond none [] (Supported version ∷ typed_row ty)) (id_values version dst src) whole first left rest h
-behind_moves context whole first len version dst src left rest values h is has true ty (said, same) = absurd (no_ids whole first len version dst src values h is has said)
-behind_moves context whole first len version dst src left rest values h is has false ty (v, back, (f, split, (said, none, known)), others) =
+behind_moves context whole first len version dst src left rest values h is has true ty (values_are, same) = absurd (no_ids whole first len version dst src values h is has values_are)
+behind_moves context whole first len version dst src left rest values h is has false ty (v, back, (f, split, (values_are, none, known)), others) =
     let kept_left : left ≡ back = split ∙ ap (λ (xs : List ℕ). xs ++ back) none in
     let m = typed_moves context whole first len version dst src back rest values h is has ty
-    (subst (λ (xs : List HeaderValue). AreHeaderFields context (typed_row ty) (id_values version dst src ++ xs) values back rest) said others) in
+    (subst (λ (xs : List HeaderValue). AreHeaderFields context (typed_row ty) (id_values version dst src ++ xs) values back rest) values_are others) in
     record {
       front = m.front;
       split = kept_left ∙ m.split;
@@ -136,7 +136,7 @@ row_moves : (context : DecodeOptions) (whole first len : ℕ) (text rest : List 
     → (long : Bool) → is_long first ≡ long → AreHeaderFields context (cond long (long_row (row_behind_ids first (num (take 4 text)))) (ShortId ∷ [])) [] values text rest
     → (front : List ℕ) × (text ≡ front ++ rest) × ((other : List ℕ) (whole' : ℕ) → whole' + length rest ≡ whole + length other
     → (values : List HeaderValue) × AreHeaderFields context (header_row_of first (num (take 4 (front ++ other)))) [] values (front ++ other) other × IsHeader whole' first values h)
-row_moves context whole first len text rest values h is has false short (v, back, (f, split, (id, is1, parsed)), (said, same)) = absurd (no_id whole first len values id h is has (said ∙ is1))
+row_moves context whole first len text rest values h is has false short (v, back, (f, split, (id, is1, parsed)), (values_are, same)) = absurd (no_id whole first len values id h is has (values_are ∙ is1))
 row_moves context whole first len text rest values h is has true long d =
     let x = ids_of context (row_behind_ids first (num (take 4 text))) values text rest d in
     let version : ℕ = x.0 in
@@ -241,10 +241,10 @@ long_reported context first text e
       src_len = len3;
       text_is = split1 ∙ ap (λ (xs : List ℕ). word ++ xs) (split2 ∙ ap (λ (xs : List ℕ). xs ++ t2) text2 ∙ ap (λ (xs : List ℕ). long_id dst ++ xs) (split3 ∙ ap (λ (xs : List ℕ). xs ++ left) text3));
     } in
-    let said : (v ++ d) ++ s ≡ id_values version dst src = rw (is1, is2, is3) in
+    let values_are : (v ++ d) ++ s ≡ id_values version dst src = rw (is1, is2, is3) in
     behind_reported context first version text dst src left e ids (nat_eq version 0) refl (long_type version first)
     (subst (λ (n : ℕ). StopsWithinRow context (row_behind_ids first n) (id_values version dst src) left e) (version_is text version dst src left ids)
-    (subst (λ (xs : List HeaderValue). StopsWithinRow context (row_behind_ids first (num (take 4 text))) xs left e) said stops))
+    (subst (λ (xs : List HeaderValue). StopsWithinRow context (row_behind_ids first (num (take 4 text))) xs left e) values_are stops))
 
 row_reported : (context : DecodeOptions) (first : ℕ) (text : List ℕ) (e : Refusal) → 128 ≤ first → StopsWithinRow context (header_row_of first (num (take 4 text))) [] text e → IsPlain e ⊎ IsUnknown context text e
 row_reported context first text e long stops =

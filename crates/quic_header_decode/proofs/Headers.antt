@@ -9,7 +9,7 @@ use Rattle.quic_base.specs.Number.{has_bit, AreBytes, IsNumber, num}
 use Rattle.quic_base.specs.Reading.{◌>>=◌, number_at}
 use Rattle.quic_base.specs.ConnectionId.{long_id}
 use Rattle.quic_header_decode.specs.declared.protected.ProtectedHeader.{ProtectedHeader}
-use Rattle.quic_header_decode.specs.declared.protected.ProtectedHeader.TheVariants as head
+use Rattle.quic_header_decode.specs.declared.protected.ProtectedHeader.TheVariants as protected
 use Rattle.quic_header_encode.specs.declared.long_type.LongHeaderType.{LongHeaderType}
 use Rattle.quic_header_encode.specs.declared.long_type.LongHeaderType.TheVariants as kind
 use Rattle.quic_header_encode.specs.Types.{long_type}
@@ -51,7 +51,7 @@ ids_of context fields after text rest (v, t1, (word, split1, (version, is1, numb
     src_len = len3;
     text_is = split1 ∙ ap (λ (xs : List ℕ). word ++ xs) (split2 ∙ ap (λ (xs : List ℕ). xs ++ t2) text2 ∙ ap (λ (xs : List ℕ). long_id dst ++ xs) (split3 ∙ ap (λ (xs : List ℕ). xs ++ left) text3));
   },
-  (let said : (v ++ d) ++ s ≡ id_values version dst src = rw (is1, is2, is3) in subst (λ (xs : List HeaderValue). AreHeaderFields context fields xs after left rest) said others),
+  (let values_are : (v ++ d) ++ s ≡ id_values version dst src = rw (is1, is2, is3) in subst (λ (xs : List HeaderValue). AreHeaderFields context fields xs after left rest) values_are others),
 )
 
 pub of_ids : (context : DecodeOptions) (fields : List HeaderField) (after : List HeaderValue) (text rest : List ℕ) (version : ℕ) (dst src left : List ℕ) → Ids text version dst src left
@@ -90,51 +90,51 @@ version_is text version dst src left ids =
 -- ---- the header that values make
 
 abbrev other_header : ProtectedHeader
-other_header = head.Short false []
+other_header = protected.Short false []
 
 abbrev long_made : LongHeaderType → List ℕ → List ℕ → ℕ → ℕ → ProtectedHeader
 long_made kind.Initial dst src len version = other_header
-long_made (kind.Standard ty) dst src len version = head.Long ty dst src len version
+long_made (kind.Standard ty) dst src len version = protected.Long ty dst src len version
 long_made kind.Retry dst src len version = other_header
 
 abbrev made : ℕ → ℕ → List HeaderValue → ProtectedHeader
-made whole first (Bytes dst ∷ []) = head.Short (has_bit 0x20 first) dst
-made whole first (Number version ∷ Bytes dst ∷ Bytes src ∷ []) = cond (nat_eq version 0) (head.VersionNegotiate (first - 128) dst src) (head.Retry dst src version)
+made whole first (Bytes dst ∷ []) = protected.Short (has_bit 0x20 first) dst
+made whole first (Number version ∷ Bytes dst ∷ Bytes src ∷ []) = cond (nat_eq version 0) (protected.VersionNegotiate (first - 128) dst src) (protected.Retry dst src version)
 made whole first (Number version ∷ Bytes dst ∷ Bytes src ∷ Number len ∷ []) = long_made (long_type version first) dst src len version
 made whole first (Number version ∷ Bytes dst ∷ Bytes src ∷ Number count ∷ Number left ∷ Number len ∷ []) =
     let start = whole - (count + left) in
-    head.Initial (record { dst_cid = dst; src_cid = src; token_pos = record { start = start; end = start + count }; len = len; version = version })
+    protected.Initial (record { dst_cid = dst; src_cid = src; token_pos = record { start = start; end = start + count }; len = len; version = version })
 made whole first values = other_header
 
 made_is : (whole first : ℕ) (values : List HeaderValue) (h : ProtectedHeader) → IsHeader whole first values h → made whole first values ≡ h
-made_is whole first values (head.Short spin dst) (short, is, said) = ap (made whole first) said ∙ ap (λ (s : Bool). head.Short s dst) (sym is)
-made_is whole first values (head.VersionNegotiate random dst src) (is, said) =
-    ap (made whole first) said ∙ ap (λ (n : ℕ). head.VersionNegotiate n dst src) (let same : first - 128 ≡ random = omega (arith, is) in same)
-made_is whole first values (head.Retry dst src version) (some, is, said) =
-    ap (made whole first) said ∙ otherwise (nat_eq version 0) _ _ (head.Retry dst src version) (grind (arith, nat_tests)) refl
-made_is whole first values (head.Long ty dst src len version) (is, said) =
-    ap (made whole first) said ∙ ap (λ (k : LongHeaderType). long_made k dst src len version) is
-made_is whole first values (head.Initial h) (count, left, start, stop, said) =
-    let at : ℕ → ℕ → ProtectedHeader = λ a b. head.Initial (record { dst_cid = h.dst_cid; src_cid = h.src_cid; token_pos = record { start = a; end = b }; len = h.len; version = h.version }) in
+made_is whole first values (protected.Short spin dst) (short, is, values_are) = ap (made whole first) values_are ∙ ap (λ (s : Bool). protected.Short s dst) (sym is)
+made_is whole first values (protected.VersionNegotiate random dst src) (is, values_are) =
+    ap (made whole first) values_are ∙ ap (λ (n : ℕ). protected.VersionNegotiate n dst src) (let same : first - 128 ≡ random = omega (arith, is) in same)
+made_is whole first values (protected.Retry dst src version) (some, is, values_are) =
+    ap (made whole first) values_are ∙ otherwise (nat_eq version 0) _ _ (protected.Retry dst src version) (grind (arith, nat_tests)) refl
+made_is whole first values (protected.Long ty dst src len version) (is, values_are) =
+    ap (made whole first) values_are ∙ ap (λ (k : LongHeaderType). long_made k dst src len version) is
+made_is whole first values (protected.Initial h) (count, left, start, stop, values_are) =
+    let at : ℕ → ℕ → ProtectedHeader = λ a b. protected.Initial (record { dst_cid = h.dst_cid; src_cid = h.src_cid; token_pos = record { start = a; end = b }; len = h.len; version = h.version }) in
     let begins : whole - (count + left) ≡ h.token_pos.start = omega (arith, stop, start) in
-    ap (made whole first) said ∙ ap (λ (n : ℕ). at n (n + count)) begins ∙ ap (λ (n : ℕ). at h.token_pos.start n) start
+    ap (made whole first) values_are ∙ ap (λ (n : ℕ). at n (n + count)) begins ∙ ap (λ (n : ℕ). at h.token_pos.start n) start
 
 -- the values of a row make the header that they are
 typed_is : (context : DecodeOptions) (whole first version : ℕ) (dst src left rest : List ℕ) (values : List HeaderValue) → length left ≤ whole → version ≢ 0
     → (ty : LongHeaderType) → long_type version first ≡ ty → AreHeaderFields context (typed_row ty) (id_values version dst src) values left rest
     → IsHeader whole first values (made whole first values)
-typed_is context whole first version dst src left rest values room some kind.Retry is (said, same) =
-    subst (λ (xs : List HeaderValue). IsHeader whole first xs (made whole first xs)) (sym said)
-    (subst (IsHeader whole first (id_values version dst src)) (sym (otherwise (nat_eq version 0) _ _ (head.Retry dst src version) (grind (arith, nat_tests)) refl)) (some, is, refl))
-typed_is context whole first version dst src left rest values room some (kind.Standard ty) is (v, back, (f, split, (len, is1, encoded)), (said, same)) =
-    let all : values ≡ Number version ∷ Bytes dst ∷ Bytes src ∷ Number len ∷ [] = said ∙ ap (λ (xs : List HeaderValue). id_values version dst src ++ xs) is1 in
+typed_is context whole first version dst src left rest values room some kind.Retry is (values_are, same) =
+    subst (λ (xs : List HeaderValue). IsHeader whole first xs (made whole first xs)) (sym values_are)
+    (subst (IsHeader whole first (id_values version dst src)) (sym (otherwise (nat_eq version 0) _ _ (protected.Retry dst src version) (grind (arith, nat_tests)) refl)) (some, is, refl))
+typed_is context whole first version dst src left rest values room some (kind.Standard ty) is (v, back, (f, split, (len, is1, encoded)), (values_are, same)) =
+    let all : values ≡ Number version ∷ Bytes dst ∷ Bytes src ∷ Number len ∷ [] = values_are ∙ ap (λ (xs : List HeaderValue). id_values version dst src ++ xs) is1 in
     subst (λ (xs : List HeaderValue). IsHeader whole first xs (made whole first xs)) (sym all)
     (subst (IsHeader whole first (Number version ∷ Bytes dst ∷ Bytes src ∷ Number len ∷ [])) (ap (λ (k : LongHeaderType). long_made k dst src len version) (sym is)) (is, refl))
 typed_is context whole first version dst src left rest values room some kind.Initial is
-    (v1, t1, (f1, split1, (count, is1, encoded1)), (v2, t2, (token, split2, (is2, width)), (v3, t3, (f3, split3, (len, is3, encoded3)), (said, same)))) =
+    (v1, t1, (f1, split1, (count, is1, encoded1)), (v2, t2, (token, split2, (is2, width)), (v3, t3, (f3, split3, (len, is3, encoded3)), (values_are, same)))) =
     let base : List HeaderValue = id_values version dst src in
     let all : values ≡ Number version ∷ Bytes dst ∷ Bytes src ∷ Number count ∷ Number (length t2) ∷ Number len ∷ [] =
-    said ∙ (let eq : ((base ++ v1) ++ v2) ++ v3 ≡ ((base ++ Number count ∷ []) ++ Number (length t2) ∷ []) ++ Number len ∷ [] = rw (is1, is2, is3) in eq) in
+    values_are ∙ (let eq : ((base ++ v1) ++ v2) ++ v3 ≡ ((base ++ Number count ∷ []) ++ Number (length t2) ∷ []) ++ Number len ∷ [] = rw (is1, is2, is3) in eq) in
     let size : length token ≡ count = width ∙ (let eq : token_length_of (base ++ v1) ≡ count = ap (λ (xs : List HeaderValue). token_length_of (base ++ xs)) is1 in eq) in
     let inner : count + length t2 ≤ whole = omega (arith, room, size, ap length split1, length-append f1 t1, ap length split2, length-append token t2) in
     subst (λ (xs : List HeaderValue). IsHeader whole first xs (made whole first xs)) (sym all) (count, length t2, refl, omega (arith, inner), refl)
@@ -142,15 +142,15 @@ typed_is context whole first version dst src left rest values room some kind.Ini
 behind_is : (context : DecodeOptions) (whole first version : ℕ) (dst src left rest : List ℕ) (values : List HeaderValue) → length left ≤ whole → 128 ≤ first
     → (none : Bool) → nat_eq version 0 ≡ none → AreHeaderFields context (cond none [] (Supported version ∷ typed_row (long_type version first))) (id_values version dst src) values left rest
     → IsHeader whole first values (made whole first values)
-behind_is context whole first version dst src left rest values room long true is (said, same) =
+behind_is context whole first version dst src left rest values room long true is (values_are, same) =
     let zero_version : version ≡ 0 = grind (arith, nat_tests) in
-    let all : values ≡ id_values 0 dst src = said ∙ ap (λ (n : ℕ). id_values n dst src) zero_version in
+    let all : values ≡ id_values 0 dst src = values_are ∙ ap (λ (n : ℕ). id_values n dst src) zero_version in
     subst (λ (xs : List HeaderValue). IsHeader whole first xs (made whole first xs)) (sym all) (omega arith, refl)
-behind_is context whole first version dst src left rest values room long false is (v, back, (f, split, (said, none, known)), others) =
+behind_is context whole first version dst src left rest values room long false is (v, back, (f, split, (values_are, none, known)), others) =
     let some : version ≢ 0 = grind (arith, nat_tests) in
     let kept : left ≡ back = split ∙ ap (λ (xs : List ℕ). xs ++ back) none in
     typed_is context whole first version dst src back rest values (subst (λ (xs : List ℕ). length xs ≤ whole) kept room) some (long_type version first) refl
-    (subst (λ (xs : List HeaderValue). AreHeaderFields context (typed_row (long_type version first)) (id_values version dst src ++ xs) values back rest) said others)
+    (subst (λ (xs : List HeaderValue). AreHeaderFields context (typed_row (long_type version first)) (id_values version dst src ++ xs) values back rest) values_are others)
 
 pub ids_room : (text : List ℕ) (version : ℕ) (dst src left : List ℕ) → Ids text version dst src left → length left ≤ length text
 ids_room text version dst src left ids =
@@ -159,8 +159,8 @@ ids_room text version dst src left ids =
 row_is : (context : DecodeOptions) (whole first : ℕ) (text rest : List ℕ) (values : List HeaderValue) → length text ≤ whole
     → (long : Bool) → is_long first ≡ long → AreHeaderFields context (cond long (long_row (row_behind_ids first (num (take 4 text)))) (ShortId ∷ [])) [] values text rest
     → IsHeader whole first values (made whole first values)
-row_is context whole first text rest values room false is (v, back, (f, split, (dst, is1, parsed)), (said, same)) =
-    subst (λ (xs : List HeaderValue). IsHeader whole first xs (made whole first xs)) (sym (said ∙ is1)) (is, refl, refl)
+row_is context whole first text rest values room false is (v, back, (f, split, (dst, is1, parsed)), (values_are, same)) =
+    subst (λ (xs : List HeaderValue). IsHeader whole first xs (made whole first xs)) (sym (values_are ∙ is1)) (is, refl, refl)
 row_is context whole first text rest values room true is d =
     let long : 128 ≤ first = grind (arith, nat_tests) in
     let x = ids_of context (row_behind_ids first (num (take 4 text))) values text rest d in
@@ -190,7 +190,7 @@ typed_same : (context : DecodeOptions) (whole first version : ℕ) (dst src left
     → typed_at ty whole dst src version left ≡ row_at context (typed_row ty) (id_values version dst src) left (finish whole first)
 unfolding typed_at
 typed_same context whole first version dst src left some kind.Retry is =
-    sym (ap (λ (b : Bool). let r : Result (ProtectedHeader × List ℕ) Refusal = Ok (cond b (head.VersionNegotiate (first - 128) dst src) (head.Retry dst src version), left) in r) some)
+    sym (ap (λ (b : Bool). let r : Result (ProtectedHeader × List ℕ) Refusal = Ok (cond b (protected.VersionNegotiate (first - 128) dst src) (protected.Retry dst src version), left) in r) some)
 typed_same context whole first version dst src left some (kind.Standard ty) is =
     reassoc (ok_or (number_at left) at_end) (λ x. (Number x.0 ∷ [], x.1)) _ _
     (λ len e. sym (ap (λ (k : LongHeaderType). let r : Result (ProtectedHeader × List ℕ) Refusal = Ok (long_made k dst src len.0 version, len.1) in r) is))
@@ -199,17 +199,17 @@ typed_same context whole first version dst src left some kind.Initial is =
     (λ token e. cond_bind (nat_lt (length token.1) token.0) (Invalid (codes "token out of bounds")) (Number (length (drop token.0 token.1)) ∷ [], drop token.0 token.1) _ _
     (λ within. reassoc (ok_or (number_at (drop token.0 token.1)) at_end) (λ x. (Number x.0 ∷ [], x.1)) _ _
     (λ len f.
-    let at : ℕ → ProtectedHeader = λ a. head.Initial (record { dst_cid = dst; src_cid = src; token_pos = record { start = a; end = a + token.0 }; len = len.0; version = version }) in
+    let at : ℕ → ProtectedHeader = λ a. protected.Initial (record { dst_cid = dst; src_cid = src; token_pos = record { start = a; end = a + token.0 }; len = len.0; version = version }) in
     let enough : token.0 ≤ length token.1 = grind (arith, nat_tests) in
     let sum : length token.1 ≡ token.0 + length (drop token.0 token.1) = omega (arith, length-drop token.0 token.1) in
     ap (λ (n : ℕ). let r : Result (ProtectedHeader × List ℕ) Refusal = Ok (at (whole - n), len.1) in r) sum)))
 
 behind_same : (context : DecodeOptions) (whole first version : ℕ) (dst src left : List ℕ) (none : Bool) → nat_eq version 0 ≡ none
-    → cond none (Ok (head.VersionNegotiate (first - 128) dst src, left))
+    → cond none (Ok (protected.VersionNegotiate (first - 128) dst src, left))
     (cond (not (list_any (λ known. nat_eq known version) context.versions)) (Err (Unsupported src dst version)) (typed_at (long_type version first) whole dst src version left))
     ≡ row_at context (cond none [] (Supported version ∷ typed_row (long_type version first))) (id_values version dst src) left (finish whole first)
 behind_same context whole first version dst src left true is =
-    sym (ap (λ (b : Bool). let r : Result (ProtectedHeader × List ℕ) Refusal = Ok (cond b (head.VersionNegotiate (first - 128) dst src) (head.Retry dst src version), left) in r) is)
+    sym (ap (λ (b : Bool). let r : Result (ProtectedHeader × List ℕ) Refusal = Ok (cond b (protected.VersionNegotiate (first - 128) dst src) (protected.Retry dst src version), left) in r) is)
 behind_same context whole first version dst src left false is =
     cond_bind (not (list_any (λ known. nat_eq known version) context.versions)) (Unsupported src dst version) ([], left) _ _
     (λ known. typed_same context whole first version dst src left is (long_type version first) refl)
@@ -231,7 +231,7 @@ long_same context whole first text =
     ∙ ap (λ (n : ℕ). row_at context (row_behind_ids first n) (id_values version.0 dst.0 src.0) src.1 (finish whole first)) (sym (word_says text version (option_ok (word_at text) at_end version e))))))
 
 form_same : (context : DecodeOptions) (whole first : ℕ) (text : List ℕ) (long : Bool) → is_long first ≡ long
-    → cond (nat_lt first 128) (context.parsed text >>= λ id. Ok (head.Short (nat_eq (first / 32 % 2) 1) id.0, drop id.1 text)) (long_at context.versions whole first text)
+    → cond (nat_lt first 128) (context.parsed text >>= λ id. Ok (protected.Short (nat_eq (first / 32 % 2) 1) id.0, drop id.1 text)) (long_at context.versions whole first text)
     ≡ row_at context (cond long (long_row (row_behind_ids first (num (take 4 text)))) (ShortId ∷ [])) [] text (finish whole first)
 form_same context whole first text true is = otherwise (nat_lt first 128) _ _ _ (grind (arith, nat_tests)) (long_same context whole first text)
 form_same context whole first text false is =

@@ -7,7 +7,7 @@ use Rattle.quic_base.specs.Varint.{Encodes}
 use Rattle.quic_base.specs.ConnectionId.{long_id}
 use Rattle.quic_base.proofs.PublicLaws as law
 use Rattle.quic_header_decode.specs.declared.protected.ProtectedHeader.{ProtectedHeader}
-use Rattle.quic_header_decode.specs.declared.protected.ProtectedHeader.TheVariants as head
+use Rattle.quic_header_decode.specs.declared.protected.ProtectedHeader.TheVariants as protected
 use Rattle.quic_header_decode.specs.declared.protected.ProtectedInitialHeader.{ProtectedInitialHeader}
 use Rattle.quic_header_encode.specs.declared.long_type.LongHeaderType.{LongHeaderType}
 use Rattle.quic_header_encode.specs.declared.long_type.LongHeaderType.TheVariants as kind
@@ -81,19 +81,19 @@ typed_made context whole bytes first version dst src left rest values h ty start
 
 pub long_header : (context : DecodeOptions) (whole : ℕ) (bytes : List ℕ) (first version : ℕ) (dst src text rest : List ℕ) (ty : LongType) (len : ℕ)
     → LongStart context bytes first version dst src (text ++ rest) → IsKnownVersion context version → long_type version first ≡ kind.Standard ty → Encodes len text
-    → HeaderAt context whole bytes (head.Long ty dst src len version) rest
+    → HeaderAt context whole bytes (protected.Long ty dst src len version) rest
 long_header context whole bytes first version dst src text rest ty len start known type encoded =
-    typed_made context whole bytes first version dst src (text ++ rest) rest (Number version ∷ Bytes dst ∷ Bytes src ∷ Number len ∷ []) (head.Long ty dst src len version) (kind.Standard ty) start known type
+    typed_made context whole bytes first version dst src (text ++ rest) rest (Number version ∷ Bytes dst ∷ Bytes src ∷ Number len ∷ []) (protected.Long ty dst src len version) (kind.Standard ty) start known type
     (Number len ∷ [], rest, (text, refl, (len, refl, encoded)), (refl, refl)) (type, refl)
 
 pub initial_header : (context : DecodeOptions) (whole : ℕ) (bytes : List ℕ) (first : ℕ) (count token text rest : List ℕ) (h : ProtectedInitialHeader)
     → LongStart context bytes first h.version h.dst_cid h.src_cid (count ++ (token ++ (text ++ rest))) → IsKnownVersion context h.version → long_type h.version first ≡ kind.Initial
     → Encodes (length token) count → Encodes h.len text → h.token_pos.end + length (text ++ rest) ≡ whole → h.token_pos.start + length token ≡ h.token_pos.end
-    → HeaderAt context whole bytes (head.Initial h) rest
+    → HeaderAt context whole bytes (protected.Initial h) rest
 initial_header context whole bytes first count token text rest h start known type counted encoded stop from =
     let left : ℕ = length (text ++ rest) in
     typed_made context whole bytes first h.version h.dst_cid h.src_cid (count ++ (token ++ (text ++ rest))) rest
-    (Number h.version ∷ Bytes h.dst_cid ∷ Bytes h.src_cid ∷ Number (length token) ∷ Number left ∷ Number h.len ∷ []) (head.Initial h) kind.Initial start known type (
+    (Number h.version ∷ Bytes h.dst_cid ∷ Bytes h.src_cid ∷ Number (length token) ∷ Number left ∷ Number h.len ∷ []) (protected.Initial h) kind.Initial start known type (
       Number (length token) ∷ [],
       token ++ (text ++ rest),
       (count, refl, (length token, refl, counted)),
@@ -101,17 +101,17 @@ initial_header context whole bytes first count token text rest h start known typ
     ) (length token, left, from, stop, refl)
 
 pub retry_header : (context : DecodeOptions) (whole : ℕ) (bytes : List ℕ) (first version : ℕ) (dst src rest : List ℕ)
-    → LongStart context bytes first version dst src rest → IsKnownVersion context version → long_type version first ≡ kind.Retry → HeaderAt context whole bytes (head.Retry dst src version) rest
+    → LongStart context bytes first version dst src rest → IsKnownVersion context version → long_type version first ≡ kind.Retry → HeaderAt context whole bytes (protected.Retry dst src version) rest
 retry_header context whole bytes first version dst src rest start known type =
-    typed_made context whole bytes first version dst src rest rest (id_values version dst src) (head.Retry dst src version) kind.Retry start known type (refl, refl) (known.0, type, refl)
+    typed_made context whole bytes first version dst src rest rest (id_values version dst src) (protected.Retry dst src version) kind.Retry start known type (refl, refl) (known.0, type, refl)
 
 pub negotiation_header : (context : DecodeOptions) (whole : ℕ) (bytes : List ℕ) (random : ℕ) (dst src rest : List ℕ)
-    → LongStart context bytes (128 + random) 0 dst src rest → HeaderAt context whole bytes (head.VersionNegotiate random dst src) rest
+    → LongStart context bytes (128 + random) 0 dst src rest → HeaderAt context whole bytes (protected.VersionNegotiate random dst src) rest
 negotiation_header context whole bytes random dst src rest start =
-    made context whole bytes (128 + random) 0 dst src rest rest (id_values 0 dst src) (head.VersionNegotiate random dst src) start (refl, refl) (refl, refl)
+    made context whole bytes (128 + random) 0 dst src rest rest (id_values 0 dst src) (protected.VersionNegotiate random dst src) start (refl, refl) (refl, refl)
 
 pub short_header : (context : DecodeOptions) (whole : ℕ) (bytes : List ℕ) (first : ℕ) (spin : Bool) (dst text rest : List ℕ) → first < 128 → is_fixed context first ≡ true
-    → bytes ≡ first ∷ (text ++ rest) → context.parsed (text ++ rest) ≡ Ok (dst, length text) → spin ≡ nat_eq (first / 32 % 2) 1 → HeaderAt context whole bytes (head.Short spin dst) rest
+    → bytes ≡ first ∷ (text ++ rest) → context.parsed (text ++ rest) ≡ Ok (dst, length text) → spin ≡ nat_eq (first / 32 % 2) 1 → HeaderAt context whole bytes (protected.Short spin dst) rest
 short_header context whole bytes first spin dst text rest short fixed split parsed is =
     let test : is_long first ≡ false = grind (arith, nat_tests) in
     let row : header_row_of first (num (take 4 (text ++ rest))) ≡ ShortId ∷ [] =

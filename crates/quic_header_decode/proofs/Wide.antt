@@ -14,7 +14,7 @@ use Rattle.quic_header_encode.specs.declared.long_type.LongHeaderType.{LongHeade
 use Rattle.quic_header_encode.specs.declared.long_type.LongHeaderType.TheVariants as kind
 use Rattle.quic_header_encode.specs.Types.{long_type}
 use Rattle.quic_header_decode.specs.declared.protected.ProtectedHeader.{ProtectedHeader}
-use Rattle.quic_header_decode.specs.declared.protected.ProtectedHeader.TheVariants as head
+use Rattle.quic_header_decode.specs.declared.protected.ProtectedHeader.TheVariants as protected
 use Rattle.quic_header_decode.specs.Fields.{long_id_at, wide_id_at, word_at}
 use Rattle.quic_header_decode.specs.Grammar.{is_long, Refused}
 use Rattle.quic_header_decode.specs.Parsers.{fixed_parsed, fixed_lawful}
@@ -154,11 +154,11 @@ wide_agrees versions whole first bytes = agree_word (word_at bytes) _ _ (λ vers
     agree_id version.1 _ _
     (λ dst few. agree_id dst.1 _ _
     (λ src short. agree_few (nat_eq version.0 0) known (nat_lt 20 (length dst.0) || nat_lt 20 (length src.0)) src.0 dst.0 version.0
-    (Ok (head.VersionNegotiate (first - 128) dst.0 src.0, src.1)) (typed_at (long_type version.0 first) whole dst.0 src.0 version.0 src.1) (neither _ _ few short))
+    (Ok (protected.VersionNegotiate (first - 128) dst.0 src.0, src.1)) (typed_at (long_type version.0 first) whole dst.0 src.0 version.0 src.1) (neither _ _ few short))
     (λ src long. agree_many (nat_eq version.0 0) known (nat_lt 20 (length dst.0) || nat_lt 20 (length src.0)) src.0 dst.0 version.0
-    (Ok (head.VersionNegotiate (first - 128) dst.0 src.0, src.1)) (typed_at (long_type version.0 first) whole dst.0 src.0 version.0 src.1) (either_one _ _ long)))
+    (Ok (protected.VersionNegotiate (first - 128) dst.0 src.0, src.1)) (typed_at (long_type version.0 first) whole dst.0 src.0 version.0 src.1) (either_one _ _ long)))
     (λ dst many. agree_bad (wide_id_at dst.1) _ (λ src. agree_many (nat_eq version.0 0) known (nat_lt 20 (length dst.0) || nat_lt 20 (length src.0)) src.0 dst.0 version.0
-    (Ok (head.VersionNegotiate (first - 128) dst.0 src.0, src.1)) (typed_at (long_type version.0 first) whole dst.0 src.0 version.0 src.1) (first_one _ _ many))))
+    (Ok (protected.VersionNegotiate (first - 128) dst.0 src.0, src.1)) (typed_at (long_type version.0 first) whole dst.0 src.0 version.0 src.1) (first_one _ _ many))))
 
 agree_first : (b : Bool) (short wide long : Read) → Agrees wide long → Agrees (cond b short wide) (cond b short long)
 agree_first true short wide long h = agrees_self short

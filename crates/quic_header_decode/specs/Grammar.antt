@@ -7,7 +7,7 @@ use Rattle.quic_header_encode.specs.Types.{long_type}
 use Rattle.quic_header_encode.specs.declared.long_type.LongHeaderType.{LongHeaderType}
 use Rattle.quic_header_encode.specs.declared.long_type.LongHeaderType.TheVariants as kind
 use Rattle.quic_header_decode.specs.declared.protected.ProtectedHeader.{ProtectedHeader}
-use Rattle.quic_header_decode.specs.declared.protected.ProtectedHeader.TheVariants as head
+use Rattle.quic_header_decode.specs.declared.protected.ProtectedHeader.TheVariants as protected
 use Rattle.quic_header_decode.specs.Refusal.{Refusal, Unsupported, Invalid}
 use Rattle.quic_header_decode.specs.Reading.{DecodeOptions, len_in}
 
@@ -133,15 +133,15 @@ StopsWithinRow context (field ∷ fields) before bytes e =
 -- The header that a first byte and the values of its row say. The spin bit is 0x20 (section 17.3.1). Places are counted
 -- from the end of the datagram, of this length.
 abbrev pub IsHeader : ℕ → ℕ → List HeaderValue → ProtectedHeader → Type 0
-IsHeader datagram_len first values (head.Short spin dst) =
+IsHeader datagram_len first values (protected.Short spin dst) =
     (is_long first ≡ false) × (spin ≡ has_bit 0x20 first) × (values ≡ Bytes dst ∷ [])
-IsHeader datagram_len first values (head.VersionNegotiate random dst src) =
+IsHeader datagram_len first values (protected.VersionNegotiate random dst src) =
     (first ≡ 0x80 + random) × (values ≡ Number 0 ∷ Bytes dst ∷ Bytes src ∷ [])
-IsHeader datagram_len first values (head.Retry dst src version) =
+IsHeader datagram_len first values (protected.Retry dst src version) =
     (version ≢ 0) × (long_type version first ≡ kind.Retry) × (values ≡ Number version ∷ Bytes dst ∷ Bytes src ∷ [])
-IsHeader datagram_len first values (head.Long ty dst src len version) =
+IsHeader datagram_len first values (protected.Long ty dst src len version) =
     (long_type version first ≡ kind.Standard ty) × (values ≡ Number version ∷ Bytes dst ∷ Bytes src ∷ Number len ∷ [])
-IsHeader datagram_len first values (head.Initial h) =
+IsHeader datagram_len first values (protected.Initial h) =
     (count left : ℕ) × (h.token_pos.start + count ≡ h.token_pos.end) × (h.token_pos.end + left ≡ datagram_len)
     × (values ≡ Number h.version ∷ Bytes h.dst_cid ∷ Bytes h.src_cid ∷ Number count ∷ Number left ∷ Number h.len ∷ [])
 

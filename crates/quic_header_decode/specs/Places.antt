@@ -13,7 +13,7 @@ use Rattle.quic_header_decode.specs.declared.places.HeaderPlaces.{HeaderPlaces}
 use Rattle.quic_header_decode.specs.declared.places.ReadError.{ReadError}
 use Rattle.quic_header_decode.specs.declared.places.ReadError.TheVariants as error
 use Rattle.quic_header_decode.specs.declared.protected.ProtectedHeader.{ProtectedHeader}
-use Rattle.quic_header_decode.specs.declared.protected.ProtectedHeader.TheVariants as head
+use Rattle.quic_header_decode.specs.declared.protected.ProtectedHeader.TheVariants as protected
 use Rattle.quic_header_decode.specs.Grammar.{is_long, HeaderAt, Refused}
 use Rattle.quic_header_decode.specs.Parsers.{fixed_parsed}
 use Rattle.quic_header_decode.specs.Reading.{DecodeOptions}
@@ -47,7 +47,7 @@ src_part bytes x = slice_range bytes (6 + x.dst_len + 1) (6 + x.dst_len + 1 + x.
 -- the header of a kind, with the fields that it has of these
 abbrev pub header_placed : HeaderKind → ℕ → List ℕ → List ℕ → Place → ℕ → ℕ → ProtectedHeader
 header_placed kind.Initial first dst src token len version =
-    head.Initial (record {
+    protected.Initial (record {
       dst_cid = dst;
       src_cid = src;
       token_pos = record
@@ -55,11 +55,11 @@ header_placed kind.Initial first dst src token len version =
       len = len;
       version = version;
     })
-header_placed kind.ZeroRtt first dst src token len version = head.Long ZeroRtt dst src len version
-header_placed kind.Handshake first dst src token len version = head.Long Handshake dst src len version
-header_placed kind.Retry first dst src token len version = head.Retry dst src version
-header_placed kind.Short first dst src token len version = head.Short (nat_eq (first / 32 % 2) 1) dst
-header_placed kind.VersionNegotiate first dst src token len version = head.VersionNegotiate (first - 128) dst src
+header_placed kind.ZeroRtt first dst src token len version = protected.Long ZeroRtt dst src len version
+header_placed kind.Handshake first dst src token len version = protected.Long Handshake dst src len version
+header_placed kind.Retry first dst src token len version = protected.Retry dst src version
+header_placed kind.Short first dst src token len version = protected.Short (nat_eq (first / 32 % 2) 1) dst
+header_placed kind.VersionNegotiate first dst src token len version = protected.VersionNegotiate (first - 128) dst src
 
 -- the header that places say in these bytes
 abbrev pub header_in : List ℕ → HeaderPlaces → ProtectedHeader

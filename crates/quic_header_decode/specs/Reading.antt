@@ -4,7 +4,7 @@ use Rattle.std.specs.Prelude.{◌≡◌, ℕ, ◌+◌, ◌-◌, ◌/◌, ◌%◌
 use Rattle.std.specs.List.{list_any}
 use Rattle.std.specs.Option.{ok_or}
 use Rattle.quic_header_decode.specs.declared.protected.ProtectedHeader.{ProtectedHeader}
-use Rattle.quic_header_decode.specs.declared.protected.ProtectedHeader.TheVariants as head
+use Rattle.quic_header_decode.specs.declared.protected.ProtectedHeader.TheVariants as protected
 use Rattle.quic_header_encode.specs.declared.long_type.LongHeaderType.{LongHeaderType}
 use Rattle.quic_header_encode.specs.declared.long_type.LongHeaderType.TheVariants as kind
 use Rattle.quic_header_decode.specs.Refusal.{Refusal, Unsupported, Invalid}
@@ -31,17 +31,17 @@ abbrev pub bad_id : Refusal
 bad_id = Invalid (codes "malformed cid")
 
 unfoldable pub typed_at : LongHeaderType → ℕ → List ℕ → List ℕ → ℕ → List ℕ → Result (ProtectedHeader × List ℕ) Refusal
-typed_at kind.Retry datagram_len dst src version bytes = Ok (head.Retry dst src version, bytes)
+typed_at kind.Retry datagram_len dst src version bytes = Ok (protected.Retry dst src version, bytes)
 typed_at (kind.Standard ty) datagram_len dst src version bytes = do
   len ← ok_or (number_at bytes) at_end
-  Ok (head.Long ty dst src len.0 version, len.1)
+  Ok (protected.Long ty dst src len.0 version, len.1)
 typed_at kind.Initial datagram_len dst src version bytes = do
   token ← ok_or (number_at bytes) at_end
   if nat_lt (length token.1) token.0 then Err (Invalid (codes "token out of bounds"))
       else (ok_or (number_at (drop token.0 token.1)) at_end >>= λ len.
       let start = datagram_len - length token.1 in
       Ok (
-        head.Initial (record {
+        protected.Initial (record {
           dst_cid = dst;
           src_cid = src;
           token_pos = record
@@ -57,7 +57,7 @@ long_at versions datagram_len first bytes = do
   version ← ok_or (word_at bytes) at_end
   dst ← ok_or (long_id_at version.1) bad_id
   src ← ok_or (long_id_at dst.1) bad_id
-  if nat_eq version.0 0 then Ok (head.VersionNegotiate (first - 128) dst.0 src.0, src.1)
+  if nat_eq version.0 0 then Ok (protected.VersionNegotiate (first - 128) dst.0 src.0, src.1)
       else (if not (list_any (λ known. nat_eq known version.0) versions) then Err (Unsupported src.0 dst.0 version.0)
       else typed_at (long_type version.0 first) datagram_len dst.0 src.0 version.0 src.1)
 
@@ -70,7 +70,7 @@ wide_at versions datagram_len first bytes = do
   if not (nat_eq version.0 0) && not (list_any (λ known. nat_eq known version.0) versions)
       then Err (Unsupported src.0 dst.0 version.0)
       else (if nat_lt 20 (length dst.0) || nat_lt 20 (length src.0) then Err bad_id
-      else (if nat_eq version.0 0 then Ok (head.VersionNegotiate (first - 128) dst.0 src.0, src.1)
+      else (if nat_eq version.0 0 then Ok (protected.VersionNegotiate (first - 128) dst.0 src.0, src.1)
       else typed_at (long_type version.0 first) datagram_len dst.0 src.0 version.0 src.1))
 
 unfoldable pub header_at : DecodeOptions → ℕ → List ℕ → Result (ProtectedHeader × List ℕ) Refusal
@@ -78,7 +78,7 @@ header_at context datagram_len bytes = do
   first ← ok_or (byte_at bytes) at_end
   if not context.grease && nat_eq (first.0 / 64 % 2) 0 then Err (Invalid (codes "fixed bit unset"))
       else (if nat_lt first.0 128
-      then (context.parsed first.1 >>= λ id. Ok (head.Short (nat_eq (first.0 / 32 % 2) 1) id.0, drop id.1 first.1))
+      then (context.parsed first.1 >>= λ id. Ok (protected.Short (nat_eq (first.0 / 32 % 2) 1) id.0, drop id.1 first.1))
       else long_at context.versions datagram_len first.0 first.1)
 
 -- a header whose fixed bit isn't checked, with ids of so many bytes in short ones, and of any length in long ones
@@ -86,16 +86,16 @@ unfoldable pub wide_header_at : ℕ → List ℕ → ℕ → List ℕ → Result
 wide_header_at id_len versions datagram_len bytes = do
   first ← ok_or (byte_at bytes) at_end
   if nat_lt first.0 128
-      then (fixed_parsed id_len first.1 >>= λ id. Ok (head.Short (nat_eq (first.0 / 32 % 2) 1) id.0, drop id.1 first.1))
+      then (fixed_parsed id_len first.1 >>= λ id. Ok (protected.Short (nat_eq (first.0 / 32 % 2) 1) id.0, drop id.1 first.1))
       else wide_at versions datagram_len first.0 first.1
 
 -- the length that a header says
 abbrev pub len_in : ProtectedHeader → Option ℕ
-len_in (head.Initial h) = Some h.len
-len_in (head.Long ty dst src len version) = Some len
-len_in (head.Retry dst src version) = None
-len_in (head.Short spin dst) = None
-len_in (head.VersionNegotiate random dst src) = None
+len_in (protected.Initial h) = Some h.len
+len_in (protected.Long ty dst src len version) = Some len
+len_in (protected.Retry dst src version) = None
+len_in (protected.Short spin dst) = None
+len_in (protected.VersionNegotiate random dst src) = None
 
 -- a header, where it ends, and where its packet ends
 unfoldable pub cut_at : DecodeOptions → List ℕ → Result (ProtectedHeader × ℕ × ℕ) Refusal
@@ -113,18 +113,18 @@ IsRest (Some rest) bytes = (rest.items ≡ bytes) × (0 < length bytes)
 
 -- where an Initial packet's token begins and ends
 abbrev pub token_start : ProtectedHeader → ℕ
-token_start (head.Initial h) = h.token_pos.start
-token_start (head.Long ty dst src len version) = 0
-token_start (head.Retry dst src version) = 0
-token_start (head.Short spin dst) = 0
-token_start (head.VersionNegotiate random dst src) = 0
+token_start (protected.Initial h) = h.token_pos.start
+token_start (protected.Long ty dst src len version) = 0
+token_start (protected.Retry dst src version) = 0
+token_start (protected.Short spin dst) = 0
+token_start (protected.VersionNegotiate random dst src) = 0
 
 abbrev pub token_end : ProtectedHeader → ℕ
-token_end (head.Initial h) = h.token_pos.end
-token_end (head.Long ty dst src len version) = 0
-token_end (head.Retry dst src version) = 0
-token_end (head.Short spin dst) = 0
-token_end (head.VersionNegotiate random dst src) = 0
+token_end (protected.Initial h) = h.token_pos.end
+token_end (protected.Long ty dst src len version) = 0
+token_end (protected.Retry dst src version) = 0
+token_end (protected.Short spin dst) = 0
+token_end (protected.VersionNegotiate random dst src) = 0
 
 -- a header that ends at this place has its first byte, and its token is within it
 pub record IsPlaced (h : ProtectedHeader) (at : ℕ) : Type 0 where

@@ -13,7 +13,7 @@ use Rattle.quic_header_encode.specs.declared.header.Header.{Header}
 use Rattle.quic_header_encode.specs.declared.header.Header.TheVariants as header
 use Rattle.quic_header_encode.specs.Storing.{begun_by, header_of, stored_size, length_in, with_len}
 use Rattle.quic_header_encode.specs.declared.long_type.HeaderKind.{HeaderKind}
-use Rattle.quic_header_encode.specs.declared.long_type.HeaderKind.TheVariants as head
+use Rattle.quic_header_encode.specs.declared.long_type.HeaderKind.TheVariants as protected
 use Rattle.quic_header_encode.specs.Types.{first_byte}
 use Rattle.quic_header_encode.specs.declared.long_type.LongHeaderType.TheVariants as kind
 use Rattle.quic_header_encode.specs.Starts.{long_front}
@@ -100,15 +100,15 @@ finished_later (header.VersionNegotiate random src dst) body has = absurd (searc
 -- a header that is written is as long as it is said to be
 pub stored_length : (k : HeaderKind) (f first version : ℕ) (dst src token : List ℕ) (number : PacketNumber) (len : ℕ)
     → length (begun_by f (header_with (replicate len 0) (header_of k first version dst src token number))) ≡ stored_size k dst src token number len
-stored_length head.Initial f first version dst src token number len =
-    let h : Header = header_of head.Initial first version dst src token number in
+stored_length protected.Initial f first version dst src token number len =
+    let h : Header = header_of protected.Initial first version dst src token number in
     omega (arith, sizes (header_front h) (number_bytes number) len (number_size number) (number_length number), front_length h refl)
-stored_length head.ZeroRtt f first version dst src token number len =
-    let h : Header = header_of head.ZeroRtt first version dst src token number in
+stored_length protected.ZeroRtt f first version dst src token number len =
+    let h : Header = header_of protected.ZeroRtt first version dst src token number in
     omega (arith, sizes (header_front h) (number_bytes number) len (number_size number) (number_length number), front_length h refl)
-stored_length head.Handshake f first version dst src token number len =
-    let h : Header = header_of head.Handshake first version dst src token number in
+stored_length protected.Handshake f first version dst src token number len =
+    let h : Header = header_of protected.Handshake first version dst src token number in
     omega (arith, sizes (header_front h) (number_bytes number) len (number_size number) (number_length number), front_length h refl)
-stored_length head.Retry f first version dst src token number len = omega (arith, long_length (first_byte version kind.Retry) version dst src)
-stored_length head.Short f first version dst src token number len = omega (arith, length-append dst (number_bytes number), number_length number)
-stored_length head.VersionNegotiate f first version dst src token number len = omega (arith, long_length (bit_or 128 (first % 128)) 0 dst src)
+stored_length protected.Retry f first version dst src token number len = omega (arith, long_length (first_byte version kind.Retry) version dst src)
+stored_length protected.Short f first version dst src token number len = omega (arith, length-append dst (number_bytes number), number_length number)
+stored_length protected.VersionNegotiate f first version dst src token number len = omega (arith, long_length (bit_or 128 (first % 128)) 0 dst src)

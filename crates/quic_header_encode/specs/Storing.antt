@@ -10,7 +10,7 @@ use Rattle.quic_header_encode.specs.declared.header.Header.TheVariants as header
 use Rattle.quic_header_encode.specs.declared.store.HeaderRef.{HeaderRef}
 use Rattle.quic_header_encode.specs.declared.store.Padded.{Padded}
 use Rattle.quic_header_encode.specs.declared.long_type.HeaderKind.{HeaderKind}
-use Rattle.quic_header_encode.specs.declared.long_type.HeaderKind.TheVariants as head
+use Rattle.quic_header_encode.specs.declared.long_type.HeaderKind.TheVariants as protected
 use Rattle.quic_header_encode.specs.declared.long_type.LongHeaderType.{LongHeaderType}
 use Rattle.quic_header_encode.specs.declared.long_type.LongHeaderType.TheVariants as kind
 use Rattle.quic_header_encode.specs.declared.long_type.LongType.TheVariants.{Handshake, ZeroRtt}
@@ -20,37 +20,37 @@ use Rattle.quic_header_encode.specs.Writing.{header_with, header_bytes, header_s
 -- the bits that say a long header's type under a version, and a short header's or a version negotiation's, which have
 -- none
 abbrev pub type_bits : HeaderKind → ℕ → ℕ
-type_bits head.Initial version = 16 * type_number version kind.Initial
-type_bits head.ZeroRtt version = 16 * type_number version (kind.Standard ZeroRtt)
-type_bits head.Handshake version = 16 * type_number version (kind.Standard Handshake)
-type_bits head.Retry version = 16 * type_number version kind.Retry
-type_bits head.Short version = 0
-type_bits head.VersionNegotiate version = 0
+type_bits protected.Initial version = 16 * type_number version kind.Initial
+type_bits protected.ZeroRtt version = 16 * type_number version (kind.Standard ZeroRtt)
+type_bits protected.Handshake version = 16 * type_number version (kind.Standard Handshake)
+type_bits protected.Retry version = 16 * type_number version kind.Retry
+type_bits protected.Short version = 0
+type_bits protected.VersionNegotiate version = 0
 
 -- the bits that say how many bytes of a number are written
 abbrev pub number_bits : HeaderKind → PacketNumber → ℕ
-number_bits head.Initial number = number_size number - 1
-number_bits head.ZeroRtt number = number_size number - 1
-number_bits head.Handshake number = number_size number - 1
-number_bits head.Retry number = 0
-number_bits head.Short number = number_size number - 1
-number_bits head.VersionNegotiate number = 0
+number_bits protected.Initial number = number_size number - 1
+number_bits protected.ZeroRtt number = number_size number - 1
+number_bits protected.Handshake number = number_size number - 1
+number_bits protected.Retry number = 0
+number_bits protected.Short number = number_size number - 1
+number_bits protected.VersionNegotiate number = 0
 
 -- The header of these fields. `first` holds the bits of the first byte other than type and number length: of a short
 -- header 0x20 is the spin bit and 0x04 the key phase; of a version negotiation the low seven bits are free.
 abbrev pub header_of : HeaderKind → ℕ → ℕ → List ℕ → List ℕ → List ℕ → PacketNumber → Header
-header_of head.Initial first version dst src token number =
+header_of protected.Initial first version dst src token number =
     header.Initial (record { dst_cid = dst; src_cid = src; token = token; number = number; version = version })
-header_of head.ZeroRtt first version dst src token number = header.Long ZeroRtt dst src number version
-header_of head.Handshake first version dst src token number = header.Long Handshake dst src number version
-header_of head.Retry first version dst src token number = header.Retry dst src version
-header_of head.Short first version dst src token number = header.Short (has_bit 0x20 first)
+header_of protected.ZeroRtt first version dst src token number = header.Long ZeroRtt dst src number version
+header_of protected.Handshake first version dst src token number = header.Long Handshake dst src number version
+header_of protected.Retry first version dst src token number = header.Retry dst src version
+header_of protected.Short first version dst src token number = header.Short (has_bit 0x20 first)
     (has_bit 0x04 first) dst number
-header_of head.VersionNegotiate first version dst src token number = header.VersionNegotiate (first % 128) src dst
+header_of protected.VersionNegotiate first version dst src token number = header.VersionNegotiate (first % 128) src dst
 
 -- its first byte
 abbrev pub first_byte_of : {I : Type 0} → HeaderRef I → ℕ
-first_byte_of said = said.first + type_bits said.kind said.version + number_bits said.kind said.number.now
+first_byte_of fields = fields.first + type_bits fields.kind fields.version + number_bits fields.kind fields.number.now
 
 -- bytes with another first one
 abbrev pub begun_by : ℕ → List ℕ → List ℕ
@@ -58,62 +58,62 @@ begun_by first bytes = first ∷ drop 1 bytes
 
 -- The bytes that are written: those of the header with so many zeros as its length, after the first byte.
 abbrev pub stored_bytes : {I : Type 0} → (I → List ℕ) → HeaderRef I → List ℕ
-stored_bytes id said =
-    begun_by (first_byte_of said)
-    (header_with (replicate said.length_len 0)
-    (header_of said.kind said.first said.version (id said.dst_cid)
-    (id said.src_cid) said.token.now said.number.now))
+stored_bytes id fields =
+    begun_by (first_byte_of fields)
+    (header_with (replicate fields.length_len 0)
+    (header_of fields.kind fields.first fields.version (id fields.dst_cid)
+    (id fields.src_cid) fields.token.now fields.number.now))
 
 -- how many bytes a token and its length take, which an Initial header has
 abbrev pub token_size : HeaderKind → List ℕ → ℕ
-token_size head.Initial token = size (length token) + length token
-token_size head.ZeroRtt token = 0
-token_size head.Handshake token = 0
-token_size head.Retry token = 0
-token_size head.Short token = 0
-token_size head.VersionNegotiate token = 0
+token_size protected.Initial token = size (length token) + length token
+token_size protected.ZeroRtt token = 0
+token_size protected.Handshake token = 0
+token_size protected.Retry token = 0
+token_size protected.Short token = 0
+token_size protected.VersionNegotiate token = 0
 
 -- how many bytes a length and a number take, which Initial, 0-RTT and Handshake headers have
 abbrev pub end_size : HeaderKind → ℕ → PacketNumber → ℕ
-end_size head.Initial len number = len + number_size number
-end_size head.ZeroRtt len number = len + number_size number
-end_size head.Handshake len number = len + number_size number
-end_size head.Retry len number = 0
-end_size head.Short len number = 0
-end_size head.VersionNegotiate len number = 0
+end_size protected.Initial len number = len + number_size number
+end_size protected.ZeroRtt len number = len + number_size number
+end_size protected.Handshake len number = len + number_size number
+end_size protected.Retry len number = 0
+end_size protected.Short len number = 0
+end_size protected.VersionNegotiate len number = 0
 
 -- how many bytes a header takes
 abbrev pub stored_size : HeaderKind → List ℕ → List ℕ → List ℕ → PacketNumber → ℕ → ℕ
-stored_size head.Initial dst src token number len = 7 + length dst + length src + (size (length token) + length token) +
+stored_size protected.Initial dst src token number len = 7 + length dst + length src + (size (length token) + length token) +
     (len + number_size number)
-stored_size head.ZeroRtt dst src token number len = 7 + length dst + length src + (len + number_size number)
-stored_size head.Handshake dst src token number len = 7 + length dst + length src + (len + number_size number)
-stored_size head.Retry dst src token number len = 7 + length dst + length src
-stored_size head.Short dst src token number len = 1 + length dst + number_size number
-stored_size head.VersionNegotiate dst src token number len = 7 + length dst + length src
+stored_size protected.ZeroRtt dst src token number len = 7 + length dst + length src + (len + number_size number)
+stored_size protected.Handshake dst src token number len = 7 + length dst + length src + (len + number_size number)
+stored_size protected.Retry dst src token number len = 7 + length dst + length src
+stored_size protected.Short dst src token number len = 1 + length dst + number_size number
+stored_size protected.VersionNegotiate dst src token number len = 7 + length dst + length src
 
 abbrev pub stored_len : {I : Type 0} → (I → List ℕ) → HeaderRef I → ℕ
-stored_len id said = stored_size said.kind (id said.dst_cid)
-    (id said.src_cid) said.token.now said.number.now said.length_len
+stored_len id fields = stored_size fields.kind (id fields.dst_cid)
+    (id fields.src_cid) fields.token.now fields.number.now fields.length_len
 
 -- what a first byte has beside its type and number has room for these: all eight bits of a version negotiation are
 -- its own
 abbrev pub HasLow : HeaderKind → ℕ → Type 0
-HasLow head.Initial first = first ≤ 192
-HasLow head.ZeroRtt first = first ≤ 192
-HasLow head.Handshake first = first ≤ 192
-HasLow head.Retry first = first ≤ 192
-HasLow head.Short first = first ≤ 192
-HasLow head.VersionNegotiate first = Unit {0}
+HasLow protected.Initial first = first ≤ 192
+HasLow protected.ZeroRtt first = first ≤ 192
+HasLow protected.Handshake first = first ≤ 192
+HasLow protected.Retry first = first ≤ 192
+HasLow protected.Short first = first ≤ 192
+HasLow protected.VersionNegotiate first = Unit {0}
 
 -- Such a header can be written.
-pub record IsStorable {I : Type 0} (id : I → List ℕ) (said : HeaderRef I) : Type 0 where
-  pub low : HasLow said.kind said.first
-  pub dst_few : length (id said.dst_cid) ≤ 20
-  pub src_few : length (id said.src_cid) ≤ 20
-  pub token : length said.token.now < 2 ^ 62
-  pub number : IsInRange said.number.now
-  pub length_len : (said.length_len ≡ 2) ⊎ (said.length_len ≡ 4)
+pub record IsStorable {I : Type 0} (id : I → List ℕ) (fields : HeaderRef I) : Type 0 where
+  pub low : HasLow fields.kind fields.first
+  pub dst_few : length (id fields.dst_cid) ≤ 20
+  pub src_few : length (id fields.src_cid) ≤ 20
+  pub token : length fields.token.now < 2 ^ 62
+  pub number : IsInRange fields.number.now
+  pub length_len : (fields.length_len ≡ 2) ⊎ (fields.length_len ≡ 4)
 
 -- a token that is written by stores of 16 bytes
 abbrev pub IsShortToken : List ℕ → Type 0
@@ -121,111 +121,111 @@ IsShortToken token = (length token ≡ 0) ⊎ ((16 ≤ length token) × (length 
 
 -- all headers but short ones
 abbrev pub IsLong : HeaderKind → Type 0
-IsLong head.Initial = Unit {0}
-IsLong head.ZeroRtt = Unit {0}
-IsLong head.Handshake = Unit {0}
-IsLong head.Retry = Unit {0}
-IsLong head.Short = ⊥
-IsLong head.VersionNegotiate = Unit {0}
+IsLong protected.Initial = Unit {0}
+IsLong protected.ZeroRtt = Unit {0}
+IsLong protected.Handshake = Unit {0}
+IsLong protected.Retry = Unit {0}
+IsLong protected.Short = ⊥
+IsLong protected.VersionNegotiate = Unit {0}
 
 -- the headers that say a type
 abbrev pub IsTyped : HeaderKind → Type 0
-IsTyped head.Initial = Unit {0}
-IsTyped head.ZeroRtt = Unit {0}
-IsTyped head.Handshake = Unit {0}
-IsTyped head.Retry = Unit {0}
-IsTyped head.Short = ⊥
-IsTyped head.VersionNegotiate = ⊥
+IsTyped protected.Initial = Unit {0}
+IsTyped protected.ZeroRtt = Unit {0}
+IsTyped protected.Handshake = Unit {0}
+IsTyped protected.Retry = Unit {0}
+IsTyped protected.Short = ⊥
+IsTyped protected.VersionNegotiate = ⊥
 
 -- the kind of a type
 abbrev pub kind_of : LongHeaderType → HeaderKind
-kind_of kind.Initial = head.Initial
-kind_of (kind.Standard ZeroRtt) = head.ZeroRtt
-kind_of (kind.Standard Handshake) = head.Handshake
-kind_of kind.Retry = head.Retry
+kind_of kind.Initial = protected.Initial
+kind_of (kind.Standard ZeroRtt) = protected.ZeroRtt
+kind_of (kind.Standard Handshake) = protected.Handshake
+kind_of kind.Retry = protected.Retry
 
 -- the headers that say a length, and those that have a number
 abbrev pub carries_length : HeaderKind → Bool
-carries_length head.Initial = true
-carries_length head.ZeroRtt = true
-carries_length head.Handshake = true
-carries_length head.Retry = false
-carries_length head.Short = false
-carries_length head.VersionNegotiate = false
+carries_length protected.Initial = true
+carries_length protected.ZeroRtt = true
+carries_length protected.Handshake = true
+carries_length protected.Retry = false
+carries_length protected.Short = false
+carries_length protected.VersionNegotiate = false
 
 abbrev pub says_number : HeaderKind → Bool
-says_number head.Initial = true
-says_number head.ZeroRtt = true
-says_number head.Handshake = true
-says_number head.Retry = false
-says_number head.Short = true
-says_number head.VersionNegotiate = false
+says_number protected.Initial = true
+says_number protected.ZeroRtt = true
+says_number protected.Handshake = true
+says_number protected.Retry = false
+says_number protected.Short = true
+says_number protected.VersionNegotiate = false
 
 -- the version that a long header says: 0 in a version negotiation
 abbrev pub version_by : HeaderKind → ℕ → ℕ
-version_by head.Initial version = version
-version_by head.ZeroRtt version = version
-version_by head.Handshake version = version
-version_by head.Retry version = version
-version_by head.Short version = version
-version_by head.VersionNegotiate version = 0
+version_by protected.Initial version = version
+version_by protected.ZeroRtt version = version
+version_by protected.Handshake version = version
+version_by protected.Retry version = version
+version_by protected.Short version = version
+version_by protected.VersionNegotiate version = 0
 
-abbrev pub version_said : {I : Type 0} → HeaderRef I → ℕ
-version_said said = version_by said.kind said.version
+abbrev pub version_field : {I : Type 0} → HeaderRef I → ℕ
+version_field fields = version_by fields.kind fields.version
 
 -- a token after its length, which an Initial header has
 abbrev pub token_by : HeaderKind → List ℕ → List ℕ
-token_by head.Initial token = shortest_varint (length token) ++ token
-token_by head.ZeroRtt token = []
-token_by head.Handshake token = []
-token_by head.Retry token = []
-token_by head.Short token = []
-token_by head.VersionNegotiate token = []
+token_by protected.Initial token = shortest_varint (length token) ++ token
+token_by protected.ZeroRtt token = []
+token_by protected.Handshake token = []
+token_by protected.Retry token = []
+token_by protected.Short token = []
+token_by protected.VersionNegotiate token = []
 
 abbrev pub token_bytes : {I : Type 0} → HeaderRef I → List ℕ
-token_bytes said = token_by said.kind said.token.now
+token_bytes fields = token_by fields.kind fields.token.now
 
 -- zeros for the length and a number, which Initial, 0-RTT and Handshake headers have at their end
 abbrev pub end_by : HeaderKind → ℕ → PacketNumber → List ℕ
-end_by head.Initial len number = replicate len 0 ++ number_bytes number
-end_by head.ZeroRtt len number = replicate len 0 ++ number_bytes number
-end_by head.Handshake len number = replicate len 0 ++ number_bytes number
-end_by head.Retry len number = []
-end_by head.Short len number = []
-end_by head.VersionNegotiate len number = []
+end_by protected.Initial len number = replicate len 0 ++ number_bytes number
+end_by protected.ZeroRtt len number = replicate len 0 ++ number_bytes number
+end_by protected.Handshake len number = replicate len 0 ++ number_bytes number
+end_by protected.Retry len number = []
+end_by protected.Short len number = []
+end_by protected.VersionNegotiate len number = []
 
 abbrev pub end_bytes : {I : Type 0} → HeaderRef I → List ℕ
-end_bytes said = end_by said.kind said.length_len said.number.now
+end_bytes fields = end_by fields.kind fields.length_len fields.number.now
 
 -- So many bytes have room for the header, and for what its ids are written with. A short header has no sender's id.
-pub record HasLongRoom {I : Type 0} (id : I → List ℕ) (room : I → ℕ) (said : HeaderRef I) (size : ℕ) : Type 0 where
-  pub whole : stored_len id said ≤ size
-  pub dst : 6 + room said.dst_cid ≤ size
-  pub src : 7 + length (id said.dst_cid) + room said.src_cid ≤ size
+pub record HasLongRoom {I : Type 0} (id : I → List ℕ) (room : I → ℕ) (fields : HeaderRef I) (size : ℕ) : Type 0 where
+  pub whole : stored_len id fields ≤ size
+  pub dst : 6 + room fields.dst_cid ≤ size
+  pub src : 7 + length (id fields.dst_cid) + room fields.src_cid ≤ size
 
 abbrev pub room_by : HeaderKind → ℕ → ℕ → ℕ
-room_by head.Initial short long = long
-room_by head.ZeroRtt short long = long
-room_by head.Handshake short long = long
-room_by head.Retry short long = long
-room_by head.Short short long = short
-room_by head.VersionNegotiate short long = long
+room_by protected.Initial short long = long
+room_by protected.ZeroRtt short long = long
+room_by protected.Handshake short long = long
+room_by protected.Retry short long = long
+room_by protected.Short short long = short
+room_by protected.VersionNegotiate short long = long
 
-pub record HasStoreRoom {I : Type 0} (id : I → List ℕ) (room : I → ℕ) (said : HeaderRef I) (size : ℕ) : Type 0 where
-  pub whole : stored_len id said ≤ size
-  pub dst : room_by said.kind 1 6 + room said.dst_cid ≤ size
-  pub src : room_by said.kind 0 (7 + length (id said.dst_cid) + room said.src_cid) ≤ size
+pub record HasStoreRoom {I : Type 0} (id : I → List ℕ) (room : I → ℕ) (fields : HeaderRef I) (size : ℕ) : Type 0 where
+  pub whole : stored_len id fields ≤ size
+  pub dst : room_by fields.kind 1 6 + room fields.dst_cid ≤ size
+  pub src : room_by fields.kind 0 (7 + length (id fields.dst_cid) + room fields.src_cid) ≤ size
 
 -- the ids are written with nothing after them
-pub record IsExact {I : Type 0} (id : I → List ℕ) (room : I → ℕ) (said : HeaderRef I) : Type 0 where
-  pub dst : length (id said.dst_cid) ≡ room said.dst_cid
-  pub src : length (id said.src_cid) ≡ room said.src_cid
+pub record IsExact {I : Type 0} (id : I → List ℕ) (room : I → ℕ) (fields : HeaderRef I) : Type 0 where
+  pub dst : length (id fields.dst_cid) ≡ room fields.dst_cid
+  pub src : length (id fields.src_cid) ≡ room fields.src_cid
 
 -- Such a header is written as this one's bytes.
-pub record StoresHeader {I : Type 0} (id : I → List ℕ) (said : HeaderRef I) (h : Header) : Type 0 where
-  pub bytes : stored_bytes id said ≡ header_bytes h
-  pub size : stored_len id said ≡ header_size h
-  pub storable : IsStorable id said
+pub record StoresHeader {I : Type 0} (id : I → List ℕ) (fields : HeaderRef I) (h : Header) : Type 0 where
+  pub bytes : stored_bytes id fields ≡ header_bytes h
+  pub size : stored_len id fields ≡ header_size h
+  pub storable : IsStorable id fields
 
 -- a padded id, and over how many bytes it is written
 abbrev pub padded_id : Padded → List ℕ

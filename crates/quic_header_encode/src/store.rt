@@ -5,7 +5,7 @@ ghost use Rattle.quic_base.specs.ConnectionId.{long_id};
 ghost use Rattle.quic_base.specs.Varint.{shortest_varint, size};
 ghost use Rattle.quic_crypto.specs.PacketNumbers.{IsInRange};
 ghost use Rattle.quic_header_encode.specs.Starts.{long_front};
-ghost use Rattle.quic_header_encode.specs.Storing.{end_bytes, end_size, first_byte_of, stored_bytes, stored_len, token_bytes, token_size, version_said, with_len, HasStoreRoom, HasLongRoom, HasLow, IsExact, IsStorable, IsLong, IsShortToken, TakesLen};
+ghost use Rattle.quic_header_encode.specs.Storing.{end_bytes, end_size, first_byte_of, stored_bytes, stored_len, token_bytes, token_size, version_field, with_len, HasStoreRoom, HasLongRoom, HasLow, IsExact, IsStorable, IsLong, IsShortToken, TakesLen};
 
 use crate::fields::{store_bytes, store_ends, store_id, store_number};
 use crate::long_type::HeaderKind;
@@ -286,8 +286,8 @@ impl<I: StoredId> HeaderRef<'_, I> {
 
     // The version in a long header.
     #[inline(always)]
-    fn said_version(&self) -> u32
-        ensures { result ≡ version_said self.now }
+    fn field_version(&self) -> u32
+        ensures { result ≡ version_field self.now }
     {
         match self.kind {
             HeaderKind::VersionNegotiate => 0,
@@ -383,7 +383,7 @@ impl<I: StoredId> HeaderRef<'_, I> {
         let at = store_long_start(
             out,
             self.long_first(),
-            self.said_version(),
+            self.field_version(),
             self.dst_cid,
             self.src_cid,
         );

@@ -9,7 +9,7 @@ use Rattle.quic_crypto.specs.PacketNumbers.{number_size, number_bytes, low_part,
 use Rattle.quic_header_decode.specs.Finish.{IsNumberIn}
 use Rattle.quic_packets.specs.Pairs.{KeyPair}
 use Rattle.quic_header_decode.specs.declared.protected.ProtectedHeader.{ProtectedHeader}
-use Rattle.quic_header_decode.specs.declared.protected.ProtectedHeader.TheVariants as head
+use Rattle.quic_header_decode.specs.declared.protected.ProtectedHeader.TheVariants as protected
 use Rattle.quic_header_encode.specs.declared.header.Header.{Header}
 use Rattle.quic_header_encode.specs.Queries.{number_in}
 use Rattle.quic_header_decode.specs.Headers.{IsOpenedBy}
@@ -109,8 +109,8 @@ HasNumber h = MatchOption (number_in h) ⊥ IsInRange
 
 -- the number of an open header is in range
 pub opened_number : (h : ProtectedHeader) (at : ℕ) (got : Header) (packet : List ℕ) (end : ℕ) → IsOpenedBy true h at got packet end → HasNumber got
-opened_number (head.Initial i) at got packet end o = subst HasNumber (sym o.2) (number_valid o.0 _ o.1.text)
-opened_number (head.Long ty dst src len version) at got packet end o = subst HasNumber (sym o.2) (number_valid o.0 _ o.1.text)
-opened_number (head.Retry dst src version) at got packet end o = absurd o.2
-opened_number (head.Short spin dst) at got packet end o = subst HasNumber (sym o.2) (number_valid o.0 _ o.1.text)
-opened_number (head.VersionNegotiate random dst src) at got packet end o = absurd o.2
+opened_number (protected.Initial i) at got packet end o = subst HasNumber (sym o.2) (number_valid o.0 _ o.1.text)
+opened_number (protected.Long ty dst src len version) at got packet end o = subst HasNumber (sym o.2) (number_valid o.0 _ o.1.text)
+opened_number (protected.Retry dst src version) at got packet end o = absurd o.2
+opened_number (protected.Short spin dst) at got packet end o = subst HasNumber (sym o.2) (number_valid o.0 _ o.1.text)
+opened_number (protected.VersionNegotiate random dst src) at got packet end o = absurd o.2

@@ -11,7 +11,7 @@ use Rattle.quic_crypto.specs.declared.packet_number.PacketNumber.{PacketNumber}
 use Rattle.quic_crypto.specs.declared.packet_number.PacketNumber.TheVariants.{U8, U16, U24, U32}
 use Rattle.quic_crypto.specs.PacketNumbers.{number_size, number_bytes}
 use Rattle.quic_header_decode.specs.declared.protected.ProtectedHeader.{ProtectedHeader}
-use Rattle.quic_header_decode.specs.declared.protected.ProtectedHeader.TheVariants as head
+use Rattle.quic_header_decode.specs.declared.protected.ProtectedHeader.TheVariants as protected
 use Rattle.quic_header_decode.specs.declared.protected.ProtectedInitialHeader.{ProtectedInitialHeader}
 use Rattle.quic_header_encode.specs.declared.long_type.LongHeaderType.{LongHeaderType}
 use Rattle.quic_header_encode.specs.declared.long_type.LongHeaderType.TheVariants as kind
@@ -161,7 +161,7 @@ long_sealed seal key laws context ty dst src number version n payload packet res
     let left : length behind ≡ length packet - at = length-drop at packet in
     record {
       cut = (
-        head.Long ty dst src count version,
+        protected.Long ty dst src count version,
         (
           behind ++ rest,
           long_header context (length (packet ++ rest)) (packet ++ rest) b version dst src len (behind ++ rest) ty count start read.1 byte.is (length_encoded count (sealed.short refl)),
@@ -242,7 +242,7 @@ initial_sealed seal key laws context i n payload packet rest sealed read =
     record { dst_cid = i.dst_cid; src_cid = i.src_cid; token_pos = record { start = token_at; end = token_at + length token }; len = count; version = version } in
     record {
       cut = (
-        head.Initial found,
+        protected.Initial found,
         (
           behind ++ rest,
           initial_header context (length (packet ++ rest)) (packet ++ rest) b var token len (behind ++ rest) found start read.1 byte.is
@@ -324,7 +324,7 @@ short_sealed seal key laws context spin key_phase dst number n payload packet re
     let ends : length packet ≡ length (packet ++ rest) = omega (arith, length-append packet rest, ap length read.0) in
     record {
       cut = (
-        head.Short spin dst,
+        protected.Short spin dst,
         (
           behind ++ rest,
           short_header context (length (packet ++ rest)) (packet ++ rest) b spin dst dst (behind ++ rest) byte.short (fixed_set context b byte.fixed) whole (read.1 (behind ++ rest)) byte.spin_bit,

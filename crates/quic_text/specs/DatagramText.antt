@@ -10,7 +10,7 @@ use Rattle.quic_header_decode.specs.Parsers.{fixed_parsed}
 use Rattle.quic_header_decode.specs.Reading.{DecodeOptions}
 use Rattle.quic_header_decode.specs.Refusal.{Refusal, Invalid, Unsupported, NoMemory}
 use Rattle.quic_header_decode.specs.declared.protected.ProtectedHeader.{ProtectedHeader}
-use Rattle.quic_header_decode.specs.declared.protected.ProtectedHeader.TheVariants as head
+use Rattle.quic_header_decode.specs.declared.protected.ProtectedHeader.TheVariants as protected
 use Rattle.quic_text.specs.Printed.{Printed, Plain, Error}
 
 -- how datagrams are read: ids of short headers have that many bytes, the versions are the usual ones, and the fixed bit
@@ -38,12 +38,12 @@ long_text kind dst src version = kind ++ codes " dst " ++ id_or_dash dst ++ code
 
 -- what a header says; the place of an Initial packet's token counts from the packet's first byte
 abbrev pub header_text : ProtectedHeader → List ℕ
-header_text (head.Initial h) = long_text (codes "initial") h.dst_cid h.src_cid h.version ++ codes " token "
+header_text (protected.Initial h) = long_text (codes "initial") h.dst_cid h.src_cid h.version ++ codes " token "
     ++ decimal h.token_pos.start ++ codes ".." ++ decimal h.token_pos.end
-header_text (head.Long ty dst src len version) = long_text (long_name ty) dst src version
-header_text (head.Retry dst src version) = long_text (codes "retry") dst src version
-header_text (head.Short spin dst) = codes "short dst " ++ id_or_dash dst
-header_text (head.VersionNegotiate random dst src) = long_text (codes "version-negotiation") dst src 0
+header_text (protected.Long ty dst src len version) = long_text (long_name ty) dst src version
+header_text (protected.Retry dst src version) = long_text (codes "retry") dst src version
+header_text (protected.Short spin dst) = codes "short dst " ++ id_or_dash dst
+header_text (protected.VersionNegotiate random dst src) = long_text (codes "version-negotiation") dst src 0
 
 -- `START..END HEAD`
 abbrev pub packet_line : PlacedPacket → Printed

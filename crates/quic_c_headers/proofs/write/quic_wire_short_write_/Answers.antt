@@ -5,25 +5,25 @@ use Rattle.quic_base.specs.Number.{bytes_of}
 use Rattle.quic_base.proofs.PublicLaws.{length-bytes_of}
 use Rattle.quic_header_encode.specs.declared.long_type.HeaderKind.TheVariants as kind
 use Rattle.quic_c_headers.specs.Shapes.{IsShaped}
-use Rattle.quic_c_headers.proofs.Writing.{clear_by, header_said, short_can, short_said, short_wrote}
+use Rattle.quic_c_headers.proofs.Writing.{clear_by, header_described, short_can, short_described, short_wrote}
 use Rattle.quic_c_headers.proofs.write.quic_wire_short_write_.Goals as goal
 
 pub returns-then-dest-behind_first-clause-room : goal.returns-then-dest-behind_first-clause-room
 returns-then-dest-behind_first-clause-room c = λ _.
-    let words = c.args.said.now in
+    let words = c.args.words.now in
     let dst : List ℕ = c.args.dst.now in
     let short : words.kind ≡ 4 = search rules in
     let is : IsShaped words dst [] [] = search (rules, c.is_shaped.ensures, c.if-not-is_shaped) in
     record {
       clear = clear_by kind.Short words.flags;
-      head = header_said kind.Short words dst [] [];
+      head = header_described kind.Short words dst [] [];
       can = short_can words dst is short;
-      full = omega (arith, ap length (short_said words dst is short), length-append dst (bytes_of words.number_len words.number), length-bytes_of words.number_len words.number);
+      full = omega (arith, ap length (short_described words dst is short), length-append dst (bytes_of words.number_len words.number), length-bytes_of words.number_len words.number);
     }
 
 pub returns-then-behind_first-lt4-clause-wrote : goal.returns-then-behind_first-lt4-clause-wrote
 returns-then-behind_first-lt4-clause-wrote c =
-    let words = c.args.said.now in
+    let words = c.args.words.now in
     let dst : List ℕ = c.args.dst.now in
     let n : ℕ = c.store_short_parts.result in
     let new : List ℕ = c.store_short_parts.new.dest in
@@ -35,7 +35,7 @@ returns-then-behind_first-lt4-clause-wrote c =
 
 pub returns-clause-wrote : goal.returns-clause-wrote
 returns-clause-wrote c =
-    let words = c.args.said.now in
+    let words = c.args.words.now in
     let dst : List ℕ = c.args.dst.now in
     let n : ℕ = c.store_short_covered.result in
     let new : List ℕ = c.store_short_covered.new.dest in

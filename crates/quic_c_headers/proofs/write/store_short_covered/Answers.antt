@@ -9,7 +9,7 @@ use Rattle.quic_c_headers.proofs.write.store_short_covered.Goals as goal
 pub returns : goal.returns
 unfolding bytes_of
 returns c =
-    let words = c.args.said.now in
+    let words = c.args.words.now in
     let dst : List ℕ = c.args.dst.now in
     let k : ℕ = length dst + words.number_len - 3 in
     let one : List ℕ = c.store_array.new.bytes in

@@ -5,20 +5,20 @@ use Rattle.quic_crypto.specs.declared.packet_number.PacketNumber.{PacketNumber}
 use Rattle.std.specs.Prelude.{pos, take, drop}
 use Rattle.quic_header_encode.specs.Storing.{stored_size, number_bits, carries_length, type_bits}
 use Rattle.quic_header_encode.proofs.Later.{stored_length}
-use Rattle.quic_c_headers.specs.Headers.{part_of, said_bytes}
+use Rattle.quic_c_headers.specs.Headers.{part_of, described_bytes}
 use Rattle.quic_c_headers.specs.Shapes.{first_word, IsShaped}
 use Rattle.quic_c_headers.proofs.Shaping.{shaped}
-use Rattle.quic_c_headers.proofs.Writing.{stored_as, bytes_said, can_said, clear_by, header_said, stored_said, numbered_said, with_length, written}
+use Rattle.quic_c_headers.proofs.Writing.{stored_as, bytes_described, can_described, clear_by, header_described, stored_described, numbered_described, with_length, written}
 use Rattle.quic_c_headers.proofs.write.write_as.Goals as goal
 
 pub returns-then-not-is_shaped-clause-refused : goal.returns-then-not-is_shaped-clause-refused
 returns-then-not-is_shaped-clause-refused c = λ _ clear head can.
-    let yes = c.is_shaped.ensures.1 (shaped c.args.said.now c.args.dst.now c.args.src.now c.args.token.now clear head can) in
+    let yes = c.is_shaped.ensures.1 (shaped c.args.words.now c.args.dst.now c.args.src.now c.args.token.now clear head can) in
     search (rules, yes, c.if-not-is_shaped)
 
 pub returns-then-not-fits-clause-room : goal.returns-then-not-fits-clause-room
 returns-then-not-fits-clause-room c = λ _.
-    let words = c.args.said.now in
+    let words = c.args.words.now in
     let k = c.args.kind in
     let dst : List ℕ = c.args.dst.now in
     let src : List ℕ = c.source_of-source.result.now in
@@ -33,20 +33,20 @@ returns-then-not-fits-clause-room c = λ _.
     let part : PacketNumber = part_of words.number_len words.number in
     let size : stored_size k dst src token number len ≡ stored_size k dst src token part len =
     ap (λ (p : PacketNumber). stored_size k dst src token p len) c.written_part-number.ensures.value in
-    let whole : length (stored_said k len words dst src token) ≡ stored_size k dst src token part len =
+    let whole : length (stored_described k len words dst src token) ≡ stored_size k dst src token part len =
     stored_length k (first_word k words.flags + type_bits k words.version + number_bits k part) (first_word k words.flags) words.version dst src token part len in
-    let same : stored_said k len words dst src token ≡ said_bytes words.length_len (clear_by k words.flags) (header_said k words dst src token) =
-    bytes_said k len words dst src token is.numbered c.requires.kind c.stored_length_len.ensures.same in
+    let same : stored_described k len words dst src token ≡ described_bytes words.length_len (clear_by k words.flags) (header_described k words dst src token) =
+    bytes_described k len words dst src token is.numbered c.requires.kind c.stored_length_len.ensures.same in
     record {
       clear = clear_by k words.flags;
-      head = header_said k words dst src token;
-      can = can_said k words dst c.args.src.now c.args.token.now src token is c.requires.kind c.source_of-source.ensures.has c.token_of-own.ensures.has;
+      head = header_described k words dst src token;
+      can = can_described k words dst c.args.src.now c.args.token.now src token is c.requires.kind c.source_of-source.ensures.has c.token_of-own.ensures.has;
       full = omega (arith, small, size, whole, ap length same);
     }
 
 pub returns-then-has_len-clause-wrote : goal.returns-then-has_len-clause-wrote
 returns-then-has_len-clause-wrote c =
-    let words = c.args.said.now in
+    let words = c.args.words.now in
     let k = c.args.kind in
     let dst : List ℕ = c.args.dst.now in
     let src : List ℕ = c.args.src.now in
@@ -56,7 +56,7 @@ returns-then-has_len-clause-wrote c =
     let is : IsShaped words dst src c.args.token.now = search (rules, c.is_shaped.ensures, c.if-not-is_shaped) in
     let has : IsTrue (carries_length k) = search (rules, c.has_len.ensures, c.if-has_len) in
     let number = is.numbered.number (inl (with_length k words c.requires.kind has)) in
-    let same = numbered_said k words dst src token has number.0 number.1 ∙ bytes_said k words.length_len words dst src token is.numbered c.requires.kind (λ _. refl) in
+    let same = numbered_described k words dst src token has number.0 number.1 ∙ bytes_described k words.length_len words dst src token is.numbered c.requires.kind (λ _. refl) in
     let within : n ≤ length new = search rules in
     let all = written n c.args.dest.now new _ _ within c.store_numbered.ensures.front c.store_numbered.ensures.back same in
     let count : to_z w64 n ≡ pos n = search rules in
@@ -65,8 +65,8 @@ returns-then-has_len-clause-wrote c =
       count,
       record {
         clear = clear_by k words.flags;
-        head = header_said k words dst src token;
-        can = can_said k words dst src c.args.token.now src token is c.requires.kind (λ _. refl) c.token_of-own.ensures.has;
+        head = header_described k words dst src token;
+        can = can_described k words dst src c.args.token.now src token is c.requires.kind (λ _. refl) c.token_of-own.ensures.has;
         front = all.0;
         count_is = all.1;
       },
@@ -74,7 +74,7 @@ returns-then-has_len-clause-wrote c =
 
 pub returns-else-has_len-clause-wrote : goal.returns-else-has_len-clause-wrote
 returns-else-has_len-clause-wrote c =
-    let words = c.args.said.now in
+    let words = c.args.words.now in
     let k = c.args.kind in
     let dst : List ℕ = c.args.dst.now in
     let src : List ℕ = c.source_of-source.result.now in
@@ -82,9 +82,9 @@ returns-else-has_len-clause-wrote c =
     let n : ℕ = c.store.result in
     let new : List ℕ = c.store.new.out in
     let is : IsShaped words dst c.args.src.now c.args.token.now = search (rules, c.is_shaped.ensures, c.if-not-is_shaped) in
-    let same : stored_said k c.stored_length_len.result words dst src token ≡ said_bytes words.length_len (clear_by k words.flags) (header_said k words dst src token) =
-    bytes_said k c.stored_length_len.result words dst src token is.numbered c.requires.kind c.stored_length_len.ensures.same in
-    let front : take n new ≡ stored_said k c.stored_length_len.result words dst src token = c.store.ensures.front
+    let same : stored_described k c.stored_length_len.result words dst src token ≡ described_bytes words.length_len (clear_by k words.flags) (header_described k words dst src token) =
+    bytes_described k c.stored_length_len.result words dst src token is.numbered c.requires.kind c.stored_length_len.ensures.same in
+    let front : take n new ≡ stored_described k c.stored_length_len.result words dst src token = c.store.ensures.front
     ∙ stored_as k c.first_word.result c.stored_length_len.result words dst src token c.written_part-number.result c.first_word.ensures c.written_part-number.ensures.value in
     let back : drop n new ≡ drop n c.args.dest.now = c.store.ensures.back (record { dst = refl; src = refl }) in
     let within : n ≤ length new = search rules in
@@ -95,8 +95,8 @@ returns-else-has_len-clause-wrote c =
       count,
       record {
         clear = clear_by k words.flags;
-        head = header_said k words dst src token;
-        can = can_said k words dst c.args.src.now c.args.token.now src token is c.requires.kind c.source_of-source.ensures.has c.token_of-own.ensures.has;
+        head = header_described k words dst src token;
+        can = can_described k words dst c.args.src.now c.args.token.now src token is c.requires.kind c.source_of-source.ensures.has c.token_of-own.ensures.has;
         front = all.0;
         count_is = all.1;
       },

@@ -1,7 +1,7 @@
 -- By the law of headers that were written.
 use Rattle.std.proofs.Common.{◌≤◌, ℕ, List, length, refl, subst, sym, ap, arith}
 use Rattle.quic_header_decode.specs.declared.protected.ProtectedHeader.{ProtectedHeader}
-use Rattle.quic_header_decode.specs.declared.protected.ProtectedHeader.TheVariants as head
+use Rattle.quic_header_decode.specs.declared.protected.ProtectedHeader.TheVariants as protected
 use Rattle.quic_header_encode.specs.Writing.{header_bytes}
 use Rattle.quic_header_encode.specs.declared.header.Header.TheVariants as header
 use Rattle.quic_header_decode.specs.Grammar.{HeaderAt}
@@ -17,7 +17,7 @@ returns-clause-back g c =
     omega (arith, c.as_slice-dst.ensures.short, ap length c.as_slice-dst.ensures.value) in
     let src : length c.args.ids.1 ≤ 20 =
     omega (arith, c.as_slice-src.ensures.short, ap length c.as_slice-src.ensures.value) in
-    let h : ProtectedHeader = head.Retry c.args.ids.0 c.args.ids.1 c.args.version in
+    let h : ProtectedHeader = protected.Retry c.args.ids.0 c.args.ids.1 c.args.version in
     let is =
     c.written.ensures.retry context (length c.in-Some.datagram.items) c.args.version c.args.ids.0 c.args.ids.1
     c.args.behind.now (omega (arith, c.ranges.version.fits)) (c.requires.some, c.requires.known) dst src in
@@ -35,7 +35,7 @@ returns-clause-refused g c =
     omega (arith, c.as_slice-dst.ensures.short, ap length c.as_slice-dst.ensures.value) in
     let src : length c.args.ids.1 ≤ 20 =
     omega (arith, c.as_slice-src.ensures.short, ap length c.as_slice-src.ensures.value) in
-    let h : ProtectedHeader = head.Retry c.args.ids.0 c.args.ids.1 c.args.version in
+    let h : ProtectedHeader = protected.Retry c.args.ids.0 c.args.ids.1 c.args.version in
     let is =
     c.written.ensures.retry context (length c.in-Some.datagram.items) c.args.version c.args.ids.0 c.args.ids.1
     c.args.behind.now (omega (arith, c.ranges.version.fits)) (c.requires.some, c.requires.known) dst src in

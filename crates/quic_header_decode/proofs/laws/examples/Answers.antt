@@ -44,7 +44,7 @@ returns-clause-no_token c = λ context known. inr (
             Number 5 ∷ [],
             0xaa ∷ [],
             (0x05 ∷ [], refl, (5, refl, law.shortest_encodes 5 (omega arith))),
-            inl (record { none = λ values rest (front, split, (said, width)). omega (arith, width, ap length split, length-append front rest); why = refl }),
+            inl (record { none = λ values rest (front, split, (values_are, width)). omega (arith, width, ap length split, length-append front rest); why = refl }),
           ),
         ),
       ),

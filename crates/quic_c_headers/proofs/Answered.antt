@@ -22,7 +22,8 @@ use Rattle.quic_c_headers.specs.Reading.{answer_word, header_words, whole_word, 
 
 -- two lists of fields are the same, as far as a header of the kind has them
 abbrev AreSame : HeaderKind → List ℕ → List ℕ → Place → Place → ℕ → ℕ → ℕ → ℕ → Type 0
-AreSame kind.Initial src other p q len n version v = (src ≡ other) × (p.start ≡ q.start) × (p.end ≡ q.end) × (len ≡ n) × (version ≡ v)
+AreSame kind.Initial src other p q len n version v =
+    (src ≡ other) × (p.start ≡ q.start) × (p.end ≡ q.end) × (len ≡ n) × (version ≡ v)
 AreSame kind.ZeroRtt src other p q len n version v = (src ≡ other) × (len ≡ n) × (version ≡ v)
 AreSame kind.Handshake src other p q len n version v = (src ≡ other) × (len ≡ n) × (version ≡ v)
 AreSame kind.Retry src other p q len n version v = (src ≡ other) × (version ≡ v)
@@ -32,7 +33,8 @@ AreSame kind.VersionNegotiate src other p q len n version v = src ≡ other
 initial_is : (h g : ProtectedInitialHeader) → protected.Initial h ≡ protected.Initial g → h ≡ g
 initial_is h g e = cc
 
-same_described : (k l : HeaderKind) (first f : ℕ) (dst d src s : List ℕ) (p q : Place) (len n version v : ℕ) → header_placed k first dst src p len version ≡ header_placed l f d s q n v
+same_described : (k l : HeaderKind) (first f : ℕ) (dst d src s : List ℕ) (p q : Place) (len n version v : ℕ)
+    → header_placed k first dst src p len version ≡ header_placed l f d s q n v
     → (k ≡ l) × (dst ≡ d) × AreSame k src s p q len n version v
 same_described kind.Initial kind.Initial first f dst d src s p q len n version v e =
     let same = initial_is _ _ e in (
@@ -66,7 +68,8 @@ dst_within kind.Retry x f = omega (arith, f.0)
 dst_within kind.Short x f = omega (arith, f.0)
 dst_within kind.VersionNegotiate x f = omega (arith, f.0)
 
-src_is : (packet : List ℕ) (x y : HeaderPlaces) → ids_end x ≤ length packet → ids_end y ≤ length packet → src_part packet x ≡ src_part packet y → x.src_len ≡ y.src_len
+src_is : (packet : List ℕ) (x y : HeaderPlaces) → ids_end x ≤ length packet → ids_end y ≤ length packet
+    → src_part packet x ≡ src_part packet y → x.src_len ≡ y.src_len
 src_is packet x y one two same =
     let a = slice_len (6 + x.dst_len + 1) x.src_len packet (omega arith) in
     let b = slice_len (6 + y.dst_len + 1) y.src_len packet (omega arith) in
@@ -80,7 +83,8 @@ record Others (x y : HeaderPlaces) : Type 0 where
   len : x.len ≡ y.len
   version : x.version ≡ y.version
 
-others : (k : HeaderKind) (packet : List ℕ) (x y : HeaderPlaces) → ArePlaces k x → ArePlaces k y → x.header_end ≤ length packet → y.header_end ≤ length packet
+others : (k : HeaderKind) (packet : List ℕ) (x y : HeaderPlaces) → ArePlaces k x → ArePlaces k y
+    → x.header_end ≤ length packet → y.header_end ≤ length packet
     → AreSame k (src_part packet x) (src_part packet y) x.token y.token x.len y.len x.version y.version → Others x y
 others kind.Initial packet x y f g one two s = record {
   src = src_is packet x y (omega (arith, f.0, f.1, f.2)) (omega (arith, g.0, g.1, g.2)) s.0;
@@ -125,17 +129,31 @@ others kind.VersionNegotiate packet x y f g one two s = record {
   version = f.3 ∙ sym g.3;
 }
 
-made : (k l : HeaderKind) (first f version v dst_len d src_len s start a end b len n header_end h : ℕ) → k ≡ l → first ≡ f → version ≡ v → dst_len ≡ d → src_len ≡ s → start ≡ a → end ≡ b → len ≡ n → header_end ≡ h
+made : (k l : HeaderKind) (first f version v dst_len d src_len s start a end b len n header_end h : ℕ) → k ≡ l
+    → first ≡ f → version ≡ v → dst_len ≡ d → src_len ≡ s → start ≡ a → end ≡ b → len ≡ n → header_end ≡ h
     → ◌≡◌ {A = HeaderPlaces}
-    (record { kind = k; first = first; version = version; dst_len = dst_len; src_len = src_len; token = record { start = start; end = end }; len = len; header_end = header_end })
+    (record {
+      kind = k;
+      first = first;
+      version = version;
+      dst_len = dst_len;
+      src_len = src_len;
+      token = record { start = start; end = end };
+      len = len;
+      header_end = header_end;
+    })
     (record { kind = l; first = f; version = v; dst_len = d; src_len = s; token = record { start = a; end = b }; len = n; header_end = h })
 made k l first f version v dst_len d src_len s start a end b len n header_end h e0 e1 e2 e3 e4 e5 e6 e7 e8 = cc
 
-same_places : (packet : List ℕ) (x y : HeaderPlaces) → ArePlacesWithin x (length packet) → ArePlacesWithin y (length packet) → x.first ≡ y.first
+same_places : (packet : List ℕ) (x y : HeaderPlaces) → ArePlacesWithin x (length packet)
+    → ArePlacesWithin y (length packet) → x.first ≡ y.first
     → header_in packet x ≡ header_in packet y → drop x.header_end packet ≡ drop y.header_end packet → x ≡ y
 same_places packet x y one two first words behind =
-    let same = same_described x.kind y.kind x.first y.first (dst_part packet x) (dst_part packet y) (src_part packet x) (src_part packet y) x.token y.token x.len y.len x.version y.version words in
-    let head : x.header_end ≡ y.header_end = omega (arith, one.head, two.head, simp length-drop at (ap length behind)) in
+    let same =
+    same_described x.kind y.kind x.first y.first (dst_part packet x) (dst_part packet y) (src_part packet x)
+    (src_part packet y) x.token y.token x.len y.len x.version y.version words in
+    let head : x.header_end ≡ y.header_end =
+    omega (arith, one.head, two.head, simp length-drop at (ap length behind)) in
     let fields : ArePlaces x.kind y = subst (λ (k : HeaderKind). ArePlaces k y) (sym same.0) two.fields in
     let here = dst_within x.kind x one.fields in
     let there = dst_within x.kind y fields in
@@ -145,7 +163,8 @@ same_places packet x y one two first words behind =
     sym (slice_len (dst_place x.kind) x.dst_len packet (omega (arith, here, one.head))) ∙ ap length dst_is
     ∙ slice_len (dst_place x.kind) y.dst_len packet (omega (arith, there, two.head)) in
     let o = others x.kind packet x y one.fields fields one.head two.head same.2 in
-    made x.kind y.kind x.first y.first x.version y.version x.dst_len y.dst_len x.src_len y.src_len x.token.start y.token.start x.token.end y.token.end x.len y.len x.header_end y.header_end
+    made x.kind y.kind x.first y.first x.version y.version x.dst_len y.dst_len x.src_len y.src_len x.token.start
+    y.token.start x.token.end y.token.end x.len y.len x.header_end y.header_end
     same.0 first o.version dst o.src o.start o.end o.len head
 
 -- ---- what is reported where no header is read
@@ -156,15 +175,21 @@ mark (Unsupported src dst version) = 0
 mark (Invalid text) = length text
 mark NoMemory = 1
 
-named : (version v : ℕ) (dst d src s : List ℕ) → (let r : Refusal = Unsupported src dst version in r) ≡ Unsupported s d v → (version ≡ v) × (dst ≡ d) × (src ≡ s)
+named : (version v : ℕ) (dst d src s : List ℕ)
+    → (let r : Refusal = Unsupported src dst version in r) ≡ Unsupported s d v → (version ≡ v) × (dst ≡ d) × (src ≡ s)
 named version v dst d src s e = (cc, cc, cc)
 
-same_reported : (packet : List ℕ) (e f : ReadError) → refusal_in packet e ≡ refusal_in packet f → IsSeen (Err e) (length packet) → IsSeen (Err f) (length packet) → e ≡ f
+same_reported : (packet : List ℕ) (e f : ReadError) → refusal_in packet e ≡ refusal_in packet f
+    → IsSeen (Err e) (length packet) → IsSeen (Err f) (length packet) → e ≡ f
 unfolding mark
 same_reported packet (error.UnsupportedVersion version dst_len src_len) (error.UnsupportedVersion v d s) is one two =
     let names = named _ _ _ _ _ _ is in
-    let dst : dst_len ≡ d = sym (slice_len 6 dst_len packet (omega (arith, one.2))) ∙ ap length names.1 ∙ slice_len 6 d packet (omega (arith, two.2)) in
-    let src : src_len ≡ s = sym (slice_len (6 + dst_len + 1) src_len packet (omega (arith, one.2))) ∙ ap length names.2 ∙ slice_len (6 + d + 1) s packet (omega (arith, two.2)) in
+    let dst : dst_len ≡ d =
+    sym (slice_len 6 dst_len packet (omega (arith, one.2))) ∙ ap length names.1
+    ∙ slice_len 6 d packet (omega (arith, two.2)) in
+    let src : src_len ≡ s =
+    sym (slice_len (6 + dst_len + 1) src_len packet (omega (arith, one.2))) ∙ ap length names.2
+    ∙ slice_len (6 + d + 1) s packet (omega (arith, two.2)) in
     let version_is : version ≡ v = names.0 in
     cc
 same_reported packet error.UnexpectedEnd error.UnexpectedEnd is one two = refl
@@ -178,17 +203,23 @@ same_reported packet e f is one two = absurd (omega (arith, ap mark is))
 firsts : (packet : List ℕ) (x y : HeaderPlaces) → HasFirst (Ok x) packet → HasFirst (Ok y) packet → x.first ≡ y.first
 firsts packet x y one two = one ∙ sym two
 
-pair_is : (p q : ProtectedHeader × List ℕ) → (let r : Result (ProtectedHeader × List ℕ) Refusal = Ok p in r) ≡ Ok q → p ≡ q
+pair_is : (p q : ProtectedHeader × List ℕ) → (let r : Result (ProtectedHeader × List ℕ) Refusal = Ok p in r) ≡ Ok q
+    → p ≡ q
 pair_is p q e = cc
 
-found_is : (h g : ProtectedHeader) (rest left : List ℕ) → (let r : Result (ProtectedHeader × List ℕ) Refusal = Ok (h, rest) in r) ≡ Ok (g, left) → (h ≡ g) × (rest ≡ left)
+found_is : (h g : ProtectedHeader) (rest left : List ℕ)
+    → (let r : Result (ProtectedHeader × List ℕ) Refusal = Ok (h, rest) in r) ≡ Ok (g, left) → (h ≡ g) × (rest ≡ left)
 found_is h g rest left e =
-    let same = pair_is (h, rest) (g, left) e in (ap (λ (p : ProtectedHeader × List ℕ). p.0) same, ap (λ (p : ProtectedHeader × List ℕ). p.1) same)
+    let same = pair_is (h, rest) (g, left) e in (
+      ap (λ (p : ProtectedHeader × List ℕ). p.0) same,
+      ap (λ (p : ProtectedHeader × List ℕ). p.1) same,
+    )
 
 reported_is : (e f : Refusal) → (let r : Result (ProtectedHeader × List ℕ) Refusal = Err e in r) ≡ Err f → e ≡ f
 reported_is e f is = cc
 
-same_read : (packet : List ℕ) (one other : Result HeaderPlaces ReadError) → seen_in packet one ≡ seen_in packet other → IsSeen one (length packet) → IsSeen other (length packet)
+same_read : (packet : List ℕ) (one other : Result HeaderPlaces ReadError) → seen_in packet one ≡ seen_in packet other
+    → IsSeen one (length packet) → IsSeen other (length packet)
     → HasFirst one packet → HasFirst other packet → one ≡ other
 same_read packet (Ok x) (Ok y) e one two f g =
     let parts = found_is _ _ _ _ e in
@@ -197,15 +228,18 @@ same_read packet (Ok x) (Err y) e one two f g = absurd cc
 same_read packet (Err x) (Ok y) e one two f g = absurd cc
 same_read packet (Err x) (Err y) e one two f g = ap Err (same_reported packet x y (reported_is _ _ e) one two)
 
-pub has_first : (read : Result HeaderPlaces ReadError) (packet : List ℕ) → IfOk read (λ x. x.first ≡ slice_index packet 0) → HasFirst read packet
+pub has_first : (read : Result HeaderPlaces ReadError) (packet : List ℕ)
+    → IfOk read (λ x. x.first ≡ slice_index packet 0) → HasFirst read packet
 has_first (Ok x) packet is = is
 has_first (Err e) packet is = tt
 
 -- what is reported of one packet is one answer
 pub one_answer : (id_len : ℕ) (versions packet : List ℕ) (old new words : CHeader) (answer other : ℕ)
     → ((id_len : ℕ) (versions bytes : List ℕ) (one other : Result (ProtectedHeader × List ℕ) Refusal) → AreBytes bytes
-    → ReadAnswer (any_fixed id_len versions) bytes one → ReadAnswer (any_fixed id_len versions) bytes other → one ≡ other)
-    → AreBytes packet → Reported id_len versions packet old answer new → Reported id_len versions packet old other words → (answer ≡ other) × (new ≡ words)
+    → ReadAnswer (any_fixed id_len versions) bytes one → ReadAnswer (any_fixed id_len versions) bytes other
+    → one ≡ other)
+    → AreBytes packet → Reported id_len versions packet old answer new → Reported id_len versions packet old other words
+    → (answer ≡ other) × (new ≡ words)
 one_answer id_len versions packet old new words answer other law fits t u =
     let seen = law id_len versions packet (seen_in packet t.read) (seen_in packet u.read) fits t.right u.right in
     let same = same_read packet t.read u.read seen t.stored u.stored t.first u.first in (
@@ -220,28 +254,38 @@ abbrev IsCut : DecodeOptions → List ℕ → CHeader → Type 0
 IsCut context packet words = (h : ProtectedHeader) × Cut context packet h words.header_end words.end
 
 abbrev Law : Type 0
-Law = (context : DecodeOptions) (bytes : List ℕ) (x : HeaderPlaces) (q : ℕ) → HeaderAt context (length bytes) bytes (header_in bytes x) (drop x.header_end bytes) → x.header_end ≤ length bytes
+Law =
+    (context : DecodeOptions) (bytes : List ℕ) (x : HeaderPlaces) (q : ℕ)
+    → HeaderAt context (length bytes) bytes (header_in bytes x) (drop x.header_end bytes) → x.header_end
+    ≤ length bytes
     → ends_at x (length bytes) ≡ Some q → Cut context bytes (header_in bytes x) x.header_end q
 
-ended : (context : DecodeOptions) (packet : List ℕ) (x : HeaderPlaces) (end : Option ℕ) (old new : CHeader) → Law → HeaderAt context (length packet) packet (header_in packet x) (drop x.header_end packet)
-    → x.header_end ≤ length packet → ends_at x (length packet) ≡ end → 0 ≡ whole_word end → new ≡ header_words packet (Ok x) old → IsCut context packet new
+ended : (context : DecodeOptions) (packet : List ℕ) (x : HeaderPlaces) (end : Option ℕ) (old new : CHeader) → Law
+    → HeaderAt context (length packet) packet (header_in packet x) (drop x.header_end packet)
+    → x.header_end ≤ length packet → ends_at x (length packet) ≡ end → 0 ≡ whole_word end
+    → new ≡ header_words packet (Ok x) old → IsCut context packet new
 ended context packet x None old new law head within ends zero words = absurd (omega (arith, zero))
 ended context packet x (Some q) old new law head within ends zero words =
-    let stop : new.end ≡ q = ap (λ (w : CHeader). w.end) words ∙ ap (λ (o : Option ℕ). unwrap_or o (length packet)) ends in
+    let stop : new.end ≡ q =
+    ap (λ (w : CHeader). w.end) words ∙ ap (λ (o : Option ℕ). unwrap_or o (length packet)) ends in
     let start : new.header_end ≡ x.header_end = ap (λ (w : CHeader). w.header_end) words in
     (header_in packet x, rw (start, stop) (law context packet x q head within ends))
 
-cut_there : (context : DecodeOptions) (packet : List ℕ) (read : Result HeaderPlaces ReadError) (old new : CHeader) → Law → ReadAnswer context packet (seen_in packet read) → IsSeen read (length packet)
+cut_there : (context : DecodeOptions) (packet : List ℕ) (read : Result HeaderPlaces ReadError) (old new : CHeader) → Law
+    → ReadAnswer context packet (seen_in packet read) → IsSeen read (length packet)
     → 0 ≡ answer_word read (length packet) → new ≡ header_words packet read old → IsCut context packet new
-cut_there context packet (Ok x) old new law right stored zero words = ended context packet x (ends_at x (length packet)) old new law right stored.head refl zero words
-cut_there context packet (Err (error.UnsupportedVersion version dst_len src_len)) old new law right stored zero words = absurd (omega (arith, zero))
+cut_there context packet (Ok x) old new law right stored zero words =
+    ended context packet x (ends_at x (length packet)) old new law right stored.head refl zero words
+cut_there context packet (Err (error.UnsupportedVersion version dst_len src_len)) old new law right stored zero words =
+    absurd (omega (arith, zero))
 cut_there context packet (Err error.UnexpectedEnd) old new law right stored zero words = absurd (omega (arith, zero))
 cut_there context packet (Err error.SmallPacket) old new law right stored zero words = absurd (omega (arith, zero))
 cut_there context packet (Err error.MalformedCid) old new law right stored zero words = absurd (omega (arith, zero))
 cut_there context packet (Err error.TokenOutOfBounds) old new law right stored zero words = absurd (omega (arith, zero))
 
 -- a packet that is reported to be complete is cut at the place in the words
-pub whole_cut : (id_len : ℕ) (versions packet : List ℕ) (old new : CHeader) (answer : ℕ) → Law → Reported id_len versions packet old answer new → answer ≡ 0
+pub whole_cut : (id_len : ℕ) (versions packet : List ℕ) (old new : CHeader) (answer : ℕ) → Law
+    → Reported id_len versions packet old answer new → answer ≡ 0
     → (h : ProtectedHeader) × Cut (any_fixed id_len versions) packet h new.header_end new.end
 whole_cut id_len versions packet old new answer law t zero =
     cut_there (any_fixed id_len versions) packet t.read old new law t.right t.stored (sym zero ∙ t.answers) t.words

@@ -15,8 +15,12 @@ xor_twice a s = xor_assoc a s s ∙ ap (bit_xor a) (xor_self s) ∙ xor_zero_r a
 
 -- low bits leave the high ones
 xor_high : (b : Bool) (a s : ℕ) → bit_xor a (s % first_unit b) / first_unit b ≡ a / first_unit b
-xor_high true a s = xor_shr a (s % 32) 5 ∙ ap (bit_xor (a / 32)) (let none : s % 32 / 32 ≡ 0 = omega arith in none) ∙ xor_zero_r (a / 32)
-xor_high false a s = xor_shr a (s % 16) 4 ∙ ap (bit_xor (a / 16)) (let none : s % 16 / 16 ≡ 0 = omega arith in none) ∙ xor_zero_r (a / 16)
+xor_high true a s =
+    xor_shr a (s % 32) 5 ∙ ap (bit_xor (a / 32)) (let none : s % 32 / 32 ≡ 0 = omega arith in none)
+    ∙ xor_zero_r (a / 32)
+xor_high false a s =
+    xor_shr a (s % 16) 4 ∙ ap (bit_xor (a / 16)) (let none : s % 16 / 16 ≡ 0 = omega arith in none)
+    ∙ xor_zero_r (a / 16)
 
 short_stays : (b : Bool) (old new : ℕ) → new / first_unit b ≡ old / first_unit b → nat_lt new 128 ≡ nat_lt old 128
 short_stays true old new same = grind (arith, nat_tests)
@@ -32,12 +36,15 @@ first_twice mask f =
 at_len : (at n : ℕ) (mask bytes : List ℕ) → length (unmasked_at at mask n bytes) ≡ length bytes
 at_len at zero mask bytes = refl
 at_len at (suc n) mask bytes =
-    length-set (unmasked_at at mask n bytes) (at + n) (bit_xor (get_or (unmasked_at at mask n bytes) (at + n) 0) (get_or mask (n + 1) 0)) ∙ at_len at n mask bytes
+    length-set (unmasked_at at mask n bytes) (at + n) (bit_xor (get_or (unmasked_at at mask n bytes) (at + n) 0) (get_or mask (n + 1) 0))
+    ∙ at_len at n mask bytes
 
-at_out : (at n : ℕ) (mask bytes : List ℕ) (i : ℕ) → (i < at) ⊎ (at + n ≤ i) → get_or (unmasked_at at mask n bytes) i 0 ≡ get_or bytes i 0
+at_out : (at n : ℕ) (mask bytes : List ℕ) (i : ℕ) → (i < at) ⊎ (at + n ≤ i)
+    → get_or (unmasked_at at mask n bytes) i 0 ≡ get_or bytes i 0
 at_out at zero mask bytes i out = refl
 at_out at (suc n) mask bytes i out =
-    get_or-set_other (unmasked_at at mask n bytes) (at + n) i (bit_xor (get_or (unmasked_at at mask n bytes) (at + n) 0) (get_or mask (n + 1) 0)) 0
+    get_or-set_other (unmasked_at at mask n bytes) (at + n) i
+    (bit_xor (get_or (unmasked_at at mask n bytes) (at + n) 0) (get_or mask (n + 1) 0)) 0
     (elim out [ inl below ↦ omega arith | inr above ↦ omega arith ])
     ∙ at_out at n mask bytes i (elim out [ inl below ↦ inl below | inr above ↦ inr (omega arith) ])
 
@@ -71,7 +78,8 @@ bytes_back start at n mask bytes x behind room =
     let again_len : length again ≡ length there = length-set there start f in
     let kept : (i : ℕ) → (i < at) ⊎ (at + n ≤ i) → (i ≡ start → ⊥) → get_or (unmasked_at at mask n again) i 0 ≡ get_or bytes i 0 =
     λ i out other.
-    at_out at n mask again i out ∙ get_or-set_other there start i f 0 other ∙ at_out at n mask once i out ∙ get_or-set_other bytes start i x 0 other in
+    at_out at n mask again i out ∙ get_or-set_other there start i f 0 other ∙ at_out at n mask once i out
+    ∙ get_or-set_other bytes start i x 0 other in
     same_number_lists (unmasked_at at mask n again) bytes (at_len at n mask again ∙ again_len ∙ there_len ∙ once_len) (λ i lt.
     elim (cases_eq i start) [
       | inl here ↦ rw here (at_out at n mask again start (inl behind) ∙ get_or-set_same there start f 0 (omega arith))
@@ -79,7 +87,8 @@ bytes_back start at n mask bytes x behind room =
         | inl before ↦ kept i (inl before) other
         | inr from ↦ elim (cases_lt i (at + n)) [
           | inl within ↦ at_in at n mask again i from within (omega arith)
-              ∙ ap (λ (y : ℕ). bit_xor y (get_or mask (i - at + 1) 0)) (get_or-set_other there start i f 0 other ∙ at_in at n mask once i from within (omega arith))
+              ∙ ap (λ (y : ℕ). bit_xor y (get_or mask (i - at + 1) 0))
+              (get_or-set_other there start i f 0 other ∙ at_in at n mask once i from within (omega arith))
               ∙ xor_twice (get_or once i 0) (get_or mask (i - at + 1) 0)
               ∙ get_or-set_other bytes start i x 0 other
           | inr past ↦ kept i (inr past) other
@@ -87,13 +96,15 @@ bytes_back start at n mask bytes x behind room =
       ]
     ])
 
-pub masked_back : (at : ℕ) (mask bytes : List ℕ) → 0 < at → at + 4 ≤ length bytes → unmasked at mask (masked_packet at mask bytes) ≡ bytes
+pub masked_back : (at : ℕ) (mask bytes : List ℕ) → 0 < at → at + 4 ≤ length bytes
+    → unmasked at mask (masked_packet at mask bytes) ≡ bytes
 masked_back at mask bytes behind room =
     let f : ℕ = get_or bytes 0 0 in
     let x : ℕ = unmasked_first mask f in
     let n : ℕ = number_len f in
     let there : List ℕ = unmasked_at at mask n (set bytes 0 x) in
-    let shown : get_or there 0 0 ≡ x = at_out at n mask (set bytes 0 x) 0 (inl behind) ∙ get_or-set_same bytes 0 x 0 (omega arith) in
+    let shown : get_or there 0 0 ≡ x =
+    at_out at n mask (set bytes 0 x) 0 (inl behind) ∙ get_or-set_same bytes 0 x 0 (omega arith) in
     let first : unmasked_first mask (get_or there 0 0) ≡ f = ap (unmasked_first mask) shown ∙ first_twice mask f in
     ap (λ (g : ℕ). unmasked_at at mask (number_len g) (set there 0 g)) first
     ∙ bytes_back 0 at n mask bytes x behind (omega arith)

@@ -44,7 +44,8 @@ pub record Front (first : ℕ) (version behind dst src rest : List ℕ) : Type 0
   pub zero : from_be_bytes w32 version ≡ 0
   pub ids : behind ≡ long_id dst ++ (long_id src ++ rest)
 
-pub front_of : (first : ℕ) (packet text version behind dst src rest : List ℕ) → packet ≡ first ∷ text → version ≡ take 4 text → behind ≡ drop 4 text
+pub front_of : (first : ℕ) (packet text version behind dst src rest : List ℕ) → packet ≡ first ∷ text
+    → version ≡ take 4 text → behind ≡ drop 4 text
     → IsNegotiation packet dst src rest → Front first version behind dst src rest
 front_of first packet text version behind dst src rest is front back (f, number, whole, long, word) =
     let ids : List ℕ = long_id dst ++ (long_id src ++ rest) in
@@ -58,14 +59,17 @@ front_of first packet text version behind dst src rest is front back (f, number,
     }
 
 -- and such bytes begin one
-pub of_front : (first : ℕ) (packet text version behind dst left src rest : List ℕ) → packet ≡ first ∷ text → version ≡ take 4 text → behind ≡ drop 4 text
-    → length behind + 4 ≡ length text → 128 ≤ first → AreBytes version → from_be_bytes w32 version ≡ 0 → behind ≡ long_id dst ++ left → left ≡ long_id src ++ rest
+pub of_front : (first : ℕ) (packet text version behind dst left src rest : List ℕ) → packet ≡ first ∷ text
+    → version ≡ take 4 text → behind ≡ drop 4 text
+    → length behind + 4 ≡ length text → 128 ≤ first → AreBytes version → from_be_bytes w32 version ≡ 0
+    → behind ≡ long_id dst ++ left → left ≡ long_id src ++ rest
     → IsNegotiation packet dst src rest
 of_front first packet text version behind dst left src rest is front back size long bytes zero one two =
     let width : length version ≡ 4 = omega (arith, ap length front, length-take 4 text, size) in
     let ids : behind ≡ long_id dst ++ (long_id src ++ rest) = one ∙ ap (λ (xs : List ℕ). long_id dst ++ xs) two in
     let whole : text ≡ version ++ (long_id dst ++ (long_id src ++ rest)) =
-    sym (take-append-drop 4 text) ∙ ap (λ (xs : List ℕ). xs ++ drop 4 text) (sym front) ∙ ap (λ (xs : List ℕ). version ++ xs) (sym back ∙ ids) in (
+    sym (take-append-drop 4 text) ∙ ap (λ (xs : List ℕ). xs ++ drop 4 text) (sym front)
+    ∙ ap (λ (xs : List ℕ). version ++ xs) (sym back ∙ ids) in (
       first,
       version,
       is ∙ ap (λ (xs : List ℕ). first ∷ xs) whole,
@@ -74,7 +78,8 @@ of_front first packet text version behind dst left src rest is front back size l
     )
 
 -- the ids are those that are read, and no others
-pub same_ids : (packet dst src rest d s r : List ℕ) → IsNegotiation packet dst src rest → IsNegotiation packet d s r → (dst ≡ d) × (src ≡ s) × (rest ≡ r)
+pub same_ids : (packet dst src rest d s r : List ℕ) → IsNegotiation packet dst src rest → IsNegotiation packet d s r
+    → (dst ≡ d) × (src ≡ s) × (rest ≡ r)
 same_ids packet dst src rest d s r (f, number, whole, long, word) (g, other, all, high, is) =
     let ids : List ℕ = long_id dst ++ (long_id src ++ rest) in
     let others : List ℕ = long_id d ++ (long_id s ++ r) in
@@ -84,13 +89,15 @@ same_ids packet dst src rest d s r (f, number, whole, long, word) (g, other, all
     let two = one_id src s rest r one.1 in
     (one.0, two.0, two.1)
 
-pub same_words : (packet dst src d s : List ℕ) → dst ≡ d → src ≡ s → negotiation_words packet dst src ≡ negotiation_words packet d s
+pub same_words : (packet dst src d s : List ℕ) → dst ≡ d → src ≡ s
+    → negotiation_words packet dst src ≡ negotiation_words packet d s
 same_words packet dst src d s e f = rw (e, f) refl
 
 -- ---- what is reported of headers of all kinds
 
 -- a part of a list, and what is left after it
-part_at : (a n : ℕ) (packet front part rest : List ℕ) → packet ≡ front ++ (part ++ rest) → length front ≡ a → length part ≡ n
+part_at : (a n : ℕ) (packet front part rest : List ℕ) → packet ≡ front ++ (part ++ rest) → length front ≡ a
+    → length part ≡ n
     → (slice_range packet a (a + n) ≡ part) × (drop (a + n) packet ≡ rest)
 part_at a n packet front part rest is from many =
     let behind : drop a packet ≡ part ++ rest = ap (drop a) is ∙ drop_front front (part ++ rest) a from in
@@ -113,17 +120,22 @@ places packet dst src = record {
 }
 
 -- the header that is there, by its parts
-header_at : (context : DecodeOptions) (packet dst src rest d s left : List ℕ) (random : ℕ) → d ≡ dst → s ≡ src → left ≡ rest
-    → HeaderAt context (length packet) packet (protected.VersionNegotiate random dst src) rest → HeaderAt context (length packet) packet (protected.VersionNegotiate random d s) left
+header_at : (context : DecodeOptions) (packet dst src rest d s left : List ℕ) (random : ℕ) → d ≡ dst → s ≡ src
+    → left ≡ rest
+    → HeaderAt context (length packet) packet (protected.VersionNegotiate random dst src) rest
+    → HeaderAt context (length packet) packet (protected.VersionNegotiate random d s) left
 header_at context packet dst src rest d s left random e f g h = rw (e, f, g) h
 
-pub reported : (id_len : ℕ) (versions packet dst src rest : List ℕ) (old : CHeader) → IsNegotiation packet dst src rest → length dst ≤ 20 → length src ≤ 20
+pub reported : (id_len : ℕ) (versions packet dst src rest : List ℕ) (old : CHeader) → IsNegotiation packet dst src rest
+    → length dst ≤ 20 → length src ≤ 20
     → Reported id_len versions packet old 0 (negotiation_words packet dst src)
 unfolding places
 reported id_len versions packet dst src rest old (first, number, whole, long, word) few less =
     let context : DecodeOptions = any_fixed id_len versions in
     let zero_word = law.is_number_4 0 (omega arith) in
-    let zeros : number ≡ bytes_of 4 0 = law.num_injective number (bytes_of 4 0) word.bytes zero_word.bytes (word.width ∙ sym zero_word.width) (word.value ∙ sym zero_word.value) in
+    let zeros : number ≡ bytes_of 4 0 =
+    law.num_injective number (bytes_of 4 0) word.bytes zero_word.bytes (word.width ∙ sym zero_word.width)
+    (word.value ∙ sym zero_word.value) in
     let random : ℕ = slice_index packet 0 - 128 in
     let first_is : slice_index packet 0 ≡ first = ap (λ (xs : List ℕ). slice_index xs 0) whole in
     let above : 128 ≤ first = grind (arith, nat_tests) in
@@ -131,13 +143,17 @@ reported id_len versions packet dst src rest old (first, number, whole, long, wo
     let ids : List ℕ = long_id dst ++ (long_id src ++ rest) in
     let front : List ℕ = first ∷ (number ++ (length dst ∷ [])) in
     let one : packet ≡ front ++ (dst ++ (long_id src ++ rest)) =
-    whole ∙ ap (λ (xs : List ℕ). first ∷ xs) (sym (append_assoc number (length dst ∷ []) (dst ++ (long_id src ++ rest)))) in
+    whole
+    ∙ ap (λ (xs : List ℕ). first ∷ xs) (sym (append_assoc number (length dst ∷ []) (dst ++ (long_id src ++ rest)))) in
     let six : length front ≡ 6 = omega (arith, length-append number (length dst ∷ []), word.width) in
     let dst_is = part_at 6 (length dst) packet front dst (long_id src ++ rest) one six refl in
     let next : List ℕ = front ++ (dst ++ (length src ∷ [])) in
     let two : packet ≡ next ++ (src ++ rest) =
-    one ∙ sym (append_assoc front (dst ++ (length src ∷ [])) (src ++ rest) ∙ ap (λ (xs : List ℕ). front ++ xs) (append_assoc dst (length src ∷ []) (src ++ rest))) in
-    let place : length next ≡ 6 + length dst + 1 = omega (arith, six, length-append front (dst ++ (length src ∷ [])), length-append dst (length src ∷ [])) in
+    one
+    ∙ sym (append_assoc front (dst ++ (length src ∷ [])) (src ++ rest)
+    ∙ ap (λ (xs : List ℕ). front ++ xs) (append_assoc dst (length src ∷ []) (src ++ rest))) in
+    let place : length next ≡ 6 + length dst + 1 =
+    omega (arith, six, length-append front (dst ++ (length src ∷ [])), length-append dst (length src ∷ [])) in
     let src_is = part_at (6 + length dst + 1) (length src) packet next src rest two place refl in
     let end : 7 + length dst + length src ≡ 6 + length dst + 1 + length src = omega arith in
     let behind : drop (7 + length dst + length src) packet ≡ rest = ap (λ (k : ℕ). drop k packet) end ∙ src_is.1 in
@@ -151,7 +167,8 @@ reported id_len versions packet dst src rest old (first, number, whole, long, wo
     omega (arith, ap length two, length-append next (src ++ rest), length-append src rest, place) in
     record {
       read = Ok (places packet dst src);
-      right = header_at context packet dst src rest _ _ _ random dst_is.0 src_is.0 behind (negotiation_header context (length packet) packet random dst src rest start);
+      right = header_at context packet dst src rest _ _ _ random dst_is.0 src_is.0 behind
+          (negotiation_header context (length packet) packet random dst src rest start);
       stored = record {
         fields = (omega arith, (refl, refl), refl, refl);
         dst_few = few;
@@ -176,16 +193,20 @@ pub record StoredOn (versions : List ℕ) (at : ℕ) (old : List ℕ) (i end : �
   pub len : length new ≡ length old
 
 pub stored_none : (versions : List ℕ) (at : ℕ) (old : List ℕ) → StoredOn versions at old 0 at old
-stored_none versions at old = record { count = omega arith; front = sym (append-nil (take at old)); back = refl; len = refl }
+stored_none versions at old =
+    record { count = omega arith; front = sym (append-nil (take at old)); back = refl; len = refl }
 
-version_more : (versions : List ℕ) (i : ℕ) → i < length versions → version_bytes (take (i + 1) versions) ≡ version_bytes (take i versions) ++ bytes_of 4 (get_or versions i 0)
+version_more : (versions : List ℕ) (i : ℕ) → i < length versions
+    → version_bytes (take (i + 1) versions) ≡ version_bytes (take i versions) ++ bytes_of 4 (get_or versions i 0)
 version_more versions i lt =
     let v : ℕ = get_or versions i 0 in
     ap version_bytes (take_more versions i 0 lt) ∙ flat_map-append (bytes_of 4) (take i versions) (v ∷ [])
     ∙ ap (λ (xs : List ℕ). version_bytes (take i versions) ++ xs) (append-nil (bytes_of 4 v))
 
-pub stored_more : (versions : List ℕ) (at i end stop : ℕ) (old one new : List ℕ) → i < length versions → StoredOn versions at old i end one
-    → stop ≡ end + 4 → take stop new ≡ take end one ++ bytes_of 4 (get_or versions i 0) → drop stop new ≡ drop stop one → length new ≡ length one
+pub stored_more : (versions : List ℕ) (at i end stop : ℕ) (old one new : List ℕ) → i < length versions
+    → StoredOn versions at old i end one
+    → stop ≡ end + 4 → take stop new ≡ take end one ++ bytes_of 4 (get_or versions i 0) → drop stop new ≡ drop stop one
+    → length new ≡ length one
     → StoredOn versions at old (i + 1) stop new
 stored_more versions at i end stop old one new lt inv after front back same = record {
   count = (let so_far = inv.count in omega (arith, so_far, after));
@@ -198,15 +219,19 @@ stored_more versions at i end stop old one new lt inv after front back same = re
 
 pub versions_long : (versions : List ℕ) → length (version_bytes versions) ≡ 4 * length versions
 versions_long [] = refl
-versions_long (v ∷ versions) = omega (arith, length-append (bytes_of 4 v) (version_bytes versions), law.length-bytes_of 4 v, versions_long versions)
+versions_long (v ∷ versions) =
+    omega (arith, length-append (bytes_of 4 v) (version_bytes versions), law.length-bytes_of 4 v, versions_long versions)
 
-pub stored_all : (versions : List ℕ) (at i end : ℕ) (old new : List ℕ) → length versions ≤ i → StoredOn versions at old i end new
+pub stored_all : (versions : List ℕ) (at i end : ℕ) (old new : List ℕ) → length versions ≤ i
+    → StoredOn versions at old i end new
     → take end new ≡ take at old ++ version_bytes versions
-stored_all versions at i end old new le inv = inv.front ∙ ap (λ (xs : List ℕ). take at old ++ version_bytes xs) (take_all i versions le)
+stored_all versions at i end old new le inv =
+    inv.front ∙ ap (λ (xs : List ℕ). take at old ++ version_bytes xs) (take_all i versions le)
 
 -- ---- all of the packet
 
-pub bytes_long : (first : ℕ) (dst src versions : List ℕ) → length (negotiation_bytes first dst src versions) ≡ 7 + length dst + length src + 4 * length versions
+pub bytes_long : (first : ℕ) (dst src versions : List ℕ)
+    → length (negotiation_bytes first dst src versions) ≡ 7 + length dst + length src + 4 * length versions
 bytes_long first dst src versions =
     let front : List ℕ = bytes_of 4 0 ++ (long_id dst ++ long_id src) in
     omega (
@@ -218,21 +243,27 @@ bytes_long first dst src versions =
       versions_long versions,
     )
 
-pub bytes_stored : (first : ℕ) (dst src versions one two three four all : List ℕ) → one ≡ bit_or 128 (first % 128) ∷ [] → two ≡ one ++ (0 ∷ 0 ∷ 0 ∷ 0 ∷ [])
-    → three ≡ two ++ long_id dst → four ≡ three ++ long_id src → all ≡ four ++ version_bytes versions → all ≡ negotiation_bytes first dst src versions
+pub bytes_stored : (first : ℕ) (dst src versions one two three four all : List ℕ) → one ≡ bit_or 128 (first % 128) ∷ []
+    → two ≡ one ++ (0 ∷ 0 ∷ 0 ∷ 0 ∷ [])
+    → three ≡ two ++ long_id dst → four ≡ three ++ long_id src → all ≡ four ++ version_bytes versions
+    → all ≡ negotiation_bytes first dst src versions
 unfolding bytes_of
 bytes_stored first dst src versions one two three four all e f g h i =
     let start : List ℕ = bit_or 128 (first % 128) ∷ 0 ∷ 0 ∷ 0 ∷ 0 ∷ [] in
     let both : four ≡ start ++ (long_id dst ++ long_id src) =
-    h ∙ ap (λ (xs : List ℕ). xs ++ long_id src) (g ∙ ap (λ (xs : List ℕ). xs ++ long_id dst) (f ∙ ap (λ (xs : List ℕ). xs ++ (0 ∷ 0 ∷ 0 ∷ 0 ∷ [])) e))
+    h
+    ∙ ap (λ (xs : List ℕ). xs ++ long_id src) (g ∙ ap (λ (xs : List ℕ). xs ++ long_id dst)
+    (f ∙ ap (λ (xs : List ℕ). xs ++ (0 ∷ 0 ∷ 0 ∷ 0 ∷ [])) e))
     ∙ append_assoc start (long_id dst) (long_id src) in
     i ∙ ap (λ (xs : List ℕ). xs ++ version_bytes versions) both
 
-pub read_back : (first : ℕ) (dst src versions bytes : List ℕ) → bytes ≡ negotiation_bytes first dst src versions → IsNegotiation bytes dst src (version_bytes versions)
+pub read_back : (first : ℕ) (dst src versions bytes : List ℕ) → bytes ≡ negotiation_bytes first dst src versions
+    → IsNegotiation bytes dst src (version_bytes versions)
 read_back first dst src versions bytes is =
     let x : ℕ = bit_or 128 (first % 128) in
     let high : 128 ≤ x = le_or_l 128 (first % 128) in
     let ids : List ℕ = long_id dst ++ long_id src in
     let split : (bytes_of 4 0 ++ ids) ++ version_bytes versions ≡ bytes_of 4 0 ++ (long_id dst ++ (long_id src ++ version_bytes versions)) =
-    append_assoc (bytes_of 4 0) ids (version_bytes versions) ∙ ap (λ (xs : List ℕ). bytes_of 4 0 ++ xs) (append_assoc (long_id dst) (long_id src) (version_bytes versions)) in
+    append_assoc (bytes_of 4 0) ids (version_bytes versions)
+    ∙ ap (λ (xs : List ℕ). bytes_of 4 0 ++ xs) (append_assoc (long_id dst) (long_id src) (version_bytes versions)) in
     (x, bytes_of 4 0, is ∙ ap (λ (xs : List ℕ). x ∷ xs) split, grind (arith, nat_tests), law.is_number_4 0 (omega arith))

@@ -9,21 +9,25 @@ use Rattle.quic_c_headers.specs.declared.words.HeaderFields.{HeaderFields}
 use Rattle.quic_c_headers.specs.Headers.{DescribesNumber, CanWriteHeader}
 use Rattle.quic_c_headers.specs.Shapes.{AreParts, IsNumbered, IsShaped}
 
-with_number : (words : HeaderFields) (number : PacketNumber) → DescribesNumber words.number words.number_len (Some number)
+with_number : (words : HeaderFields) (number : PacketNumber)
+    → DescribesNumber words.number words.number_len (Some number)
     → (words.kind ≤ 2 → (words.length_len ≡ 2) ⊎ (words.length_len ≡ 4)) → IsNumbered words
 with_number words number s len =
     let z = number_few number in
     record { number = λ _. (omega (arith, s.1, z.0), omega (arith, s.1, z.1), s.0); len = len }
 
 without_number : (words : HeaderFields) → (words.kind ≡ 3) ⊎ (words.kind ≡ 5) → IsNumbered words
-without_number words kind = record { number = λ e. absurd (omega (arith, kind, e)); len = λ e. absurd (omega (arith, kind, e)) }
+without_number words kind =
+    record { number = λ e. absurd (omega (arith, kind, e)); len = λ e. absurd (omega (arith, kind, e)) }
 
 -- the parts of a header that has no token
-no_token : (kind : ℕ) (dst src token : List ℕ) → 0 < kind → length dst ≤ 20 → length src ≤ 20 → AreParts kind dst src token
+no_token : (kind : ℕ) (dst src token : List ℕ) → 0 < kind → length dst ≤ 20 → length src ≤ 20
+    → AreParts kind dst src token
 no_token kind dst src token some dst_few src_few =
     record { dst_few = dst_few; src_few = λ _. src_few; token_short = λ e. absurd (omega (arith, some, e)) }
 
-pub shaped : (words : HeaderFields) (dst src token : List ℕ) (clear : Bool) (head : Header) → CanWriteHeader words dst src token clear head → IsShaped words dst src token
+pub shaped : (words : HeaderFields) (dst src token : List ℕ) (clear : Bool) (head : Header)
+    → CanWriteHeader words dst src token clear head → IsShaped words dst src token
 shaped words dst src token clear (header.Initial h) can =
     let k : words.kind ≡ 0 = can.described.kind in
     record {

@@ -32,7 +32,8 @@ clear_by kind.VersionNegotiate flags = false
 
 -- the header that they describe
 abbrev pub header_described : HeaderKind → HeaderFields → List ℕ → List ℕ → List ℕ → Header
-header_described k words dst src token = header_of k words.flags words.version dst src token (part_of words.number_len words.number)
+header_described k words dst src token =
+    header_of k words.flags words.version dst src token (part_of words.number_len words.number)
 
 bit_at : (x n : ℕ) → x < 2 → bit_value (nat_eq x 1) n ≡ n * x
 bit_at x n lt = grind (arith, nat_tests)
@@ -49,7 +50,9 @@ phase_is f = bit_at (f / 4 % 2) 4 (omega arith)
 
 -- the part of a number that is written
 abbrev Part : ℕ → ℕ → Type 0
-Part number len = (len ≡ number_size (part_of len number)) × (low_part (part_of len number) ≡ number % window_of (part_of len number)) × IsInRange (part_of len number)
+Part number len =
+    (len ≡ number_size (part_of len number)) × (low_part (part_of len number) ≡ number % window_of (part_of len number))
+    × IsInRange (part_of len number)
 
 pub part_says : (len number : ℕ) → 1 ≤ len → len ≤ 4 → Part number len
 part_says len number some few = elim (cases_eq len 2) [
@@ -72,12 +75,15 @@ numbered words s kind =
     let n = s.number kind in (n.2, part_says words.number_len words.number n.0 n.1)
 
 -- the facts about a sender's id
-source_described : (words : HeaderFields) (dst src token from : List ℕ) → IsShaped words dst src token → (words.kind ≢ 4 → from ≡ src) → words.kind ≢ 4
+source_described : (words : HeaderFields) (dst src token from : List ℕ) → IsShaped words dst src token
+    → (words.kind ≢ 4 → from ≡ src) → words.kind ≢ 4
     → (src ≡ from) × (length src ≤ 20)
 source_described words dst src token from s source other = (sym (source other), s.parts.src_few other)
 
-pub can_described : (k : HeaderKind) (words : HeaderFields) (dst src token from own : List ℕ) → IsShaped words dst src token → kind_word k ≡ words.kind
-    → (words.kind ≢ 4 → from ≡ src) → (words.kind ≡ 0 → own ≡ token) → CanWriteHeader words dst src token (clear_by k words.flags) (header_described k words dst from own)
+pub can_described : (k : HeaderKind) (words : HeaderFields) (dst src token from own : List ℕ)
+    → IsShaped words dst src token → kind_word k ≡ words.kind
+    → (words.kind ≢ 4 → from ≡ src) → (words.kind ≡ 0 → own ≡ token)
+    → CanWriteHeader words dst src token (clear_by k words.flags) (header_described k words dst from own)
 can_described kind.Initial words dst src token from own s e source mine =
     let n = numbered words s.numbered (inl (omega (arith, e))) in
     record {
@@ -183,18 +189,23 @@ stored_described k len words dst src token =
     begun_by (first_word k words.flags + type_bits k words.version + number_bits k number)
     (header_with (replicate len 0) (header_of k (first_word k words.flags) words.version dst src token number))
 
-pub stored_as : (k : HeaderKind) (f len : ℕ) (words : HeaderFields) (dst src token : List ℕ) (number : PacketNumber) → f ≡ first_word k words.flags
+pub stored_as : (k : HeaderKind) (f len : ℕ) (words : HeaderFields) (dst src token : List ℕ) (number : PacketNumber)
+    → f ≡ first_word k words.flags
     → number ≡ part_of words.number_len words.number
-    → begun_by (f + type_bits k words.version + number_bits k number) (header_with (replicate len 0) (header_of k f words.version dst src token number))
+    → begun_by (f + type_bits k words.version + number_bits k number)
+    (header_with (replicate len 0) (header_of k f words.version dst src token number))
     ≡ stored_described k len words dst src token
 stored_as k f len words dst src token number e is =
-    ap (λ (g : ℕ). begun_by (g + type_bits k words.version + number_bits k number) (header_with (replicate len 0) (header_of k g words.version dst src token number))) e
+    ap (λ (g : ℕ). begun_by (g + type_bits k words.version + number_bits k number)
+    (header_with (replicate len 0) (header_of k g words.version dst src token number))) e
     ∙ ap (λ (p : PacketNumber). begun_by (first_word k words.flags + type_bits k words.version + number_bits k p)
     (header_with (replicate len 0) (header_of k (first_word k words.flags) words.version dst src token p))) is
 
-pub bytes_described : (k : HeaderKind) (len : ℕ) (words : HeaderFields) (dst src token : List ℕ) → IsNumbered words → kind_word k ≡ words.kind
+pub bytes_described : (k : HeaderKind) (len : ℕ) (words : HeaderFields) (dst src token : List ℕ) → IsNumbered words
+    → kind_word k ≡ words.kind
     → ((words.length_len ≡ 2) ⊎ (words.length_len ≡ 4) → len ≡ words.length_len)
-    → stored_described k len words dst src token ≡ described_bytes words.length_len (clear_by k words.flags) (header_described k words dst src token)
+    → stored_described k len words dst src token ≡ described_bytes words.length_len (clear_by k words.flags)
+    (header_described k words dst src token)
 bytes_described kind.Initial len words dst src token s e same =
     begun_same _ _ (λ n. header_with (replicate n 0) (header_described kind.Initial words dst src token)) len words.length_len
     (omega (arith, clear_is words.flags)) (same (s.len (omega (arith, e))))
@@ -206,13 +217,15 @@ bytes_described kind.Handshake len words dst src token s e same =
     (omega (arith, clear_is words.flags)) (same (s.len (omega (arith, e))))
 bytes_described kind.Retry len words dst src token s e same =
     ap (λ (f : ℕ). begun_by f (header_with (replicate 0 0) (header_described kind.Retry words dst src token)))
-    (let g : first_word kind.Retry words.flags + type_bits kind.Retry words.version + 0 ≡ 192 + type_bits kind.Retry words.version - bit_value (has_bit 64 words.flags) 64 =
+    (let g : first_word kind.Retry words.flags + type_bits kind.Retry words.version + 0 ≡ 192
+    + type_bits kind.Retry words.version - bit_value (has_bit 64 words.flags) 64 =
     omega (arith, clear_is words.flags) in g)
 bytes_described kind.Short len words dst src token s e same =
     let number : PacketNumber = part_of words.number_len words.number in
     ap (λ (f : ℕ). f ∷ (dst ++ number_bytes number))
     (let g : first_word kind.Short words.flags + 0 + (number_size number - 1)
-    ≡ 64 + bit_value (has_bit 32 words.flags) 32 + bit_value (has_bit 4 words.flags) 4 + (number_size number - 1) - bit_value (has_bit 64 words.flags) 64 =
+    ≡ 64 + bit_value (has_bit 32 words.flags) 32 + bit_value (has_bit 4 words.flags) 4 + (number_size number - 1)
+    - bit_value (has_bit 64 words.flags) 64 =
     omega (arith, clear_is words.flags, spin_is words.flags, phase_is words.flags) in g)
 bytes_described kind.VersionNegotiate len words dst src token s e same =
     ap (λ (f : ℕ). begun_by f (header_with (replicate 0 0) (header_described kind.VersionNegotiate words dst src token)))
@@ -220,10 +233,12 @@ bytes_described kind.VersionNegotiate len words dst src token s e same =
 
 -- ---- what was written
 
-pub written : (n : ℕ) (old new bytes words : List ℕ) → n ≤ length new → take n new ≡ bytes → drop n new ≡ drop n old → bytes ≡ words
+pub written : (n : ℕ) (old new bytes words : List ℕ) → n ≤ length new → take n new ≡ bytes → drop n new ≡ drop n old
+    → bytes ≡ words
     → (new ≡ words ++ drop n old) × (n ≡ length words)
 written n old new bytes words within front back same = (
-  sym (take-append-drop n new) ∙ ap (λ (xs : List ℕ). xs ++ drop n new) (front ∙ same) ∙ ap (λ (xs : List ℕ). words ++ xs) back,
+  sym (take-append-drop n new) ∙ ap (λ (xs : List ℕ). xs ++ drop n new) (front ∙ same)
+      ∙ ap (λ (xs : List ℕ). words ++ xs) back,
   sym (length-take-le n new within) ∙ ap length (front ∙ same),
 )
 
@@ -238,32 +253,44 @@ unfolding bytes_of
 low_bytes len number some few =
     let P : ℕ → Type 0 = λ n. number_bytes (part_of n number) ≡ bytes_of n number in
     elim (cases_eq len 2) [
-      | inl e ↦ subst P (sym e) (let a : byte_at 0 (number % 2 ^ 16) ≡ byte_at 0 number = omega arith in let b : byte_at 1 (number % 2 ^ 16) ≡ byte_at 1 number = omega arith in cc)
+      | inl e ↦ subst P (sym e) (let a : byte_at 0 (number % 2 ^ 16)
+          ≡ byte_at 0 number = omega arith in let b : byte_at 1 (number % 2 ^ 16)
+          ≡ byte_at 1 number = omega arith in cc)
       | inr x ↦ elim (cases_eq len 3) [
-        | inl e ↦ subst P (sym e) (let a : byte_at 0 (number % 2 ^ 24) ≡ byte_at 0 number = omega arith in let b : byte_at 1 (number % 2 ^ 24) ≡ byte_at 1 number = omega arith in
+        | inl e ↦ subst P (sym e) (let a : byte_at 0 (number % 2 ^ 24)
+            ≡ byte_at 0 number = omega arith in let b : byte_at 1 (number % 2 ^ 24) ≡ byte_at 1 number = omega arith in
             let d : byte_at 2 (number % 2 ^ 24) ≡ byte_at 2 number = omega arith in cc)
         | inr y ↦ elim (cases_eq len 4) [
-          | inl e ↦ subst P (sym e) (let a : byte_at 0 (number % 2 ^ 32) ≡ byte_at 0 number = omega arith in let b : byte_at 1 (number % 2 ^ 32) ≡ byte_at 1 number = omega arith in
-              let d : byte_at 2 (number % 2 ^ 32) ≡ byte_at 2 number = omega arith in let f : byte_at 3 (number % 2 ^ 32) ≡ byte_at 3 number = omega arith in cc)
-          | inr z ↦ (let e : 1 ≡ len = omega (arith, some, few, x, y, z) in subst P e (let a : byte_at 0 (number % 2 ^ 8) ≡ byte_at 0 number = omega arith in cc))
+          | inl e ↦ subst P (sym e) (let a : byte_at 0 (number % 2 ^ 32)
+              ≡ byte_at 0 number = omega arith in let b : byte_at 1 (number % 2 ^ 32)
+              ≡ byte_at 1 number = omega arith in
+              let d : byte_at 2 (number % 2 ^ 32) ≡ byte_at 2 number = omega arith in
+              let f : byte_at 3 (number % 2 ^ 32) ≡ byte_at 3 number = omega arith in
+              cc)
+          | inr z ↦ (let e : 1 ≡ len = omega (arith, some, few, x, y, z) in subst P e
+              (let a : byte_at 0 (number % 2 ^ 8) ≡ byte_at 0 number = omega arith in cc))
         ]
       ]
     ]
 
 -- the bytes written for a short header are the header that its words describe
 pub short_described : (words : HeaderFields) (dst : List ℕ) → IsShaped words dst [] [] → words.kind ≡ 4
-    → short_bytes words dst ≡ described_bytes words.length_len (clear_by kind.Short words.flags) (header_described kind.Short words dst [] [])
+    → short_bytes words dst ≡ described_bytes words.length_len (clear_by kind.Short words.flags)
+    (header_described kind.Short words dst [] [])
 short_described words dst s e =
     let n = s.numbered.number (inr e) in
     let part : PacketNumber = part_of words.number_len words.number in
     let size : words.number_len ≡ number_size part = (part_says words.number_len words.number n.0 n.1).0 in
-    let byte : first_word kind.Short words.flags + (words.number_len - 1) ≡ first_word kind.Short words.flags + 0 + (number_size part - 1) = omega (arith, size) in
-    ap (λ (xs : List ℕ). (first_word kind.Short words.flags + (words.number_len - 1)) ∷ (dst ++ xs)) (sym (low_bytes words.number_len words.number n.0 n.1))
+    let byte : first_word kind.Short words.flags + (words.number_len - 1) ≡ first_word kind.Short words.flags + 0 + (number_size part - 1) =
+    omega (arith, size) in
+    ap (λ (xs : List ℕ). (first_word kind.Short words.flags + (words.number_len - 1)) ∷ (dst ++ xs))
+    (sym (low_bytes words.number_len words.number n.0 n.1))
     ∙ ap (λ (f : ℕ). f ∷ (dst ++ number_bytes part)) byte
     ∙ bytes_described kind.Short words.length_len words dst [] [] s.numbered (sym e) (λ _. refl)
 
 pub short_wrote : (words : HeaderFields) (dst old new : List ℕ) (n : ℕ) → IsShaped words dst [] [] → words.kind ≡ 4
-    → n ≤ length new → take n new ≡ short_bytes words dst → drop n new ≡ drop n old → WrotePacketHeader words dst [] [] old new n
+    → n ≤ length new → take n new ≡ short_bytes words dst → drop n new ≡ drop n old
+    → WrotePacketHeader words dst [] [] old new n
 short_wrote words dst old new n s e within front back =
     let all = written n old new _ _ within front back (short_described words dst s e) in
     record {
@@ -276,7 +303,8 @@ short_wrote words dst old new n s e within front back =
 
 -- ---- headers of packets with a number and a length
 
-pub with_length : (k : HeaderKind) (words : HeaderFields) → kind_word k ≡ words.kind → IsTrue (carries_length k) → words.kind ≤ 2
+pub with_length : (k : HeaderKind) (words : HeaderFields) → kind_word k ≡ words.kind → IsTrue (carries_length k)
+    → words.kind ≤ 2
 with_length kind.Initial words e has = omega (arith, e)
 with_length kind.ZeroRtt words e has = omega (arith, e)
 with_length kind.Handshake words e has = omega (arith, e)
@@ -285,16 +313,19 @@ with_length kind.Short words e has = absurd (search (rules, has))
 with_length kind.VersionNegotiate words e has = absurd (search (rules, has))
 
 -- the bytes written for one, field after field, are the header that its words describe
-pub numbered_described : (k : HeaderKind) (words : HeaderFields) (dst src token : List ℕ) → IsTrue (carries_length k) → 1 ≤ words.number_len → words.number_len ≤ 4
+pub numbered_described : (k : HeaderKind) (words : HeaderFields) (dst src token : List ℕ) → IsTrue (carries_length k)
+    → 1 ≤ words.number_len → words.number_len ≤ 4
     → numbered_bytes k words dst src token ≡ stored_described k words.length_len words dst src token
 numbered_described kind.Initial words dst src token has some few =
     let part : PacketNumber = part_of words.number_len words.number in
     let size : words.number_len ≡ number_size part = (part_says words.number_len words.number some few).0 in
     let own : List ℕ = token_by kind.Initial token in
     let ids : List ℕ = bytes_of 4 words.version ++ (long_id dst ++ long_id src) in
-    ap (λ (xs : List ℕ). (long_front (numbered_first kind.Initial words) words.version dst src ++ own) ++ (replicate words.length_len 0 ++ xs))
+    ap (λ (xs : List ℕ). (long_front (numbered_first kind.Initial words) words.version dst src ++ own)
+    ++ (replicate words.length_len 0 ++ xs))
     (sym (low_bytes words.number_len words.number some few))
-    ∙ ap (λ (n : ℕ). (192 - 64 * (words.flags / 64 % 2) + type_bits kind.Initial words.version + (n - 1)) ∷ ((ids ++ own) ++ (replicate words.length_len 0 ++ number_bytes part))) size
+    ∙ ap (λ (n : ℕ). (192 - 64 * (words.flags / 64 % 2) + type_bits kind.Initial words.version + (n - 1))
+    ∷ ((ids ++ own) ++ (replicate words.length_len 0 ++ number_bytes part))) size
 numbered_described kind.ZeroRtt words dst src token has some few =
     let part : PacketNumber = part_of words.number_len words.number in
     let size : words.number_len ≡ number_size part = (part_says words.number_len words.number some few).0 in
@@ -302,7 +333,8 @@ numbered_described kind.ZeroRtt words dst src token has some few =
     let ids : List ℕ = bytes_of 4 words.version ++ (long_id dst ++ long_id src) in
     ap (λ (xs : List ℕ). xs ++ (replicate words.length_len 0 ++ bytes_of words.number_len words.number)) (append-nil front)
     ∙ ap (λ (xs : List ℕ). front ++ (replicate words.length_len 0 ++ xs)) (sym (low_bytes words.number_len words.number some few))
-    ∙ ap (λ (n : ℕ). (192 - 64 * (words.flags / 64 % 2) + type_bits kind.ZeroRtt words.version + (n - 1)) ∷ (ids ++ (replicate words.length_len 0 ++ number_bytes part))) size
+    ∙ ap (λ (n : ℕ). (192 - 64 * (words.flags / 64 % 2) + type_bits kind.ZeroRtt words.version + (n - 1))
+    ∷ (ids ++ (replicate words.length_len 0 ++ number_bytes part))) size
 numbered_described kind.Handshake words dst src token has some few =
     let part : PacketNumber = part_of words.number_len words.number in
     let size : words.number_len ≡ number_size part = (part_says words.number_len words.number some few).0 in
@@ -310,7 +342,8 @@ numbered_described kind.Handshake words dst src token has some few =
     let ids : List ℕ = bytes_of 4 words.version ++ (long_id dst ++ long_id src) in
     ap (λ (xs : List ℕ). xs ++ (replicate words.length_len 0 ++ bytes_of words.number_len words.number)) (append-nil front)
     ∙ ap (λ (xs : List ℕ). front ++ (replicate words.length_len 0 ++ xs)) (sym (low_bytes words.number_len words.number some few))
-    ∙ ap (λ (n : ℕ). (192 - 64 * (words.flags / 64 % 2) + type_bits kind.Handshake words.version + (n - 1)) ∷ (ids ++ (replicate words.length_len 0 ++ number_bytes part))) size
+    ∙ ap (λ (n : ℕ). (192 - 64 * (words.flags / 64 % 2) + type_bits kind.Handshake words.version + (n - 1))
+    ∷ (ids ++ (replicate words.length_len 0 ++ number_bytes part))) size
 numbered_described kind.Retry words dst src token has some few = absurd (search (rules, has))
 numbered_described kind.Short words dst src token has some few = absurd (search (rules, has))
 numbered_described kind.VersionNegotiate words dst src token has some few = absurd (search (rules, has))

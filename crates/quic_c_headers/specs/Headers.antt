@@ -80,24 +80,24 @@ DescribesNumber number len (Some written) =
 
 -- The words, two ids and a token describe the header, with the fixed bit clear or set. What its kind lacks isn't looked
 -- at.
-pub record DescribesHeader (words : HeaderFields) (dst src token : List ℕ) (clear : Bool) (head : Header) : Type 0 where
-  pub kind : words.kind ≡ header_word head
-  pub flags : DescribesFlags words.flags clear head
-  pub version : DescribesVersion words.version head
-  pub number : DescribesNumber words.number words.number_len (number_in head)
-  pub len : LengthIs words.length_len head
-  pub dst_is : dst ≡ dst_in head
-  pub src_is : DescribesSource src head
-  pub token_is : DescribesToken token head
+pub record DescribesHeader (words : HeaderFields) (dst src token : List ℕ) (clear : Bool) (header : Header) : Type 0 where
+  pub kind : words.kind ≡ header_word header
+  pub flags : DescribesFlags words.flags clear header
+  pub version : DescribesVersion words.version header
+  pub number : DescribesNumber words.number words.number_len (number_in header)
+  pub len : LengthIs words.length_len header
+  pub dst_is : dst ≡ dst_in header
+  pub src_is : DescribesSource src header
+  pub token_is : DescribesToken token header
 
 -- They describe a header that can be written: the receiver's id has at most 20 bytes.
-pub record CanWriteHeader (words : HeaderFields) (dst src token : List ℕ) (clear : Bool) (head : Header) : Type 0 where
-  pub described : DescribesHeader words dst src token clear head
+pub record CanWriteHeader (words : HeaderFields) (dst src token : List ℕ) (clear : Bool) (header : Header) : Type 0 where
+  pub described : DescribesHeader words dst src token clear header
   pub dst_few : length dst ≤ 20
-  pub writable : IsWritable head
+  pub writable : IsWritable header
 
 -- the bytes that are written: the header's, with so many zeros as its length, and with its fixed bit cleared if `clear`
 -- says so
 abbrev pub described_bytes : ℕ → Bool → Header → List ℕ
-described_bytes len clear head =
-    let bytes = header_with (replicate len 0) head in begun_by (slice_index bytes 0 - bit_value clear 64) bytes
+described_bytes len clear header =
+    let bytes = header_with (replicate len 0) header in begun_by (slice_index bytes 0 - bit_value clear 64) bytes

@@ -23,4 +23,4 @@ pub record PacketHeaderNeedsMore (words : HeaderFields) (dst src token : List �
 -- No header is described by these words, ids and token.
 abbrev pub DescribesNoHeader : HeaderFields → List ℕ → List ℕ → List ℕ → Type 0
 DescribesNoHeader words dst src token =
-    (clear : Bool) (head : Header) → CanWriteHeader words dst src token clear head → ⊥
+    (clear : Bool) (header : Header) → CanWriteHeader words dst src token clear header → ⊥

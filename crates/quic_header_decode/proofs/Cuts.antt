@@ -9,7 +9,8 @@ use Rattle.quic_header_decode.specs.Refusal.{Refusal, Invalid}
 use Rattle.quic_header_decode.specs.Reading.{DecodeOptions, header_at, cut_at, len_in}
 
 fits : (h : ProtectedHeader) (e : Refusal) (whole left len at : ℕ) → at + left ≡ whole → len ≤ left
-    → cond {A = Result (ProtectedHeader × ℕ × ℕ) Refusal} (nat_lt left len) (Err e) (Ok (h, whole - left, whole - left + len)) ≡ Ok (h, at, at + len)
+    → cond {A = Result (ProtectedHeader × ℕ × ℕ) Refusal} (nat_lt left len) (Err e)
+    (Ok (h, whole - left, whole - left + len)) ≡ Ok (h, at, at + len)
 fits h e whole left len at sum le =
     let test : nat_lt left len ≡ false = grind (arith, nat_tests) in
     let place : whole - left ≡ at = omega arith in
@@ -21,8 +22,10 @@ pub header_read : (context : DecodeOptions) (bytes before after : List ℕ) (sta
     → header_at context (length before) (drop start before) ≡ Ok (h, drop stop after)
     → header_at context (length bytes) bytes ≡ Ok (h, drop stop bytes)
 header_read context bytes before after start stop h whole at_front kept read =
-    let shown : header_at context (length bytes) bytes ≡ header_at context (length before) (drop start before) = rw (whole, at_front) in
-    shown ∙ read ∙ ap (λ (xs : List ℕ). let r : Result (ProtectedHeader × List ℕ) Refusal = Ok (h, drop stop xs) in r) (kept ∙ whole)
+    let shown : header_at context (length bytes) bytes ≡ header_at context (length before) (drop start before) =
+    rw (whole, at_front) in
+    shown ∙ read
+    ∙ ap (λ (xs : List ℕ). let r : Result (ProtectedHeader × List ℕ) Refusal = Ok (h, drop stop xs) in r) (kept ∙ whole)
 
 pub cut_read : (context : DecodeOptions) (bytes : List ℕ) (stop remaining len : ℕ) (h : ProtectedHeader)
     → header_at context (length bytes) bytes ≡ Ok (h, drop stop bytes)
@@ -38,6 +41,8 @@ pub between-take : (xs : List ℕ) (i j n : ℕ) → j ≤ n → slice_range (ta
 between-take xs i j n le = between_is (take n xs) i j ∙ ap (drop i) (take-take j n xs le) ∙ sym (between_is xs i j)
 
 -- the same cut, of places that are equal
-pub cut_shown : (h : ProtectedHeader) (p a q b : ℕ) → p ≡ a → q ≡ b → (let r : Result (ProtectedHeader × ℕ × ℕ) Refusal = Ok (h, p, q) in r) ≡ Ok (h, a, b)
+pub cut_shown : (h : ProtectedHeader) (p a q b : ℕ) → p ≡ a → q ≡ b
+    → (let r : Result (ProtectedHeader × ℕ × ℕ) Refusal = Ok (h, p, q) in r) ≡ Ok (h, a, b)
 cut_shown h p a q b e f =
-    ap (λ (n : ℕ). let r : Result (ProtectedHeader × ℕ × ℕ) Refusal = Ok (h, n, q) in r) e ∙ ap (λ (n : ℕ). let r : Result (ProtectedHeader × ℕ × ℕ) Refusal = Ok (h, a, n) in r) f
+    ap (λ (n : ℕ). let r : Result (ProtectedHeader × ℕ × ℕ) Refusal = Ok (h, n, q) in r) e
+    ∙ ap (λ (n : ℕ). let r : Result (ProtectedHeader × ℕ × ℕ) Refusal = Ok (h, a, n) in r) f

@@ -21,31 +21,43 @@ placed : ℕ → ℕ → ProtectedHeader → PlacedPacket
 placed start stop h = record { start = start; stop = stop; header = h }
 
 rest_bytes : (q : ℕ) (bytes : List ℕ) → AreBytes bytes → AreBytes (drop q bytes)
-rest_bytes q bytes fits = back_bytes (take q bytes) (drop q bytes) (subst AreBytes (sym (take-append-drop q bytes)) fits)
+rest_bytes q bytes fits =
+    back_bytes (take q bytes) (drop q bytes) (subst AreBytes (sym (take-append-drop q bytes)) fits)
 
 -- the packet that ends the bytes
-at_last : (others : ℕ → List ℕ → Answer) (start : ℕ) (bytes : List ℕ) (h : ProtectedHeader) (p : ℕ) → and_then others start bytes (Ok (h, p, length bytes)) ≡ (record { start = start; stop = start + length bytes; header = h } ∷ [], None)
+at_last : (others : ℕ → List ℕ → Answer) (start : ℕ) (bytes : List ℕ) (h : ProtectedHeader) (p : ℕ)
+    → and_then others start bytes (Ok (h, p, length bytes)) ≡ (record { start = start; stop = start + length bytes; header = h } ∷ [], None)
 at_last others start bytes h p = otherwise (nat_lt (length bytes) (length bytes)) _ _ _ (grind (arith, nat_tests)) refl
 
 at_more : (others : ℕ → List ℕ → Answer) (start : ℕ) (bytes : List ℕ) (h : ProtectedHeader) (p q : ℕ) → q < length bytes
-    → and_then others start bytes (Ok (h, p, q)) ≡ (record { start = start; stop = start + q; header = h } ∷ (others (start + q) (drop q bytes)).0, (others (start + q) (drop q bytes)).1)
+    → and_then others start bytes (Ok (h, p, q)) ≡ (
+      record { start = start; stop = start + q; header = h }
+          ∷ (others (start + q) (drop q bytes)).0,
+      (others (start + q) (drop q bytes)).1,
+    )
 at_more others start bytes h p q lt = taken (nat_lt q (length bytes)) _ _ _ (grind (arith, nat_tests)) refl
 
 -- what the grammar calls the packets of a datagram is what reading finds
-again : (context : DecodeOptions) (n start : ℕ) (bytes : List ℕ) (ps : List PlacedPacket) (end : Option Refusal) → AreBytes bytes → length bytes < n → ArePackets context start bytes ps end
+again : (context : DecodeOptions) (n start : ℕ) (bytes : List ℕ) (ps : List PlacedPacket) (end : Option Refusal)
+    → AreBytes bytes → length bytes < n → ArePackets context start bytes ps end
     → packets_from context n start bytes ≡ (ps, end)
 unfolding packets_from
 again context zero start bytes ps end fits le are = absurd (omega (arith, le))
 again context (suc n) start bytes _ _ fits le (last _ _ h p cut) =
-    ap (and_then (packets_from context n) start bytes) (cut_again context bytes h p (length bytes) cut) ∙ at_last (packets_from context n) start bytes h p
+    ap (and_then (packets_from context n) start bytes) (cut_again context bytes h p (length bytes) cut)
+    ∙ at_last (packets_from context n) start bytes h p
 again context (suc n) start bytes _ end fits le (more _ _ h p q others _ cut lt are) =
     let inner : packets_from context n (start + q) (drop q bytes) ≡ (others, end) =
-    again context n (start + q) (drop q bytes) others end (rest_bytes q bytes fits) (omega (arith, le, lt, length-drop q bytes, cut_positive context bytes h p q cut)) are in
-    ap (and_then (packets_from context n) start bytes) (cut_again context bytes h p q cut) ∙ at_more (packets_from context n) start bytes h p q lt
+    again context n (start + q) (drop q bytes) others end (rest_bytes q bytes fits)
+    (omega (arith, le, lt, length-drop q bytes, cut_positive context bytes h p q cut)) are in
+    ap (and_then (packets_from context n) start bytes) (cut_again context bytes h p q cut)
+    ∙ at_more (packets_from context n) start bytes h p q lt
     ∙ ap (λ (r : Answer). let a : Answer = (record { start = start; stop = start + q; header = h } ∷ r.0, r.1) in a) inner
-again context (suc n) start bytes _ _ fits le (refused _ _ e uncut) = ap (and_then (packets_from context n) start bytes) (uncut_again context bytes e fits uncut)
+again context (suc n) start bytes _ _ fits le (refused _ _ e uncut) =
+    ap (and_then (packets_from context n) start bytes) (uncut_again context bytes e fits uncut)
 
-pub packets_again : (context : DecodeOptions) (bytes : List ℕ) (ps : List PlacedPacket) (end : Option Refusal) → AreBytes bytes → ArePackets context 0 bytes ps end → packets_in context bytes ≡ (ps, end)
+pub packets_again : (context : DecodeOptions) (bytes : List ℕ) (ps : List PlacedPacket) (end : Option Refusal)
+    → AreBytes bytes → ArePackets context 0 bytes ps end → packets_in context bytes ≡ (ps, end)
 unfolding packets_in
 packets_again context bytes ps end fits are = again context (suc (length bytes)) 0 bytes ps end fits (omega arith) are
 
@@ -53,7 +65,9 @@ packets_again context bytes ps end fits are = again context (suc (length bytes))
 abbrev Found : DecodeOptions → ℕ → List ℕ → Answer → Type 0
 Found context start bytes answer = ArePackets context start bytes answer.0 answer.1
 
-found_after : (context : DecodeOptions) (others : ℕ → List ℕ → Answer) (start : ℕ) (bytes : List ℕ) (r : Result (ProtectedHeader × ℕ × ℕ) Refusal) → CutAnswer context bytes r
+found_after : (context : DecodeOptions) (others : ℕ → List ℕ → Answer) (start : ℕ) (bytes : List ℕ)
+    (r : Result (ProtectedHeader × ℕ × ℕ) Refusal)
+    → CutAnswer context bytes r
     → ((q : ℕ) → 0 < q → q < length bytes → Found context (start + q) (drop q bytes) (others (start + q) (drop q bytes)))
     → Found context start bytes (and_then others start bytes r)
 found_after context others start bytes (Err e) right rest = refused start bytes e right
@@ -64,23 +78,29 @@ found_after context others start bytes (Ok cut) right rest =
           (more start bytes cut.0 cut.1 cut.2 _ _ right lt (rest cut.2 (cut_positive context bytes cut.0 cut.1 cut.2 right) lt))
       | inr ge ↦
           let all : cut.2 ≡ length bytes = omega (arith, ge, right.4) in
-          subst (Found context start bytes) (sym (ap (λ (q : ℕ). and_then others start bytes (let r : Result (ProtectedHeader × ℕ × ℕ) Refusal = Ok (cut.0, cut.1, q) in r)) all ∙ at_last others start bytes cut.0 cut.1))
+          subst (Found context start bytes) (sym (ap (λ (q : ℕ). and_then others start bytes
+          (let r : Result (ProtectedHeader × ℕ × ℕ) Refusal = Ok (cut.0, cut.1, q) in r)) all
+          ∙ at_last others start bytes cut.0 cut.1))
           (last start bytes cut.0 cut.1 (subst (λ (q : ℕ). Cut context bytes cut.0 cut.1 q) all right))
     ]
 
-found : (context : DecodeOptions) (n start : ℕ) (bytes : List ℕ) → AreBytes bytes → Takes context → length bytes < n → Found context start bytes (packets_from context n start bytes)
+found : (context : DecodeOptions) (n start : ℕ) (bytes : List ℕ) → AreBytes bytes → Takes context → length bytes < n
+    → Found context start bytes (packets_from context n start bytes)
 unfolding packets_from
 found context zero start bytes fits takes le = absurd (omega (arith, le))
 found context (suc n) start bytes fits takes le =
     found_after context (packets_from context n) start bytes (cut_at context bytes) (cut_answer context bytes fits takes)
-    (λ q some lt. found context n (start + q) (drop q bytes) (rest_bytes q bytes fits) takes (omega (arith, le, some, lt, length-drop q bytes)))
+    (λ q some lt. found context n (start + q) (drop q bytes) (rest_bytes q bytes fits) takes
+    (omega (arith, le, some, lt, length-drop q bytes)))
 
-pub packets_found : (context : DecodeOptions) (bytes : List ℕ) → AreBytes bytes → Takes context → ArePackets context 0 bytes (packets_in context bytes).0 (packets_in context bytes).1
+pub packets_found : (context : DecodeOptions) (bytes : List ℕ) → AreBytes bytes → Takes context
+    → ArePackets context 0 bytes (packets_in context bytes).0 (packets_in context bytes).1
 unfolding packets_in
 packets_found context bytes fits takes = found context (suc (length bytes)) 0 bytes fits takes (omega arith)
 
 -- wherever its first packet is said to start
-pub some_packets : (context : DecodeOptions) (start : ℕ) (bytes : List ℕ) → AreBytes bytes → Takes context → (ps : List PlacedPacket) × (end : Option Refusal) × ArePackets context start bytes ps end
+pub some_packets : (context : DecodeOptions) (start : ℕ) (bytes : List ℕ) → AreBytes bytes → Takes context
+    → (ps : List PlacedPacket) × (end : Option Refusal) × ArePackets context start bytes ps end
 some_packets context start bytes fits takes =
     let answer : Answer = packets_from context (suc (length bytes)) start bytes in
     (answer.0, answer.1, found context (suc (length bytes)) start bytes fits takes (omega arith))

@@ -17,7 +17,8 @@ use Rattle.quic_header_decode.proofs.Steps.{chosen, none_some, some_same}
 abbrev End : HeaderKind → ℕ → ℕ → ℕ → Option ℕ
 End k at len whole = cond (carries_length k) (cond (nat_lt whole (at + len)) None (Some (at + len))) (Some whole)
 
-values_are : (at len whole q : ℕ) → cond (nat_lt whole (at + len)) None (Some (at + len)) ≡ Some q → (q ≡ at + len) × (q ≤ whole)
+values_are : (at len whole q : ℕ) → cond (nat_lt whole (at + len)) None (Some (at + len)) ≡ Some q
+    → (q ≡ at + len) × (q ≤ whole)
 values_are at len whole q e = elim (chosen {A = Option ℕ} (nat_lt whole (at + len)) None (Some (at + len)) (Some q) e) [
   | inl past ↦ absurd (none_some q past.1)
   | inr within ↦
@@ -32,16 +33,21 @@ lacking at len whole e = elim (chosen {A = Option ℕ} (nat_lt whole (at + len))
   | inr within ↦ absurd (none_some (at + len) (sym within.1))
 ]
 
-ended : (k : HeaderKind) (first : ℕ) (dst src : List ℕ) (token : Place) (at len version whole q : ℕ) → End k at len whole ≡ Some q
+ended : (k : HeaderKind) (first : ℕ) (dst src : List ℕ) (token : Place) (at len version whole q : ℕ)
+    → End k at len whole ≡ Some q
     → MatchOption (len_in (header_placed k first dst src token len version)) (q ≡ whole) (λ n. q ≡ at + n) × (q ≤ whole)
 ended kind.Initial first dst src token at len version whole q e = values_are at len whole q e
 ended kind.ZeroRtt first dst src token at len version whole q e = values_are at len whole q e
 ended kind.Handshake first dst src token at len version whole q e = values_are at len whole q e
-ended kind.Retry first dst src token at len version whole q e = (let same : whole ≡ q = some_same e in (sym same, omega arith))
-ended kind.Short first dst src token at len version whole q e = (let same : whole ≡ q = some_same e in (sym same, omega arith))
-ended kind.VersionNegotiate first dst src token at len version whole q e = (let same : whole ≡ q = some_same e in (sym same, omega arith))
+ended kind.Retry first dst src token at len version whole q e =
+    (let same : whole ≡ q = some_same e in (sym same, omega arith))
+ended kind.Short first dst src token at len version whole q e =
+    (let same : whole ≡ q = some_same e in (sym same, omega arith))
+ended kind.VersionNegotiate first dst src token at len version whole q e =
+    (let same : whole ≡ q = some_same e in (sym same, omega arith))
 
-cut_short : (k : HeaderKind) (first : ℕ) (dst src : List ℕ) (token : Place) (at len version whole : ℕ) → End k at len whole ≡ None
+cut_short : (k : HeaderKind) (first : ℕ) (dst src : List ℕ) (token : Place) (at len version whole : ℕ)
+    → End k at len whole ≡ None
     → (len_in (header_placed k first dst src token len version) ≡ Some len) × (whole < at + len)
 cut_short kind.Initial first dst src token at len version whole e = (refl, lacking at len whole e)
 cut_short kind.ZeroRtt first dst src token at len version whole e = (refl, lacking at len whole e)
@@ -50,13 +56,16 @@ cut_short kind.Retry first dst src token at len version whole e = absurd (none_s
 cut_short kind.Short first dst src token at len version whole e = absurd (none_some whole (sym e))
 cut_short kind.VersionNegotiate first dst src token at len version whole e = absurd (none_some whole (sym e))
 
-pub whole_cut : (context : DecodeOptions) (bytes : List ℕ) (x : HeaderPlaces) (q : ℕ) → HeaderAt context (length bytes) bytes (header_in bytes x) (drop x.header_end bytes)
-    → x.header_end ≤ length bytes → ends_at x (length bytes) ≡ Some q → Cut context bytes (header_in bytes x) x.header_end q
+pub whole_cut : (context : DecodeOptions) (bytes : List ℕ) (x : HeaderPlaces) (q : ℕ)
+    → HeaderAt context (length bytes) bytes (header_in bytes x) (drop x.header_end bytes)
+    → x.header_end ≤ length bytes → ends_at x (length bytes) ≡ Some q
+    → Cut context bytes (header_in bytes x) x.header_end q
 whole_cut context bytes x q read within ends =
     let e = ended x.kind x.first _ _ x.token x.header_end x.len x.version (length bytes) q ends in
     (drop x.header_end bytes, read, omega (arith, length-drop x.header_end bytes), e.0, e.1)
 
-pub cut_off : (context : DecodeOptions) (bytes : List ℕ) (x : HeaderPlaces) → HeaderAt context (length bytes) bytes (header_in bytes x) (drop x.header_end bytes)
+pub cut_off : (context : DecodeOptions) (bytes : List ℕ) (x : HeaderPlaces)
+    → HeaderAt context (length bytes) bytes (header_in bytes x) (drop x.header_end bytes)
     → x.header_end ≤ length bytes → ends_at x (length bytes) ≡ None → Uncut context bytes (Invalid (codes "packet too short to contain payload length"))
 cut_off context bytes x read within ends =
     let e = cut_short x.kind x.first _ _ x.token x.header_end x.len x.version (length bytes) ends in

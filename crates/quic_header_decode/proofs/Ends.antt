@@ -18,10 +18,12 @@ use Rattle.quic_header_decode.proofs.Steps.{take_front, drop_front}
 use Rattle.quic_header_decode.proofs.Headers.{Ids, id_values, long_row, ids_of, of_ids, stops_behind_ids, version_is}
 
 -- bytes are replaced after a front and so many others
-replaced : (front rest other bytes : List ℕ) (q len : ℕ) → bytes ≡ front ++ rest → q ≡ length front + len → take q bytes ++ other ≡ front ++ (take len rest ++ other)
+replaced : (front rest other bytes : List ℕ) (q len : ℕ) → bytes ≡ front ++ rest → q ≡ length front + len
+    → take q bytes ++ other ≡ front ++ (take len rest ++ other)
 replaced front rest other bytes q len split at =
     let kept : take (length front + len) (front ++ rest) ≡ front ++ take len rest =
-    take-add (length front) len (front ++ rest) ∙ ap (λ (xs : List ℕ). xs ++ take len (drop (length front) (front ++ rest))) (take_front front rest (length front) refl)
+    take-add (length front) len (front ++ rest)
+    ∙ ap (λ (xs : List ℕ). xs ++ take len (drop (length front) (front ++ rest))) (take_front front rest (length front) refl)
     ∙ ap (λ (xs : List ℕ). front ++ take len xs) (drop_front front rest (length front) refl) in
     ap (λ (n : ℕ). take n bytes ++ other) at ∙ ap (λ (xs : List ℕ). take (length front + len) xs ++ other) split
     ∙ ap (λ (xs : List ℕ). xs ++ other) kept ∙ append_assoc front (take len rest) other
@@ -29,71 +31,111 @@ replaced front rest other bytes q len split at =
 -- ---- headers that say their length
 
 -- values of other headers
-no_id : (whole first len : ℕ) (values : List HeaderValue) (id : List ℕ) (h : ProtectedHeader) → IsHeader whole first values h → len_in h ≡ Some len → values ≡ Bytes id ∷ [] → ⊥
+no_id : (whole first len : ℕ) (values : List HeaderValue) (id : List ℕ) (h : ProtectedHeader)
+    → IsHeader whole first values h → len_in h ≡ Some len → values ≡ Bytes id ∷ [] → ⊥
 no_id whole first len values id (protected.Short spin dst) is has values_are = cc
 no_id whole first len values id (protected.VersionNegotiate random dst src) is has values_are = cc
 no_id whole first len values id (protected.Retry dst src version) is has values_are = cc
-no_id whole first len values id (protected.Long ty dst src n version) (type, is) has values_are = (let e : Bytes id ∷ [] ≡ Number version ∷ Bytes dst ∷ Bytes src ∷ Number n ∷ [] = sym values_are ∙ is in cc)
+no_id whole first len values id (protected.Long ty dst src n version) (type, is) has values_are =
+    (let e : Bytes id ∷ [] ≡ Number version ∷ Bytes dst ∷ Bytes src ∷ Number n ∷ [] = sym values_are ∙ is in cc)
 no_id whole first len values id (protected.Initial h) (count, left, start, stop, is) has values_are =
-    (let e : Bytes id ∷ [] ≡ Number h.version ∷ Bytes h.dst_cid ∷ Bytes h.src_cid ∷ Number count ∷ Number left ∷ Number h.len ∷ [] = sym values_are ∙ is in cc)
+    (let e : Bytes id ∷ [] ≡ Number h.version ∷ Bytes h.dst_cid ∷ Bytes h.src_cid ∷ Number count ∷ Number left
+    ∷ Number h.len ∷ [] = sym values_are ∙ is in cc)
 
-no_ids : (whole first len version : ℕ) (dst src : List ℕ) (values : List HeaderValue) (h : ProtectedHeader) → IsHeader whole first values h → len_in h ≡ Some len → values ≡ id_values version dst src → ⊥
+no_ids : (whole first len version : ℕ) (dst src : List ℕ) (values : List HeaderValue) (h : ProtectedHeader)
+    → IsHeader whole first values h → len_in h ≡ Some len → values ≡ id_values version dst src → ⊥
 no_ids whole first len v d s values (protected.Short spin dst) is has values_are = cc
 no_ids whole first len v d s values (protected.VersionNegotiate random dst src) is has values_are = cc
 no_ids whole first len v d s values (protected.Retry dst src version) is has values_are = cc
-no_ids whole first len v d s values (protected.Long ty dst src n version) (type, is) has values_are = (let e : id_values v d s ≡ Number version ∷ Bytes dst ∷ Bytes src ∷ Number n ∷ [] = sym values_are ∙ is in cc)
+no_ids whole first len v d s values (protected.Long ty dst src n version) (type, is) has values_are =
+    (let e : id_values v d s ≡ Number version ∷ Bytes dst ∷ Bytes src ∷ Number n ∷ [] = sym values_are ∙ is in cc)
 no_ids whole first len v d s values (protected.Initial h) (count, left, start, stop, is) has values_are =
-    (let e : id_values v d s ≡ Number h.version ∷ Bytes h.dst_cid ∷ Bytes h.src_cid ∷ Number count ∷ Number left ∷ Number h.len ∷ [] = sym values_are ∙ is in cc)
+    (let e : id_values v d s ≡ Number h.version ∷ Bytes h.dst_cid ∷ Bytes h.src_cid ∷ Number count ∷ Number left
+    ∷ Number h.len ∷ [] = sym values_are ∙ is in cc)
 
 -- a header without a token has no place
-kept : (whole whole' first v n len : ℕ) (d s : List ℕ) (values : List HeaderValue) (h : ProtectedHeader) → IsHeader whole first values h → len_in h ≡ Some len
+kept : (whole whole' first v n len : ℕ) (d s : List ℕ) (values : List HeaderValue) (h : ProtectedHeader)
+    → IsHeader whole first values h → len_in h ≡ Some len
     → values ≡ Number v ∷ Bytes d ∷ Bytes s ∷ Number n ∷ [] → IsHeader whole' first values h
 kept whole whole' first v n len d s values (protected.Short spin dst) is has values_are = absurd cc
 kept whole whole' first v n len d s values (protected.VersionNegotiate random dst src) is has values_are = absurd cc
 kept whole whole' first v n len d s values (protected.Retry dst src version) is has values_are = absurd cc
 kept whole whole' first v n len d s values (protected.Long ty dst src m version) is has values_are = is
 kept whole whole' first v n len d s values (protected.Initial h) (count, left, start, stop, is) has values_are =
-    absurd (let e : Number v ∷ Bytes d ∷ Bytes s ∷ Number n ∷ [] ≡ Number h.version ∷ Bytes h.dst_cid ∷ Bytes h.src_cid ∷ Number count ∷ Number left ∷ Number h.len ∷ [] = sym values_are ∙ is in cc)
+    absurd (let e : Number v ∷ Bytes d ∷ Bytes s ∷ Number n ∷ [] ≡ Number h.version ∷ Bytes h.dst_cid ∷ Bytes h.src_cid
+    ∷ Number count ∷ Number left ∷ Number h.len ∷ [] = sym values_are ∙ is in cc)
 
 -- the values of a header with a token
 abbrev six : ℕ → List ℕ → List ℕ → ℕ → ℕ → ℕ → List HeaderValue
 six v d s count left n = Number v ∷ Bytes d ∷ Bytes s ∷ Number count ∷ Number left ∷ Number n ∷ []
 
 -- and where one has a token, its place goes by what follows it
-shifted : (whole whole' first v count left left' n len : ℕ) (d s : List ℕ) (values : List HeaderValue) (h : ProtectedHeader) → IsHeader whole first values h → len_in h ≡ Some len
-    → values ≡ six v d s count left n → whole' + left ≡ whole + left' → IsHeader whole' first (six v d s count left' n) h
-shifted whole whole' first v count left left' n len d s values (protected.Short spin dst) is has values_are moved = absurd cc
-shifted whole whole' first v count left left' n len d s values (protected.VersionNegotiate random dst src) is has values_are moved = absurd cc
-shifted whole whole' first v count left left' n len d s values (protected.Retry dst src version) is has values_are moved = absurd cc
+shifted : (whole whole' first v count left left' n len : ℕ) (d s : List ℕ) (values : List HeaderValue) (h : ProtectedHeader)
+    → IsHeader whole first values h → len_in h ≡ Some len
+    → values ≡ six v d s count left n → whole' + left ≡ whole + left'
+    → IsHeader whole' first (six v d s count left' n) h
+shifted whole whole' first v count left left' n len d s values (protected.Short spin dst) is has values_are moved =
+    absurd cc
+shifted whole whole' first v count left left' n len d s values (protected.VersionNegotiate random dst src) is has values_are moved =
+    absurd cc
+shifted whole whole' first v count left left' n len d s values (protected.Retry dst src version) is has values_are moved =
+    absurd cc
 shifted whole whole' first v count left left' n len d s values (protected.Long ty dst src m version) (type, is) has values_are moved =
     absurd (let e : six v d s count left n ≡ Number version ∷ Bytes dst ∷ Bytes src ∷ Number m ∷ [] = sym values_are ∙ is in cc)
 shifted whole whole' first v count left left' n len d s values (protected.Initial h) (count0, left0, start, stop, is) has values_are moved =
     let e : six v d s count left n ≡ six h.version h.dst_cid h.src_cid count0 left0 h.len = sym values_are ∙ is in
-    let same : left ≡ left0 = cc in
-    (count0, left', start, omega (arith, stop, moved, same), (let all : six v d s count left' n ≡ six h.version h.dst_cid h.src_cid count0 left' h.len = cc in all))
+    let same : left ≡ left0 = cc in (
+      count0,
+      left',
+      start,
+      omega (arith, stop, moved, same),
+      (let all : six v d s count left' n ≡ six h.version h.dst_cid h.src_cid count0 left' h.len = cc in all),
+    )
 
 -- The bytes are a front and then rest, and other bytes after that front leave the header as it is.
-record Moves (context : DecodeOptions) (fields : List HeaderField) (before : List HeaderValue) (whole first : ℕ) (bytes rest : List ℕ) (h : ProtectedHeader) : Type 0 where
+record Moves (context : DecodeOptions) (fields : List HeaderField) (before : List HeaderValue) (whole first : ℕ)
+    (bytes rest : List ℕ) (h : ProtectedHeader) : Type 0 where
   front : List ℕ
   split : bytes ≡ front ++ rest
   moved : (other : List ℕ) (whole' : ℕ) → whole' + length rest ≡ whole + length other
       → (values : List HeaderValue) × AreHeaderFields context fields before values (front ++ other) other × IsHeader whole' first values h
 
-typed_moves : (context : DecodeOptions) (whole first len version : ℕ) (dst src left rest : List ℕ) (values : List HeaderValue) (h : ProtectedHeader) → IsHeader whole first values h → len_in h ≡ Some len
-    → (ty : LongHeaderType) → AreHeaderFields context (typed_row ty) (id_values version dst src) values left rest → Moves context (typed_row ty) (id_values version dst src) whole first left rest h
-typed_moves context whole first len version dst src left rest values h is has kind.Retry (values_are, same) = absurd (no_ids whole first len version dst src values h is has values_are)
-typed_moves context whole first len version dst src left rest values h is has (kind.Standard ty) (v, back, (f, split, (n, is1, encoded)), (values_are, same)) =
-    let all : values ≡ Number version ∷ Bytes dst ∷ Bytes src ∷ Number n ∷ [] = values_are ∙ ap (λ (xs : List HeaderValue). id_values version dst src ++ xs) is1 in
+typed_moves : (context : DecodeOptions) (whole first len version : ℕ) (dst src left rest : List ℕ)
+    (values : List HeaderValue) (h : ProtectedHeader)
+    → IsHeader whole first values h → len_in h ≡ Some len
+    → (ty : LongHeaderType) → AreHeaderFields context (typed_row ty) (id_values version dst src) values left rest
+    → Moves context (typed_row ty) (id_values version dst src) whole first left rest h
+typed_moves context whole first len version dst src left rest values h is has kind.Retry (values_are, same) =
+    absurd (no_ids whole first len version dst src values h is has values_are)
+typed_moves context whole first len version dst src left rest values h is has (kind.Standard ty)
+    (v, back, (f, split, (n, is1, encoded)), (values_are, same)) =
+    let all : values ≡ Number version ∷ Bytes dst ∷ Bytes src ∷ Number n ∷ [] =
+    values_are ∙ ap (λ (xs : List HeaderValue). id_values version dst src ++ xs) is1 in
     record {
       front = f;
       split = split ∙ ap (λ (xs : List ℕ). f ++ xs) same;
-      moved = λ other whole' sum. (values, (v, other, (f, refl, (n, is1, encoded)), (values_are, refl)), kept whole whole' first version n len dst src values h is has all);
+      moved = λ other whole' sum. (
+        values,
+        (v, other, (f, refl, (n, is1, encoded)), (values_are, refl)),
+        kept whole whole' first version n len dst src values h is has all,
+      );
     }
-typed_moves context whole first len version dst src left rest values h is has kind.Initial
-    (v1, t1, (f1, split1, (count, is1, encoded1)), (v2, t2, (token, split2, (is2, width)), (v3, t3, (f3, split3, (n, is3, encoded3)), (values_are, same)))) =
+typed_moves context whole first len version dst src left rest values h is has kind.Initial (
+  v1,
+  t1,
+  (f1, split1, (count, is1, encoded1)),
+  (
+    v2,
+    t2,
+    (token, split2, (is2, width)),
+    (v3, t3, (f3, split3, (n, is3, encoded3)), (values_are, same)),
+  ),
+) =
     let base : List HeaderValue = id_values version dst src in
     let all : values ≡ six version dst src count (length t2) n =
-    values_are ∙ (let eq : ((base ++ v1) ++ v2) ++ v3 ≡ ((base ++ Number count ∷ []) ++ Number (length t2) ∷ []) ++ Number n ∷ [] = rw (is1, is2, is3) in eq) in
+    values_are
+    ∙ (let eq : ((base ++ v1) ++ v2) ++ v3 ≡ ((base ++ Number count ∷ []) ++ Number (length t2) ∷ []) ++ Number n
+    ∷ [] = rw (is1, is2, is3) in eq) in
     let inner : t2 ≡ f3 ++ rest = split3 ∙ ap (λ (xs : List ℕ). f3 ++ xs) same in
     let tail : (xs : List ℕ) → (f1 ++ (token ++ f3)) ++ xs ≡ f1 ++ (token ++ (f3 ++ xs)) =
     λ xs. append_assoc f1 (token ++ f3) xs ∙ ap (λ (ys : List ℕ). f1 ++ ys) (append_assoc token f3 xs) in
@@ -110,7 +152,17 @@ typed_moves context whole first len version dst src left rest values h is has ki
             Number (length (f3 ++ other)) ∷ [],
             f3 ++ other,
             (token, refl, (refl, width)),
-            (v3, other, (f3, refl, (n, is3, encoded3)), (ap (λ (xs : List HeaderValue). ((base ++ xs) ++ Number (length (f3 ++ other)) ∷ []) ++ Number n ∷ []) (sym is1) ∙ ap (λ (xs : List HeaderValue). ((base ++ v1) ++ Number (length (f3 ++ other)) ∷ []) ++ xs) (sym is3), refl)),
+            (
+              v3,
+              other,
+              (f3, refl, (n, is3, encoded3)),
+              (
+                ap (λ (xs : List HeaderValue).
+                    ((base ++ xs) ++ Number (length (f3 ++ other)) ∷ []) ++ Number n ∷ []) (sym is1)
+                    ∙ ap (λ (xs : List HeaderValue). ((base ++ v1) ++ Number (length (f3 ++ other)) ∷ []) ++ xs) (sym is3),
+                refl,
+              ),
+            ),
           ),
         ),
         shifted whole whole' first version count (length t2) (length (f3 ++ other)) n len dst src values h is has all
@@ -118,25 +170,36 @@ typed_moves context whole first len version dst src left rest values h is has ki
       );
     }
 
-behind_moves : (context : DecodeOptions) (whole first len version : ℕ) (dst src left rest : List ℕ) (values : List HeaderValue) (h : ProtectedHeader) → IsHeader whole first values h → len_in h ≡ Some len
-    → (none : Bool) (ty : LongHeaderType) → AreHeaderFields context (cond none [] (Supported version ∷ typed_row ty)) (id_values version dst src) values left rest
+behind_moves : (context : DecodeOptions) (whole first len version : ℕ) (dst src left rest : List ℕ)
+    (values : List HeaderValue) (h : ProtectedHeader)
+    → IsHeader whole first values h → len_in h ≡ Some len
+    → (none : Bool) (ty : LongHeaderType)
+    → AreHeaderFields context (cond none [] (Supported version ∷ typed_row ty)) (id_values version dst src) values left rest
     → Moves context (cond none [] (Supported version ∷ typed_row ty)) (id_values version dst src) whole first left rest h
-behind_moves context whole first len version dst src left rest values h is has true ty (values_are, same) = absurd (no_ids whole first len version dst src values h is has values_are)
-behind_moves context whole first len version dst src left rest values h is has false ty (v, back, (f, split, (values_are, none, known)), others) =
+behind_moves context whole first len version dst src left rest values h is has true ty (values_are, same) =
+    absurd (no_ids whole first len version dst src values h is has values_are)
+behind_moves context whole first len version dst src left rest values h is has false ty
+    (v, back, (f, split, (values_are, none, known)), others) =
     let kept_left : left ≡ back = split ∙ ap (λ (xs : List ℕ). xs ++ back) none in
     let m = typed_moves context whole first len version dst src back rest values h is has ty
-    (subst (λ (xs : List HeaderValue). AreHeaderFields context (typed_row ty) (id_values version dst src ++ xs) values back rest) values_are others) in
+    (subst (λ (xs : List HeaderValue). AreHeaderFields context (typed_row ty) (id_values version dst src ++ xs) values
+    back rest) values_are others) in
     record {
       front = m.front;
       split = kept_left ∙ m.split;
-      moved = λ other whole' sum. (let x = m.moved other whole' sum in (x.0, ([], m.front ++ other, ([], refl, (refl, refl, known)), x.1), x.2));
+      moved = λ other whole' sum. (let x = m.moved other whole' sum in
+          (x.0, ([], m.front ++ other, ([], refl, (refl, refl, known)), x.1), x.2));
     }
 
-row_moves : (context : DecodeOptions) (whole first len : ℕ) (text rest : List ℕ) (values : List HeaderValue) (h : ProtectedHeader) → IsHeader whole first values h → len_in h ≡ Some len
-    → (long : Bool) → is_long first ≡ long → AreHeaderFields context (cond long (long_row (row_behind_ids first (num (take 4 text)))) (ShortId ∷ [])) [] values text rest
+row_moves : (context : DecodeOptions) (whole first len : ℕ) (text rest : List ℕ) (values : List HeaderValue) (h : ProtectedHeader)
+    → IsHeader whole first values h → len_in h ≡ Some len
+    → (long : Bool) → is_long first ≡ long
+    → AreHeaderFields context (cond long (long_row (row_behind_ids first (num (take 4 text)))) (ShortId ∷ [])) [] values text rest
     → (front : List ℕ) × (text ≡ front ++ rest) × ((other : List ℕ) (whole' : ℕ) → whole' + length rest ≡ whole + length other
-    → (values : List HeaderValue) × AreHeaderFields context (header_row_of first (num (take 4 (front ++ other)))) [] values (front ++ other) other × IsHeader whole' first values h)
-row_moves context whole first len text rest values h is has false short (v, back, (f, split, (id, is1, parsed)), (values_are, same)) = absurd (no_id whole first len values id h is has (values_are ∙ is1))
+    → (values : List HeaderValue) × AreHeaderFields context (header_row_of first (num (take 4 (front ++ other)))) []
+    values (front ++ other) other × IsHeader whole' first values h)
+row_moves context whole first len text rest values h is has false short (v, back, (f, split, (id, is1, parsed)), (values_are, same)) =
+    absurd (no_id whole first len values id h is has (values_are ∙ is1))
 row_moves context whole first len text rest values h is has true long d =
     let x = ids_of context (row_behind_ids first (num (take 4 text))) values text rest d in
     let version : ℕ = x.0 in
@@ -145,11 +208,13 @@ row_moves context whole first len text rest values h is has true long d =
     let left : List ℕ = x.3 in
     let ids : Ids text version dst src left = x.4 in
     let m = behind_moves context whole first len version dst src left rest values h is has (nat_eq version 0) (long_type version first)
-    (subst (λ (n : ℕ). AreHeaderFields context (row_behind_ids first n) (id_values version dst src) values left rest) (version_is text version dst src left ids) x.5) in
+    (subst (λ (n : ℕ). AreHeaderFields context (row_behind_ids first n) (id_values version dst src) values left rest)
+    (version_is text version dst src left ids) x.5) in
     let front : List ℕ = ids.word ++ (long_id dst ++ (long_id src ++ m.front)) in
     let tail : (xs : List ℕ) → front ++ xs ≡ ids.word ++ (long_id dst ++ (long_id src ++ (m.front ++ xs))) =
     λ xs. append_assoc ids.word (long_id dst ++ (long_id src ++ m.front)) xs
-    ∙ ap (λ (ys : List ℕ). ids.word ++ ys) (append_assoc (long_id dst) (long_id src ++ m.front) xs ∙ ap (λ (ys : List ℕ). long_id dst ++ ys) (append_assoc (long_id src) m.front xs)) in (
+    ∙ ap (λ (ys : List ℕ). ids.word ++ ys) (append_assoc (long_id dst) (long_id src ++ m.front) xs
+    ∙ ap (λ (ys : List ℕ). long_id dst ++ ys) (append_assoc (long_id src) m.front xs)) in (
       front,
       ids.text_is ∙ ap (λ (ys : List ℕ). ids.word ++ (long_id dst ++ (long_id src ++ ys))) m.split ∙ sym (tail rest),
       λ other whole' sum.
@@ -157,7 +222,8 @@ row_moves context whole first len text rest values h is has true long d =
           let ids' : Ids (front ++ other) version dst src (m.front ++ other) =
           record { word = ids.word; is_word = ids.is_word; dst_len = ids.dst_len; src_len = ids.src_len; text_is = tail other } in
           let row : header_row_of first (num (take 4 (front ++ other))) ≡ long_row (row_behind_ids first version) =
-          ap (λ (n : ℕ). header_row_of first n) (version_is (front ++ other) version dst src (m.front ++ other) ids') ∙ ap (λ (b : Bool). cond b (long_row (row_behind_ids first version)) (ShortId ∷ [])) long in (
+          ap (λ (n : ℕ). header_row_of first n) (version_is (front ++ other) version dst src (m.front ++ other) ids')
+          ∙ ap (λ (b : Bool). cond b (long_row (row_behind_ids first version)) (ShortId ∷ [])) long in (
             y.0,
             subst (λ (fields : List HeaderField). AreHeaderFields context fields [] y.0 (front ++ other) other) (sym row)
                 (of_ids context (row_behind_ids first version) y.0 (front ++ other) other version dst src (m.front ++ other) ids' y.1),
@@ -165,15 +231,18 @@ row_moves context whole first len text rest values h is has true long d =
           ),
     )
 
-stop_of : (o : Option ℕ) (len p q whole : ℕ) → o ≡ Some len → MatchOption o (q ≡ whole) (λ len. q ≡ p + len) → q ≡ p + len
+stop_of : (o : Option ℕ) (len p q whole : ℕ) → o ≡ Some len → MatchOption o (q ≡ whole) (λ len. q ≡ p + len)
+    → q ≡ p + len
 stop_of None len p q whole is ends = absurd cc
 stop_of (Some n) len p q whole is ends = (let same : n ≡ len = cc in ends ∙ ap (λ (k : ℕ). p + k) same)
 
-ends_of : (o : Option ℕ) (len p q whole : ℕ) → o ≡ Some len → q ≡ p + len → MatchOption o (q ≡ whole) (λ len. q ≡ p + len)
+ends_of : (o : Option ℕ) (len p q whole : ℕ) → o ≡ Some len → q ≡ p + len
+    → MatchOption o (q ≡ whole) (λ len. q ≡ p + len)
 ends_of None len p q whole is stop = absurd cc
 ends_of (Some n) len p q whole is stop = (let same : n ≡ len = cc in stop ∙ ap (λ (k : ℕ). p + k) (sym same))
 
-pub cut_alone : (context : DecodeOptions) (bytes other : List ℕ) (h : ProtectedHeader) (p q len : ℕ) → Cut context bytes h p q → len_in h ≡ Some len → Cut context (take q bytes ++ other) h p q
+pub cut_alone : (context : DecodeOptions) (bytes other : List ℕ) (h : ProtectedHeader) (p q len : ℕ)
+    → Cut context bytes h p q → len_in h ≡ Some len → Cut context (take q bytes ++ other) h p q
 cut_alone context bytes other h p q len (rest, (first, text, values, split, fixed, fields, is), sum, ends, within) has =
     let m = row_moves context (length bytes) first len text rest values h is has (is_long first) refl fields in
     let front : List ℕ = first ∷ m.0 in
@@ -183,8 +252,10 @@ cut_alone context bytes other h p q len (rest, (first, text, values, split, fixe
     let behind : List ℕ = take len rest ++ other in
     let size : length bytes ≡ length front + length rest = ap length whole ∙ length-append front rest in
     let made : new ≡ front ++ behind = replaced front rest other bytes q len whole (omega (arith, stop, sum, size)) in
-    let total : length new ≡ q + length other = omega (arith, length-append (take q bytes) other, length-take q bytes, within) in
-    let inner : length behind ≡ len + length other = omega (arith, length-append (take len rest) other, length-take len rest, sum, within, stop) in
+    let total : length new ≡ q + length other =
+    omega (arith, length-append (take q bytes) other, length-take q bytes, within) in
+    let inner : length behind ≡ len + length other =
+    omega (arith, length-append (take len rest) other, length-take len rest, sum, within, stop) in
     let y = m.2 behind (length new) (omega (arith, total, inner, stop, sum)) in (
       behind,
       (first, m.0 ++ behind, y.0, made, fixed, y.1, y.2),
@@ -208,7 +279,8 @@ past_token = Invalid (codes "token out of bounds")
 abbrev IsPlain : Refusal → Type 0
 IsPlain e = (e ≡ at_end) ⊎ (e ≡ bad_id) ⊎ (e ≡ past_token)
 
-typed_reported : (context : DecodeOptions) (before : List HeaderValue) (bytes : List ℕ) (e : Refusal) (ty : LongHeaderType) → StopsWithinRow context (typed_row ty) before bytes e → IsPlain e
+typed_reported : (context : DecodeOptions) (before : List HeaderValue) (bytes : List ℕ) (e : Refusal) (ty : LongHeaderType)
+    → StopsWithinRow context (typed_row ty) before bytes e → IsPlain e
 typed_reported context before bytes e kind.Retry stops = absurd stops
 typed_reported context before bytes e (kind.Standard ty) (inl stops) = inl stops.why
 typed_reported context before bytes e (kind.Standard ty) (inr d) = absurd d.3
@@ -219,37 +291,55 @@ typed_reported context before bytes e kind.Initial (inr (v1, t1, b1, inr (v2, t2
 
 -- the ids are there, and the version is unknown
 abbrev IsUnknown : DecodeOptions → List ℕ → Refusal → Type 0
-IsUnknown context text e = (version : ℕ) × (dst src left : List ℕ) × Ids text version dst src left × (version ≢ 0) × StopsAtField context (Supported version) (id_values version dst src) left e
+IsUnknown context text e =
+    (version : ℕ) × (dst src left : List ℕ) × Ids text version dst src left × (version ≢ 0)
+    × StopsAtField context (Supported version) (id_values version dst src) left e
 
-behind_reported : (context : DecodeOptions) (first version : ℕ) (text dst src left : List ℕ) (e : Refusal) → Ids text version dst src left
-    → (none : Bool) → nat_eq version 0 ≡ none → (ty : LongHeaderType) → StopsWithinRow context (cond none [] (Supported version ∷ typed_row ty)) (id_values version dst src) left e
+behind_reported : (context : DecodeOptions) (first version : ℕ) (text dst src left : List ℕ) (e : Refusal)
+    → Ids text version dst src left
+    → (none : Bool) → nat_eq version 0 ≡ none → (ty : LongHeaderType)
+    → StopsWithinRow context (cond none [] (Supported version ∷ typed_row ty)) (id_values version dst src) left e
     → IsPlain e ⊎ IsUnknown context text e
 behind_reported context first version text dst src left e ids true zero ty stops = absurd stops
-behind_reported context first version text dst src left e ids false some ty (inl stops) = inr (version, dst, src, left, ids, (let other : version ≢ 0 = grind (arith, nat_tests) in other), stops)
-behind_reported context first version text dst src left e ids false some ty (inr d) = inl (typed_reported context (id_values version dst src ++ d.0) d.1 e ty d.3)
+behind_reported context first version text dst src left e ids false some ty (inl stops) =
+    inr (version, dst, src, left, ids, (let other : version ≢ 0 = grind (arith, nat_tests) in other), stops)
+behind_reported context first version text dst src left e ids false some ty (inr d) =
+    inl (typed_reported context (id_values version dst src ++ d.0) d.1 e ty d.3)
 
-long_reported : (context : DecodeOptions) (first : ℕ) (text : List ℕ) (e : Refusal) → StopsWithinRow context (long_row (row_behind_ids first (num (take 4 text)))) [] text e → IsPlain e ⊎ IsUnknown context text e
+long_reported : (context : DecodeOptions) (first : ℕ) (text : List ℕ) (e : Refusal)
+    → StopsWithinRow context (long_row (row_behind_ids first (num (take 4 text)))) [] text e
+    → IsPlain e ⊎ IsUnknown context text e
 long_reported context first text e (inl stops) = inl (inl stops.why)
 long_reported context first text e (inr (v1, t1, b1, inl stops)) = inl (inr (inl stops.why))
 long_reported context first text e (inr (v1, t1, b1, inr (v2, t2, b2, inl stops))) = inl (inr (inl stops.why))
 long_reported context first text e
-    (inr (v, t1, (word, split1, (version, is1, number)), inr (d, t2, (f2, split2, (dst, is2, len2, text2)), inr (s, left, (f3, split3, (src, is3, len3, text3)), stops)))) =
+    (inr (
+      v,
+      t1,
+      (word, split1, (version, is1, number)),
+      inr
+          (d, t2, (f2, split2, (dst, is2, len2, text2)), inr (s, left, (f3, split3, (src, is3, len3, text3)), stops)),
+    )) =
     let ids : Ids text version dst src left = record {
       word = word;
       is_word = number;
       dst_len = len2;
       src_len = len3;
-      text_is = split1 ∙ ap (λ (xs : List ℕ). word ++ xs) (split2 ∙ ap (λ (xs : List ℕ). xs ++ t2) text2 ∙ ap (λ (xs : List ℕ). long_id dst ++ xs) (split3 ∙ ap (λ (xs : List ℕ). xs ++ left) text3));
+      text_is = split1 ∙ ap (λ (xs : List ℕ). word ++ xs) (split2 ∙ ap (λ (xs : List ℕ). xs ++ t2) text2
+          ∙ ap (λ (xs : List ℕ). long_id dst ++ xs) (split3 ∙ ap (λ (xs : List ℕ). xs ++ left) text3));
     } in
     let values_are : (v ++ d) ++ s ≡ id_values version dst src = rw (is1, is2, is3) in
     behind_reported context first version text dst src left e ids (nat_eq version 0) refl (long_type version first)
-    (subst (λ (n : ℕ). StopsWithinRow context (row_behind_ids first n) (id_values version dst src) left e) (version_is text version dst src left ids)
+    (subst (λ (n : ℕ). StopsWithinRow context (row_behind_ids first n) (id_values version dst src) left e)
+    (version_is text version dst src left ids)
     (subst (λ (xs : List HeaderValue). StopsWithinRow context (row_behind_ids first (num (take 4 text))) xs left e) values_are stops))
 
-row_reported : (context : DecodeOptions) (first : ℕ) (text : List ℕ) (e : Refusal) → 128 ≤ first → StopsWithinRow context (header_row_of first (num (take 4 text))) [] text e → IsPlain e ⊎ IsUnknown context text e
+row_reported : (context : DecodeOptions) (first : ℕ) (text : List ℕ) (e : Refusal) → 128 ≤ first
+    → StopsWithinRow context (header_row_of first (num (take 4 text))) [] text e → IsPlain e ⊎ IsUnknown context text e
 row_reported context first text e long stops =
     let test : is_long first ≡ true = grind (arith, nat_tests) in
-    long_reported context first text e (subst (λ (b : Bool). StopsWithinRow context (cond b (long_row (row_behind_ids first (num (take 4 text)))) (ShortId ∷ [])) [] text e) test stops)
+    long_reported context first text e (subst (λ (b : Bool). StopsWithinRow context
+    (cond b (long_row (row_behind_ids first (num (take 4 text)))) (ShortId ∷ [])) [] text e) test stops)
 
 other_size : (e : Refusal) (n : ℕ) → IsPlain e → text_size e ≡ n → n < 13 ⊎ (n ≡ 15) → ⊥
 other_size e n (inl is) size small = elim small [
@@ -273,29 +363,37 @@ fixed_alone context (first ∷ text) other long (inr (set, stops)) = elim (row_r
   | inr unknown ↦ absurd (let n : 15 ≡ 0 = ap text_size unknown.6.why in omega (arith, n))
 ]
 
-pub version_alone : (context : DecodeOptions) (bytes other src dst : List ℕ) (version : ℕ) → 128 ≤ slice_index bytes 0 → Refused context bytes (Unsupported src dst version) → Refused context (bytes ++ other) (Unsupported src dst version)
+pub version_alone : (context : DecodeOptions) (bytes other src dst : List ℕ) (version : ℕ) → 128 ≤ slice_index bytes 0
+    → Refused context bytes (Unsupported src dst version)
+    → Refused context (bytes ++ other) (Unsupported src dst version)
 version_alone context [] other src dst version long is = absurd (omega (arith, long))
-version_alone context (first ∷ text) other src dst version long (inl unset) = absurd (let n : 0 ≡ 15 = ap text_size unset.1 in omega (arith, n))
-version_alone context (first ∷ text) other src dst version long (inr (set, stops)) = elim (row_reported context first text (Unsupported src dst version) long stops) [
-  | inl plain ↦ absurd (other_size (Unsupported src dst version) 0 plain refl (inl (omega arith)))
-  | inr (v, d, s, left, ids, some, unknown) ↦
-      let e : Refusal = Unsupported src dst version in
-      let tail : text ++ other ≡ ids.word ++ (long_id d ++ (long_id s ++ (left ++ other))) =
-      ap (λ (xs : List ℕ). xs ++ other) ids.text_is ∙ append_assoc ids.word (long_id d ++ (long_id s ++ left)) other
-      ∙ ap (λ (ys : List ℕ). ids.word ++ ys) (append_assoc (long_id d) (long_id s ++ left) other ∙ ap (λ (ys : List ℕ). long_id d ++ ys) (append_assoc (long_id s) left other)) in
-      let ids' : Ids (text ++ other) v d s (left ++ other) = record { word = ids.word; is_word = ids.is_word; dst_len = ids.dst_len; src_len = ids.src_len; text_is = tail } in
-      let stays : StopsAtField context (Supported v) (id_values v d s) (left ++ other) e = record {
-        none = λ values rest (front, split, is). unknown.none [] left ([], refl, (refl, refl, is.2));
-        why = unknown.why;
-      } in
-      let test : is_long first ≡ true = grind (arith, nat_tests) in
-      let nonzero : nat_eq v 0 ≡ false = grind (arith, nat_tests) in
-      let row : header_row_of first (num (take 4 (text ++ other))) ≡ long_row (Supported v ∷ typed_row (long_type v first)) =
-      ap (λ (n : ℕ). header_row_of first n) (version_is (text ++ other) v d s (left ++ other) ids')
-      ∙ ap (λ (b : Bool). cond b (long_row (row_behind_ids first v)) (ShortId ∷ [])) test ∙ ap (λ (b : Bool). long_row (cond b [] (Supported v ∷ typed_row (long_type v first)))) nonzero in
-      inr (
-        set,
-        subst (λ (fields : List HeaderField). StopsWithinRow context fields [] (text ++ other) e) (sym row)
-            (stops_behind_ids context (Supported v ∷ typed_row (long_type v first)) (text ++ other) e v d s (left ++ other) ids' (inl stays)),
-      )
-]
+version_alone context (first ∷ text) other src dst version long (inl unset) =
+    absurd (let n : 0 ≡ 15 = ap text_size unset.1 in omega (arith, n))
+version_alone context (first ∷ text) other src dst version long (inr (set, stops)) =
+    elim (row_reported context first text (Unsupported src dst version) long stops) [
+      | inl plain ↦ absurd (other_size (Unsupported src dst version) 0 plain refl (inl (omega arith)))
+      | inr (v, d, s, left, ids, some, unknown) ↦
+          let e : Refusal = Unsupported src dst version in
+          let tail : text ++ other ≡ ids.word ++ (long_id d ++ (long_id s ++ (left ++ other))) =
+          ap (λ (xs : List ℕ). xs ++ other) ids.text_is ∙ append_assoc ids.word (long_id d ++ (long_id s ++ left)) other
+          ∙ ap (λ (ys : List ℕ). ids.word ++ ys) (append_assoc (long_id d) (long_id s ++ left) other
+          ∙ ap (λ (ys : List ℕ). long_id d ++ ys) (append_assoc (long_id s) left other)) in
+          let ids' : Ids (text ++ other) v d s (left ++ other) =
+          record { word = ids.word; is_word = ids.is_word; dst_len = ids.dst_len; src_len = ids.src_len; text_is = tail } in
+          let stays : StopsAtField context (Supported v) (id_values v d s) (left ++ other) e = record {
+            none = λ values rest (front, split, is). unknown.none [] left ([], refl, (refl, refl, is.2));
+            why = unknown.why;
+          } in
+          let test : is_long first ≡ true = grind (arith, nat_tests) in
+          let nonzero : nat_eq v 0 ≡ false = grind (arith, nat_tests) in
+          let row : header_row_of first (num (take 4 (text ++ other))) ≡ long_row (Supported v ∷ typed_row (long_type v first)) =
+          ap (λ (n : ℕ). header_row_of first n) (version_is (text ++ other) v d s (left ++ other) ids')
+          ∙ ap (λ (b : Bool). cond b (long_row (row_behind_ids first v)) (ShortId ∷ [])) test
+          ∙ ap (λ (b : Bool). long_row (cond b [] (Supported v ∷ typed_row (long_type v first)))) nonzero in
+          inr (
+            set,
+            subst (λ (fields : List HeaderField). StopsWithinRow context fields [] (text ++ other) e) (sym row)
+                (stops_behind_ids context (Supported v ∷ typed_row (long_type v first)) (text ++ other) e v d s
+                (left ++ other) ids' (inl stays)),
+          )
+    ]

@@ -39,10 +39,12 @@ word_split bytes n rest fits long parts =
     let four : length (take 4 bytes) ≡ 4 = omega (arith, length-take 4 bytes) in
     let whole : bytes ≡ take 4 bytes ++ drop 4 bytes = sym (take-append-drop 4 bytes) in
     let part : AreBytes (take 4 bytes) = front_fits bytes (take 4 bytes) (drop 4 bytes) fits whole in
-    let below : num (take 4 bytes) < 256 ^ 4 = subst (λ (k : ℕ). num (take 4 bytes) < 256 ^ k) four (law.num_below (take 4 bytes) part) in
+    let below : num (take 4 bytes) < 256 ^ 4 =
+    subst (λ (k : ℕ). num (take 4 bytes) < 256 ^ k) four (law.num_below (take 4 bytes) part) in
     let small : n < 2 ^ 32 = omega (arith, below, parts.0) in
     let is : IsNumber 4 n (bytes_of 4 n) = law.is_number_4 n small in
-    let front : take 4 bytes ≡ bytes_of 4 n = law.num_injective (take 4 bytes) (bytes_of 4 n) part is.bytes (four ∙ sym is.width) (parts.0 ∙ sym is.value) in
+    let front : take 4 bytes ≡ bytes_of 4 n =
+    law.num_injective (take 4 bytes) (bytes_of 4 n) part is.bytes (four ∙ sym is.width) (parts.0 ∙ sym is.value) in
     (whole ∙ ap (λ (xs : List ℕ). xs ++ drop 4 bytes) front ∙ ap (λ (xs : List ℕ). bytes_of 4 n ++ xs) parts.1, small)
 
 pub word_found : (bytes : List ℕ) (n : ℕ) (rest : List ℕ) → AreBytes bytes → word_at bytes ≡ Some (n, rest)
@@ -63,10 +65,12 @@ word_of text rest n four value =
 
 -- ---- ids
 
-pub id_found : (bytes id rest : List ℕ) → long_id_at bytes ≡ Some (id, rest) → (length id ≤ 20) × (bytes ≡ long_id id ++ rest)
+pub id_found : (bytes id rest : List ℕ) → long_id_at bytes ≡ Some (id, rest)
+    → (length id ≤ 20) × (bytes ≡ long_id id ++ rest)
 id_found [] id rest e = absurd cc
 id_found (n ∷ bytes) id rest e =
-    elim (chosen {A = Option (List ℕ × List ℕ)} (nat_lt 20 n || nat_lt (length bytes) n) None (Some (take n bytes, drop n bytes)) (Some (id, rest)) e) [
+    elim (chosen {A = Option (List ℕ × List ℕ)} (nat_lt 20 n || nat_lt (length bytes) n) None
+    (Some (take n bytes, drop n bytes)) (Some (id, rest)) e) [
       | inl bad ↦ absurd (none_some (id, rest) bad.1)
       | inr good ↦
           let parts = pair_parts (some_same good.1) in
@@ -74,8 +78,10 @@ id_found (n ∷ bytes) id rest e =
           let room : n ≤ length bytes = grind (arith, nat_tests) in
           let len : length id ≡ n = omega (arith, length-take n bytes, ap length parts.0) in (
             omega arith,
-            ap (λ (xs : List ℕ). n ∷ xs) (sym (take-append-drop n bytes)) ∙ ap (λ (m : ℕ). m ∷ (take n bytes ++ drop n bytes)) (sym len)
-                ∙ ap (λ (xs : List ℕ). length id ∷ (xs ++ drop n bytes)) parts.0 ∙ ap (λ (xs : List ℕ). length id ∷ (id ++ xs)) parts.1,
+            ap (λ (xs : List ℕ). n ∷ xs) (sym (take-append-drop n bytes))
+                ∙ ap (λ (m : ℕ). m ∷ (take n bytes ++ drop n bytes)) (sym len)
+                ∙ ap (λ (xs : List ℕ). length id ∷ (xs ++ drop n bytes)) parts.0
+                ∙ ap (λ (xs : List ℕ). length id ∷ (id ++ xs)) parts.1,
           )
     ]
 
@@ -85,12 +91,16 @@ id_again id rest short =
     let t1 : nat_lt 20 (length id) ≡ false = grind (arith, nat_tests) in
     let t2 : nat_lt (length (id ++ rest)) (length id) ≡ false = grind (arith, nat_tests) in
     let test : (nat_lt 20 (length id) || nat_lt (length (id ++ rest)) (length id)) ≡ false = rw (t1, t2) in
-    otherwise (nat_lt 20 (length id) || nat_lt (length (id ++ rest)) (length id)) None (Some (take (length id) (id ++ rest), drop (length id) (id ++ rest))) (Some (id, rest)) test
-    (some_pair (take (length id) (id ++ rest)) id (drop (length id) (id ++ rest)) rest (take-append_seam id rest) (drop-append_seam id rest))
+    otherwise (nat_lt 20 (length id) || nat_lt (length (id ++ rest)) (length id)) None
+    (Some (take (length id) (id ++ rest), drop (length id) (id ++ rest))) (Some (id, rest)) test
+    (some_pair (take (length id) (id ++ rest)) id (drop (length id) (id ++ rest)) rest (take-append_seam id rest)
+    (drop-append_seam id rest))
 
 -- what is after its length is an id
-is_long_id : (bytes id rest : List ℕ) → AreBytes bytes → length id ≤ 20 → bytes ≡ long_id id ++ rest → IsLongId id (long_id id)
-is_long_id bytes id rest fits short split = record { bytes = λ i. front_fits bytes (long_id id) rest fits split (suc i); short = short; value = refl }
+is_long_id : (bytes id rest : List ℕ) → AreBytes bytes → length id ≤ 20 → bytes ≡ long_id id ++ rest
+    → IsLongId id (long_id id)
+is_long_id bytes id rest fits short split =
+    record { bytes = λ i. front_fits bytes (long_id id) rest fits split (suc i); short = short; value = refl }
 
 pub id_without : (bytes : List ℕ) → AreBytes bytes → NoId bytes → long_id_at bytes ≡ None
 id_without bytes fits none = elim (option_cases (long_id_at bytes)) [
@@ -102,7 +112,8 @@ id_without bytes fits none = elim (option_cases (long_id_at bytes)) [
 
 -- ---- numbers
 
-pub var_found : (bytes : List ℕ) (v : ℕ) (rest : List ℕ) → AreBytes bytes → number_at bytes ≡ Some (v, rest) → (text : List ℕ) × Encodes v text × (bytes ≡ text ++ rest)
+pub var_found : (bytes : List ℕ) (v : ℕ) (rest : List ℕ) → AreBytes bytes → number_at bytes ≡ Some (v, rest)
+    → (text : List ℕ) × Encodes v text × (bytes ≡ text ++ rest)
 var_found bytes v rest fits e = let t = law.number_taken bytes v rest fits e in (t.front, t.is, t.split)
 
 pub var_again : (v : ℕ) (text rest : List ℕ) → Encodes v text → number_at (text ++ rest) ≡ Some (v, rest)
@@ -117,11 +128,13 @@ pub var_taken : (v : ℕ) (old new : List ℕ) → Takes (Encodes v) old new →
 var_taken v old new t = ap number_at t.split ∙ law.number_again v t.front new t.is
 
 pub id_taken : (id old new : List ℕ) → Takes (IsLongId id) old new → long_id_at old ≡ Some (id, new)
-id_taken id old new t = ap long_id_at (t.split ∙ ap (λ (xs : List ℕ). xs ++ new) t.is.value) ∙ id_again id new t.is.short
+id_taken id old new t =
+    ap long_id_at (t.split ∙ ap (λ (xs : List ℕ). xs ++ new) t.is.value) ∙ id_again id new t.is.short
 
 pub left_behind : (K : List ℕ → Type 0) (old new : List ℕ) → Takes K old new → drop (length old - length new) old ≡ new
 left_behind K old new t =
-    let front : length t.front ≡ length old - length new = omega (arith, ap length t.split, length-append t.front new) in
+    let front : length t.front ≡ length old - length new =
+    omega (arith, ap length t.split, length-append t.front new) in
     ap (drop (length old - length new)) t.split ∙ drop_front t.front new (length old - length new) front
 
 pub left_short : (K : List ℕ → Type 0) (old new : List ℕ) → Takes K old new → length new ≤ length old

@@ -37,9 +37,16 @@ id_values version dst src = Number version ∷ Bytes dst ∷ Bytes src ∷ []
 abbrev pub long_row : List HeaderField → List HeaderField
 long_row fields = Version ∷ DestinationId ∷ SourceId ∷ fields
 
-pub ids_of : (context : DecodeOptions) (fields : List HeaderField) (after : List HeaderValue) (text rest : List ℕ) → AreHeaderFields context (long_row fields) [] after text rest
-    → (version : ℕ) × (dst src left : List ℕ) × Ids text version dst src left × AreHeaderFields context fields (id_values version dst src) after left rest
-ids_of context fields after text rest (v, t1, (word, split1, (version, is1, number)), (d, t2, (f2, split2, (dst, is2, len2, text2)), (s, left, (f3, split3, (src, is3, len3, text3)), others))) = (
+pub ids_of : (context : DecodeOptions) (fields : List HeaderField) (after : List HeaderValue) (text rest : List ℕ)
+    → AreHeaderFields context (long_row fields) [] after text rest
+    → (version : ℕ) × (dst src left : List ℕ) × Ids text version dst src left
+    × AreHeaderFields context fields (id_values version dst src) after left rest
+ids_of context fields after text rest (
+  v,
+  t1,
+  (word, split1, (version, is1, number)),
+  (d, t2, (f2, split2, (dst, is2, len2, text2)), (s, left, (f3, split3, (src, is3, len3, text3)), others)),
+) = (
   version,
   dst,
   src,
@@ -49,13 +56,18 @@ ids_of context fields after text rest (v, t1, (word, split1, (version, is1, numb
     is_word = number;
     dst_len = len2;
     src_len = len3;
-    text_is = split1 ∙ ap (λ (xs : List ℕ). word ++ xs) (split2 ∙ ap (λ (xs : List ℕ). xs ++ t2) text2 ∙ ap (λ (xs : List ℕ). long_id dst ++ xs) (split3 ∙ ap (λ (xs : List ℕ). xs ++ left) text3));
+    text_is = split1 ∙ ap (λ (xs : List ℕ). word ++ xs) (split2 ∙ ap (λ (xs : List ℕ). xs ++ t2) text2
+        ∙ ap (λ (xs : List ℕ). long_id dst ++ xs) (split3 ∙ ap (λ (xs : List ℕ). xs ++ left) text3));
   },
-  (let values_are : (v ++ d) ++ s ≡ id_values version dst src = rw (is1, is2, is3) in subst (λ (xs : List HeaderValue). AreHeaderFields context fields xs after left rest) values_are others),
+  (let values_are : (v ++ d) ++ s ≡ id_values version dst src = rw (is1, is2, is3) in subst
+      (λ (xs : List HeaderValue). AreHeaderFields context fields xs after left rest) values_are others),
 )
 
-pub of_ids : (context : DecodeOptions) (fields : List HeaderField) (after : List HeaderValue) (text rest : List ℕ) (version : ℕ) (dst src left : List ℕ) → Ids text version dst src left
-    → AreHeaderFields context fields (id_values version dst src) after left rest → AreHeaderFields context (long_row fields) [] after text rest
+pub of_ids : (context : DecodeOptions) (fields : List HeaderField) (after : List HeaderValue) (text rest : List ℕ)
+    (version : ℕ) (dst src left : List ℕ)
+    → Ids text version dst src left
+    → AreHeaderFields context fields (id_values version dst src) after left rest
+    → AreHeaderFields context (long_row fields) [] after text rest
 of_ids context fields after text rest version dst src left ids others = (
   Number version ∷ [],
   long_id dst ++ (long_id src ++ left),
@@ -68,8 +80,11 @@ of_ids context fields after text rest version dst src left ids others = (
   ),
 )
 
-pub stops_behind_ids : (context : DecodeOptions) (fields : List HeaderField) (text : List ℕ) (e : Refusal) (version : ℕ) (dst src left : List ℕ) → Ids text version dst src left
-    → StopsWithinRow context fields (id_values version dst src) left e → StopsWithinRow context (long_row fields) [] text e
+pub stops_behind_ids : (context : DecodeOptions) (fields : List HeaderField) (text : List ℕ) (e : Refusal) (version : ℕ)
+    (dst src left : List ℕ)
+    → Ids text version dst src left
+    → StopsWithinRow context fields (id_values version dst src) left e
+    → StopsWithinRow context (long_row fields) [] text e
 stops_behind_ids context fields text e version dst src left ids stops = inr (
   Number version ∷ [],
   long_id dst ++ (long_id src ++ left),
@@ -83,9 +98,11 @@ stops_behind_ids context fields text e version dst src left ids stops = inr (
 )
 
 -- the version is what the first four bytes say
-pub version_is : (text : List ℕ) (version : ℕ) (dst src left : List ℕ) → Ids text version dst src left → num (take 4 text) ≡ version
+pub version_is : (text : List ℕ) (version : ℕ) (dst src left : List ℕ) → Ids text version dst src left
+    → num (take 4 text) ≡ version
 version_is text version dst src left ids =
-    ap (λ (xs : List ℕ). num (take 4 xs)) ids.text_is ∙ ap num (take_front ids.word (long_id dst ++ (long_id src ++ left)) 4 ids.is_word.width) ∙ ids.is_word.value
+    ap (λ (xs : List ℕ). num (take 4 xs)) ids.text_is
+    ∙ ap num (take_front ids.word (long_id dst ++ (long_id src ++ left)) 4 ids.is_word.width) ∙ ids.is_word.value
 
 -- ---- the header that values make
 
@@ -99,48 +116,93 @@ long_made kind.Retry dst src len version = other_header
 
 abbrev made : ℕ → ℕ → List HeaderValue → ProtectedHeader
 made whole first (Bytes dst ∷ []) = protected.Short (has_bit 0x20 first) dst
-made whole first (Number version ∷ Bytes dst ∷ Bytes src ∷ []) = cond (nat_eq version 0) (protected.VersionNegotiate (first - 128) dst src) (protected.Retry dst src version)
-made whole first (Number version ∷ Bytes dst ∷ Bytes src ∷ Number len ∷ []) = long_made (long_type version first) dst src len version
+made whole first (Number version ∷ Bytes dst ∷ Bytes src ∷ []) =
+    cond (nat_eq version 0) (protected.VersionNegotiate (first - 128) dst src) (protected.Retry dst src version)
+made whole first (Number version ∷ Bytes dst ∷ Bytes src ∷ Number len ∷ []) =
+    long_made (long_type version first) dst src len version
 made whole first (Number version ∷ Bytes dst ∷ Bytes src ∷ Number count ∷ Number left ∷ Number len ∷ []) =
     let start = whole - (count + left) in
-    protected.Initial (record { dst_cid = dst; src_cid = src; token_pos = record { start = start; end = start + count }; len = len; version = version })
+    protected.Initial (record {
+      dst_cid = dst;
+      src_cid = src;
+      token_pos = record { start = start; end = start + count };
+      len = len;
+      version = version;
+    })
 made whole first values = other_header
 
-made_is : (whole first : ℕ) (values : List HeaderValue) (h : ProtectedHeader) → IsHeader whole first values h → made whole first values ≡ h
-made_is whole first values (protected.Short spin dst) (short, is, values_are) = ap (made whole first) values_are ∙ ap (λ (s : Bool). protected.Short s dst) (sym is)
+made_is : (whole first : ℕ) (values : List HeaderValue) (h : ProtectedHeader) → IsHeader whole first values h
+    → made whole first values ≡ h
+made_is whole first values (protected.Short spin dst) (short, is, values_are) =
+    ap (made whole first) values_are ∙ ap (λ (s : Bool). protected.Short s dst) (sym is)
 made_is whole first values (protected.VersionNegotiate random dst src) (is, values_are) =
-    ap (made whole first) values_are ∙ ap (λ (n : ℕ). protected.VersionNegotiate n dst src) (let same : first - 128 ≡ random = omega (arith, is) in same)
+    ap (made whole first) values_are
+    ∙ ap (λ (n : ℕ). protected.VersionNegotiate n dst src) (let same : first - 128 ≡ random = omega (arith, is) in same)
 made_is whole first values (protected.Retry dst src version) (some, is, values_are) =
-    ap (made whole first) values_are ∙ otherwise (nat_eq version 0) _ _ (protected.Retry dst src version) (grind (arith, nat_tests)) refl
+    ap (made whole first) values_are
+    ∙ otherwise (nat_eq version 0) _ _ (protected.Retry dst src version) (grind (arith, nat_tests)) refl
 made_is whole first values (protected.Long ty dst src len version) (is, values_are) =
     ap (made whole first) values_are ∙ ap (λ (k : LongHeaderType). long_made k dst src len version) is
 made_is whole first values (protected.Initial h) (count, left, start, stop, values_are) =
-    let at : ℕ → ℕ → ProtectedHeader = λ a b. protected.Initial (record { dst_cid = h.dst_cid; src_cid = h.src_cid; token_pos = record { start = a; end = b }; len = h.len; version = h.version }) in
+    let at : ℕ → ℕ → ProtectedHeader =
+    λ a b. protected.Initial (record {
+      dst_cid = h.dst_cid;
+      src_cid = h.src_cid;
+      token_pos = record { start = a; end = b };
+      len = h.len;
+      version = h.version;
+    }) in
     let begins : whole - (count + left) ≡ h.token_pos.start = omega (arith, stop, start) in
-    ap (made whole first) values_are ∙ ap (λ (n : ℕ). at n (n + count)) begins ∙ ap (λ (n : ℕ). at h.token_pos.start n) start
+    ap (made whole first) values_are ∙ ap (λ (n : ℕ). at n (n + count)) begins
+    ∙ ap (λ (n : ℕ). at h.token_pos.start n) start
 
 -- the values of a row make the header that they are
-typed_is : (context : DecodeOptions) (whole first version : ℕ) (dst src left rest : List ℕ) (values : List HeaderValue) → length left ≤ whole → version ≢ 0
-    → (ty : LongHeaderType) → long_type version first ≡ ty → AreHeaderFields context (typed_row ty) (id_values version dst src) values left rest
+typed_is : (context : DecodeOptions) (whole first version : ℕ) (dst src left rest : List ℕ) (values : List HeaderValue)
+    → length left ≤ whole → version ≢ 0
+    → (ty : LongHeaderType) → long_type version first ≡ ty
+    → AreHeaderFields context (typed_row ty) (id_values version dst src) values left rest
     → IsHeader whole first values (made whole first values)
 typed_is context whole first version dst src left rest values room some kind.Retry is (values_are, same) =
     subst (λ (xs : List HeaderValue). IsHeader whole first xs (made whole first xs)) (sym values_are)
-    (subst (IsHeader whole first (id_values version dst src)) (sym (otherwise (nat_eq version 0) _ _ (protected.Retry dst src version) (grind (arith, nat_tests)) refl)) (some, is, refl))
-typed_is context whole first version dst src left rest values room some (kind.Standard ty) is (v, back, (f, split, (len, is1, encoded)), (values_are, same)) =
-    let all : values ≡ Number version ∷ Bytes dst ∷ Bytes src ∷ Number len ∷ [] = values_are ∙ ap (λ (xs : List HeaderValue). id_values version dst src ++ xs) is1 in
+    (subst (IsHeader whole first (id_values version dst src))
+    (sym (otherwise (nat_eq version 0) _ _ (protected.Retry dst src version) (grind (arith, nat_tests)) refl))
+    (some, is, refl))
+typed_is context whole first version dst src left rest values room some (kind.Standard ty) is
+    (v, back, (f, split, (len, is1, encoded)), (values_are, same)) =
+    let all : values ≡ Number version ∷ Bytes dst ∷ Bytes src ∷ Number len ∷ [] =
+    values_are ∙ ap (λ (xs : List HeaderValue). id_values version dst src ++ xs) is1 in
     subst (λ (xs : List HeaderValue). IsHeader whole first xs (made whole first xs)) (sym all)
-    (subst (IsHeader whole first (Number version ∷ Bytes dst ∷ Bytes src ∷ Number len ∷ [])) (ap (λ (k : LongHeaderType). long_made k dst src len version) (sym is)) (is, refl))
-typed_is context whole first version dst src left rest values room some kind.Initial is
-    (v1, t1, (f1, split1, (count, is1, encoded1)), (v2, t2, (token, split2, (is2, width)), (v3, t3, (f3, split3, (len, is3, encoded3)), (values_are, same)))) =
+    (subst (IsHeader whole first (Number version ∷ Bytes dst ∷ Bytes src ∷ Number len ∷ []))
+    (ap (λ (k : LongHeaderType). long_made k dst src len version) (sym is)) (is, refl))
+typed_is context whole first version dst src left rest values room some kind.Initial is (
+  v1,
+  t1,
+  (f1, split1, (count, is1, encoded1)),
+  (
+    v2,
+    t2,
+    (token, split2, (is2, width)),
+    (v3, t3, (f3, split3, (len, is3, encoded3)), (values_are, same)),
+  ),
+) =
     let base : List HeaderValue = id_values version dst src in
     let all : values ≡ Number version ∷ Bytes dst ∷ Bytes src ∷ Number count ∷ Number (length t2) ∷ Number len ∷ [] =
-    values_are ∙ (let eq : ((base ++ v1) ++ v2) ++ v3 ≡ ((base ++ Number count ∷ []) ++ Number (length t2) ∷ []) ++ Number len ∷ [] = rw (is1, is2, is3) in eq) in
-    let size : length token ≡ count = width ∙ (let eq : token_length_of (base ++ v1) ≡ count = ap (λ (xs : List HeaderValue). token_length_of (base ++ xs)) is1 in eq) in
-    let inner : count + length t2 ≤ whole = omega (arith, room, size, ap length split1, length-append f1 t1, ap length split2, length-append token t2) in
-    subst (λ (xs : List HeaderValue). IsHeader whole first xs (made whole first xs)) (sym all) (count, length t2, refl, omega (arith, inner), refl)
+    values_are
+    ∙ (let eq : ((base ++ v1) ++ v2) ++ v3 ≡ ((base ++ Number count ∷ []) ++ Number (length t2) ∷ []) ++ Number len
+    ∷ [] = rw (is1, is2, is3) in eq) in
+    let size : length token ≡ count =
+    width
+    ∙ (let eq : token_length_of (base ++ v1) ≡ count = ap (λ (xs : List HeaderValue). token_length_of (base ++ xs)) is1 in eq) in
+    let inner : count + length t2 ≤ whole =
+    omega (arith, room, size, ap length split1, length-append f1 t1, ap length split2, length-append token t2) in
+    subst (λ (xs : List HeaderValue). IsHeader whole first xs (made whole first xs)) (sym all)
+    (count, length t2, refl, omega (arith, inner), refl)
 
-behind_is : (context : DecodeOptions) (whole first version : ℕ) (dst src left rest : List ℕ) (values : List HeaderValue) → length left ≤ whole → 128 ≤ first
-    → (none : Bool) → nat_eq version 0 ≡ none → AreHeaderFields context (cond none [] (Supported version ∷ typed_row (long_type version first))) (id_values version dst src) values left rest
+behind_is : (context : DecodeOptions) (whole first version : ℕ) (dst src left rest : List ℕ) (values : List HeaderValue)
+    → length left ≤ whole → 128 ≤ first
+    → (none : Bool) → nat_eq version 0 ≡ none
+    → AreHeaderFields context (cond none [] (Supported version ∷ typed_row (long_type version first)))
+    (id_values version dst src) values left rest
     → IsHeader whole first values (made whole first values)
 behind_is context whole first version dst src left rest values room long true is (values_are, same) =
     let zero_version : version ≡ 0 = grind (arith, nat_tests) in
@@ -149,15 +211,26 @@ behind_is context whole first version dst src left rest values room long true is
 behind_is context whole first version dst src left rest values room long false is (v, back, (f, split, (values_are, none, known)), others) =
     let some : version ≢ 0 = grind (arith, nat_tests) in
     let kept : left ≡ back = split ∙ ap (λ (xs : List ℕ). xs ++ back) none in
-    typed_is context whole first version dst src back rest values (subst (λ (xs : List ℕ). length xs ≤ whole) kept room) some (long_type version first) refl
-    (subst (λ (xs : List HeaderValue). AreHeaderFields context (typed_row (long_type version first)) (id_values version dst src ++ xs) values back rest) values_are others)
+    typed_is context whole first version dst src back rest values (subst (λ (xs : List ℕ). length xs ≤ whole) kept room)
+    some (long_type version first) refl
+    (subst (λ (xs : List HeaderValue). AreHeaderFields context (typed_row (long_type version first))
+    (id_values version dst src ++ xs) values back rest) values_are others)
 
-pub ids_room : (text : List ℕ) (version : ℕ) (dst src left : List ℕ) → Ids text version dst src left → length left ≤ length text
+pub ids_room : (text : List ℕ) (version : ℕ) (dst src left : List ℕ) → Ids text version dst src left
+    → length left ≤ length text
 ids_room text version dst src left ids =
-    omega (arith, ap length ids.text_is, length-append ids.word (long_id dst ++ (long_id src ++ left)), length-append dst (long_id src ++ left), length-append src left)
+    omega (
+      arith,
+      ap length ids.text_is,
+      length-append ids.word (long_id dst ++ (long_id src ++ left)),
+      length-append dst (long_id src ++ left),
+      length-append src left,
+    )
 
-row_is : (context : DecodeOptions) (whole first : ℕ) (text rest : List ℕ) (values : List HeaderValue) → length text ≤ whole
-    → (long : Bool) → is_long first ≡ long → AreHeaderFields context (cond long (long_row (row_behind_ids first (num (take 4 text)))) (ShortId ∷ [])) [] values text rest
+row_is : (context : DecodeOptions) (whole first : ℕ) (text rest : List ℕ) (values : List HeaderValue)
+    → length text ≤ whole
+    → (long : Bool) → is_long first ≡ long
+    → AreHeaderFields context (cond long (long_row (row_behind_ids first (num (take 4 text)))) (ShortId ∷ [])) [] values text rest
     → IsHeader whole first values (made whole first values)
 row_is context whole first text rest values room false is (v, back, (f, split, (dst, is1, parsed)), (values_are, same)) =
     subst (λ (xs : List HeaderValue). IsHeader whole first xs (made whole first xs)) (sym (values_are ∙ is1)) (is, refl, refl)
@@ -165,7 +238,8 @@ row_is context whole first text rest values room true is d =
     let long : 128 ≤ first = grind (arith, nat_tests) in
     let x = ids_of context (row_behind_ids first (num (take 4 text))) values text rest d in
     let same : num (take 4 text) ≡ x.0 = version_is text x.0 x.1 x.2 x.3 x.4 in
-    behind_is context whole first x.0 x.1 x.2 x.3 rest values (omega (arith, room, ids_room text x.0 x.1 x.2 x.3 x.4)) long (nat_eq x.0 0) refl
+    behind_is context whole first x.0 x.1 x.2 x.3 rest values (omega (arith, room, ids_room text x.0 x.1 x.2 x.3 x.4))
+    long (nat_eq x.0 0) refl
     (subst (λ (n : ℕ). AreHeaderFields context (row_behind_ids first n) (id_values x.0 x.1 x.2) values x.3 rest) same x.5)
 
 -- ---- the reader, by rows
@@ -186,30 +260,44 @@ cond_bind false e x k y same = same refl
 number_value : ℕ × List ℕ → Taken
 number_value x = (Number x.0 ∷ [], x.1)
 
-typed_same : (context : DecodeOptions) (whole first version : ℕ) (dst src left : List ℕ) → nat_eq version 0 ≡ false → (ty : LongHeaderType) → long_type version first ≡ ty
+typed_same : (context : DecodeOptions) (whole first version : ℕ) (dst src left : List ℕ) → nat_eq version 0 ≡ false
+    → (ty : LongHeaderType) → long_type version first ≡ ty
     → typed_at ty whole dst src version left ≡ row_at context (typed_row ty) (id_values version dst src) left (finish whole first)
 unfolding typed_at
 typed_same context whole first version dst src left some kind.Retry is =
-    sym (ap (λ (b : Bool). let r : Result (ProtectedHeader × List ℕ) Refusal = Ok (cond b (protected.VersionNegotiate (first - 128) dst src) (protected.Retry dst src version), left) in r) some)
+    sym (ap (λ (b : Bool). let r : Result (ProtectedHeader × List ℕ) Refusal = Ok
+    (cond b (protected.VersionNegotiate (first - 128) dst src) (protected.Retry dst src version), left) in r) some)
 typed_same context whole first version dst src left some (kind.Standard ty) is =
     reassoc (ok_or (number_at left) at_end) (λ x. (Number x.0 ∷ [], x.1)) _ _
-    (λ len e. sym (ap (λ (k : LongHeaderType). let r : Result (ProtectedHeader × List ℕ) Refusal = Ok (long_made k dst src len.0 version, len.1) in r) is))
+    (λ len e. sym (ap (λ (k : LongHeaderType). let r : Result (ProtectedHeader × List ℕ) Refusal = Ok
+    (long_made k dst src len.0 version, len.1) in r) is))
 typed_same context whole first version dst src left some kind.Initial is =
     reassoc (ok_or (number_at left) at_end) (λ x. (Number x.0 ∷ [], x.1)) _ _
     (λ token e. cond_bind (nat_lt (length token.1) token.0) (Invalid (codes "token out of bounds")) (Number (length (drop token.0 token.1)) ∷ [], drop token.0 token.1) _ _
     (λ within. reassoc (ok_or (number_at (drop token.0 token.1)) at_end) (λ x. (Number x.0 ∷ [], x.1)) _ _
     (λ len f.
-    let at : ℕ → ProtectedHeader = λ a. protected.Initial (record { dst_cid = dst; src_cid = src; token_pos = record { start = a; end = a + token.0 }; len = len.0; version = version }) in
+    let at : ℕ → ProtectedHeader =
+    λ a. protected.Initial (record {
+      dst_cid = dst;
+      src_cid = src;
+      token_pos = record { start = a; end = a + token.0 };
+      len = len.0;
+      version = version;
+    }) in
     let enough : token.0 ≤ length token.1 = grind (arith, nat_tests) in
     let sum : length token.1 ≡ token.0 + length (drop token.0 token.1) = omega (arith, length-drop token.0 token.1) in
     ap (λ (n : ℕ). let r : Result (ProtectedHeader × List ℕ) Refusal = Ok (at (whole - n), len.1) in r) sum)))
 
-behind_same : (context : DecodeOptions) (whole first version : ℕ) (dst src left : List ℕ) (none : Bool) → nat_eq version 0 ≡ none
+behind_same : (context : DecodeOptions) (whole first version : ℕ) (dst src left : List ℕ) (none : Bool)
+    → nat_eq version 0 ≡ none
     → cond none (Ok (protected.VersionNegotiate (first - 128) dst src, left))
-    (cond (not (list_any (λ known. nat_eq known version) context.versions)) (Err (Unsupported src dst version)) (typed_at (long_type version first) whole dst src version left))
-    ≡ row_at context (cond none [] (Supported version ∷ typed_row (long_type version first))) (id_values version dst src) left (finish whole first)
+    (cond (not (list_any (λ known. nat_eq known version) context.versions)) (Err (Unsupported src dst version))
+    (typed_at (long_type version first) whole dst src version left))
+    ≡ row_at context (cond none [] (Supported version ∷ typed_row (long_type version first)))
+    (id_values version dst src) left (finish whole first)
 behind_same context whole first version dst src left true is =
-    sym (ap (λ (b : Bool). let r : Result (ProtectedHeader × List ℕ) Refusal = Ok (cond b (protected.VersionNegotiate (first - 128) dst src) (protected.Retry dst src version), left) in r) is)
+    sym (ap (λ (b : Bool). let r : Result (ProtectedHeader × List ℕ) Refusal = Ok
+    (cond b (protected.VersionNegotiate (first - 128) dst src) (protected.Retry dst src version), left) in r) is)
 behind_same context whole first version dst src left false is =
     cond_bind (not (list_any (λ known. nat_eq known version) context.versions)) (Unsupported src dst version) ([], left) _ _
     (λ known. typed_same context whole first version dst src left is (long_type version first) refl)
@@ -221,21 +309,26 @@ word_says text x e = elim (chosen (nat_lt (length text) 4) _ _ (Some x) e) [
 ]
 
 long_same : (context : DecodeOptions) (whole first : ℕ) (text : List ℕ)
-    → long_at context.versions whole first text ≡ row_at context (long_row (row_behind_ids first (num (take 4 text)))) [] text (finish whole first)
+    → long_at context.versions whole first text ≡ row_at context (long_row (row_behind_ids first (num (take 4 text))))
+    [] text (finish whole first)
 unfolding long_at
 long_same context whole first text =
     reassoc (ok_or (word_at text) at_end) (λ x. (Number x.0 ∷ [], x.1)) _ _
     (λ version e. reassoc (ok_or (long_id_at version.1) bad_id) (λ x. (Bytes x.0 ∷ [], x.1)) _ _
     (λ dst f. reassoc (ok_or (long_id_at dst.1) bad_id) (λ x. (Bytes x.0 ∷ [], x.1)) _ _
     (λ src g. behind_same context whole first version.0 dst.0 src.0 src.1 (nat_eq version.0 0) refl
-    ∙ ap (λ (n : ℕ). row_at context (row_behind_ids first n) (id_values version.0 dst.0 src.0) src.1 (finish whole first)) (sym (word_says text version (option_ok (word_at text) at_end version e))))))
+    ∙ ap (λ (n : ℕ). row_at context (row_behind_ids first n) (id_values version.0 dst.0 src.0) src.1
+    (finish whole first)) (sym (word_says text version (option_ok (word_at text) at_end version e))))))
 
 form_same : (context : DecodeOptions) (whole first : ℕ) (text : List ℕ) (long : Bool) → is_long first ≡ long
-    → cond (nat_lt first 128) (context.parsed text >>= λ id. Ok (protected.Short (nat_eq (first / 32 % 2) 1) id.0, drop id.1 text)) (long_at context.versions whole first text)
+    → cond (nat_lt first 128) (context.parsed text >>= λ id. Ok
+    (protected.Short (nat_eq (first / 32 % 2) 1) id.0, drop id.1 text)) (long_at context.versions whole first text)
     ≡ row_at context (cond long (long_row (row_behind_ids first (num (take 4 text)))) (ShortId ∷ [])) [] text (finish whole first)
-form_same context whole first text true is = otherwise (nat_lt first 128) _ _ _ (grind (arith, nat_tests)) (long_same context whole first text)
+form_same context whole first text true is =
+    otherwise (nat_lt first 128) _ _ _ (grind (arith, nat_tests)) (long_same context whole first text)
 form_same context whole first text false is =
-    taken (nat_lt first 128) _ _ _ (grind (arith, nat_tests)) (reassoc (context.parsed text) (λ id. (Bytes id.0 ∷ [], drop id.1 text)) _ _ (λ id e. refl))
+    taken (nat_lt first 128) _ _ _ (grind (arith, nat_tests))
+    (reassoc (context.parsed text) (λ id. (Bytes id.0 ∷ [], drop id.1 text)) _ _ (λ id e. refl))
 
 fixed_test : (grease : Bool) (m : ℕ) → (not grease && nat_eq (m % 2) 0) ≡ not (grease || nat_eq (m % 2) 1)
 fixed_test true m = refl
@@ -260,13 +353,16 @@ by_rows context whole first text =
 
 -- ---- each way
 
-pub header_again : (context : DecodeOptions) (whole : ℕ) (bytes : List ℕ) (h : ProtectedHeader) (rest : List ℕ) → HeaderAt context whole bytes h rest → header_at context whole bytes ≡ Ok (h, rest)
+pub header_again : (context : DecodeOptions) (whole : ℕ) (bytes : List ℕ) (h : ProtectedHeader) (rest : List ℕ)
+    → HeaderAt context whole bytes h rest → header_at context whole bytes ≡ Ok (h, rest)
 header_again context whole bytes h rest (first, text, values, split, fixed, fields, is) =
     ap (header_at context whole) split ∙ by_rows context whole first text
-    ∙ taken (is_fixed context first) _ _ _ fixed (row_again context (header_row_of first (num (take 4 text))) [] values text rest (finish whole first) fields)
+    ∙ taken (is_fixed context first) _ _ _ fixed (row_again context (header_row_of first (num (take 4 text))) [] values
+    text rest (finish whole first) fields)
     ∙ ap (λ (g : ProtectedHeader). let r : Result (ProtectedHeader × List ℕ) Refusal = Ok (g, rest) in r) (made_is whole first values h is)
 
-pub header_found : (context : DecodeOptions) (whole : ℕ) (bytes rest : List ℕ) (h : ProtectedHeader) → AreBytes bytes → length bytes ≤ whole → TakesWithin context
+pub header_found : (context : DecodeOptions) (whole : ℕ) (bytes rest : List ℕ) (h : ProtectedHeader) → AreBytes bytes
+    → length bytes ≤ whole → TakesWithin context
     → header_at context whole bytes ≡ Ok (h, rest) → HeaderAt context whole bytes h rest
 unfolding header_at
 header_found context whole [] rest h fits room takes e = absurd cc
@@ -274,7 +370,9 @@ header_found context whole (first ∷ text) rest h fits room takes e =
     elim (chosen (is_fixed context first) _ _ (Ok (h, rest)) (sym (by_rows context whole first text) ∙ e)) [
       | inr bad ↦ absurd (err_ok (Invalid (codes "fixed bit unset")) (h, rest) bad.1)
       | inl good ↦
-          let x = row_found context (header_row_of first (num (take 4 text))) [] text (finish whole first) (h, rest) (λ i. fits (suc i)) takes good.1 in
+          let x =
+          row_found context (header_row_of first (num (take 4 text))) [] text (finish whole first) (h, rest)
+          (λ i. fits (suc i)) takes good.1 in
           let parts = ok_pair x.3 in (
             first,
             text,
@@ -286,25 +384,35 @@ header_found context whole (first ∷ text) rest h fits room takes e =
           )
     ]
 
-pub refused_again : (context : DecodeOptions) (whole : ℕ) (bytes : List ℕ) (e : Refusal) → AreBytes bytes → Refused context bytes e → header_at context whole bytes ≡ Err e
+pub refused_again : (context : DecodeOptions) (whole : ℕ) (bytes : List ℕ) (e : Refusal) → AreBytes bytes
+    → Refused context bytes e → header_at context whole bytes ≡ Err e
 unfolding header_at
-refused_again context whole [] e fits is = ap (λ (r : Refusal). let q : Result (ProtectedHeader × List ℕ) Refusal = Err r in q) (sym is)
+refused_again context whole [] e fits is =
+    ap (λ (r : Refusal). let q : Result (ProtectedHeader × List ℕ) Refusal = Err r in q) (sym is)
 refused_again context whole (first ∷ text) e fits (inl (unset, is)) =
-    by_rows context whole first text ∙ otherwise (is_fixed context first) _ _ _ unset (ap (λ (r : Refusal). let q : Result (ProtectedHeader × List ℕ) Refusal = Err r in q) (sym is))
+    by_rows context whole first text
+    ∙ otherwise (is_fixed context first) _ _ _ unset (ap (λ (r : Refusal). let q : Result (ProtectedHeader × List ℕ)
+    Refusal = Err r in q) (sym is))
 refused_again context whole (first ∷ text) e fits (inr (set, stops)) =
     by_rows context whole first text ∙ taken (is_fixed context first) _ _ _ set
     (row_stops context (header_row_of first (num (take 4 text))) [] text (finish whole first) e (λ i. fits (suc i)) stops)
 
-pub refused_found : (context : DecodeOptions) (whole : ℕ) (bytes : List ℕ) (e : Refusal) → AreBytes bytes → TakesWithin context → header_at context whole bytes ≡ Err e → Refused context bytes e
+pub refused_found : (context : DecodeOptions) (whole : ℕ) (bytes : List ℕ) (e : Refusal) → AreBytes bytes
+    → TakesWithin context → header_at context whole bytes ≡ Err e → Refused context bytes e
 unfolding header_at
 refused_found context whole [] e fits takes h = sym (err_same _ e h)
 refused_found context whole (first ∷ text) e fits takes h =
     elim (chosen (is_fixed context first) _ _ (Err e) (sym (by_rows context whole first text) ∙ h)) [
       | inr bad ↦ inl (bad.0, sym (err_same _ e bad.1))
-      | inl good ↦ inr (good.0, row_refused context (header_row_of first (num (take 4 text))) [] text (finish whole first) e (λ i. fits (suc i)) takes (λ after rest f. ok_err _ e f) good.1)
+      | inl good ↦ inr (
+        good.0,
+        row_refused context (header_row_of first (num (take 4 text))) [] text
+            (finish whole first) e (λ i. fits (suc i)) takes (λ after rest f. ok_err _ e f) good.1,
+      )
     ]
 
 -- a header takes a byte
-pub header_strict : (context : DecodeOptions) (whole : ℕ) (bytes : List ℕ) (h : ProtectedHeader) (rest : List ℕ) → HeaderAt context whole bytes h rest → length rest < length bytes
+pub header_strict : (context : DecodeOptions) (whole : ℕ) (bytes : List ℕ) (h : ProtectedHeader) (rest : List ℕ)
+    → HeaderAt context whole bytes h rest → length rest < length bytes
 header_strict context whole bytes h rest (first, text, values, split, fixed, fields, is) =
     omega (arith, ap length split, row_room context (header_row_of first (num (take 4 text))) [] values text rest fields)

@@ -34,17 +34,20 @@ not_false : (b : Bool) → not b ≡ false → b ≡ true
 not_false true e = refl
 not_false false e = sym e
 
-any_again : (versions : List ℕ) (version k : ℕ) → k < length versions → slice_index_or versions k version ≡ version → list_any (λ known. nat_eq known version) versions ≡ true
+any_again : (versions : List ℕ) (version k : ℕ) → k < length versions → slice_index_or versions k version ≡ version
+    → list_any (λ known. nat_eq known version) versions ≡ true
 any_again [] version k lt e = absurd (omega arith)
 any_again (v ∷ versions) version zero lt e =
     or_left (nat_eq v version) (list_any (λ known. nat_eq known version) versions) (grind (arith, nat_tests))
 any_again (v ∷ versions) version (suc k) lt e =
     or_right (nat_eq v version) (list_any (λ known. nat_eq known version) versions) (any_again versions version k (omega arith) e)
 
-pub known_again : (versions : List ℕ) (version : ℕ) → Contains versions version → not (list_any (λ known. nat_eq known version) versions) ≡ false
+pub known_again : (versions : List ℕ) (version : ℕ) → Contains versions version
+    → not (list_any (λ known. nat_eq known version) versions) ≡ false
 known_again versions version h = ap not (any_again versions version h.0 h.1 h.2)
 
-pub known_at : (versions : List ℕ) (version : ℕ) → list_any (λ known. nat_eq known version) versions ≡ true → Contains versions version
+pub known_at : (versions : List ℕ) (version : ℕ) → list_any (λ known. nat_eq known version) versions ≡ true
+    → Contains versions version
 known_at [] version e = absurd cc
 known_at (v ∷ versions) version e =
     elim (or_true (nat_eq v version) (list_any (λ known. nat_eq known version) versions) e) [
@@ -52,8 +55,10 @@ known_at (v ∷ versions) version e =
       | inr later ↦ (let found = known_at versions version later in (suc found.0, omega (arith, found.1), found.2))
     ]
 
-known_found : (versions : List ℕ) (version : ℕ) → not (list_any (λ known. nat_eq known version) versions) ≡ false → Contains versions version
-known_found versions version e = known_at versions version (not_false (list_any (λ known. nat_eq known version) versions) e)
+known_found : (versions : List ℕ) (version : ℕ) → not (list_any (λ known. nat_eq known version) versions) ≡ false
+    → Contains versions version
+known_found versions version e =
+    known_at versions version (not_false (list_any (λ known. nat_eq known version) versions) e)
 
 -- ---- a field
 
@@ -80,24 +85,30 @@ field_at context Token before bytes =
 field_at context Length before bytes = number_next bytes
 field_at context ShortId before bytes = context.parsed bytes >>= λ id. Ok (Bytes id.0 ∷ [], drop id.1 bytes)
 
-same_ok : (a c : List HeaderValue) (b d : List ℕ) → a ≡ c → b ≡ d → (let r : Result Taken Refusal = Ok (a, b) in r) ≡ Ok (c, d)
+same_ok : (a c : List HeaderValue) (b d : List ℕ) → a ≡ c → b ≡ d
+    → (let r : Result Taken Refusal = Ok (a, b) in r) ≡ Ok (c, d)
 same_ok a c b d e f =
-    ap (λ (x : List HeaderValue). let r : Result Taken Refusal = Ok (x, b) in r) e ∙ ap (λ (y : List ℕ). let r : Result Taken Refusal = Ok (c, y) in r) f
+    ap (λ (x : List HeaderValue). let r : Result Taken Refusal = Ok (x, b) in r) e
+    ∙ ap (λ (y : List ℕ). let r : Result Taken Refusal = Ok (c, y) in r) f
 
 -- a field that comes first is read
 
-id_next_again : (values : List HeaderValue) (front rest id : List ℕ) → values ≡ Bytes id ∷ [] → length id ≤ 20 → front ≡ length id ∷ id → id_next (front ++ rest) ≡ Ok (values, rest)
+id_next_again : (values : List HeaderValue) (front rest id : List ℕ) → values ≡ Bytes id ∷ [] → length id ≤ 20
+    → front ≡ length id ∷ id → id_next (front ++ rest) ≡ Ok (values, rest)
 id_next_again values front rest id is short text =
-    then_ok _ _ (id, rest) _ (some_of _ bad_id _ (ap (λ (xs : List ℕ). long_id_at (xs ++ rest)) text ∙ id_again id rest short)) (same_ok _ values rest rest (sym is) refl)
+    then_ok _ _ (id, rest) _ (some_of _ bad_id _ (ap (λ (xs : List ℕ). long_id_at (xs ++ rest)) text
+    ∙ id_again id rest short)) (same_ok _ values rest rest (sym is) refl)
 
 field_again : (context : DecodeOptions) (field : HeaderField) (before values : List HeaderValue) (front rest : List ℕ)
-    → IsHeaderField context field before values front rest → field_at context field before (front ++ rest) ≡ Ok (values, rest)
+    → IsHeaderField context field before values front rest
+    → field_at context field before (front ++ rest) ≡ Ok (values, rest)
 field_again context Version before values front rest d =
     then_ok _ _ (d.0, rest) _ (some_of _ at_end _ (word_of front rest d.0 d.2.width d.2.value)) (same_ok _ values rest rest (sym d.1) refl)
 field_again context DestinationId before values front rest d = id_next_again values front rest d.0 d.1 d.2 d.3
 field_again context SourceId before values front rest d = id_next_again values front rest d.0 d.1 d.2 d.3
 field_again context (Supported version) before values front rest d =
-    otherwise _ _ _ _ (known_again context.versions version d.2) (same_ok [] values (front ++ rest) rest (sym d.0) (ap (λ (xs : List ℕ). xs ++ rest) d.1))
+    otherwise _ _ _ _ (known_again context.versions version d.2)
+    (same_ok [] values (front ++ rest) rest (sym d.0) (ap (λ (xs : List ℕ). xs ++ rest) d.1))
 field_again context TokenLength before values front rest d =
     then_ok _ _ (d.0, rest) _ (some_of _ at_end _ (var_again d.0 front rest d.2)) (same_ok _ values rest rest (sym d.1) refl)
 field_again context Token before values front rest d =
@@ -114,7 +125,8 @@ field_again context ShortId before values front rest d =
 
 -- and a field that is read comes first
 
-field_found : (context : DecodeOptions) (field : HeaderField) (before values : List HeaderValue) (bytes rest : List ℕ) → AreBytes bytes → (field ≡ ShortId → TakesWithin context)
+field_found : (context : DecodeOptions) (field : HeaderField) (before values : List HeaderValue) (bytes rest : List ℕ)
+    → AreBytes bytes → (field ≡ ShortId → TakesWithin context)
     → field_at context field before bytes ≡ Ok (values, rest) → BeginsWithField context field before values bytes rest
 field_found context Version before values bytes rest fits takes e =
     let s = bind_ok (ok_or (word_at bytes) at_end) _ (values, rest) e in
@@ -164,11 +176,20 @@ field_found context ShortId before values bytes rest fits takes e =
     let n : ℕ = s.0.1 in
     let front : List ℕ = take n bytes in
     let split : bytes ≡ front ++ rest = sym (take-append-drop n bytes) ∙ ap (λ (xs : List ℕ). front ++ xs) parts.1 in
-    let width : n ≡ length front = omega (arith, length-take n bytes, takes refl bytes s.0.0 n s.1) in
-    (front, split, (s.0.0, sym parts.0, ap context.parsed (sym split) ∙ s.1 ∙ ap (λ (k : ℕ). let r : Result (List ℕ × ℕ) Refusal = Ok (s.0.0, k) in r) width))
+    let width : n ≡ length front = omega (arith, length-take n bytes, takes refl bytes s.0.0 n s.1) in (
+      front,
+      split,
+      (
+        s.0.0,
+        sym parts.0,
+        ap context.parsed (sym split) ∙ s.1
+            ∙ ap (λ (k : ℕ). let r : Result (List ℕ × ℕ) Refusal = Ok (s.0.0, k) in r) width,
+      ),
+    )
 
 -- a field that can't be read has this refusal
-field_reported : (context : DecodeOptions) (field : HeaderField) (before : List HeaderValue) (bytes : List ℕ) (e : Refusal) → field_at context field before bytes ≡ Err e → IsRefusal context field before bytes e
+field_reported : (context : DecodeOptions) (field : HeaderField) (before : List HeaderValue) (bytes : List ℕ) (e : Refusal)
+    → field_at context field before bytes ≡ Err e → IsRefusal context field before bytes e
 field_reported context Version before bytes e h = elim (step (word_at bytes) at_end _ e h) [
   | inl bad ↦ sym bad.1
   | inr good ↦ absurd (ok_err _ e good.2)
@@ -181,18 +202,20 @@ field_reported context SourceId before bytes e h = elim (step (long_id_at bytes)
   | inl bad ↦ sym bad.1
   | inr good ↦ absurd (ok_err _ e good.2)
 ]
-field_reported context (Supported version) before bytes e h = elim (chosen (not (list_any (λ known. nat_eq known version) context.versions)) _ _ (Err e) h) [
-  | inl bad ↦ sym (err_same _ e bad.1)
-  | inr good ↦ absurd (ok_err _ e good.1)
-]
+field_reported context (Supported version) before bytes e h =
+    elim (chosen (not (list_any (λ known. nat_eq known version) context.versions)) _ _ (Err e) h) [
+      | inl bad ↦ sym (err_same _ e bad.1)
+      | inr good ↦ absurd (ok_err _ e good.1)
+    ]
 field_reported context TokenLength before bytes e h = elim (step (number_at bytes) at_end _ e h) [
   | inl bad ↦ sym bad.1
   | inr good ↦ absurd (ok_err _ e good.2)
 ]
-field_reported context Token before bytes e h = elim (chosen (nat_lt (length bytes) (token_length_of before)) _ _ (Err e) h) [
-  | inl bad ↦ sym (err_same _ e bad.1)
-  | inr good ↦ absurd (ok_err _ e good.1)
-]
+field_reported context Token before bytes e h =
+    elim (chosen (nat_lt (length bytes) (token_length_of before)) _ _ (Err e) h) [
+      | inl bad ↦ sym (err_same _ e bad.1)
+      | inr good ↦ absurd (ok_err _ e good.1)
+    ]
 field_reported context Length before bytes e h = elim (step (number_at bytes) at_end _ e h) [
   | inl bad ↦ sym bad.1
   | inr good ↦ absurd (ok_err _ e good.2)
@@ -202,14 +225,17 @@ field_reported context ShortId before bytes e h = elim (bind_err (context.parsed
   | inr good ↦ absurd (ok_err _ e good.2)
 ]
 
-field_stops : (context : DecodeOptions) (field : HeaderField) (before : List HeaderValue) (bytes : List ℕ) (e : Refusal) → field_at context field before bytes ≡ Err e → StopsAtField context field before bytes e
+field_stops : (context : DecodeOptions) (field : HeaderField) (before : List HeaderValue) (bytes : List ℕ) (e : Refusal)
+    → field_at context field before bytes ≡ Err e → StopsAtField context field before bytes e
 field_stops context field before bytes e h = record {
-  none = λ values rest (front, split, is). err_ok e (values, rest) (sym h ∙ ap (field_at context field before) split ∙ field_again context field before values front rest is);
+  none = λ values rest (front, split, is). err_ok e (values, rest)
+      (sym h ∙ ap (field_at context field before) split ∙ field_again context field before values front rest is);
   why = field_reported context field before bytes e h;
 }
 
 -- where no such field stands, none is read
-none_of_other : (context : DecodeOptions) (field : HeaderField) (before : List HeaderValue) (bytes : List ℕ) (e : Refusal) → AreBytes bytes → (field ≡ ShortId → TakesWithin context)
+none_of_other : (context : DecodeOptions) (field : HeaderField) (before : List HeaderValue) (bytes : List ℕ) (e : Refusal)
+    → AreBytes bytes → (field ≡ ShortId → TakesWithin context)
     → StopsAtField context field before bytes e → ((d : Refusal) → IsRefusal context field before bytes d → d ≡ e)
     → (read : Result Taken Refusal) → field_at context field before bytes ≡ read → read ≡ Err e
 none_of_other context field before bytes e fits takes stops same (Ok x) h =
@@ -217,43 +243,61 @@ none_of_other context field before bytes e fits takes stops same (Ok x) h =
 none_of_other context field before bytes e fits takes stops same (Err d) h =
     ap (λ (r : Refusal). let q : Result Taken Refusal = Err r in q) (same d (field_reported context field before bytes d h))
 
-pub field_refused : (context : DecodeOptions) (field : HeaderField) (before : List HeaderValue) (bytes : List ℕ) (e : Refusal) → AreBytes bytes
+pub field_refused : (context : DecodeOptions) (field : HeaderField) (before : List HeaderValue) (bytes : List ℕ) (e : Refusal)
+    → AreBytes bytes
     → StopsAtField context field before bytes e → field_at context field before bytes ≡ Err e
-field_refused context Version before bytes e fits stops = none_of_other context Version before bytes e fits (λ s. absurd cc) stops (λ d w. w ∙ sym stops.why) _ refl
-field_refused context DestinationId before bytes e fits stops = none_of_other context DestinationId before bytes e fits (λ s. absurd cc) stops (λ d w. w ∙ sym stops.why) _ refl
-field_refused context SourceId before bytes e fits stops = none_of_other context SourceId before bytes e fits (λ s. absurd cc) stops (λ d w. w ∙ sym stops.why) _ refl
-field_refused context (Supported version) before bytes e fits stops = none_of_other context (Supported version) before bytes e fits (λ s. absurd cc) stops (λ d w. w ∙ sym stops.why) _ refl
-field_refused context TokenLength before bytes e fits stops = none_of_other context TokenLength before bytes e fits (λ s. absurd cc) stops (λ d w. w ∙ sym stops.why) _ refl
-field_refused context Token before bytes e fits stops = none_of_other context Token before bytes e fits (λ s. absurd cc) stops (λ d w. w ∙ sym stops.why) _ refl
-field_refused context Length before bytes e fits stops = none_of_other context Length before bytes e fits (λ s. absurd cc) stops (λ d w. w ∙ sym stops.why) _ refl
+field_refused context Version before bytes e fits stops =
+    none_of_other context Version before bytes e fits (λ s. absurd cc) stops (λ d w. w ∙ sym stops.why) _ refl
+field_refused context DestinationId before bytes e fits stops =
+    none_of_other context DestinationId before bytes e fits (λ s. absurd cc) stops (λ d w. w ∙ sym stops.why) _ refl
+field_refused context SourceId before bytes e fits stops =
+    none_of_other context SourceId before bytes e fits (λ s. absurd cc) stops (λ d w. w ∙ sym stops.why) _ refl
+field_refused context (Supported version) before bytes e fits stops =
+    none_of_other context (Supported version) before bytes e fits (λ s. absurd cc) stops (λ d w. w ∙ sym stops.why) _ refl
+field_refused context TokenLength before bytes e fits stops =
+    none_of_other context TokenLength before bytes e fits (λ s. absurd cc) stops (λ d w. w ∙ sym stops.why) _ refl
+field_refused context Token before bytes e fits stops =
+    none_of_other context Token before bytes e fits (λ s. absurd cc) stops (λ d w. w ∙ sym stops.why) _ refl
+field_refused context Length before bytes e fits stops =
+    none_of_other context Length before bytes e fits (λ s. absurd cc) stops (λ d w. w ∙ sym stops.why) _ refl
 field_refused context ShortId before bytes e fits stops = then_err _ _ e stops.why
 
 -- ---- a row
 
 -- its values and what is left go to finish
-abbrev pub row_at : {B : Type 0} → DecodeOptions → List HeaderField → List HeaderValue → List ℕ → (List HeaderValue → List ℕ → Result B Refusal) → Result B Refusal
+abbrev pub row_at : {B : Type 0} → DecodeOptions → List HeaderField → List HeaderValue → List ℕ
+    → (List HeaderValue → List ℕ → Result B Refusal) → Result B Refusal
 row_at context [] before bytes finish = finish before bytes
-row_at context (field ∷ fields) before bytes finish = field_at context field before bytes >>= λ x. row_at context fields (before ++ x.0) x.1 finish
+row_at context (field ∷ fields) before bytes finish =
+    field_at context field before bytes >>= λ x. row_at context fields (before ++ x.0) x.1 finish
 
-pub row_again : {B : Type 0} (context : DecodeOptions) (fields : List HeaderField) (before after : List HeaderValue) (bytes rest : List ℕ) (finish : List HeaderValue → List ℕ → Result B Refusal)
-    → AreHeaderFields context fields before after bytes rest → row_at context fields before bytes finish ≡ finish after rest
-row_again context [] before after bytes rest finish d = ap (finish before) d.1 ∙ ap (λ (xs : List HeaderValue). finish xs rest) (sym d.0)
+pub row_again : {B : Type 0} (context : DecodeOptions) (fields : List HeaderField) (before after : List HeaderValue)
+    (bytes rest : List ℕ) (finish : List HeaderValue → List ℕ → Result B Refusal)
+    → AreHeaderFields context fields before after bytes rest
+    → row_at context fields before bytes finish ≡ finish after rest
+row_again context [] before after bytes rest finish d =
+    ap (finish before) d.1 ∙ ap (λ (xs : List HeaderValue). finish xs rest) (sym d.0)
 row_again context (field ∷ fields) before after bytes rest finish (values, left, (front, split, is), others) =
     ap (λ (xs : List ℕ). row_at context (field ∷ fields) before xs finish) split
-    ∙ then_ok _ _ (values, left) _ (field_again context field before values front left is) (row_again context fields (before ++ values) after left rest finish others)
+    ∙ then_ok _ _ (values, left) _ (field_again context field before values front left is)
+    (row_again context fields (before ++ values) after left rest finish others)
 
-pub row_found : {B : Type 0} (context : DecodeOptions) (fields : List HeaderField) (before : List HeaderValue) (bytes : List ℕ) (finish : List HeaderValue → List ℕ → Result B Refusal) (y : B)
+pub row_found : {B : Type 0} (context : DecodeOptions) (fields : List HeaderField) (before : List HeaderValue)
+    (bytes : List ℕ) (finish : List HeaderValue → List ℕ → Result B Refusal) (y : B)
     → AreBytes bytes → TakesWithin context → row_at context fields before bytes finish ≡ Ok y
     → (after : List HeaderValue) × (rest : List ℕ) × AreHeaderFields context fields before after bytes rest × (finish after rest ≡ Ok y)
 row_found context [] before bytes finish y fits takes e = (before, bytes, (refl, refl), e)
 row_found context (field ∷ fields) before bytes finish y fits takes e =
     let s = bind_ok (field_at context field before bytes) _ y e in
     let here = field_found context field before s.0.0 bytes s.0.1 fits (λ f. takes) s.1 in
-    let later = row_found context fields (before ++ s.0.0) s.0.1 finish y (back_fits bytes here.0 s.0.1 fits here.1) takes s.2 in
+    let later =
+    row_found context fields (before ++ s.0.0) s.0.1 finish y (back_fits bytes here.0 s.0.1 fits here.1) takes s.2 in
     (later.0, later.1, (s.0.0, s.0.1, here, later.2), later.3)
 
-pub row_refused : {B : Type 0} (context : DecodeOptions) (fields : List HeaderField) (before : List HeaderValue) (bytes : List ℕ) (finish : List HeaderValue → List ℕ → Result B Refusal) (e : Refusal)
-    → AreBytes bytes → TakesWithin context → ((after : List HeaderValue) (rest : List ℕ) → finish after rest ≡ Err e → ⊥)
+pub row_refused : {B : Type 0} (context : DecodeOptions) (fields : List HeaderField) (before : List HeaderValue)
+    (bytes : List ℕ) (finish : List HeaderValue → List ℕ → Result B Refusal) (e : Refusal)
+    → AreBytes bytes → TakesWithin context
+    → ((after : List HeaderValue) (rest : List ℕ) → finish after rest ≡ Err e → ⊥)
     → row_at context fields before bytes finish ≡ Err e → StopsWithinRow context fields before bytes e
 row_refused context [] before bytes finish e fits takes ends h = ends before bytes h
 row_refused context (field ∷ fields) before bytes finish e fits takes ends h =
@@ -265,21 +309,25 @@ row_refused context (field ∷ fields) before bytes finish e fits takes ends h =
             good.0.0,
             good.0.1,
             here,
-            row_refused context fields (before ++ good.0.0) good.0.1 finish e (back_fits bytes here.0 good.0.1 fits here.1) takes ends good.2,
+            row_refused context fields (before ++ good.0.0) good.0.1 finish e
+                (back_fits bytes here.0 good.0.1 fits here.1) takes ends good.2,
           )
     ]
 
-pub row_stops : {B : Type 0} (context : DecodeOptions) (fields : List HeaderField) (before : List HeaderValue) (bytes : List ℕ) (finish : List HeaderValue → List ℕ → Result B Refusal) (e : Refusal)
+pub row_stops : {B : Type 0} (context : DecodeOptions) (fields : List HeaderField) (before : List HeaderValue)
+    (bytes : List ℕ) (finish : List HeaderValue → List ℕ → Result B Refusal) (e : Refusal)
     → AreBytes bytes → StopsWithinRow context fields before bytes e → row_at context fields before bytes finish ≡ Err e
 row_stops context [] before bytes finish e fits stops = absurd stops
-row_stops context (field ∷ fields) before bytes finish e fits (inl stops) = then_err _ _ e (field_refused context field before bytes e fits stops)
+row_stops context (field ∷ fields) before bytes finish e fits (inl stops) =
+    then_err _ _ e (field_refused context field before bytes e fits stops)
 row_stops context (field ∷ fields) before bytes finish e fits (inr (values, left, (front, split, is), others)) =
     ap (λ (xs : List ℕ). row_at context (field ∷ fields) before xs finish) split
     ∙ then_ok _ _ (values, left) _ (field_again context field before values front left is)
     (row_stops context fields (before ++ values) left finish e (back_fits bytes front left fits split) others)
 
 -- a row takes a front
-pub row_room : (context : DecodeOptions) (fields : List HeaderField) (before after : List HeaderValue) (bytes rest : List ℕ) → AreHeaderFields context fields before after bytes rest → length rest ≤ length bytes
+pub row_room : (context : DecodeOptions) (fields : List HeaderField) (before after : List HeaderValue) (bytes rest : List ℕ)
+    → AreHeaderFields context fields before after bytes rest → length rest ≤ length bytes
 row_room context [] before after bytes rest d = omega (arith, ap length d.1)
 row_room context (field ∷ fields) before after bytes rest (values, left, (front, split, is), others) =
     omega (arith, ap length split, length-append front left, row_room context fields (before ++ values) after left rest others)

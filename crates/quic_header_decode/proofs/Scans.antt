@@ -12,7 +12,8 @@ wide_parts tail n room =
     let test : nat_lt (length tail) n ≡ false = grind (arith, nat_tests) in
     otherwise (nat_lt (length tail) n) None (Some (take n tail, drop n tail)) _ test refl
 
-pub wide_stands : (bytes : List ℕ) (at n : ℕ) (tail : List ℕ) → at ≤ length bytes → drop at bytes ≡ n ∷ tail → n ≤ length tail
+pub wide_stands : (bytes : List ℕ) (at n : ℕ) (tail : List ℕ) → at ≤ length bytes → drop at bytes ≡ n ∷ tail
+    → n ≤ length tail
     → wide_id_at (drop at bytes) ≡ Some (slice_range bytes (at + 1) (at + 1 + n), drop (at + 1 + n) bytes)
 wide_stands bytes at n tail before split room =
     let behind : drop (at + 1) bytes ≡ tail = sym (drop-drop 1 at bytes) ∙ ap (drop 1) split in

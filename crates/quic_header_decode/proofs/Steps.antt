@@ -6,11 +6,13 @@ use Rattle.std.proofs.Math.Seq.{drop-append_seam, take-append_seam}
 use Rattle.quic_header_decode.specs.Refusal.{Refusal}
 use Rattle.quic_base.specs.Reading.{◌>>=◌}
 
-pub bind_ok : {A B : Type 0} (r : Result A Refusal) (f : A → Result B Refusal) (y : B) → (r >>= f) ≡ Ok y → (x : A) × (r ≡ Ok x) × (f x ≡ Ok y)
+pub bind_ok : {A B : Type 0} (r : Result A Refusal) (f : A → Result B Refusal) (y : B) → (r >>= f) ≡ Ok y
+    → (x : A) × (r ≡ Ok x) × (f x ≡ Ok y)
 bind_ok (Ok x) f y e = (x, refl, e)
 bind_ok (Err r) f y e = absurd cc
 
-pub match_ok : {A E : Type 0} (P : A → Type 0) (Q : E → Type 0) (r : Result A E) (x : A) → MatchResult r P Q → r ≡ Ok x → P x
+pub match_ok : {A E : Type 0} (P : A → Type 0) (Q : E → Type 0) (r : Result A E) (x : A) → MatchResult r P Q → r ≡ Ok x
+    → P x
 match_ok P Q (Ok y) x m e = let same : y ≡ x = cc in subst P same m
 match_ok P Q (Err y) x m e = absurd cc
 
@@ -31,11 +33,13 @@ some_same e = cc
 pub pair_parts : {A B : Type 0} {a c : A} {b d : B} → (let p : A × B = (a, b) in p) ≡ (c, d) → (a ≡ c) × (b ≡ d)
 pair_parts e = (ap (λ p. p.0) e, ap (λ p. p.1) e)
 
-pub then_ok : {A B : Type 0} (r : Result A Refusal) (f : A → Result B Refusal) (x : A) (y : Result B Refusal) → r ≡ Ok x → f x ≡ y → (r >>= f) ≡ y
+pub then_ok : {A B : Type 0} (r : Result A Refusal) (f : A → Result B Refusal) (x : A) (y : Result B Refusal) → r ≡ Ok x
+    → f x ≡ y → (r >>= f) ≡ y
 then_ok (Ok z) f x y e h = let same : z ≡ x = cc in ap f same ∙ h
 then_ok (Err z) f x y e h = absurd cc
 
-pub then_err : {A B : Type 0} (r : Result A Refusal) (f : A → Result B Refusal) (e : Refusal) → r ≡ Err e → (r >>= f) ≡ Err e
+pub then_err : {A B : Type 0} (r : Result A Refusal) (f : A → Result B Refusal) (e : Refusal) → r ≡ Err e
+    → (r >>= f) ≡ Err e
 then_err (Ok z) f e h = absurd cc
 then_err (Err z) f e h = let same : z ≡ e = cc in ap (λ (x : Refusal). Err x) same
 
@@ -57,8 +61,11 @@ some_of {A} o e x h = ap (λ (p : Option A). ok_or p e) h
 pub none_of : {A : Type 0} (o : Option A) (e : Refusal) → o ≡ None → ok_or o e ≡ Err e
 none_of {A} o e h = ap (λ (p : Option A). ok_or p e) h
 
-pub some_pair : {A B : Type 0} (a c : A) (b d : B) → a ≡ c → b ≡ d → (let o : Option (A × B) = Some (a, b) in o) ≡ Some (c, d)
-some_pair {A} {B} a c b d e f = ap (λ (x : A). let o : Option (A × B) = Some (x, b) in o) e ∙ ap (λ (y : B). let o : Option (A × B) = Some (c, y) in o) f
+pub some_pair : {A B : Type 0} (a c : A) (b d : B) → a ≡ c → b ≡ d
+    → (let o : Option (A × B) = Some (a, b) in o) ≡ Some (c, d)
+some_pair {A} {B} a c b d e f =
+    ap (λ (x : A). let o : Option (A × B) = Some (x, b) in o) e
+    ∙ ap (λ (y : B). let o : Option (A × B) = Some (c, y) in o) f
 
 pub take_front : (xs ys : List ℕ) (n : ℕ) → length xs ≡ n → take n (xs ++ ys) ≡ xs
 take_front xs ys n e = ap (λ (k : ℕ). take k (xs ++ ys)) (sym e) ∙ take-append_seam xs ys
@@ -70,7 +77,8 @@ pub bool_cases : (b : Bool) → (b ≡ true) ⊎ (b ≡ false)
 bool_cases true = inl refl
 bool_cases false = inr refl
 
-pub bind_err : {A B : Type 0} (r : Result A Refusal) (f : A → Result B Refusal) (e : Refusal) → (r >>= f) ≡ Err e → (r ≡ Err e) ⊎ ((x : A) × (r ≡ Ok x) × (f x ≡ Err e))
+pub bind_err : {A B : Type 0} (r : Result A Refusal) (f : A → Result B Refusal) (e : Refusal) → (r >>= f) ≡ Err e
+    → (r ≡ Err e) ⊎ ((x : A) × (r ≡ Ok x) × (f x ≡ Err e))
 bind_err (Ok x) f e h = inr (x, refl, h)
 bind_err (Err z) f e h = let same : z ≡ e = cc in inl (ap (λ (y : Refusal). Err y) same)
 
@@ -79,7 +87,8 @@ option_err (Some x) e f h = absurd cc
 option_err None e f h = (refl, (let same : e ≡ f = cc in same))
 
 -- a step that takes a field, or is refused
-pub step : {A B : Type 0} (o : Option A) (r : Refusal) (f : A → Result B Refusal) (e : Refusal) → (ok_or o r >>= f) ≡ Err e → ((o ≡ None) × (r ≡ e)) ⊎ ((x : A) × (o ≡ Some x) × (f x ≡ Err e))
+pub step : {A B : Type 0} (o : Option A) (r : Refusal) (f : A → Result B Refusal) (e : Refusal)
+    → (ok_or o r >>= f) ≡ Err e → ((o ≡ None) × (r ≡ e)) ⊎ ((x : A) × (o ≡ Some x) × (f x ≡ Err e))
 step (Some x) r f e h = inr (x, refl, h)
 step None r f e h = inl (refl, (let same : r ≡ e = cc in same))
 
@@ -93,7 +102,8 @@ pub some_none : {A : Type 0} (b : Bool) (x : A) → cond {A = Option A} b None (
 some_none true x e = refl
 some_none false x e = absurd cc
 
-pub ok_pair : {A B E : Type 0} {a c : A} {b d : B} → (let r : Result (A × B) E = Ok (a, b) in r) ≡ Ok (c, d) → (a ≡ c) × (b ≡ d)
+pub ok_pair : {A B E : Type 0} {a c : A} {b d : B} → (let r : Result (A × B) E = Ok (a, b) in r) ≡ Ok (c, d)
+    → (a ≡ c) × (b ≡ d)
 ok_pair {A} {B} {E} {a} {c} {b} {d} e = let same : (let p : A × B = (a, b) in p) ≡ (c, d) = cc in pair_parts same
 
 pub err_ok : {A : Type 0} (r : Refusal) (x : A) → (let q : Result A Refusal = Err r in q) ≡ Ok x → ⊥

@@ -16,8 +16,13 @@ is_protected h = is_some (space_of h)
 -- what a header says once its number is known, in an open packet
 abbrev pub with_number : ProtectedHeader → PacketNumber → List ℕ → Header → Type 0
 with_number (protected.Initial h) number packet got =
-    got ≡ header.Initial (record
-    { dst_cid = h.dst_cid; src_cid = h.src_cid; token = slice_range packet h.token_pos.start h.token_pos.end; number = number; version = h.version })
+    got ≡ header.Initial (record {
+      dst_cid = h.dst_cid;
+      src_cid = h.src_cid;
+      token = slice_range packet h.token_pos.start h.token_pos.end;
+      number = number;
+      version = h.version;
+    })
 with_number (protected.Long ty dst src len version) number packet got = got ≡ header.Long ty dst src number version
 with_number (protected.Short spin dst) number packet got = got
     ≡ header.Short spin (nat_eq (slice_index packet 0 / 4 % 2) 1) dst number

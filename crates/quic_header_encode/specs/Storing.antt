@@ -10,7 +10,7 @@ use Rattle.quic_header_encode.specs.declared.header.Header.TheVariants as header
 use Rattle.quic_header_encode.specs.declared.store.HeaderRef.{HeaderRef}
 use Rattle.quic_header_encode.specs.declared.store.Padded.{Padded}
 use Rattle.quic_header_encode.specs.declared.long_type.HeaderKind.{HeaderKind}
-use Rattle.quic_header_encode.specs.declared.long_type.HeaderKind.TheVariants as protected
+use Rattle.quic_header_encode.specs.declared.long_type.HeaderKind.TheVariants as kinds
 use Rattle.quic_header_encode.specs.declared.long_type.LongHeaderType.{LongHeaderType}
 use Rattle.quic_header_encode.specs.declared.long_type.LongHeaderType.TheVariants as kind
 use Rattle.quic_header_encode.specs.declared.long_type.LongType.TheVariants.{Handshake, ZeroRtt}
@@ -20,33 +20,33 @@ use Rattle.quic_header_encode.specs.Writing.{header_with, header_bytes, header_s
 -- the bits that say a long header's type under a version, and a short header's or a version negotiation's, which have
 -- none
 abbrev pub type_bits : HeaderKind → ℕ → ℕ
-type_bits protected.Initial version = 16 * type_number version kind.Initial
-type_bits protected.ZeroRtt version = 16 * type_number version (kind.Standard ZeroRtt)
-type_bits protected.Handshake version = 16 * type_number version (kind.Standard Handshake)
-type_bits protected.Retry version = 16 * type_number version kind.Retry
-type_bits protected.Short version = 0
-type_bits protected.VersionNegotiate version = 0
+type_bits kinds.Initial version = 16 * type_number version kind.Initial
+type_bits kinds.ZeroRtt version = 16 * type_number version (kind.Standard ZeroRtt)
+type_bits kinds.Handshake version = 16 * type_number version (kind.Standard Handshake)
+type_bits kinds.Retry version = 16 * type_number version kind.Retry
+type_bits kinds.Short version = 0
+type_bits kinds.VersionNegotiate version = 0
 
 -- the bits that say how many bytes of a number are written
 abbrev pub number_bits : HeaderKind → PacketNumber → ℕ
-number_bits protected.Initial number = number_size number - 1
-number_bits protected.ZeroRtt number = number_size number - 1
-number_bits protected.Handshake number = number_size number - 1
-number_bits protected.Retry number = 0
-number_bits protected.Short number = number_size number - 1
-number_bits protected.VersionNegotiate number = 0
+number_bits kinds.Initial number = number_size number - 1
+number_bits kinds.ZeroRtt number = number_size number - 1
+number_bits kinds.Handshake number = number_size number - 1
+number_bits kinds.Retry number = 0
+number_bits kinds.Short number = number_size number - 1
+number_bits kinds.VersionNegotiate number = 0
 
 -- The header of these fields. `first` holds the bits of the first byte other than type and number length: of a short
 -- header 0x20 is the spin bit and 0x04 the key phase; of a version negotiation the low seven bits are free.
 abbrev pub header_of : HeaderKind → ℕ → ℕ → List ℕ → List ℕ → List ℕ → PacketNumber → Header
-header_of protected.Initial first version dst src token number =
+header_of kinds.Initial first version dst src token number =
     header.Initial (record { dst_cid = dst; src_cid = src; token = token; number = number; version = version })
-header_of protected.ZeroRtt first version dst src token number = header.Long ZeroRtt dst src number version
-header_of protected.Handshake first version dst src token number = header.Long Handshake dst src number version
-header_of protected.Retry first version dst src token number = header.Retry dst src version
-header_of protected.Short first version dst src token number = header.Short (has_bit 0x20 first)
+header_of kinds.ZeroRtt first version dst src token number = header.Long ZeroRtt dst src number version
+header_of kinds.Handshake first version dst src token number = header.Long Handshake dst src number version
+header_of kinds.Retry first version dst src token number = header.Retry dst src version
+header_of kinds.Short first version dst src token number = header.Short (has_bit 0x20 first)
     (has_bit 0x04 first) dst number
-header_of protected.VersionNegotiate first version dst src token number = header.VersionNegotiate (first % 128) src dst
+header_of kinds.VersionNegotiate first version dst src token number = header.VersionNegotiate (first % 128) src dst
 
 -- its first byte
 abbrev pub first_byte_of : {I : Type 0} → HeaderRef I → ℕ
@@ -66,31 +66,32 @@ stored_bytes id fields =
 
 -- how many bytes a token and its length take, which an Initial header has
 abbrev pub token_size : HeaderKind → List ℕ → ℕ
-token_size protected.Initial token = size (length token) + length token
-token_size protected.ZeroRtt token = 0
-token_size protected.Handshake token = 0
-token_size protected.Retry token = 0
-token_size protected.Short token = 0
-token_size protected.VersionNegotiate token = 0
+token_size kinds.Initial token = size (length token) + length token
+token_size kinds.ZeroRtt token = 0
+token_size kinds.Handshake token = 0
+token_size kinds.Retry token = 0
+token_size kinds.Short token = 0
+token_size kinds.VersionNegotiate token = 0
 
 -- how many bytes a length and a number take, which Initial, 0-RTT and Handshake headers have
 abbrev pub end_size : HeaderKind → ℕ → PacketNumber → ℕ
-end_size protected.Initial len number = len + number_size number
-end_size protected.ZeroRtt len number = len + number_size number
-end_size protected.Handshake len number = len + number_size number
-end_size protected.Retry len number = 0
-end_size protected.Short len number = 0
-end_size protected.VersionNegotiate len number = 0
+end_size kinds.Initial len number = len + number_size number
+end_size kinds.ZeroRtt len number = len + number_size number
+end_size kinds.Handshake len number = len + number_size number
+end_size kinds.Retry len number = 0
+end_size kinds.Short len number = 0
+end_size kinds.VersionNegotiate len number = 0
 
 -- how many bytes a header takes
 abbrev pub stored_size : HeaderKind → List ℕ → List ℕ → List ℕ → PacketNumber → ℕ → ℕ
-stored_size protected.Initial dst src token number len = 7 + length dst + length src + (size (length token) + length token) +
+stored_size kinds.Initial dst src token number len =
+    7 + length dst + length src + (size (length token) + length token) +
     (len + number_size number)
-stored_size protected.ZeroRtt dst src token number len = 7 + length dst + length src + (len + number_size number)
-stored_size protected.Handshake dst src token number len = 7 + length dst + length src + (len + number_size number)
-stored_size protected.Retry dst src token number len = 7 + length dst + length src
-stored_size protected.Short dst src token number len = 1 + length dst + number_size number
-stored_size protected.VersionNegotiate dst src token number len = 7 + length dst + length src
+stored_size kinds.ZeroRtt dst src token number len = 7 + length dst + length src + (len + number_size number)
+stored_size kinds.Handshake dst src token number len = 7 + length dst + length src + (len + number_size number)
+stored_size kinds.Retry dst src token number len = 7 + length dst + length src
+stored_size kinds.Short dst src token number len = 1 + length dst + number_size number
+stored_size kinds.VersionNegotiate dst src token number len = 7 + length dst + length src
 
 abbrev pub stored_len : {I : Type 0} → (I → List ℕ) → HeaderRef I → ℕ
 stored_len id fields = stored_size fields.kind (id fields.dst_cid)
@@ -99,12 +100,12 @@ stored_len id fields = stored_size fields.kind (id fields.dst_cid)
 -- what a first byte has beside its type and number has room for these: all eight bits of a version negotiation are
 -- its own
 abbrev pub HasLow : HeaderKind → ℕ → Type 0
-HasLow protected.Initial first = first ≤ 192
-HasLow protected.ZeroRtt first = first ≤ 192
-HasLow protected.Handshake first = first ≤ 192
-HasLow protected.Retry first = first ≤ 192
-HasLow protected.Short first = first ≤ 192
-HasLow protected.VersionNegotiate first = Unit {0}
+HasLow kinds.Initial first = first ≤ 192
+HasLow kinds.ZeroRtt first = first ≤ 192
+HasLow kinds.Handshake first = first ≤ 192
+HasLow kinds.Retry first = first ≤ 192
+HasLow kinds.Short first = first ≤ 192
+HasLow kinds.VersionNegotiate first = Unit {0}
 
 -- Such a header can be written.
 pub record IsStorable {I : Type 0} (id : I → List ℕ) (fields : HeaderRef I) : Type 0 where
@@ -121,78 +122,78 @@ IsShortToken token = (length token ≡ 0) ⊎ ((16 ≤ length token) × (length 
 
 -- all headers but short ones
 abbrev pub IsLong : HeaderKind → Type 0
-IsLong protected.Initial = Unit {0}
-IsLong protected.ZeroRtt = Unit {0}
-IsLong protected.Handshake = Unit {0}
-IsLong protected.Retry = Unit {0}
-IsLong protected.Short = ⊥
-IsLong protected.VersionNegotiate = Unit {0}
+IsLong kinds.Initial = Unit {0}
+IsLong kinds.ZeroRtt = Unit {0}
+IsLong kinds.Handshake = Unit {0}
+IsLong kinds.Retry = Unit {0}
+IsLong kinds.Short = ⊥
+IsLong kinds.VersionNegotiate = Unit {0}
 
 -- the headers that say a type
 abbrev pub IsTyped : HeaderKind → Type 0
-IsTyped protected.Initial = Unit {0}
-IsTyped protected.ZeroRtt = Unit {0}
-IsTyped protected.Handshake = Unit {0}
-IsTyped protected.Retry = Unit {0}
-IsTyped protected.Short = ⊥
-IsTyped protected.VersionNegotiate = ⊥
+IsTyped kinds.Initial = Unit {0}
+IsTyped kinds.ZeroRtt = Unit {0}
+IsTyped kinds.Handshake = Unit {0}
+IsTyped kinds.Retry = Unit {0}
+IsTyped kinds.Short = ⊥
+IsTyped kinds.VersionNegotiate = ⊥
 
 -- the kind of a type
 abbrev pub kind_of : LongHeaderType → HeaderKind
-kind_of kind.Initial = protected.Initial
-kind_of (kind.Standard ZeroRtt) = protected.ZeroRtt
-kind_of (kind.Standard Handshake) = protected.Handshake
-kind_of kind.Retry = protected.Retry
+kind_of kind.Initial = kinds.Initial
+kind_of (kind.Standard ZeroRtt) = kinds.ZeroRtt
+kind_of (kind.Standard Handshake) = kinds.Handshake
+kind_of kind.Retry = kinds.Retry
 
 -- the headers that say a length, and those that have a number
 abbrev pub carries_length : HeaderKind → Bool
-carries_length protected.Initial = true
-carries_length protected.ZeroRtt = true
-carries_length protected.Handshake = true
-carries_length protected.Retry = false
-carries_length protected.Short = false
-carries_length protected.VersionNegotiate = false
+carries_length kinds.Initial = true
+carries_length kinds.ZeroRtt = true
+carries_length kinds.Handshake = true
+carries_length kinds.Retry = false
+carries_length kinds.Short = false
+carries_length kinds.VersionNegotiate = false
 
 abbrev pub says_number : HeaderKind → Bool
-says_number protected.Initial = true
-says_number protected.ZeroRtt = true
-says_number protected.Handshake = true
-says_number protected.Retry = false
-says_number protected.Short = true
-says_number protected.VersionNegotiate = false
+says_number kinds.Initial = true
+says_number kinds.ZeroRtt = true
+says_number kinds.Handshake = true
+says_number kinds.Retry = false
+says_number kinds.Short = true
+says_number kinds.VersionNegotiate = false
 
 -- the version that a long header says: 0 in a version negotiation
 abbrev pub version_by : HeaderKind → ℕ → ℕ
-version_by protected.Initial version = version
-version_by protected.ZeroRtt version = version
-version_by protected.Handshake version = version
-version_by protected.Retry version = version
-version_by protected.Short version = version
-version_by protected.VersionNegotiate version = 0
+version_by kinds.Initial version = version
+version_by kinds.ZeroRtt version = version
+version_by kinds.Handshake version = version
+version_by kinds.Retry version = version
+version_by kinds.Short version = version
+version_by kinds.VersionNegotiate version = 0
 
 abbrev pub version_field : {I : Type 0} → HeaderRef I → ℕ
 version_field fields = version_by fields.kind fields.version
 
 -- a token after its length, which an Initial header has
 abbrev pub token_by : HeaderKind → List ℕ → List ℕ
-token_by protected.Initial token = shortest_varint (length token) ++ token
-token_by protected.ZeroRtt token = []
-token_by protected.Handshake token = []
-token_by protected.Retry token = []
-token_by protected.Short token = []
-token_by protected.VersionNegotiate token = []
+token_by kinds.Initial token = shortest_varint (length token) ++ token
+token_by kinds.ZeroRtt token = []
+token_by kinds.Handshake token = []
+token_by kinds.Retry token = []
+token_by kinds.Short token = []
+token_by kinds.VersionNegotiate token = []
 
 abbrev pub token_bytes : {I : Type 0} → HeaderRef I → List ℕ
 token_bytes fields = token_by fields.kind fields.token.now
 
 -- zeros for the length and a number, which Initial, 0-RTT and Handshake headers have at their end
 abbrev pub end_by : HeaderKind → ℕ → PacketNumber → List ℕ
-end_by protected.Initial len number = replicate len 0 ++ number_bytes number
-end_by protected.ZeroRtt len number = replicate len 0 ++ number_bytes number
-end_by protected.Handshake len number = replicate len 0 ++ number_bytes number
-end_by protected.Retry len number = []
-end_by protected.Short len number = []
-end_by protected.VersionNegotiate len number = []
+end_by kinds.Initial len number = replicate len 0 ++ number_bytes number
+end_by kinds.ZeroRtt len number = replicate len 0 ++ number_bytes number
+end_by kinds.Handshake len number = replicate len 0 ++ number_bytes number
+end_by kinds.Retry len number = []
+end_by kinds.Short len number = []
+end_by kinds.VersionNegotiate len number = []
 
 abbrev pub end_bytes : {I : Type 0} → HeaderRef I → List ℕ
 end_bytes fields = end_by fields.kind fields.length_len fields.number.now
@@ -204,12 +205,12 @@ pub record HasLongRoom {I : Type 0} (id : I → List ℕ) (room : I → ℕ) (fi
   pub src : 7 + length (id fields.dst_cid) + room fields.src_cid ≤ size
 
 abbrev pub room_by : HeaderKind → ℕ → ℕ → ℕ
-room_by protected.Initial short long = long
-room_by protected.ZeroRtt short long = long
-room_by protected.Handshake short long = long
-room_by protected.Retry short long = long
-room_by protected.Short short long = short
-room_by protected.VersionNegotiate short long = long
+room_by kinds.Initial short long = long
+room_by kinds.ZeroRtt short long = long
+room_by kinds.Handshake short long = long
+room_by kinds.Retry short long = long
+room_by kinds.Short short long = short
+room_by kinds.VersionNegotiate short long = long
 
 pub record HasStoreRoom {I : Type 0} (id : I → List ℕ) (room : I → ℕ) (fields : HeaderRef I) (size : ℕ) : Type 0 where
   pub whole : stored_len id fields ≤ size

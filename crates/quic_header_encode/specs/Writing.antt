@@ -36,7 +36,8 @@ header_front (header.Initial h) =
 header_front (header.Long ty dst src number version) = long_front
     (long_first version (kind.Standard ty) (number_size number)) version dst src
 header_front (header.Retry dst src version) = long_front (first_byte version kind.Retry) version dst src
-header_front (header.Short spin key_phase dst number) = (64 + bit_value spin 32 + bit_value key_phase 4 + (number_size number - 1))
+header_front (header.Short spin key_phase dst number) =
+    (64 + bit_value spin 32 + bit_value key_phase 4 + (number_size number - 1))
     ∷ dst
 header_front (header.VersionNegotiate random src dst) = long_front (bit_or 128 random) 0 dst src
 
@@ -123,10 +124,10 @@ pub record HasRoom (pn_len : ℕ) (write_len : Bool) (header_len sample_len size
 
 -- The header is appended, always where there is room for it; or the items stay as they are, and there still is less
 -- room than that.
-pub record AppendsHeader (head : Header) (old new : Vec ℕ Global) (result : Result (Unit {0}) NoRoom) : Type 0 where
-  pub ok : OnOk result (new.items ≡ old.items ++ header_bytes head)
-  pub len : OnOk result (vec_len new ≡ vec_len old + header_size head)
+pub record AppendsHeader (header : Header) (old new : Vec ℕ Global) (result : Result (Unit {0}) NoRoom) : Type 0 where
+  pub ok : OnOk result (new.items ≡ old.items ++ header_bytes header)
+  pub len : OnOk result (vec_len new ≡ vec_len old + header_size header)
   pub capacity : vec_capacity old ≤ vec_capacity new
   pub err : OnErr result (new.items ≡ old.items)
-  pub full : OnErr result (vec_capacity new < vec_len old + header_size head)
-  pub spare : vec_len old + header_size head ≤ vec_capacity old → IsOk result
+  pub full : OnErr result (vec_capacity new < vec_len old + header_size header)
+  pub spare : vec_len old + header_size header ≤ vec_capacity old → IsOk result

@@ -162,7 +162,7 @@ pub fn store_long_start<I: StoredId>(
 /// it has fewer than 2^62 bytes and, if SHORT is true, that it is empty or has 16 to 32.
 #[inline(always)]
 pub fn store_token<const SHORT: bool>(out: &mut [u8], at: usize, token: &[u8]) -> usize
-    requires shortest_varint { SHORT ≡ true → IsShortToken token.now }
+    requires short { SHORT ≡ true → IsShortToken token.now }
     requires numeric { length token.now < 2 ^ 62 }
     requires room { at + (size (length token.now) + length token.now) ≤ length out.old }
     ensures end { result ≡ at + (size (length token.now) + length token.now) }
@@ -181,7 +181,7 @@ pub fn store_token<const SHORT: bool>(out: &mut [u8], at: usize, token: &[u8]) -
 #[inline(always)]
 #[tactic(auto, using(crate::proofs::Stores::size_small))]
 fn store_short_token<const SHORT: bool>(out: &mut [u8], at: usize, token: &[u8]) -> usize
-    requires shortest_varint { SHORT ≡ true → IsShortToken token.now }
+    requires short { SHORT ≡ true → IsShortToken token.now }
     requires small { length token.now < 2 ^ 6 }
     requires room { at + (size (length token.now) + length token.now) ≤ length out.old }
     ensures end { result ≡ at + (size (length token.now) + length token.now) }
@@ -200,7 +200,7 @@ fn store_short_token<const SHORT: bool>(out: &mut [u8], at: usize, token: &[u8])
 // Stores bytes, of which there are some: 16 to 32 by stores.
 #[inline(always)]
 fn store_some<const SHORT: bool>(out: &mut [u8], at: usize, bytes: &[u8]) -> usize
-    requires shortest_varint { SHORT ≡ true → IsShortToken bytes.now }
+    requires short { SHORT ≡ true → IsShortToken bytes.now }
     requires some { 0 < length bytes.now }
     requires room { at + length bytes.now ≤ length out.old }
     ensures end { result ≡ at + length bytes.now }
@@ -334,7 +334,7 @@ impl<I: StoredId> HeaderRef<'_, I> {
     // Stores the token of an Initial header after its length.
     #[inline(always)]
     fn store_its_token<const SHORT_TOKEN: bool>(&self, out: &mut [u8], at: usize) -> usize
-        requires shortest_varint { SHORT_TOKEN ≡ true → IsShortToken self.now.token.now }
+        requires short { SHORT_TOKEN ≡ true → IsShortToken self.now.token.now }
         requires numeric { length self.now.token.now < 2 ^ 62 }
         requires room { at + token_size self.now.kind self.now.token.now ≤ length out.old }
         ensures end { result ≡ at + token_size self.now.kind self.now.token.now }
@@ -373,7 +373,7 @@ impl<I: StoredId> HeaderRef<'_, I> {
     pub fn store_long<const SHORT_TOKEN: bool>(&self, out: &mut [u8]) -> usize
         requires long { IsLong self.now.kind }
         requires storable { IsStorable I.id self.now }
-        requires shortest_varint { SHORT_TOKEN ≡ true → IsShortToken self.now.token.now }
+        requires short { SHORT_TOKEN ≡ true → IsShortToken self.now.token.now }
         requires room { HasLongRoom I.id I.room self.now (length out.old) }
         ensures end { result ≡ stored_len I.id self.now }
         ensures front { take result out.new ≡ stored_bytes I.id self.now }
@@ -395,7 +395,7 @@ impl<I: StoredId> HeaderRef<'_, I> {
     #[inline(always)]
     pub fn store<const SHORT_TOKEN: bool>(&self, out: &mut [u8]) -> usize
         requires storable { IsStorable I.id self.now }
-        requires shortest_varint { SHORT_TOKEN ≡ true → IsShortToken self.now.token.now }
+        requires short { SHORT_TOKEN ≡ true → IsShortToken self.now.token.now }
         requires room { HasStoreRoom I.id I.room self.now (length out.old) }
         ensures end { result ≡ stored_len I.id self.now }
         ensures front { take result out.new ≡ stored_bytes I.id self.now }

@@ -9,17 +9,22 @@ use Rattle.quic_packets.proofs.Rows.{All, Kept, kept_start, kept_step, kept_end,
 
 -- ---- the next packet
 
-less_left : (bytes : List ℕ) (left : Option Filled) → IfSome left (λ f. length f.items < length bytes) → left_size left < 1 + length bytes
+less_left : (bytes : List ℕ) (left : Option Filled) → IfSome left (λ f. length f.items < length bytes)
+    → left_size left < 1 + length bytes
 less_left bytes None less = omega arith
 less_left bytes (Some f) less = omega (arith, less)
 
-pub next_opened : {opening : Opening} {old : Option Filled} {left : Filled} {opened : Opened} {new : Option Filled} → PacketAnswer opening left.items (Ok (opened, new))
+pub next_opened : {opening : Opening} {old : Option Filled} {left : Filled} {opened : Opened} {new : Option Filled}
+    → PacketAnswer opening left.items (Ok (opened, new))
     → old ≡ Some left → NextAnswer opening old (Some (Ok opened)) new
-next_opened {opening} {old} {left} {opened} {new} first is = subst (λ (o : Option Filled). NextAnswer opening o (Some (Ok opened)) new) (sym is) first
+next_opened {opening} {old} {left} {opened} {new} first is =
+    subst (λ (o : Option Filled). NextAnswer opening o (Some (Ok opened)) new) (sym is) first
 
-pub next_refused : {opening : Opening} {old : Option Filled} {left : Filled} {e : OpenError} {new : Option Filled} → PacketAnswer opening left.items (Err e)
+pub next_refused : {opening : Opening} {old : Option Filled} {left : Filled} {e : OpenError} {new : Option Filled}
+    → PacketAnswer opening left.items (Err e)
     → old ≡ Some left → new ≡ None → NextAnswer opening old (Some (Err e)) new
-next_refused {opening} {old} {left} {e} {new} first is none = subst (λ (o : Option Filled). NextAnswer opening o (Some (Err e)) new) (sym is) (first, none)
+next_refused {opening} {old} {left} {e} {new} first is none =
+    subst (λ (o : Option Filled). NextAnswer opening o (Some (Err e)) new) (sym is) (first, none)
 
 -- ---- all packets
 
@@ -31,7 +36,8 @@ ReachedAt opening before bytes now (Some left) = Kept opening before bytes now l
 pub record Reached (opening : Opening) (before : List Opened) (bytes : List ℕ) (now : List Opened) (left : Option Filled) : Type 0 where
   is : ReachedAt opening before bytes now left
 
-pub reached_first : {opening : Opening} {before : List Opened} {bytes : Filled} → Reached opening before bytes.items before (Some bytes)
+pub reached_first : {opening : Opening} {before : List Opened} {bytes : Filled}
+    → Reached opening before bytes.items before (Some bytes)
 reached_first {opening} {before} {bytes} = record { is = kept_start opening before bytes.items }
 
 -- what is left begins with the next packet, and room was made
@@ -40,32 +46,41 @@ kept_at : (opening : Opening) (before : List Opened) (bytes : List ℕ) (now roo
 kept_at opening before bytes now room left next it is same =
     subst (λ (out : List Opened). Kept opening before bytes out next.items) (sym same) (subst (ReachedAt opening before bytes now) is it.is)
 
-step_to : (opening : Opening) (before : List Opened) (bytes : List ℕ) (now new : List Opened) (opened : Opened) (next : List ℕ) (left : Option Filled)
-    → Kept opening before bytes now next → PacketAnswer opening next (Ok (opened, left)) → new ≡ now ++ (opened ∷ []) → Reached opening before bytes new left
-step_to opening before bytes now new opened next None it first pushed = record { is = kept_end opening before bytes now next new opened it first.opened first.sealed pushed }
-step_to opening before bytes now new opened next (Some left) it first pushed = record { is = kept_step opening before bytes now next new opened left it first.opened first.sealed pushed }
+step_to : (opening : Opening) (before : List Opened) (bytes : List ℕ) (now new : List Opened) (opened : Opened)
+    (next : List ℕ) (left : Option Filled)
+    → Kept opening before bytes now next → PacketAnswer opening next (Ok (opened, left)) → new ≡ now ++ (opened ∷ [])
+    → Reached opening before bytes new left
+step_to opening before bytes now new opened next None it first pushed =
+    record { is = kept_end opening before bytes now next new opened it first.opened first.sealed pushed }
+step_to opening before bytes now new opened next (Some left) it first pushed =
+    record { is = kept_step opening before bytes now next new opened left it first.opened first.sealed pushed }
 
 -- a packet more
-pub reached_step : {opening : Opening} {before : List Opened} {bytes : List ℕ} {now room new : List Opened} {opened : Opened} {old left : Option Filled} {next : Filled}
-    → Reached opening before bytes now old → old ≡ Some next → room ≡ now → PacketAnswer opening next.items (Ok (opened, left)) → new ≡ room ++ (opened ∷ [])
+pub reached_step : {opening : Opening} {before : List Opened} {bytes : List ℕ} {now room new : List Opened}
+    {opened : Opened} {old left : Option Filled} {next : Filled}
+    → Reached opening before bytes now old → old ≡ Some next → room ≡ now
+    → PacketAnswer opening next.items (Ok (opened, left)) → new ≡ room ++ (opened ∷ [])
     → Reached opening before bytes new left
 reached_step {opening} {before} {bytes} {now} {room} {new} {opened} {old} {left} {next} it is same first pushed =
     step_to opening before bytes room new opened next.items left (kept_at opening before bytes now room old next it is same) first pushed
 
 -- the measure
-pub reached_less : {opening : Opening} {opened : Opened} {old left : Option Filled} {next : Filled} → old ≡ Some next → PacketAnswer opening next.items (Ok (opened, left)) → left_size left < left_size old
+pub reached_less : {opening : Opening} {opened : Opened} {old left : Option Filled} {next : Filled} → old ≡ Some next
+    → PacketAnswer opening next.items (Ok (opened, left)) → left_size left < left_size old
 reached_less {opening} {opened} {old} {left} {next} is first =
     subst (λ (o : Option Filled). left_size left < left_size o) (sym is) (less_left next.items left first.shorter)
 
 -- nothing is left
-pub reached_all : {X : Type 0} {opening : Opening} {before : List Opened} {bytes : List ℕ} {now : List Opened} {left : Option Filled} (x : X)
+pub reached_all : {X : Type 0} {opening : Opening} {before : List Opened} {bytes : List ℕ} {now : List Opened}
+    {left : Option Filled} (x : X)
     → Reached opening before bytes now left → left ≡ None → DatagramAnswer opening bytes (Ok x) before now
 reached_all {X} {opening} {before} {bytes} {now} {left} x it is =
     let all : All opening before bytes now = subst (ReachedAt opening before bytes now) is it.is in
     record { opened = all.opened; refused = tt; sealed = all.returned }
 
 -- the next packet is refused
-pub reached_refused : {X : Type 0} {opening : Opening} {before : List Opened} {bytes : List ℕ} {now room : List Opened} {old : Option Filled} {next : Filled} {e : OpenError}
+pub reached_refused : {X : Type 0} {opening : Opening} {before : List Opened} {bytes : List ℕ} {now room : List Opened}
+    {old : Option Filled} {next : Filled} {e : OpenError}
     → Reached opening before bytes now old → old ≡ Some next → room ≡ now → PacketAnswer opening next.items (Err e)
     → DatagramAnswer {X = X} opening bytes (Err e) before room
 reached_refused {X} {opening} {before} {bytes} {now} {room} {old} {next} {e} it is same first =

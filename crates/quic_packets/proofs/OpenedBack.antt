@@ -57,12 +57,33 @@ use Rattle.quic_header_decode.proofs.CutAnswers.{cut_positive, cut_again, uncut_
 
 -- ---- records of the same parts
 
-opened_same : (a b : OpenedPacket) → a.header ≡ b.header → a.header_bytes ≡ b.header_bytes → a.number ≡ b.number → a.payload ≡ b.payload → a ≡ b
+opened_same : (a b : OpenedPacket) → a.header ≡ b.header → a.header_bytes ≡ b.header_bytes → a.number ≡ b.number
+    → a.payload ≡ b.payload → a ≡ b
 opened_same a b head bytes number payload =
-    ap (λ (x : Header). let p : OpenedPacket = record { header = x; header_bytes = a.header_bytes; number = a.number; payload = a.payload } in p) head
-    ∙ ap (λ (x : List ℕ). let p : OpenedPacket = record { header = b.header; header_bytes = x; number = a.number; payload = a.payload } in p) bytes
-    ∙ ap (λ (x : Option ℕ). let p : OpenedPacket = record { header = b.header; header_bytes = b.header_bytes; number = x; payload = a.payload } in p) number
-    ∙ ap (λ (x : List ℕ). let p : OpenedPacket = record { header = b.header; header_bytes = b.header_bytes; number = b.number; payload = x } in p) payload
+    ap (λ (x : Header). let p : OpenedPacket = record {
+      header = x;
+      header_bytes = a.header_bytes;
+      number = a.number;
+      payload = a.payload;
+    } in p) head
+    ∙ ap (λ (x : List ℕ). let p : OpenedPacket = record {
+      header = b.header;
+      header_bytes = x;
+      number = a.number;
+      payload = a.payload;
+    } in p) bytes
+    ∙ ap (λ (x : Option ℕ). let p : OpenedPacket = record {
+      header = b.header;
+      header_bytes = b.header_bytes;
+      number = x;
+      payload = a.payload;
+    } in p) number
+    ∙ ap (λ (x : List ℕ). let p : OpenedPacket = record {
+      header = b.header;
+      header_bytes = b.header_bytes;
+      number = b.number;
+      payload = x;
+    } in p) payload
 
 cut_equal : (a b : CutPacket) → a.head ≡ b.head → a.header_end ≡ b.header_end → a.bytes ≡ b.bytes → a ≡ b
 cut_equal a b head end bytes =
@@ -71,11 +92,16 @@ cut_equal a b head end bytes =
     ∙ ap (λ (x : List ℕ). let p : CutPacket = record { head = b.head; header_end = b.header_end; bytes = x } in p) bytes
 
 -- bytes begin with one packet
-one_cut : (options : DecodeOptions) (bytes : List ℕ) (one other : CutPacket) (a b : List ℕ) → CutsFirst options bytes one a → CutsFirst options bytes other b → (one ≡ other) × (a ≡ b)
+one_cut : (options : DecodeOptions) (bytes : List ℕ) (one other : CutPacket) (a b : List ℕ)
+    → CutsFirst options bytes one a → CutsFirst options bytes other b → (one ≡ other) × (a ≡ b)
 one_cut options bytes one other a b x y =
-    let same : (let r : Result (ProtectedHeader × ℕ × ℕ) Refusal = Ok (one.head, one.header_end, length one.bytes) in r) ≡ Ok (other.head, other.header_end, length other.bytes) =
-    sym (cut_again options bytes one.head one.header_end (length one.bytes) x.cut) ∙ cut_again options bytes other.head other.header_end (length other.bytes) y.cut in
-    let parts : (let p : ProtectedHeader × ℕ × ℕ = (one.head, one.header_end, length one.bytes) in p) ≡ (other.head, other.header_end, length other.bytes) = cc in
+    let same : (let r : Result (ProtectedHeader × ℕ × ℕ) Refusal = Ok (one.head, one.header_end, length one.bytes) in r)
+    ≡ Ok (other.head, other.header_end, length other.bytes) =
+    sym (cut_again options bytes one.head one.header_end (length one.bytes) x.cut)
+    ∙ cut_again options bytes other.head other.header_end (length other.bytes) y.cut in
+    let parts : (let p : ProtectedHeader × ℕ × ℕ = (one.head, one.header_end, length one.bytes) in p)
+    ≡ (other.head, other.header_end, length other.bytes) =
+    cc in
     let split = cut_same one.bytes a other.bytes b (sym x.text ∙ y.text) (ap (λ p. p.2) parts) in
     (cut_equal one other (ap (λ p. p.0) parts) (ap (λ p. p.1) parts) split.0, split.1)
 
@@ -89,11 +115,13 @@ expands_in_same (header.Short spin key_phase dst number) expected m n a b = expa
 expands_in_same (header.VersionNegotiate random src dst) expected m n a b = absurd a
 
 lawful : (key : KeyPair) → IsLawful key → Lawful key key
-lawful key laws = record { sample_same = refl; protects = laws.protects; restores = laws.restores; sealed_len = laws.sealed_len; opens = laws.opens }
+lawful key laws =
+    record { sample_same = refl; protects = laws.protects; restores = laws.restores; sealed_len = laws.sealed_len; opens = laws.opens }
 
 -- a sealed packet, as it is cut
 abbrev pub sealed_cut : ProtectedHeader → PacketContents → List ℕ → CutPacket
-sealed_cut found contents packet = record { head = found; header_end = header_size contents.header - size_in contents.header; bytes = packet }
+sealed_cut found contents packet =
+    record { head = found; header_end = header_size contents.header - size_in contents.header; bytes = packet }
 
 -- all that is known of what was sealed
 record Given (key : KeyPair) (options : DecodeOptions) (expected : ℕ) (contents : PacketContents) (packet rest : List ℕ) : Type 0 where
@@ -103,16 +131,21 @@ record Given (key : KeyPair) (options : DecodeOptions) (expected : ℕ) (content
   number : ExpandsIn contents.header expected contents.number
 
 abbrev FoundOf : KeyPair → DecodeOptions → PacketContents → List ℕ → List ℕ → Type 0
-FoundOf key options contents packet rest = Found key key options contents.header contents.number contents.payload packet rest
+FoundOf key options contents packet rest =
+    Found key key options contents.header contents.number contents.payload packet rest
 
-found_of : (key : KeyPair) (options : DecodeOptions) (expected : ℕ) (contents : PacketContents) (packet rest : List ℕ) → Given key options expected contents packet rest → FoundOf key options contents packet rest
+found_of : (key : KeyPair) (options : DecodeOptions) (expected : ℕ) (contents : PacketContents) (packet rest : List ℕ)
+    → Given key options expected contents packet rest → FoundOf key options contents packet rest
 found_of key options expected contents packet rest given =
-    sealed_found key key (lawful key given.laws) options contents.header contents.number contents.payload packet rest given.sealed given.read
+    sealed_found key key (lawful key given.laws) options contents.header contents.number contents.payload packet rest
+    given.sealed given.read
 
-top_length : (key : KeyPair) (options : DecodeOptions) (contents : PacketContents) (rest : List ℕ) → IsReadBack options contents.header rest
+top_length : (key : KeyPair) (options : DecodeOptions) (contents : PacketContents) (rest : List ℕ)
+    → IsReadBack options contents.header rest
     → length (sealed_header key.tag_size contents.header contents.payload) ≡ header_size contents.header
 top_length key options contents rest read =
-    header_length contents.header (bytes_of 2 (2 ^ 14 + protected_len key.tag_size contents.header contents.payload)) (read_numbered options contents.header rest read)
+    header_length contents.header (bytes_of 2 (2 ^ 14 + protected_len key.tag_size contents.header contents.payload))
+    (read_numbered options contents.header rest read)
     (law.length-bytes_of 2 (2 ^ 14 + protected_len key.tag_size contents.header contents.payload))
 
 -- a packet that was unlocked has the parts that were sealed
@@ -122,8 +155,11 @@ record Same (key : KeyPair) (contents : PacketContents) (got : UnlockedPacket) :
   number_same : got.number ≡ contents.number
   opened : payload_opened key got ≡ Some contents.payload
 
-sealed_payload_opens : (key : KeyPair) (contents : PacketContents) (packet : List ℕ) → IsLawful key → Sealed key contents packet
-    → key.opened contents.number (sealed_header key.tag_size contents.header contents.payload) (key.sealed contents.number (sealed_header key.tag_size contents.header contents.payload) contents.payload) ≡ Some contents.payload
+sealed_payload_opens : (key : KeyPair) (contents : PacketContents) (packet : List ℕ) → IsLawful key
+    → Sealed key contents packet
+    → key.opened contents.number (sealed_header key.tag_size contents.header contents.payload)
+    (key.sealed contents.number (sealed_header key.tag_size contents.header contents.payload) contents.payload)
+    ≡ Some contents.payload
 sealed_payload_opens key contents packet laws sealed =
     let top : List ℕ = sealed_header key.tag_size contents.header contents.payload in
     laws.opens contents.number top contents.payload (let fits : contents.number < 2 ^ 62 = sealed.fits in omega arith)
@@ -137,16 +173,23 @@ unlocked_same key options expected contents packet rest given found got u =
     let top : List ℕ = sealed_header key.tag_size contents.header contents.payload in
     let body : List ℕ = key.sealed contents.number top contents.payload in
     let whole : got.header_bytes ++ got.sealed_payload ≡ plain_packet key contents = u.whole ∙ found.back in
-    let is = found.cut.3 got.header (length got.header_bytes) (subst (λ (xs : List ℕ). IsOpenedBy true found.cut.0 at got.header xs (length got.header_bytes)) whole u.is_header) in
-    let parts = cut_same got.header_bytes got.sealed_payload top body whole (is.1 ∙ sym (top_length key options contents rest given.read)) in
+    let is =
+    found.cut.3 got.header (length got.header_bytes) (subst
+    (λ (xs : List ℕ). IsOpenedBy true found.cut.0 at got.header xs (length got.header_bytes)) whole
+    u.is_header) in
+    let parts =
+    cut_same got.header_bytes got.sealed_payload top body whole (is.1 ∙ sym (top_length key options contents rest given.read)) in
     let same : got.number ≡ contents.number =
-    expands_in_same contents.header expected got.number contents.number (subst (λ (x : Header). ExpandsIn x expected got.number) is.0 u.number) given.number in
+    expands_in_same contents.header expected got.number contents.number
+    (subst (λ (x : Header). ExpandsIn x expected got.number) is.0 u.number) given.number in
     record {
       header_same = is.0;
       bytes_same = parts.0;
       number_same = same;
-      opened = ap (λ (k : ℕ). key.opened k got.header_bytes got.sealed_payload) same ∙ ap (λ (xs : List ℕ). key.opened contents.number xs got.sealed_payload) parts.0
-          ∙ ap (key.opened contents.number top) parts.1 ∙ sealed_payload_opens key contents packet given.laws given.sealed;
+      opened = ap (λ (k : ℕ). key.opened k got.header_bytes got.sealed_payload) same
+          ∙ ap (λ (xs : List ℕ). key.opened contents.number xs got.sealed_payload) parts.0
+          ∙ ap (key.opened contents.number top) parts.1
+          ∙ sealed_payload_opens key contents packet given.laws given.sealed;
     }
 
 none_some : {A : Type 0} (x : A) → (let o : Option A = None in o) ≡ Some x → ⊥
@@ -157,11 +200,13 @@ some_same x y e = cc
 
 key_returns : (key : KeyPair) (options : DecodeOptions) (expected : ℕ) (contents : PacketContents) (packet rest : List ℕ)
     → (given : Given key options expected contents packet rest) → (found : FoundOf key options contents packet rest)
-    → (opened : OpenedPacket) → OpensWithKey key expected (sealed_cut found.cut.0 contents packet) opened → opened ≡ returned key contents
+    → (opened : OpenedPacket) → OpensWithKey key expected (sealed_cut found.cut.0 contents packet) opened
+    → opened ≡ returned key contents
 key_returns key options expected contents packet rest given found opened o =
     let same = unlocked_same key options expected contents packet rest given found o.unlocked o.unlocks in
     opened_same opened (returned key contents) (o.header ∙ same.header_same) (o.header_bytes ∙ same.bytes_same)
-    (o.number ∙ ap (λ (k : ℕ). let m : Option ℕ = Some k in m) same.number_same) (some_same opened.payload contents.payload (sym o.payload ∙ same.opened))
+    (o.number ∙ ap (λ (k : ℕ). let m : Option ℕ = Some k in m) same.number_same)
+    (some_same opened.payload contents.payload (sym o.payload ∙ same.opened))
 
 key_refuses : (key : KeyPair) (options : DecodeOptions) (expected : ℕ) (contents : PacketContents) (packet rest : List ℕ)
     → (given : Given key options expected contents packet rest) → (found : FoundOf key options contents packet rest)
@@ -179,55 +224,80 @@ GivenIn opening contents packet rest =
     Given (opening.keys (space_in contents.header)) opening.options (opening.expected (space_in contents.header)) contents packet rest
 
 abbrev FoundIn : Opening → PacketContents → List ℕ → List ℕ → Type 0
-FoundIn opening contents packet rest = FoundOf (opening.keys (space_in contents.header)) opening.options contents packet rest
+FoundIn opening contents packet rest =
+    FoundOf (opening.keys (space_in contents.header)) opening.options contents packet rest
 
-given_in : (opening : Opening) (bytes : List ℕ) (contents : PacketContents) (rest : List ℕ) → IsLawful (opening.keys (space_in contents.header))
+given_in : (opening : Opening) (bytes : List ℕ) (contents : PacketContents) (rest : List ℕ)
+    → IsLawful (opening.keys (space_in contents.header))
     → (begins : BeginsSealed opening bytes contents rest) → GivenIn opening contents begins.packet rest
-given_in opening bytes contents rest laws begins = record { laws = laws; sealed = begins.sealed; read = begins.read; number = begins.number }
+given_in opening bytes contents rest laws begins =
+    record { laws = laws; sealed = begins.sealed; read = begins.read; number = begins.number }
 
-found_in : (opening : Opening) (contents : PacketContents) (packet rest : List ℕ) → GivenIn opening contents packet rest → FoundIn opening contents packet rest
+found_in : (opening : Opening) (contents : PacketContents) (packet rest : List ℕ) → GivenIn opening contents packet rest
+    → FoundIn opening contents packet rest
 found_in opening contents packet rest given =
-    found_of (opening.keys (space_in contents.header)) opening.options (opening.expected (space_in contents.header)) contents packet rest given
+    found_of (opening.keys (space_in contents.header)) opening.options (opening.expected (space_in contents.header))
+    contents packet rest given
 
-sealed_first : (opening : Opening) (bytes : List ℕ) (contents : PacketContents) (rest : List ℕ) (begins : BeginsSealed opening bytes contents rest)
-    → (found : FoundIn opening contents begins.packet rest) → CutsFirst opening.options bytes (sealed_cut found.cut.0 contents begins.packet) rest
+sealed_first : (opening : Opening) (bytes : List ℕ) (contents : PacketContents) (rest : List ℕ)
+    (begins : BeginsSealed opening bytes contents rest)
+    → (found : FoundIn opening contents begins.packet rest)
+    → CutsFirst opening.options bytes (sealed_cut found.cut.0 contents begins.packet) rest
 sealed_first opening bytes contents rest begins found = record {
-  cut = subst (λ (xs : List ℕ). Cut opening.options xs found.cut.0 (header_size contents.header - size_in contents.header) (length begins.packet)) (sym begins.text) found.cut.1;
+  cut = subst (λ (xs : List ℕ). Cut opening.options xs found.cut.0
+      (header_size contents.header - size_in contents.header) (length begins.packet)) (sym begins.text) found.cut.1;
   text = begins.text;
 }
 
-packet_returns : (opening : Opening) (contents : PacketContents) (packet rest : List ℕ) → GivenIn opening contents packet rest → (found : FoundIn opening contents packet rest)
-    → (opened : OpenedPacket) → OpensPacket opening.keys opening.expected (sealed_cut found.cut.0 contents packet) opened → opened ≡ returned_by opening contents
+packet_returns : (opening : Opening) (contents : PacketContents) (packet rest : List ℕ)
+    → GivenIn opening contents packet rest → (found : FoundIn opening contents packet rest)
+    → (opened : OpenedPacket)
+    → OpensPacket opening.keys opening.expected (sealed_cut found.cut.0 contents packet) opened
+    → opened ≡ returned_by opening contents
 packet_returns opening contents packet rest given found opened part =
     let cut : CutPacket = sealed_cut found.cut.0 contents packet in
-    key_returns (opening.keys (space_in contents.header)) opening.options (opening.expected (space_in contents.header)) contents packet rest given found opened
-    (subst (λ (o : Option SpaceId). MatchOption o (OpensPlain cut opened) (λ space. OpensWithKey (opening.keys space) (opening.expected space) cut opened)) found.cut.2 part)
+    key_returns (opening.keys (space_in contents.header)) opening.options (opening.expected (space_in contents.header))
+    contents packet rest given found opened
+    (subst (λ (o : Option SpaceId). MatchOption o (OpensPlain cut opened)
+    (λ space. OpensWithKey (opening.keys space) (opening.expected space) cut opened)) found.cut.2 part)
 
-packet_refuses : (opening : Opening) (contents : PacketContents) (packet rest : List ℕ) → GivenIn opening contents packet rest → (found : FoundIn opening contents packet rest)
-    → (e : OpenError) → RefusesPacket opening.keys opening.expected (sealed_cut found.cut.0 contents packet) e → e ≡ error.OutOfMemory
+packet_refuses : (opening : Opening) (contents : PacketContents) (packet rest : List ℕ)
+    → GivenIn opening contents packet rest → (found : FoundIn opening contents packet rest)
+    → (e : OpenError) → RefusesPacket opening.keys opening.expected (sealed_cut found.cut.0 contents packet) e
+    → e ≡ error.OutOfMemory
 packet_refuses opening contents packet rest given found e part =
     let cut : CutPacket = sealed_cut found.cut.0 contents packet in
-    key_refuses (opening.keys (space_in contents.header)) opening.options (opening.expected (space_in contents.header)) contents packet rest given found e
-    (subst (λ (o : Option SpaceId). MatchOption o (e ≡ error.OutOfMemory) (λ space. RefusesWithKey (opening.keys space) (opening.expected space) cut e)) found.cut.2 part)
+    key_refuses (opening.keys (space_in contents.header)) opening.options (opening.expected (space_in contents.header))
+    contents packet rest given found e
+    (subst (λ (o : Option SpaceId). MatchOption o (e ≡ error.OutOfMemory)
+    (λ space. RefusesWithKey (opening.keys space) (opening.expected space) cut e)) found.cut.2 part)
 
 -- what is cut of bytes that begin with a sealed packet is that packet
-cut_of_sealed : (opening : Opening) (bytes : List ℕ) (contents : PacketContents) (rest : List ℕ) → IsLawful (opening.keys (space_in contents.header))
-    → (begins : BeginsSealed opening bytes contents rest) → (packet : CutPacket) (left : List ℕ) → CutsFirst opening.options bytes packet left
+cut_of_sealed : (opening : Opening) (bytes : List ℕ) (contents : PacketContents) (rest : List ℕ)
+    → IsLawful (opening.keys (space_in contents.header))
+    → (begins : BeginsSealed opening bytes contents rest) → (packet : CutPacket) (left : List ℕ)
+    → CutsFirst opening.options bytes packet left
     → (found : FoundIn opening contents begins.packet rest) × (packet ≡ sealed_cut found.cut.0 contents begins.packet) × (left ≡ rest)
 cut_of_sealed opening bytes contents rest laws begins packet left first =
     let found = found_in opening contents begins.packet rest (given_in opening bytes contents rest laws begins) in
-    let same = one_cut opening.options bytes packet (sealed_cut found.cut.0 contents begins.packet) left rest first (sealed_first opening bytes contents rest begins found) in
+    let same =
+    one_cut opening.options bytes packet (sealed_cut found.cut.0 contents begins.packet) left rest first
+    (sealed_first opening bytes contents rest begins found) in
     (found, same.0, same.1)
 
-pub sealed_cut_there : (opening : Opening) (bytes : List ℕ) (contents : PacketContents) (rest : List ℕ) → IsLawful (opening.keys (space_in contents.header))
-    → (begins : BeginsSealed opening bytes contents rest) → (packet : CutPacket) (left : List ℕ) → CutsFirst opening.options bytes packet left
+pub sealed_cut_there : (opening : Opening) (bytes : List ℕ) (contents : PacketContents) (rest : List ℕ)
+    → IsLawful (opening.keys (space_in contents.header))
+    → (begins : BeginsSealed opening bytes contents rest) → (packet : CutPacket) (left : List ℕ)
+    → CutsFirst opening.options bytes packet left
     → (packet.bytes ≡ begins.packet) × (left ≡ rest)
 sealed_cut_there opening bytes contents rest laws begins packet left first =
     let same = cut_of_sealed opening bytes contents rest laws begins packet left first in
     (ap (λ (x : CutPacket). x.bytes) same.1, same.2)
 
-pub sealed_space : (opening : Opening) (bytes : List ℕ) (contents : PacketContents) (rest : List ℕ) → IsLawful (opening.keys (space_in contents.header))
-    → BeginsSealed opening bytes contents rest → (packet : CutPacket) (left : List ℕ) → CutsFirst opening.options bytes packet left
+pub sealed_space : (opening : Opening) (bytes : List ℕ) (contents : PacketContents) (rest : List ℕ)
+    → IsLawful (opening.keys (space_in contents.header))
+    → BeginsSealed opening bytes contents rest → (packet : CutPacket) (left : List ℕ)
+    → CutsFirst opening.options bytes packet left
     → space_of packet.head ≡ Some (space_in contents.header)
 sealed_space opening bytes contents rest laws begins packet left first =
     let same = cut_of_sealed opening bytes contents rest laws begins packet left first in
@@ -235,47 +305,68 @@ sealed_space opening bytes contents rest laws begins packet left first =
 
 -- ---- the first packet
 
-pub first_returns : (opening : Opening) (bytes : List ℕ) (contents : PacketContents) (rest : List ℕ) → IsLawful (opening.keys (space_in contents.header))
-    → BeginsSealed opening bytes contents rest → (opened : Opened) (left : Option Filled) → OpensFirst opening bytes opened left → ReturnsSealed opening contents rest opened left
+pub first_returns : (opening : Opening) (bytes : List ℕ) (contents : PacketContents) (rest : List ℕ)
+    → IsLawful (opening.keys (space_in contents.header))
+    → BeginsSealed opening bytes contents rest → (opened : Opened) (left : Option Filled)
+    → OpensFirst opening bytes opened left → ReturnsSealed opening contents rest opened left
 first_returns opening bytes contents rest laws begins opened left o =
     let given = given_in opening bytes contents rest laws begins in
     let found = found_in opening contents begins.packet rest given in
-    let same = one_cut opening.options bytes o.opens.packet (sealed_cut found.cut.0 contents begins.packet) o.rest rest o.opens.first (sealed_first opening bytes contents rest begins found) in
+    let same =
+    one_cut opening.options bytes o.opens.packet (sealed_cut found.cut.0 contents begins.packet) o.rest rest
+    o.opens.first (sealed_first opening bytes contents rest begins found) in
     record {
       packet = packet_returns opening contents begins.packet rest given found (packet_of opened)
           (subst (λ (x : CutPacket). OpensPacket opening.keys opening.expected x (packet_of opened)) same.0 o.opens.opens);
       left_is = subst (IsRest left) same.1 o.left_is;
     }
 
-uncut_back : (opening : Opening) (bytes : List ℕ) (contents : PacketContents) (rest : List ℕ) → IsLawful (opening.keys (space_in contents.header)) → AreBytes bytes
+uncut_back : (opening : Opening) (bytes : List ℕ) (contents : PacketContents) (rest : List ℕ)
+    → IsLawful (opening.keys (space_in contents.header)) → AreBytes bytes
     → BeginsSealed opening bytes contents rest → (r : Refusal) → Uncut opening.options bytes r → ⊥
 uncut_back opening bytes contents rest laws fits begins r uncut =
     let found = found_in opening contents begins.packet rest (given_in opening bytes contents rest laws begins) in
     let at : ℕ = header_size contents.header - size_in contents.header in
-    let yes = cut_again opening.options bytes found.cut.0 at (length begins.packet) (sealed_first opening bytes contents rest begins found).cut in
+    let yes =
+    cut_again opening.options bytes found.cut.0 at (length begins.packet) (sealed_first opening bytes contents rest begins found).cut in
     let never = uncut_again opening.options bytes r fits uncut in
-    let clash : (let x : Result (ProtectedHeader × ℕ × ℕ) Refusal = Ok (found.cut.0, at, length begins.packet) in x) ≡ Err r = sym yes ∙ never in cc
+    let clash : (let x : Result (ProtectedHeader × ℕ × ℕ) Refusal = Ok (found.cut.0, at, length begins.packet) in x)
+    ≡ Err r = sym yes ∙ never in cc
 
-pub first_refuses : (opening : Opening) (bytes : List ℕ) (contents : PacketContents) (rest : List ℕ) → IsLawful (opening.keys (space_in contents.header)) → AreBytes bytes
+pub first_refuses : (opening : Opening) (bytes : List ℕ) (contents : PacketContents) (rest : List ℕ)
+    → IsLawful (opening.keys (space_in contents.header)) → AreBytes bytes
     → BeginsSealed opening bytes contents rest → (e : OpenError) → Refuses opening bytes e → e ≡ error.OutOfMemory
-first_refuses opening bytes contents rest laws fits begins (error.Decode f) (inl uncut) = absurd (uncut_back opening bytes contents rest laws fits begins (refusal_of f) uncut)
+first_refuses opening bytes contents rest laws fits begins (error.Decode f) (inl uncut) =
+    absurd (uncut_back opening bytes contents rest laws fits begins (refusal_of f) uncut)
 first_refuses opening bytes contents rest laws fits begins error.Unsealed (inl uncut) = absurd uncut
 first_refuses opening bytes contents rest laws fits begins error.OutOfMemory (inl uncut) = refl
 first_refuses opening bytes contents rest laws fits begins e (inr refuses) =
     let given = given_in opening bytes contents rest laws begins in
     let found = found_in opening contents begins.packet rest given in
-    let same = one_cut opening.options bytes refuses.0 (sealed_cut found.cut.0 contents begins.packet) refuses.1 rest refuses.2 (sealed_first opening bytes contents rest begins found) in
-    packet_refuses opening contents begins.packet rest given found e (subst (λ (x : CutPacket). RefusesPacket opening.keys opening.expected x e) same.0 refuses.3)
+    let same =
+    one_cut opening.options bytes refuses.0 (sealed_cut found.cut.0 contents begins.packet) refuses.1 rest refuses.2
+    (sealed_first opening bytes contents rest begins found) in
+    packet_refuses opening contents begins.packet rest given found e
+    (subst (λ (x : CutPacket). RefusesPacket opening.keys opening.expected x e) same.0 refuses.3)
 
 -- what follows a packet is shorter than the datagram
-first_shorter : (opening : Opening) (bytes : List ℕ) (opened : Opened) (left : Option Filled) → OpensFirst opening bytes opened left → IfSome left (λ f. length f.items < length bytes)
+first_shorter : (opening : Opening) (bytes : List ℕ) (opened : Opened) (left : Option Filled)
+    → OpensFirst opening bytes opened left → IfSome left (λ f. length f.items < length bytes)
 first_shorter opening bytes opened None o = tt
 first_shorter opening bytes opened (Some f) o =
     let is : f.items ≡ o.rest = o.left_is.0 in
     let packet : CutPacket = o.opens.packet in
-    omega (arith, cut_positive opening.options bytes packet.head packet.header_end (length packet.bytes) o.opens.first.cut, ap length o.opens.first.text, length-append packet.bytes o.rest, ap length is)
+    omega (
+      arith,
+      cut_positive opening.options bytes packet.head packet.header_end (length packet.bytes)
+          o.opens.first.cut,
+      ap length o.opens.first.text,
+      length-append packet.bytes o.rest,
+      ap length is,
+    )
 
-opened_first : (opening : Opening) (bytes : List ℕ) (opened : Opened) (left : Option Filled) → ((space : SpaceId) → IsLawful (opening.keys space))
+opened_first : (opening : Opening) (bytes : List ℕ) (opened : Opened) (left : Option Filled)
+    → ((space : SpaceId) → IsLawful (opening.keys space))
     → OpensFirst opening bytes opened left → PacketAnswer opening bytes (Ok (opened, left))
 opened_first opening bytes opened left laws o = record {
   opened = o;
@@ -284,7 +375,8 @@ opened_first opening bytes opened left laws o = record {
   sealed = λ contents rest begins. first_returns opening bytes contents rest (laws (space_in contents.header)) begins opened left o;
 }
 
-refused_first : (opening : Opening) (bytes : List ℕ) (e : OpenError) → ((space : SpaceId) → IsLawful (opening.keys space)) → AreBytes bytes
+refused_first : (opening : Opening) (bytes : List ℕ) (e : OpenError)
+    → ((space : SpaceId) → IsLawful (opening.keys space)) → AreBytes bytes
     → Refuses opening bytes e → PacketAnswer opening bytes (Err e)
 refused_first opening bytes e laws fits refuses = record {
   opened = tt;
@@ -296,42 +388,60 @@ refused_first opening bytes e laws fits refuses = record {
 -- ---- what a call answers
 
 -- no packet is cut
-pub answers_uncut : {opening : Opening} {bytes : List ℕ} {f : OpenError} → ((space : SpaceId) → IsLawful (opening.keys space)) → AreBytes bytes
-    → (e : PacketDecodeError) → IsDecode e f → ((a : Result (ProtectedHeader × ℕ × ℕ) Refusal) × CutAnswer opening.options bytes a × RefusesHeader e a)
-    → (e ≡ decode.OutOfMemory → IsTrue opening.takes_memory ⊎ ((h : ProtectedHeader) × (p : ℕ) × (q : ℕ) × Cut opening.options bytes h p q × (q < length bytes)))
+pub answers_uncut : {opening : Opening} {bytes : List ℕ} {f : OpenError}
+    → ((space : SpaceId) → IsLawful (opening.keys space)) → AreBytes bytes
+    → (e : PacketDecodeError) → IsDecode e f
+    → ((a : Result (ProtectedHeader × ℕ × ℕ) Refusal) × CutAnswer opening.options bytes a × RefusesHeader e a)
+    → (e ≡ decode.OutOfMemory → IsTrue opening.takes_memory ⊎ ((h : ProtectedHeader) × (p : ℕ) × (q : ℕ)
+    × Cut opening.options bytes h p q × (q < length bytes)))
     → PacketAnswer opening bytes (Err f)
-answers_uncut {opening} {bytes} {f} laws fits e same answer memory = refused_first opening bytes f laws fits (uncut_refused opening bytes e f same answer memory)
+answers_uncut {opening} {bytes} {f} laws fits e same answer memory =
+    refused_first opening bytes f laws fits (uncut_refused opening bytes e f same answer memory)
 
 -- a packet is cut
 abbrev pub IsCutBy : DecodeOptions → List ℕ → CutPacket → Type 0
 IsCutBy options bytes packet =
-    ((a : Result (ProtectedHeader × ℕ × ℕ) Refusal) × CutAnswer options bytes a × (a ≡ Ok (packet.head, packet.header_end, length packet.bytes)))
+    ((a : Result (ProtectedHeader × ℕ × ℕ) Refusal) × CutAnswer options bytes a
+    × (a ≡ Ok (packet.head, packet.header_end, length packet.bytes)))
     × (packet.bytes ≡ take (length packet.bytes) bytes)
 
 -- and there is no room for it
-pub answers_no_room : {opening : Opening} {bytes : List ℕ} → ((space : SpaceId) → IsLawful (opening.keys space)) → AreBytes bytes
+pub answers_no_room : {opening : Opening} {bytes : List ℕ} → ((space : SpaceId) → IsLawful (opening.keys space))
+    → AreBytes bytes
     → (packet : CutPacket) → IsCutBy opening.options bytes packet → PacketAnswer opening bytes (Err error.OutOfMemory)
 answers_no_room {opening} {bytes} laws fits packet is =
-    refused_first opening bytes error.OutOfMemory laws fits (memory_refused opening bytes packet (drop (length packet.bytes) bytes) (cuts_first opening.options bytes packet is.0 is.1))
+    refused_first opening bytes error.OutOfMemory laws fits (memory_refused opening bytes packet
+    (drop (length packet.bytes) bytes) (cuts_first opening.options bytes packet is.0 is.1))
 
 -- and refused
-pub answers_refused : {opening : Opening} {bytes : List ℕ} {e : OpenError} → ((space : SpaceId) → IsLawful (opening.keys space)) → AreBytes bytes
-    → (packet : CutPacket) → IsCutBy opening.options bytes packet → RefusesPacket opening.keys opening.expected packet e → PacketAnswer opening bytes (Err e)
+pub answers_refused : {opening : Opening} {bytes : List ℕ} {e : OpenError}
+    → ((space : SpaceId) → IsLawful (opening.keys space)) → AreBytes bytes
+    → (packet : CutPacket) → IsCutBy opening.options bytes packet → RefusesPacket opening.keys opening.expected packet e
+    → PacketAnswer opening bytes (Err e)
 answers_refused {opening} {bytes} {e} laws fits packet is refuses =
-    refused_first opening bytes e laws fits (inr (packet, drop (length packet.bytes) bytes, cuts_first opening.options bytes packet is.0 is.1, refuses))
+    refused_first opening bytes e laws fits (inr (
+      packet,
+      drop (length packet.bytes) bytes,
+      cuts_first opening.options bytes packet is.0 is.1,
+      refuses,
+    ))
 
 -- and opened
-pub answers_opened : {opening : Opening} {bytes : List ℕ} {opened : Opened} {left : Option Filled} → ((space : SpaceId) → IsLawful (opening.keys space))
+pub answers_opened : {opening : Opening} {bytes : List ℕ} {opened : Opened} {left : Option Filled}
+    → ((space : SpaceId) → IsLawful (opening.keys space))
     → (packet : CutPacket) → IsCutBy opening.options bytes packet → IsRest left (drop (length packet.bytes) bytes)
-    → OpensPacket opening.keys opening.expected packet (packet_of opened) → PacketAnswer opening bytes (Ok (opened, left))
-answers_opened {opening} {bytes} {opened} {left} laws packet is rest opens = opened_first opening bytes opened left laws (record {
-  rest = drop (length packet.bytes) bytes;
-  opens = record { packet = packet; first = cuts_first opening.options bytes packet is.0 is.1; opens = opens };
-  left_is = rest;
-})
+    → OpensPacket opening.keys opening.expected packet (packet_of opened)
+    → PacketAnswer opening bytes (Ok (opened, left))
+answers_opened {opening} {bytes} {opened} {left} laws packet is rest opens =
+    opened_first opening bytes opened left laws (record {
+      rest = drop (length packet.bytes) bytes;
+      opens = record { packet = packet; first = cuts_first opening.options bytes packet is.0 is.1; opens = opens };
+      left_is = rest;
+    })
 
 -- what was sealed can be opened
-pub sealed_opens : (opening : Opening) (bytes : List ℕ) (contents : PacketContents) (rest : List ℕ) → IsLawful (opening.keys (space_in contents.header))
+pub sealed_opens : (opening : Opening) (bytes : List ℕ) (contents : PacketContents) (rest : List ℕ)
+    → IsLawful (opening.keys (space_in contents.header))
     → BeginsSealed opening bytes contents rest → Opens opening bytes (returned_by opening contents) rest
 sealed_opens opening bytes contents rest laws begins =
     let found = found_in opening contents begins.packet rest (given_in opening bytes contents rest laws begins) in
@@ -345,7 +455,9 @@ sealed_opens opening bytes contents rest laws begins =
       unlocks = record {
         sample = found.sample;
         whole = sym found.back;
-        is_header = subst (λ (k : ℕ). IsOpenedBy true found.cut.0 (header_size contents.header - size_in contents.header) contents.header (top ++ body) k) (sym (top_length key opening.options contents rest begins.read)) found.cut.4;
+        is_header = subst (λ (k : ℕ). IsOpenedBy true found.cut.0
+            (header_size contents.header - size_in contents.header) contents.header (top ++ body) k)
+            (sym (top_length key opening.options contents rest begins.read)) found.cut.4;
         number = begins.number;
       };
       header = refl;
@@ -356,5 +468,7 @@ sealed_opens opening bytes contents rest laws begins =
     record {
       packet = cut;
       first = sealed_first opening bytes contents rest begins found;
-      opens = subst (λ (o : Option SpaceId). MatchOption o (OpensPlain cut (returned key contents)) (λ s. OpensWithKey (opening.keys s) (opening.expected s) cut (returned key contents))) (sym found.cut.2) opened;
+      opens = subst (λ (o : Option SpaceId). MatchOption o (OpensPlain cut (returned key contents))
+          (λ s. OpensWithKey (opening.keys s) (opening.expected s) cut (returned key contents))) (sym found.cut.2)
+          opened;
     }

@@ -37,23 +37,33 @@ use Rattle.quic_packets.proofs.Parts.{length_encoded}
 use Rattle.quic_packets.proofs.Opened.{Lawful, Shape, shape, front_bytes, number_known, number_there}
 
 -- what there is to know of a sealed packet before its payload is opened
-pub record Found (seal : KeyPair) (key : KeyPair) (context : DecodeOptions) (h : Header) (n : ℕ) (payload packet rest : List ℕ) : Type 0 where
-  pub cut : (found : ProtectedHeader) × Cut context (packet ++ rest) found (header_size h - size_in h) (length packet) × (space_of found ≡ Some (space_in h))
-      × ((got : Header) (end : ℕ) → IsOpenedBy true found (header_size h - size_in h) got (plain_of seal h n payload) end → (got ≡ h) × (end ≡ header_size h))
+pub record Found (seal : KeyPair) (key : KeyPair) (context : DecodeOptions) (h : Header) (n : ℕ)
+    (payload packet rest : List ℕ) : Type 0 where
+  pub cut : (found : ProtectedHeader) × Cut context (packet ++ rest) found (header_size h - size_in h) (length packet)
+      × (space_of found ≡ Some (space_in h))
+      × ((got : Header) (end : ℕ) → IsOpenedBy true found (header_size h - size_in h) got (plain_of seal h n payload)
+      end → (got ≡ h) × (end ≡ header_size h))
       × IsOpenedBy true found (header_size h - size_in h) h (plain_of seal h n payload) (header_size h)
   pub sample : HasSample key.sample_len (header_size h - size_in h) packet
   pub back : key.unprotected (header_size h - size_in h) packet ≡ plain_of seal h n payload
 
-pub plain_length : (seal : KeyPair) (key : KeyPair) → Lawful seal key → (h : Header) (n : ℕ) (payload packet : List ℕ) → SealedOf seal h n payload packet → IsTrue (has_number h)
+pub plain_length : (seal : KeyPair) (key : KeyPair) → Lawful seal key → (h : Header) (n : ℕ) (payload packet : List ℕ)
+    → SealedOf seal h n payload packet → IsTrue (has_number h)
     → length (plain_of seal h n payload) ≡ header_size h + (length payload + seal.tag_size)
 plain_length seal key laws h n payload packet sealed numbered =
     let top : List ℕ = sealed_header seal.tag_size h payload in
     length-append top (seal.sealed n top payload)
-    ∙ ap (λ (k : ℕ). k + length (seal.sealed n top payload)) (header_length h (bytes_of 2 (2 ^ 14 + protected_len seal.tag_size h payload)) numbered (law.length-bytes_of 2 (2 ^ 14 + protected_len seal.tag_size h payload)))
-    ∙ ap (λ (k : ℕ). header_size h + k) (laws.sealed_len n top payload (let fits : n < 2 ^ 62 = sealed.fits in omega arith) (front_bytes top (seal.sealed n top payload) sealed.are_bytes) sealed.payload_bytes)
+    ∙ ap (λ (k : ℕ). k + length (seal.sealed n top payload))
+    (header_length h (bytes_of 2 (2 ^ 14 + protected_len seal.tag_size h payload)) numbered
+    (law.length-bytes_of 2 (2 ^ 14 + protected_len seal.tag_size h payload)))
+    ∙ ap (λ (k : ℕ). header_size h + k) (laws.sealed_len n top payload
+    (let fits : n < 2 ^ 62 = sealed.fits in omega arith)
+    (front_bytes top (seal.sealed n top payload) sealed.are_bytes) sealed.payload_bytes)
 
-pub sealed_shape : (seal : KeyPair) (key : KeyPair) → Lawful seal key → (h : Header) (n : ℕ) (payload packet : List ℕ) → SealedOf seal h n payload packet → IsTrue (has_number h)
-    → (first : ℕ) (front numbers : List ℕ) → plain_of seal h n payload ≡ (first ∷ front) ++ numbers → header_size h - size_in h ≡ length (first ∷ front)
+pub sealed_shape : (seal : KeyPair) (key : KeyPair) → Lawful seal key → (h : Header) (n : ℕ) (payload packet : List ℕ)
+    → SealedOf seal h n payload packet → IsTrue (has_number h)
+    → (first : ℕ) (front numbers : List ℕ) → plain_of seal h n payload ≡ (first ∷ front) ++ numbers
+    → header_size h - size_in h ≡ length (first ∷ front)
     → Shape key packet front ((first ∷ front) ++ numbers) first (header_size h - size_in h)
 sealed_shape seal key laws h n payload packet sealed numbered first front numbers same at_is =
     let at : ℕ = header_size h - size_in h in
@@ -63,12 +73,14 @@ sealed_shape seal key laws h n payload packet sealed numbered first front number
     shape seal key laws packet front numbers first at (subst AreBytes same sealed.are_bytes)
     (record { after_first = omega arith; room = omega (arith, long, ap length same) }) at_is (sealed.text ∙ ap (seal.protected at) same)
 
-high_long : (b first : ℕ) → 128 ≤ first → b / first_unit (nat_lt first 128) ≡ first / first_unit (nat_lt first 128) → b / 16 ≡ first / 16
+high_long : (b first : ℕ) → 128 ≤ first → b / first_unit (nat_lt first 128) ≡ first / first_unit (nat_lt first 128)
+    → b / 16 ≡ first / 16
 high_long b first long h =
     let test : nat_lt first 128 ≡ false = grind (arith, nat_tests) in
     subst (λ (s : Bool). b / first_unit s ≡ first / first_unit s) test h
 
-high_short : (b first : ℕ) → first < 128 → b / first_unit (nat_lt first 128) ≡ first / first_unit (nat_lt first 128) → b / 32 ≡ first / 32
+high_short : (b first : ℕ) → first < 128 → b / first_unit (nat_lt first 128) ≡ first / first_unit (nat_lt first 128)
+    → b / 32 ≡ first / 32
 high_short b first short h =
     let test : nat_lt first 128 ≡ true = grind (arith, nat_tests) in
     subst (λ (s : Bool). b / first_unit s ≡ first / first_unit s) test h
@@ -81,9 +93,15 @@ size_bounds (U32 x) = (omega arith, omega arith)
 
 -- the tables of the types, and the place of a type in them
 back_in : (second : Bool) (ty : LongHeaderType)
-    → (place_of ty (cond {A = List LongHeaderType} second (kind.Retry ∷ kind.Initial ∷ kind.Standard ZeroRtt ∷ kind.Standard Handshake ∷ []) (kind.Initial ∷ kind.Standard ZeroRtt ∷ kind.Standard Handshake ∷ kind.Retry ∷ [])) ≤ 3)
-    × (slice_index_or (cond {A = List LongHeaderType} second (kind.Retry ∷ kind.Initial ∷ kind.Standard ZeroRtt ∷ kind.Standard Handshake ∷ []) (kind.Initial ∷ kind.Standard ZeroRtt ∷ kind.Standard Handshake ∷ kind.Retry ∷ []))
-    (place_of ty (cond {A = List LongHeaderType} second (kind.Retry ∷ kind.Initial ∷ kind.Standard ZeroRtt ∷ kind.Standard Handshake ∷ []) (kind.Initial ∷ kind.Standard ZeroRtt ∷ kind.Standard Handshake ∷ kind.Retry ∷ []))) kind.Retry ≡ ty)
+    → (place_of ty (cond {A = List LongHeaderType} second (kind.Retry ∷ kind.Initial ∷ kind.Standard ZeroRtt
+    ∷ kind.Standard Handshake ∷ []) (kind.Initial ∷ kind.Standard ZeroRtt ∷ kind.Standard Handshake ∷ kind.Retry
+    ∷ [])) ≤ 3)
+    × (slice_index_or (cond {A = List LongHeaderType} second
+    (kind.Retry ∷ kind.Initial ∷ kind.Standard ZeroRtt ∷ kind.Standard Handshake ∷ [])
+    (kind.Initial ∷ kind.Standard ZeroRtt ∷ kind.Standard Handshake ∷ kind.Retry ∷ []))
+    (place_of ty (cond {A = List LongHeaderType} second (kind.Retry ∷ kind.Initial ∷ kind.Standard ZeroRtt
+    ∷ kind.Standard Handshake ∷ []) (kind.Initial ∷ kind.Standard ZeroRtt ∷ kind.Standard Handshake ∷ kind.Retry
+    ∷ []))) kind.Retry ≡ ty)
 back_in true kind.Initial = (omega arith, refl)
 back_in true kind.Retry = (omega arith, refl)
 back_in true (kind.Standard ZeroRtt) = (omega arith, refl)
@@ -93,7 +111,8 @@ back_in false kind.Retry = (omega arith, refl)
 back_in false (kind.Standard ZeroRtt) = (omega arith, refl)
 back_in false (kind.Standard Handshake) = (omega arith, refl)
 
-type_back : (version : ℕ) (ty : LongHeaderType) → (type_number version ty ≤ 3) × (slice_index_or (types_of version) (type_number version ty) kind.Retry ≡ ty)
+type_back : (version : ℕ) (ty : LongHeaderType)
+    → (type_number version ty ≤ 3) × (slice_index_or (types_of version) (type_number version ty) kind.Retry ≡ ty)
 type_back version ty = back_in (nat_eq version version_2) ty
 
 regroup : (front len number body : List ℕ) → (front ++ (len ++ number)) ++ body ≡ (front ++ len) ++ (number ++ body)
@@ -107,7 +126,9 @@ record LongByte (version : ℕ) (ty : LongHeaderType) (b : ℕ) : Type 0 where
   is : long_type version b ≡ ty
 
 long_byte : (version b size : ℕ) (ty : LongHeaderType) → 1 ≤ size → size ≤ 4
-    → b / first_unit (nat_lt (long_first version ty size) 128) ≡ long_first version ty size / first_unit (nat_lt (long_first version ty size) 128) → LongByte version ty b
+    → b / first_unit (nat_lt (long_first version ty size) 128)
+    ≡ long_first version ty size / first_unit (nat_lt (long_first version ty size) 128)
+    → LongByte version ty b
 long_byte version b size ty low up h =
     let t : ℕ = type_number version ty in
     let back = type_back version ty in
@@ -128,8 +149,10 @@ joined front len behind rest = append_assoc (front ++ len) behind rest ∙ appen
 
 -- ---- 0-RTT and Handshake
 
-long_sealed : (seal : KeyPair) (key : KeyPair) → Lawful seal key → (context : DecodeOptions) (ty : LongType) (dst src : List ℕ) (number : PacketNumber) (version n : ℕ) (payload packet rest : List ℕ)
-    → SealedOf seal (header.Long ty dst src number version) n payload packet → IsReadBack context (header.Long ty dst src number version) rest
+long_sealed : (seal : KeyPair) (key : KeyPair) → Lawful seal key
+    → (context : DecodeOptions) (ty : LongType) (dst src : List ℕ) (number : PacketNumber) (version n : ℕ) (payload packet rest : List ℕ)
+    → SealedOf seal (header.Long ty dst src number version) n payload packet
+    → IsReadBack context (header.Long ty dst src number version) rest
     → Found seal key context (header.Long ty dst src number version) n payload packet rest
 long_sealed seal key laws context ty dst src number version n payload packet rest sealed read =
     let h : Header = header.Long ty dst src number version in
@@ -141,13 +164,17 @@ long_sealed seal key laws context ty dst src number version n payload packet res
     let tail : List ℕ = bytes_of 4 version ++ (long_id dst ++ long_id src) in
     let body : List ℕ = seal.sealed n (sealed_header seal.tag_size h payload) payload in
     let at : ℕ = header_size h - size_in h in
-    let same : plain_of seal h n payload ≡ (first ∷ (tail ++ len)) ++ (number_bytes number ++ body) = regroup (first ∷ tail) len (number_bytes number) body in
-    let at_is : at ≡ length (first ∷ (tail ++ len)) = omega (arith, front_length h refl, length-append (first ∷ tail) len, law.length-bytes_of 2 (2 ^ 14 + count)) in
-    let it = sealed_shape seal key laws h n payload packet sealed refl first (tail ++ len) (number_bytes number ++ body) same at_is in
+    let same : plain_of seal h n payload ≡ (first ∷ (tail ++ len)) ++ (number_bytes number ++ body) =
+    regroup (first ∷ tail) len (number_bytes number) body in
+    let at_is : at ≡ length (first ∷ (tail ++ len)) =
+    omega (arith, front_length h refl, length-append (first ∷ tail) len, law.length-bytes_of 2 (2 ^ 14 + count)) in
+    let it =
+    sealed_shape seal key laws h n payload packet sealed refl first (tail ++ len) (number_bytes number ++ body) same at_is in
     let b : ℕ = get_or packet 0 0 in
     let byte = long_byte version b size (kind.Standard ty) bounds.0 bounds.1 it.high in
     let behind : List ℕ = drop at packet in
-    let whole : packet ++ rest ≡ (b ∷ tail) ++ (len ++ (behind ++ rest)) = ap (λ (xs : List ℕ). xs ++ rest) it.text ∙ joined (b ∷ tail) len behind rest in
+    let whole : packet ++ rest ≡ (b ∷ tail) ++ (len ++ (behind ++ rest)) =
+    ap (λ (xs : List ℕ). xs ++ rest) it.text ∙ joined (b ∷ tail) len behind rest in
     let start : LongStart context (packet ++ rest) b version dst src (len ++ (behind ++ rest)) = record {
       long = byte.long;
       fixed = fixed_set context b byte.fixed;
@@ -156,7 +183,8 @@ long_sealed seal key laws context ty dst src number version n payload packet res
       src_len = read.3;
       text = whole;
     } in
-    let total : length packet ≡ header_size h + (length payload + seal.tag_size) = it.len ∙ sym (ap length same) ∙ plain_length seal key laws h n payload packet sealed refl in
+    let total : length packet ≡ header_size h + (length payload + seal.tag_size) =
+    it.len ∙ sym (ap length same) ∙ plain_length seal key laws h n payload packet sealed refl in
     let fit : size_in h ≤ header_size h = size_within h in
     let left : length behind ≡ length packet - at = length-drop at packet in
     record {
@@ -164,32 +192,40 @@ long_sealed seal key laws context ty dst src number version n payload packet res
         protected.Long ty dst src count version,
         (
           behind ++ rest,
-          long_header context (length (packet ++ rest)) (packet ++ rest) b version dst src len (behind ++ rest) ty count start read.1 byte.is (length_encoded count (sealed.short refl)),
+          long_header context (length (packet ++ rest)) (packet ++ rest) b version dst src len (behind ++ rest) ty count
+              start read.1 byte.is (length_encoded count (sealed.short refl)),
           omega (arith, length-append behind rest, length-append packet rest),
           omega arith,
           omega (arith, length-append packet rest),
         ),
         refl,
         λ got end opened.
-            let known : opened.0 ≡ number = number_known opened.0 number first (tail ++ len) body at at_is (low_byte version size (kind.Standard ty) bounds.0 bounds.1) sealed.writable
+            let known : opened.0 ≡ number = number_known opened.0 number first (tail ++ len) body at at_is
+            (low_byte version size (kind.Standard ty) bounds.0 bounds.1) sealed.writable
             (subst (IsNumberIn opened.0 at) same opened.1) in (
               opened.2 ∙ ap (λ (k : PacketNumber). header.Long ty dst src k version) known,
               opened.3 ∙ ap (λ (k : PacketNumber). at + number_size k) known ∙ omega arith,
             ),
         (
           number,
-          subst (IsNumberIn number at) (sym same) (number_there number first (tail ++ len) body at at_is (low_byte version size (kind.Standard ty) bounds.0 bounds.1) sealed.writable),
+          subst (IsNumberIn number at) (sym same) (number_there number first (tail ++ len) body at at_is
+              (low_byte version size (kind.Standard ty) bounds.0 bounds.1) sealed.writable),
           refl,
           omega arith,
         ),
       );
-      sample = record { after_first = omega arith; room = (let enough : 4 + seal.sample_len ≤ size + length payload + seal.tag_size = sealed.sample in omega (arith, laws.sample_same)) };
+      sample = record {
+        after_first = omega arith;
+        room = (let enough : 4 + seal.sample_len ≤ size + length payload
+            + seal.tag_size = sealed.sample in omega (arith, laws.sample_same));
+      };
       back = it.back ∙ sym same;
     }
 
 -- ---- Initial
 
-initial_sealed : (seal : KeyPair) (key : KeyPair) → Lawful seal key → (context : DecodeOptions) (i : InitialHeader) (n : ℕ) (payload packet rest : List ℕ)
+initial_sealed : (seal : KeyPair) (key : KeyPair) → Lawful seal key
+    → (context : DecodeOptions) (i : InitialHeader) (n : ℕ) (payload packet rest : List ℕ)
     → SealedOf seal (header.Initial i) n payload packet → IsReadBack context (header.Initial i) rest
     → Found seal key context (header.Initial i) n payload packet rest
 initial_sealed seal key laws context i n payload packet rest sealed read =
@@ -207,16 +243,20 @@ initial_sealed seal key laws context i n payload packet rest sealed read =
     let front : List ℕ = tail ++ (var ++ token) in
     let body : List ℕ = seal.sealed n (sealed_header seal.tag_size h payload) payload in
     let at : ℕ = header_size h - size_in h in
-    let same : plain_of seal h n payload ≡ (first ∷ (front ++ len)) ++ (number_bytes number ++ body) = regroup (first ∷ front) len (number_bytes number) body in
-    let at_is : at ≡ length (first ∷ (front ++ len)) = omega (arith, front_length h refl, length-append (first ∷ front) len, law.length-bytes_of 2 (2 ^ 14 + count)) in
-    let it = sealed_shape seal key laws h n payload packet sealed refl first (front ++ len) (number_bytes number ++ body) same at_is in
+    let same : plain_of seal h n payload ≡ (first ∷ (front ++ len)) ++ (number_bytes number ++ body) =
+    regroup (first ∷ front) len (number_bytes number) body in
+    let at_is : at ≡ length (first ∷ (front ++ len)) =
+    omega (arith, front_length h refl, length-append (first ∷ front) len, law.length-bytes_of 2 (2 ^ 14 + count)) in
+    let it =
+    sealed_shape seal key laws h n payload packet sealed refl first (front ++ len) (number_bytes number ++ body) same at_is in
     let b : ℕ = get_or packet 0 0 in
     let byte = long_byte version b size kind.Initial bounds.0 bounds.1 it.high in
     let behind : List ℕ = drop at packet in
     let after : List ℕ = len ++ (behind ++ rest) in
     let whole : packet ++ rest ≡ (b ∷ tail) ++ (var ++ (token ++ after)) =
     ap (λ (xs : List ℕ). xs ++ rest) it.text ∙ joined (b ∷ front) len behind rest
-    ∙ append_assoc (b ∷ tail) (var ++ token) after ∙ ap (λ (xs : List ℕ). (b ∷ tail) ++ xs) (append_assoc var token after) in
+    ∙ append_assoc (b ∷ tail) (var ++ token) after
+    ∙ ap (λ (xs : List ℕ). (b ∷ tail) ++ xs) (append_assoc var token after) in
     let start : LongStart context (packet ++ rest) b version i.dst_cid i.src_cid (var ++ (token ++ after)) = record {
       long = byte.long;
       fixed = fixed_set context b byte.fixed;
@@ -225,7 +265,8 @@ initial_sealed seal key laws context i n payload packet rest sealed read =
       src_len = read.3;
       text = whole;
     } in
-    let total : length packet ≡ header_size h + (length payload + seal.tag_size) = it.len ∙ sym (ap length same) ∙ plain_length seal key laws h n payload packet sealed refl in
+    let total : length packet ≡ header_size h + (length payload + seal.tag_size) =
+    it.len ∙ sym (ap length same) ∙ plain_length seal key laws h n payload packet sealed refl in
     let fit : size_in h ≤ header_size h = size_within h in
     let left : length behind ≡ length packet - at = length-drop at packet in
     let top : length (b ∷ tail) ≡ 7 + length i.dst_cid + length i.src_cid = long_length b version i.dst_cid i.src_cid in
@@ -239,7 +280,14 @@ initial_sealed seal key laws context i n payload packet rest sealed read =
     (omega (arith, length-append (first ∷ tail) var, long_length first version i.dst_cid i.src_cid))
     (omega (arith, length-append (first ∷ tail) var, long_length first version i.dst_cid i.src_cid)) in
     let found : ProtectedInitialHeader =
-    record { dst_cid = i.dst_cid; src_cid = i.src_cid; token_pos = record { start = token_at; end = token_at + length token }; len = count; version = version } in
+    record {
+      dst_cid = i.dst_cid;
+      src_cid = i.src_cid;
+      token_pos =
+          record { start = token_at; end = token_at + length token };
+      len = count;
+      version = version;
+    } in
     record {
       cut = (
         protected.Initial found,
@@ -247,27 +295,44 @@ initial_sealed seal key laws context i n payload packet rest sealed read =
           behind ++ rest,
           initial_header context (length (packet ++ rest)) (packet ++ rest) b var token len (behind ++ rest) found start read.1 byte.is
               (law.shortest_encodes (length token) sealed.writable.0) (length_encoded count (sealed.short refl))
-              (omega (arith, ap length whole, length-append (b ∷ tail) (var ++ (token ++ after)), length-append var (token ++ after), length-append token after, top)) refl,
+              (omega (
+                arith,
+                ap length whole,
+                length-append (b ∷ tail) (var ++ (token ++ after)),
+                length-append var (token ++ after),
+                length-append token after,
+                top,
+              )) refl,
           omega (arith, length-append behind rest, length-append packet rest),
           omega arith,
           omega (arith, length-append packet rest),
         ),
         refl,
         λ got end opened.
-            let known : opened.0 ≡ number = number_known opened.0 number first (front ++ len) body at at_is (low_byte version size kind.Initial bounds.0 bounds.1) sealed.writable.1
+            let known : opened.0 ≡ number = number_known opened.0 number first (front ++ len) body at at_is
+            (low_byte version size kind.Initial bounds.0 bounds.1) sealed.writable.1
             (subst (IsNumberIn opened.0 at) same opened.1) in
-            let made : PacketNumber → List ℕ → Header = λ k t. header.Initial (record { dst_cid = i.dst_cid; src_cid = i.src_cid; token = t; number = k; version = version }) in (
-              opened.2 ∙ ap (λ (t : List ℕ). made opened.0 t) token_found ∙ ap (λ (k : PacketNumber). made k token) known,
+            let made : PacketNumber → List ℕ → Header = λ k t. header.Initial
+            (record { dst_cid = i.dst_cid; src_cid = i.src_cid; token = t; number = k; version = version }) in (
+              opened.2 ∙ ap (λ (t : List ℕ). made opened.0 t) token_found
+                  ∙ ap (λ (k : PacketNumber). made k token) known,
               opened.3 ∙ ap (λ (k : PacketNumber). at + number_size k) known ∙ omega arith,
             ),
         (
           number,
-          subst (IsNumberIn number at) (sym same) (number_there number first (front ++ len) body at at_is (low_byte version size kind.Initial bounds.0 bounds.1) sealed.writable.1),
-          ap (λ (t : List ℕ). let made : Header = header.Initial (record { dst_cid = i.dst_cid; src_cid = i.src_cid; token = t; number = number; version = version }) in made) (sym token_found),
+          subst (IsNumberIn number at) (sym same) (number_there number first (front ++ len) body at at_is
+              (low_byte version size kind.Initial bounds.0 bounds.1) sealed.writable.1),
+          ap (λ (t : List ℕ). let made : Header = header.Initial
+              (record { dst_cid = i.dst_cid; src_cid = i.src_cid; token = t; number = number; version = version }) in
+              made) (sym token_found),
           omega arith,
         ),
       );
-      sample = record { after_first = omega arith; room = (let enough : 4 + seal.sample_len ≤ size + length payload + seal.tag_size = sealed.sample in omega (arith, laws.sample_same)) };
+      sample = record {
+        after_first = omega arith;
+        room = (let enough : 4 + seal.sample_len ≤ size + length payload
+            + seal.tag_size = sealed.sample in omega (arith, laws.sample_same));
+      };
       back = it.back ∙ sym same;
     }
 
@@ -296,14 +361,45 @@ is_one m e = grind (arith, nat_tests)
 is_none : (m : ℕ) → m ≡ 0 → nat_eq m 1 ≡ false
 is_none m e = grind (arith, nat_tests)
 
-short_byte : (spin key_phase : Bool) (size b : ℕ) → 1 ≤ size → size ≤ 4 → b / 32 ≡ short_first spin key_phase size / 32 → ShortByte spin key_phase size b
-short_byte true true size b low up h = record { short = omega arith; fixed = omega arith; spin_bit = sym (is_one (b / 32 % 2) (omega arith)); phase_bit = is_one (short_first true true size / 4 % 2) (omega arith); low = omega arith }
-short_byte true false size b low up h = record { short = omega arith; fixed = omega arith; spin_bit = sym (is_one (b / 32 % 2) (omega arith)); phase_bit = is_none (short_first true false size / 4 % 2) (omega arith); low = omega arith }
-short_byte false true size b low up h = record { short = omega arith; fixed = omega arith; spin_bit = sym (is_none (b / 32 % 2) (omega arith)); phase_bit = is_one (short_first false true size / 4 % 2) (omega arith); low = omega arith }
-short_byte false false size b low up h = record { short = omega arith; fixed = omega arith; spin_bit = sym (is_none (b / 32 % 2) (omega arith)); phase_bit = is_none (short_first false false size / 4 % 2) (omega arith); low = omega arith }
+short_byte : (spin key_phase : Bool) (size b : ℕ) → 1 ≤ size → size ≤ 4 → b / 32 ≡ short_first spin key_phase size / 32
+    → ShortByte spin key_phase size b
+short_byte true true size b low up h =
+    record {
+      short = omega arith;
+      fixed = omega arith;
+      spin_bit = sym (is_one (b / 32 % 2) (omega arith));
+      phase_bit = is_one (short_first true true size / 4 % 2) (omega arith);
+      low = omega arith;
+    }
+short_byte true false size b low up h =
+    record {
+      short = omega arith;
+      fixed = omega arith;
+      spin_bit = sym (is_one (b / 32 % 2) (omega arith));
+      phase_bit = is_none (short_first true false size / 4 % 2) (omega arith);
+      low = omega arith;
+    }
+short_byte false true size b low up h =
+    record {
+      short = omega arith;
+      fixed = omega arith;
+      spin_bit = sym (is_none (b / 32 % 2) (omega arith));
+      phase_bit = is_one (short_first false true size / 4 % 2) (omega arith);
+      low = omega arith;
+    }
+short_byte false false size b low up h =
+    record {
+      short = omega arith;
+      fixed = omega arith;
+      spin_bit = sym (is_none (b / 32 % 2) (omega arith));
+      phase_bit = is_none (short_first false false size / 4 % 2) (omega arith);
+      low = omega arith;
+    }
 
-short_sealed : (seal : KeyPair) (key : KeyPair) → Lawful seal key → (context : DecodeOptions) (spin key_phase : Bool) (dst : List ℕ) (number : PacketNumber) (n : ℕ) (payload packet rest : List ℕ)
-    → SealedOf seal (header.Short spin key_phase dst number) n payload packet → IsReadBack context (header.Short spin key_phase dst number) rest
+short_sealed : (seal : KeyPair) (key : KeyPair) → Lawful seal key
+    → (context : DecodeOptions) (spin key_phase : Bool) (dst : List ℕ) (number : PacketNumber) (n : ℕ) (payload packet rest : List ℕ)
+    → SealedOf seal (header.Short spin key_phase dst number) n payload packet
+    → IsReadBack context (header.Short spin key_phase dst number) rest
     → Found seal key context (header.Short spin key_phase dst number) n payload packet rest
 short_sealed seal key laws context spin key_phase dst number n payload packet rest sealed read =
     let h : Header = header.Short spin key_phase dst number in
@@ -312,14 +408,19 @@ short_sealed seal key laws context spin key_phase dst number n payload packet re
     let first : ℕ = short_first spin key_phase size in
     let body : List ℕ = seal.sealed n (sealed_header seal.tag_size h payload) payload in
     let at : ℕ = header_size h - size_in h in
-    let same : plain_of seal h n payload ≡ (first ∷ dst) ++ (number_bytes number ++ body) = append_assoc (first ∷ dst) (number_bytes number) body in
+    let same : plain_of seal h n payload ≡ (first ∷ dst) ++ (number_bytes number ++ body) =
+    append_assoc (first ∷ dst) (number_bytes number) body in
     let at_is : at ≡ length (first ∷ dst) = omega arith in
-    let it = sealed_shape seal key laws h n payload packet sealed refl first dst (number_bytes number ++ body) same at_is in
+    let it =
+    sealed_shape seal key laws h n payload packet sealed refl first dst (number_bytes number ++ body) same at_is in
     let b : ℕ = get_or packet 0 0 in
-    let byte = short_byte spin key_phase size b bounds.0 bounds.1 (high_short b first (first_small spin key_phase size bounds.1) it.high) in
+    let byte =
+    short_byte spin key_phase size b bounds.0 bounds.1 (high_short b first (first_small spin key_phase size bounds.1) it.high) in
     let behind : List ℕ = drop at packet in
-    let whole : packet ++ rest ≡ b ∷ (dst ++ (behind ++ rest)) = ap (λ (xs : List ℕ). xs ++ rest) it.text ∙ append_assoc (b ∷ dst) behind rest in
-    let total : length packet ≡ header_size h + (length payload + seal.tag_size) = it.len ∙ sym (ap length same) ∙ plain_length seal key laws h n payload packet sealed refl in
+    let whole : packet ++ rest ≡ b ∷ (dst ++ (behind ++ rest)) =
+    ap (λ (xs : List ℕ). xs ++ rest) it.text ∙ append_assoc (b ∷ dst) behind rest in
+    let total : length packet ≡ header_size h + (length payload + seal.tag_size) =
+    it.len ∙ sym (ap length same) ∙ plain_length seal key laws h n payload packet sealed refl in
     let left : length behind ≡ length packet - at = length-drop at packet in
     let ends : length packet ≡ length (packet ++ rest) = omega (arith, length-append packet rest, ap length read.0) in
     record {
@@ -327,7 +428,8 @@ short_sealed seal key laws context spin key_phase dst number n payload packet re
         protected.Short spin dst,
         (
           behind ++ rest,
-          short_header context (length (packet ++ rest)) (packet ++ rest) b spin dst dst (behind ++ rest) byte.short (fixed_set context b byte.fixed) whole (read.1 (behind ++ rest)) byte.spin_bit,
+          short_header context (length (packet ++ rest)) (packet ++ rest) b spin dst dst (behind ++ rest) byte.short
+              (fixed_set context b byte.fixed) whole (read.1 (behind ++ rest)) byte.spin_bit,
           omega (arith, length-append behind rest, length-append packet rest),
           ends,
           omega arith,
@@ -337,7 +439,8 @@ short_sealed seal key laws context spin key_phase dst number n payload packet re
             let known : opened.0 ≡ number = number_known opened.0 number first dst body at at_is byte.low sealed.writable
             (subst (IsNumberIn opened.0 at) same opened.1) in
             let phase : nat_eq (slice_index (plain_of seal h n payload) 0 / 4 % 2) 1 ≡ key_phase = byte.phase_bit in (
-              opened.2 ∙ ap (λ (p : Bool). header.Short spin p dst opened.0) phase ∙ ap (λ (k : PacketNumber). header.Short spin key_phase dst k) known,
+              opened.2 ∙ ap (λ (p : Bool). header.Short spin p dst opened.0) phase
+                  ∙ ap (λ (k : PacketNumber). header.Short spin key_phase dst k) known,
               opened.3 ∙ ap (λ (k : PacketNumber). at + number_size k) known ∙ omega arith,
             ),
         (
@@ -347,19 +450,29 @@ short_sealed seal key laws context spin key_phase dst number n payload packet re
           omega arith,
         ),
       );
-      sample = record { after_first = omega arith; room = (let enough : 4 + seal.sample_len ≤ size + length payload + seal.tag_size = sealed.sample in omega (arith, laws.sample_same)) };
+      sample = record {
+        after_first = omega arith;
+        room = (let enough : 4 + seal.sample_len ≤ size + length payload
+            + seal.tag_size = sealed.sample in omega (arith, laws.sample_same));
+      };
       back = it.back ∙ sym same;
     }
 
-pub sealed_found : (seal : KeyPair) (key : KeyPair) → Lawful seal key → (context : DecodeOptions) (h : Header) (n : ℕ) (payload packet rest : List ℕ)
+pub sealed_found : (seal : KeyPair) (key : KeyPair) → Lawful seal key
+    → (context : DecodeOptions) (h : Header) (n : ℕ) (payload packet rest : List ℕ)
     → SealedOf seal h n payload packet → IsReadBack context h rest → Found seal key context h n payload packet rest
-sealed_found seal key laws context (header.Initial i) n payload packet rest sealed read = initial_sealed seal key laws context i n payload packet rest sealed read
-sealed_found seal key laws context (header.Long ty dst src number version) n payload packet rest sealed read = long_sealed seal key laws context ty dst src number version n payload packet rest sealed read
+sealed_found seal key laws context (header.Initial i) n payload packet rest sealed read =
+    initial_sealed seal key laws context i n payload packet rest sealed read
+sealed_found seal key laws context (header.Long ty dst src number version) n payload packet rest sealed read =
+    long_sealed seal key laws context ty dst src number version n payload packet rest sealed read
 sealed_found seal key laws context (header.Retry dst src version) n payload packet rest sealed read = absurd read
-sealed_found seal key laws context (header.Short spin key_phase dst number) n payload packet rest sealed read = short_sealed seal key laws context spin key_phase dst number n payload packet rest sealed read
-sealed_found seal key laws context (header.VersionNegotiate random src dst) n payload packet rest sealed read = absurd read
+sealed_found seal key laws context (header.Short spin key_phase dst number) n payload packet rest sealed read =
+    short_sealed seal key laws context spin key_phase dst number n payload packet rest sealed read
+sealed_found seal key laws context (header.VersionNegotiate random src dst) n payload packet rest sealed read =
+    absurd read
 
-pub read_numbered : (context : DecodeOptions) (h : Header) (rest : List ℕ) → IsReadBack context h rest → IsTrue (has_number h)
+pub read_numbered : (context : DecodeOptions) (h : Header) (rest : List ℕ) → IsReadBack context h rest
+    → IsTrue (has_number h)
 read_numbered context (header.Initial i) rest read = refl
 read_numbered context (header.Long ty dst src number version) rest read = refl
 read_numbered context (header.Retry dst src version) rest read = absurd read

@@ -52,26 +52,54 @@ some_if P None x e h = absurd cc
 pub number_length : (number : PacketNumber) → length (number_bytes number) ≡ number_size number
 number_length number = length-bytes_of (number_size number) (low_part number)
 
-pub long_length : (first version : ℕ) (dst src : List ℕ) → length (long_front first version dst src) ≡ 7 + length dst + length src
+pub long_length : (first version : ℕ) (dst src : List ℕ)
+    → length (long_front first version dst src) ≡ 7 + length dst + length src
 long_length first version dst src =
-    omega (arith, length-append (first ∷ bytes_of 4 version) (long_id dst ++ long_id src), length-append (long_id dst) (long_id src), length-bytes_of 4 version, length-append (bytes_of 4 version) (long_id dst ++ long_id src))
+    omega (
+      arith,
+      length-append (first ∷ bytes_of 4 version) (long_id dst ++ long_id src),
+      length-append (long_id dst) (long_id src),
+      length-bytes_of 4 version,
+      length-append (bytes_of 4 version) (long_id dst ++ long_id src),
+    )
 
 -- where a header's number is
 pub front_length : (h : Header) → IsTrue (has_length h) → header_size h ≡ length (header_front h) + 2 + size_in h
 front_length (header.Initial h) e =
     let first : ℕ = long_first h.version kind.Initial (number_size h.number) in
     let front : List ℕ = long_front first h.version h.dst_cid h.src_cid in
-    omega (arith, length-append front (shortest_varint (length h.token) ++ h.token), length-append (shortest_varint (length h.token)) h.token, length-short (length h.token), long_length first h.version h.dst_cid h.src_cid)
-front_length (header.Long ty dst src number version) e = omega (arith, long_length (long_first version (kind.Standard ty) (number_size number)) version dst src)
+    omega (
+      arith,
+      length-append front (shortest_varint (length h.token) ++ h.token),
+      length-append (shortest_varint (length h.token)) h.token,
+      length-short (length h.token),
+      long_length first h.version h.dst_cid h.src_cid,
+    )
+front_length (header.Long ty dst src number version) e =
+    omega (arith, long_length (long_first version (kind.Standard ty) (number_size number)) version dst src)
 front_length (header.Retry dst src version) e = absurd cc
 front_length (header.Short spin key_phase dst number) e = absurd cc
 front_length (header.VersionNegotiate random src dst) e = absurd cc
 
-pub header_length : (h : Header) (len : List ℕ) → IsTrue (has_number h) → length len ≡ 2 → length (header_with len h) ≡ header_size h
+pub header_length : (h : Header) (len : List ℕ) → IsTrue (has_number h) → length len ≡ 2
+    → length (header_with len h) ≡ header_size h
 header_length (header.Initial h) len e two =
-    omega (arith, front_length (header.Initial h) refl, length-append (header_front (header.Initial h)) (len ++ number_bytes h.number), length-append len (number_bytes h.number), number_length h.number)
+    omega (
+      arith,
+      front_length (header.Initial h) refl,
+      length-append (header_front (header.Initial h))
+          (len ++ number_bytes h.number),
+      length-append len (number_bytes h.number),
+      number_length h.number,
+    )
 header_length (header.Long ty dst src number version) len e two =
-    omega (arith, front_length (header.Long ty dst src number version) refl, length-append (header_front (header.Long ty dst src number version)) (len ++ number_bytes number), length-append len (number_bytes number), number_length number)
+    omega (
+      arith,
+      front_length (header.Long ty dst src number version) refl,
+      length-append (header_front (header.Long ty dst src number version)) (len ++ number_bytes number),
+      length-append len (number_bytes number),
+      number_length number,
+    )
 header_length (header.Retry dst src version) len e two = absurd cc
 header_length (header.Short spin key_phase dst number) len e two =
     omega (arith, length-append (header_front (header.Short spin key_phase dst number)) (number_bytes number), number_length number)
@@ -79,45 +107,60 @@ header_length (header.VersionNegotiate random src dst) len e two = absurd cc
 
 -- two bytes of a list are filled in
 filled : (front number tail len : List ℕ) (at : ℕ) → at ≡ length front + 2
-    → take (at - 2) ((front ++ (no_length ++ number)) ++ tail) ++ (len ++ drop at ((front ++ (no_length ++ number)) ++ tail)) ≡ (front ++ (len ++ number)) ++ tail
+    → take (at - 2) ((front ++ (no_length ++ number)) ++ tail)
+    ++ (len ++ drop at ((front ++ (no_length ++ number)) ++ tail)) ≡ (front ++ (len ++ number)) ++ tail
 filled front number tail len at is =
-    let shown : (front ++ (no_length ++ number)) ++ tail ≡ front ++ (no_length ++ (number ++ tail)) = append_assoc front (no_length ++ number) tail in
-    let before : take (at - 2) ((front ++ (no_length ++ number)) ++ tail) ≡ front = ap (take (at - 2)) shown ∙ take_front front (no_length ++ (number ++ tail)) (at - 2) (omega arith) in
+    let shown : (front ++ (no_length ++ number)) ++ tail ≡ front ++ (no_length ++ (number ++ tail)) =
+    append_assoc front (no_length ++ number) tail in
+    let before : take (at - 2) ((front ++ (no_length ++ number)) ++ tail) ≡ front =
+    ap (take (at - 2)) shown ∙ take_front front (no_length ++ (number ++ tail)) (at - 2) (omega arith) in
     let long : length (front ++ no_length) ≡ at = omega (arith, length-append front no_length) in
     let behind : drop at ((front ++ (no_length ++ number)) ++ tail) ≡ number ++ tail =
-    ap (drop at) (shown ∙ sym (append_assoc front no_length (number ++ tail))) ∙ drop_front (front ++ no_length) (number ++ tail) at long in
+    ap (drop at) (shown ∙ sym (append_assoc front no_length (number ++ tail)))
+    ∙ drop_front (front ++ no_length) (number ++ tail) at long in
     ap (λ (xs : List ℕ). xs ++ (len ++ drop at ((front ++ (no_length ++ number)) ++ tail))) before
     ∙ ap (λ (xs : List ℕ). front ++ (len ++ xs)) behind
-    ∙ ap (λ (xs : List ℕ). front ++ xs) (sym (append_assoc len number tail)) ∙ sym (append_assoc front (len ++ number) tail)
+    ∙ ap (λ (xs : List ℕ). front ++ xs) (sym (append_assoc len number tail))
+    ∙ sym (append_assoc front (len ++ number) tail)
 
 filled_in : (h : Header) (tail : List ℕ) → IsTrue (has_number h)
     → with_length (size_in h) (has_length h) (header_size h) (header_bytes h ++ tail)
     ≡ header_with (bytes_of 2 (2 ^ 14 + (length (header_bytes h ++ tail) - (header_size h - size_in h)))) h ++ tail
 filled_in (header.Initial h) tail e =
-    filled (header_front (header.Initial h)) (number_bytes h.number) tail (bytes_of 2 (2 ^ 14 + (length (header_bytes (header.Initial h) ++ tail) - (header_size (header.Initial h) - number_size h.number))))
+    filled (header_front (header.Initial h)) (number_bytes h.number) tail
+    (bytes_of 2 (2 ^ 14 + (length (header_bytes (header.Initial h) ++ tail)
+    - (header_size (header.Initial h) - number_size h.number))))
     (header_size (header.Initial h) - number_size h.number) (omega (arith, front_length (header.Initial h) refl))
 filled_in (header.Long ty dst src number version) tail e =
-    filled (header_front (header.Long ty dst src number version)) (number_bytes number) tail (bytes_of 2 (2 ^ 14 + (length (header_bytes (header.Long ty dst src number version) ++ tail) - (header_size (header.Long ty dst src number version) - number_size number))))
-    (header_size (header.Long ty dst src number version) - number_size number) (omega (arith, front_length (header.Long ty dst src number version) refl))
+    filled (header_front (header.Long ty dst src number version)) (number_bytes number) tail
+    (bytes_of 2 (2 ^ 14 + (length (header_bytes (header.Long ty dst src number version) ++ tail)
+    - (header_size (header.Long ty dst src number version) - number_size number))))
+    (header_size (header.Long ty dst src number version) - number_size number)
+    (omega (arith, front_length (header.Long ty dst src number version) refl))
 filled_in (header.Retry dst src version) tail e = absurd cc
 filled_in (header.Short spin key_phase dst number) tail e = refl
 filled_in (header.VersionNegotiate random src dst) tail e = absurd cc
 
 -- the middle of three parts
-pub middle : (head payload room : List ℕ) (i j : ℕ) → i ≡ length head → j ≡ length head + length payload → slice_range (head ++ (payload ++ room)) i j ≡ payload
+pub middle : (head payload room : List ℕ) (i j : ℕ) → i ≡ length head → j ≡ length head + length payload
+    → slice_range (head ++ (payload ++ room)) i j ≡ payload
 middle head payload room i j from to =
     between_is (head ++ (payload ++ room)) i j
-    ∙ ap (drop i) (ap (take j) (sym (append_assoc head payload room)) ∙ take_front (head ++ payload) room j (omega (arith, length-append head payload)))
+    ∙ ap (drop i) (ap (take j) (sym (append_assoc head payload room))
+    ∙ take_front (head ++ payload) room j (omega (arith, length-append head payload)))
     ∙ drop_front head payload i (sym from)
 
-sealed_parts : (seal : List ℕ → List ℕ → List ℕ) (head payload room : List ℕ) (header_len tag : ℕ) → length head ≡ header_len → length room ≡ tag
+sealed_parts : (seal : List ℕ → List ℕ → List ℕ) (head payload room : List ℕ) (header_len tag : ℕ)
+    → length head ≡ header_len → length room ≡ tag
     → sealed_packet header_len (Some (tag, seal)) (head ++ (payload ++ room)) ≡ head ++ seal head payload
 sealed_parts seal head payload room header_len tag header_is room_is =
-    let front : take header_len (head ++ (payload ++ room)) ≡ head = take_front head (payload ++ room) header_len header_is in
+    let front : take header_len (head ++ (payload ++ room)) ≡ head =
+    take_front head (payload ++ room) header_len header_is in
     let inner : payload_in header_len tag (head ++ (payload ++ room)) ≡ payload =
     middle head payload room header_len (length (head ++ (payload ++ room)) - tag) (sym header_is)
     (omega (arith, length-append head (payload ++ room), length-append payload room)) in
-    ap (λ (xs : List ℕ). xs ++ seal xs (payload_in header_len tag (head ++ (payload ++ room)))) front ∙ ap (λ (xs : List ℕ). head ++ seal head xs) inner
+    ap (λ (xs : List ℕ). xs ++ seal xs (payload_in header_len tag (head ++ (payload ++ room)))) front
+    ∙ ap (λ (xs : List ℕ). head ++ seal head xs) inner
 
 pub size_within : (h : Header) → size_in h ≤ header_size h
 size_within (header.Initial h) = omega arith
@@ -126,12 +169,14 @@ size_within (header.Retry dst src version) = omega arith
 size_within (header.Short spin key_phase dst number) = omega arith
 size_within (header.VersionNegotiate random src dst) = omega arith
 
-counted : (whole head size payload tag : ℕ) → size ≤ head → whole ≡ head + (payload + tag) → whole - (head - size) ≡ size + payload + tag
+counted : (whole head size payload tag : ℕ) → size ≤ head → whole ≡ head + (payload + tag)
+    → whole - (head - size) ≡ size + payload + tag
 counted whole head size payload tag le sum = omega arith
 
 -- the bytes written after a header become the sealed packet
 pub packet_sealed : (seal : List ℕ → List ℕ → List ℕ) (h : Header) (payload : List ℕ) (tag : ℕ) → IsTrue (has_number h)
-    → sealed_packet (header_size h) (Some (tag, seal)) (with_length (size_in h) (has_length h) (header_size h) (header_bytes h ++ (payload ++ replicate tag 0)))
+    → sealed_packet (header_size h) (Some (tag, seal)) (with_length (size_in h) (has_length h) (header_size h)
+    (header_bytes h ++ (payload ++ replicate tag 0)))
     ≡ sealed_header tag h payload ++ seal (sealed_header tag h payload) payload
 packet_sealed seal h payload tag e =
     let tail : List ℕ = payload ++ replicate tag 0 in
@@ -141,14 +186,22 @@ packet_sealed seal h payload tag e =
     counted (length (header_bytes h ++ tail)) (header_size h) (size_in h) (length payload) tag size
     (length-append (header_bytes h) tail ∙ ap (λ (n : ℕ). n + length tail) (header_length h no_length e refl)
     ∙ ap (λ (n : ℕ). header_size h + n) (length-append payload (replicate tag 0) ∙ ap (λ (n : ℕ). length payload + n) room)) in
-    ap (sealed_packet (header_size h) (Some (tag, seal))) (filled_in h tail e ∙ ap (λ (n : ℕ). header_with (bytes_of 2 (2 ^ 14 + n)) h ++ tail) count)
-    ∙ sealed_parts seal (sealed_header tag h payload) payload (replicate tag 0) (header_size h) tag (header_length h (bytes_of 2 (2 ^ 14 + protected_len tag h payload)) e (length-bytes_of 2 (2 ^ 14 + protected_len tag h payload))) room
+    ap (sealed_packet (header_size h) (Some (tag, seal))) (filled_in h tail e
+    ∙ ap (λ (n : ℕ). header_with (bytes_of 2 (2 ^ 14 + n)) h ++ tail) count)
+    ∙ sealed_parts seal (sealed_header tag h payload) payload (replicate tag 0) (header_size h) tag
+    (header_length h (bytes_of 2 (2 ^ 14 + protected_len tag h payload)) e
+    (length-bytes_of 2 (2 ^ 14 + protected_len tag h payload))) room
 
 -- the same, at the end of a buffer
-pub sealed_end : (keys : KeyPair) (h : Header) (n : ℕ) (payload before old new : List ℕ) (start header_len : ℕ) (pn : Option (ℕ × Bool)) → IsTrue (has_number h) → pn ≡ place_in h
-    → header_len ≡ header_size h → start ≡ length before → old ≡ before ++ (header_bytes h ++ (payload ++ replicate keys.tag_size 0))
-    → IfSome pn (λ p. new ≡ take start old ++ keys.protected (header_len - p.0) (sealed_packet header_len (Some (keys.tag_size, keys.sealed n)) (with_length p.0 p.1 header_len (drop start old))))
-    → IfSome pn (λ p. AreBytes (sealed_packet header_len (Some (keys.tag_size, keys.sealed n)) (with_length p.0 p.1 header_len (drop start old))))
+pub sealed_end : (keys : KeyPair) (h : Header) (n : ℕ) (payload before old new : List ℕ) (start header_len : ℕ) (pn : Option (ℕ × Bool))
+    → IsTrue (has_number h) → pn ≡ place_in h
+    → header_len ≡ header_size h → start ≡ length before
+    → old ≡ before ++ (header_bytes h ++ (payload ++ replicate keys.tag_size 0))
+    → IfSome pn (λ p. new ≡ take start old ++ keys.protected (header_len - p.0)
+    (sealed_packet header_len (Some (keys.tag_size, keys.sealed n))
+    (with_length p.0 p.1 header_len (drop start old))))
+    → IfSome pn (λ p. AreBytes (sealed_packet header_len (Some (keys.tag_size, keys.sealed n))
+    (with_length p.0 p.1 header_len (drop start old))))
     → (new ≡ before ++ keys.protected (header_size h - size_in h) (plain_of keys h n payload)) × AreBytes (plain_of keys h n payload)
 sealed_end keys h n payload before old new start header_len pn numbered pn_is len_is start_is old_is text fits =
     let written : List ℕ = header_bytes h ++ (payload ++ replicate keys.tag_size 0) in
@@ -156,13 +209,20 @@ sealed_end keys h n payload before old new start header_len pn numbered pn_is le
     let place = pn_is ∙ place_is h numbered in
     let front : take start old ≡ before = ap (take start) old_is ∙ take_front before written start (sym start_is) in
     let back : drop start old ≡ written = ap (drop start) old_is ∙ drop_front before written start (sym start_is) in
-    let whole : sealed_packet header_len seal (with_length (size_in h) (has_length h) header_len (drop start old)) ≡ plain_of keys h n payload =
+    let whole : sealed_packet header_len seal (with_length (size_in h) (has_length h) header_len (drop start old))
+    ≡ plain_of keys h n payload =
     ap (λ (len : ℕ). sealed_packet len seal (with_length (size_in h) (has_length h) len (drop start old))) len_is
     ∙ ap (λ (xs : List ℕ). sealed_packet (header_size h) seal (with_length (size_in h) (has_length h) (header_size h) xs)) back
     ∙ packet_sealed (keys.sealed n) h payload keys.tag_size numbered in
-    let shown = if_some (λ p. new ≡ take start old ++ keys.protected (header_len - p.0) (sealed_packet header_len (Some (keys.tag_size, keys.sealed n)) (with_length p.0 p.1 header_len (drop start old)))) pn (size_in h, has_length h) place text in
-    let bytes = if_some (λ p. AreBytes (sealed_packet header_len (Some (keys.tag_size, keys.sealed n)) (with_length p.0 p.1 header_len (drop start old)))) pn (size_in h, has_length h) place fits in (
-      shown ∙ ap (λ (xs : List ℕ). xs ++ keys.protected (header_len - size_in h) (sealed_packet header_len seal (with_length (size_in h) (has_length h) header_len (drop start old)))) front
+    let shown =
+    if_some (λ p. new ≡ take start old ++ keys.protected (header_len - p.0)
+    (sealed_packet header_len (Some (keys.tag_size, keys.sealed n))
+    (with_length p.0 p.1 header_len (drop start old)))) pn (size_in h, has_length h) place text in
+    let bytes = if_some (λ p. AreBytes (sealed_packet header_len (Some (keys.tag_size, keys.sealed n))
+    (with_length p.0 p.1 header_len (drop start old)))) pn (size_in h, has_length h) place fits in (
+      shown
+          ∙ ap (λ (xs : List ℕ). xs ++ keys.protected (header_len - size_in h)
+          (sealed_packet header_len seal (with_length (size_in h) (has_length h) header_len (drop start old)))) front
           ∙ ap (λ (xs : List ℕ). before ++ keys.protected (header_len - size_in h) xs) whole
           ∙ ap (λ (len : ℕ). before ++ keys.protected (len - size_in h) (plain_of keys h n payload)) len_is,
       subst AreBytes whole bytes,

@@ -28,10 +28,10 @@ pub record IsLawful (keys : KeyPair) : Type 0 where
       → Protects at packet (keys.protected at packet)
   pub restores : (at : ℕ) (packet : List ℕ) → AreBytes packet → HasSample keys.sample_len at packet
       → keys.unprotected at (keys.protected at packet) ≡ packet
-  pub sealed_len : (n : ℕ) (head payload : List ℕ) → n < 2 ^ 64 → AreBytes head → AreBytes payload
-      → length (keys.sealed n head payload) ≡ length payload + keys.tag_size
-  pub opens : (n : ℕ) (head payload : List ℕ) → n < 2 ^ 64 → AreBytes head → AreBytes payload
-      → keys.opened n head (keys.sealed n head payload) ≡ Some payload
+  pub sealed_len : (n : ℕ) (header payload : List ℕ) → n < 2 ^ 64 → AreBytes header → AreBytes payload
+      → length (keys.sealed n header payload) ≡ length payload + keys.tag_size
+  pub opens : (n : ℕ) (header payload : List ℕ) → n < 2 ^ 64 → AreBytes header → AreBytes payload
+      → keys.opened n header (keys.sealed n header payload) ≡ Some payload
 
 -- the keys of a space; 0-RTT packets and short packets share one
 abbrev pub keys_in : {H P : Type 0} → SpaceKeys H P → SpaceId → Keys H P

@@ -6,7 +6,8 @@ use Rattle.quic_header_decode.specs.declared.places.ReadError.{ReadError}
 use Rattle.quic_c_headers.specs.Reading.{HasFirst}
 use Rattle.quic_c_headers.proofs.headers.show_long.Goals as goal
 
-first_of : (read : Result HeaderPlaces ReadError) (first : ℕ) (packet : List ℕ) → IfOk read (λ x. x.first ≡ first) → slice_index packet 0 ≡ first → HasFirst read packet
+first_of : (read : Result HeaderPlaces ReadError) (first : ℕ) (packet : List ℕ) → IfOk read (λ x. x.first ≡ first)
+    → slice_index packet 0 ≡ first → HasFirst read packet
 first_of (Ok x) first packet is stands = is ∙ sym stands
 first_of (Err e) first packet is stands = tt
 
@@ -15,7 +16,8 @@ returns-clause-reported c = λ id_len. record {
   read = c.read_long.result;
   right = c.read_long.ensures.answer id_len;
   stored = c.read_long.ensures.seen;
-  first = first_of c.read_long.result c.args.first c.args.packet.now c.read_long.ensures.first (ap (λ (p : List ℕ). slice_index p 0) c.requires.begins);
+  first = first_of c.read_long.result c.args.first c.args.packet.now c.read_long.ensures.first
+      (ap (λ (p : List ℕ). slice_index p 0) c.requires.begins);
   answers = c.show.ensures.answer;
   words = c.show.ensures.words;
 }

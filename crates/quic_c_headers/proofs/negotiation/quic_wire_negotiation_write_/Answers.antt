@@ -6,7 +6,8 @@ use Rattle.quic_c_headers.proofs.Negotiated.{bytes_long, read_back}
 use Rattle.quic_c_headers.proofs.negotiation.quic_wire_negotiation_write_.Goals as goal
 
 pub returns-then-dest-needed-clause-count : goal.returns-then-dest-needed-clause-count
-returns-then-dest-needed-clause-count c = inr (sym (bytes_long c.args.first c.args.dst.now c.args.src.now c.args.versions.now))
+returns-then-dest-needed-clause-count c =
+    inr (sym (bytes_long c.args.first c.args.dst.now c.args.src.now c.args.versions.now))
 
 pub returns-then-dest-needed-clause-room : goal.returns-then-dest-needed-clause-room
 returns-then-dest-needed-clause-room c = λ _.
@@ -26,4 +27,5 @@ returns-clause-again c = λ _.
     let bytes : List ℕ = negotiation_bytes c.args.first c.args.dst.now c.args.src.now c.args.versions.now in
     let count : ℕ = 7 + length c.args.dst.now + length c.args.src.now + 4 * length c.args.versions.now in
     let long : length bytes ≡ count = bytes_long c.args.first c.args.dst.now c.args.src.now c.args.versions.now in
-    read_back c.args.first c.args.dst.now c.args.src.now c.args.versions.now _ (ap (take count) c.store_packet.ensures.wrote ∙ take_front bytes _ count long)
+    read_back c.args.first c.args.dst.now c.args.src.now c.args.versions.now _
+    (ap (take count) c.store_packet.ensures.wrote ∙ take_front bytes _ count long)

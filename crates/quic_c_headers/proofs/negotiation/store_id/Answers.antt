@@ -18,5 +18,6 @@ returns-clause-front c =
 pub returns-clause-back : goal.returns-clause-back
 returns-clause-back c =
     let at : ℕ = c.store_array-at.result in
-    drop-put_mid at _ c.store_array-at.new.bytes c.copy_from_slice.new.self (at + length c.args.id.now) (omega arith) (omega arith) (omega arith)
+    drop-put_mid at _ c.store_array-at.new.bytes c.copy_from_slice.new.self (at + length c.args.id.now) (omega arith)
+    (omega arith) (omega arith)
     ∙ stays at (at + length c.args.id.now) _ _ c.store_array-at.ensures.back (omega arith)

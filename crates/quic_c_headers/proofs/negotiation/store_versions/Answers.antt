@@ -7,6 +7,8 @@ use Rattle.quic_c_headers.proofs.negotiation.store_versions.Goals as goal
 pub loop-version-preserved : goal.loop-version-preserved
 unfolding bytes_of
 loop-version-preserved c =
-    stored_more c.args.versions.now c.args.at c.loop-version.version-index c.loop-version.at c.store_array-at.result c.args.dest.now c.loop-version.dest c.store_array-at.new.bytes
+    stored_more c.args.versions.now c.args.at c.loop-version.version-index c.loop-version.at c.store_array-at.result
+    c.args.dest.now c.loop-version.dest c.store_array-at.new.bytes
     c.loop-version-test.true c.loop-version.invariant c.store_array-at.ensures.end
-    (c.store_array-at.ensures.front ∙ ap (λ (xs : List ℕ). take c.loop-version.at c.loop-version.dest ++ xs) c.to_be_bytes.ensures) c.store_array-at.ensures.back c.store_array-at.ensures.len
+    (c.store_array-at.ensures.front ∙ ap (λ (xs : List ℕ). take c.loop-version.at c.loop-version.dest ++ xs)
+    c.to_be_bytes.ensures) c.store_array-at.ensures.back c.store_array-at.ensures.len

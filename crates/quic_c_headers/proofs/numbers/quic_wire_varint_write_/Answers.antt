@@ -59,13 +59,16 @@ returns-clause-wrote c =
     elim c.store_encoding.ensures.wrote [
       | inl none ↦ inl none
       | inr w ↦
-          let front : take n new ≡ encoding_in n c.args.value = w.2 ∙ ap (λ (k : ℕ). encoding_in k c.args.value) (sym w.0) in
+          let front : take n new ≡ encoding_in n c.args.value =
+          w.2 ∙ ap (λ (k : ℕ). encoding_in k c.args.value) (sym w.0) in
           let all : new ≡ encoding_in n c.args.value ++ drop n old =
-          sym (take-append-drop n new) ∙ ap (λ (xs : List ℕ). xs ++ drop n new) front ∙ ap (λ (xs : List ℕ). encoding_in n c.args.value ++ xs) c.store_encoding.ensures.back in
+          sym (take-append-drop n new) ∙ ap (λ (xs : List ℕ). xs ++ drop n new) front
+          ∙ ap (λ (xs : List ℕ). encoding_in n c.args.value ++ xs) c.store_encoding.ensures.back in
           inr (encoded n c.args.value c.if-value.false (omega (arith, w.0, c.least_width-least.ensures)) (subst IsWidth (sym w.0) w.1), all)
     ]
 
-chosen : (width value least n room : ℕ) → (width ≡ 0) × (n ≡ least) ⊎ (0 < width) × (n ≡ width) → least ≡ least_width value → value < 2 ^ 62 → IsWidth n
+chosen : (width value least n room : ℕ) → (width ≡ 0) × (n ≡ least) ⊎ (0 < width) × (n ≡ width)
+    → least ≡ least_width value → value < 2 ^ 62 → IsWidth n
     → least ≤ n → n ≤ room → CanEncode value width room n
 chosen width value least n room asked is lt known enough within = record {
   numeric = lt;
@@ -86,6 +89,7 @@ returns-clause-width c =
             | then-width-eq0 b ↦ inl (b.if-width-eq0.true, w.0 ∙ b.width-is)
             | else-width-eq0 b ↦ inr (omega (arith, b.if-width-eq0.false), w.0 ∙ b.width-is)
           ] in
-          inr (chosen c.args.width c.args.value c.least_width-least.result n (length c.args.dest.now) asked c.least_width-least.ensures c.if-value.false
+          inr (chosen c.args.width c.args.value c.least_width-least.result n (length c.args.dest.now) asked
+          c.least_width-least.ensures c.if-value.false
           (subst IsWidth (sym w.0) w.1) (omega (arith, w.0)) (omega (arith, w.0)))
     ]

@@ -18,7 +18,12 @@ returns-then-dest-behind_first-clause-room c = λ _.
       clear = clear_by kind.Short words.flags;
       head = header_described kind.Short words dst [] [];
       can = short_can words dst is short;
-      full = omega (arith, ap length (short_described words dst is short), length-append dst (bytes_of words.number_len words.number), length-bytes_of words.number_len words.number);
+      full = omega (
+        arith,
+        ap length (short_described words dst is short),
+        length-append dst (bytes_of words.number_len words.number),
+        length-bytes_of words.number_len words.number,
+      );
     }
 
 pub returns-then-behind_first-lt4-clause-wrote : goal.returns-then-behind_first-lt4-clause-wrote
@@ -31,7 +36,12 @@ returns-then-behind_first-lt4-clause-wrote c =
     let is : IsShaped words dst [] [] = search (rules, c.is_shaped.ensures, c.if-not-is_shaped) in
     let within : n ≤ length new = search rules in
     let count : to_z w64 n ≡ pos n = search rules in
-    inr (inr (n, count, short_wrote words dst c.args.dest.now new n is short within c.store_short_parts.ensures.front c.store_short_parts.ensures.back))
+    inr (inr (
+      n,
+      count,
+      short_wrote words dst c.args.dest.now new n is short within c.store_short_parts.ensures.front
+          c.store_short_parts.ensures.back,
+    ))
 
 pub returns-clause-wrote : goal.returns-clause-wrote
 returns-clause-wrote c =
@@ -43,4 +53,9 @@ returns-clause-wrote c =
     let is : IsShaped words dst [] [] = search (rules, c.is_shaped.ensures, c.if-not-is_shaped) in
     let within : n ≤ length new = search rules in
     let count : to_z w64 n ≡ pos n = search rules in
-    inr (inr (n, count, short_wrote words dst c.args.dest.now new n is short within c.store_short_covered.ensures.front c.store_short_covered.ensures.back))
+    inr (inr (
+      n,
+      count,
+      short_wrote words dst c.args.dest.now new n is short within c.store_short_covered.ensures.front
+          c.store_short_covered.ensures.back,
+    ))

@@ -24,7 +24,8 @@ returns c =
     record {
       size = search rules;
       front = ap (λ (i : ℕ). take i new) end
-          ∙ covered k words.number_len c.short_first.result words.number dst one two new c.requires.fits.some c.requires.fits.few (omega arith) (omega arith) within first four id behind
+          ∙ covered k words.number_len c.short_first.result words.number dst one two new c.requires.fits.some
+          c.requires.fits.few (omega arith) (omega arith) within first four id behind
           ∙ ap (λ (f : ℕ). f ∷ (dst ++ bytes_of words.number_len words.number)) c.short_first.ensures;
       back = stays (1 + length dst) (length dst + words.number_len + 1) new two c.store.ensures.back (omega arith)
           ∙ stays c.store_array-2.result (length dst + words.number_len + 1) two one c.store_array-2.ensures.back (omega arith)

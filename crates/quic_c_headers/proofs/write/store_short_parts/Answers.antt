@@ -9,6 +9,7 @@ returns c =
     record {
       size = search rules;
       front = search rules;
-      back = c.store_low.ensures.back ∙ stays (1 + length dst) c.store_low.result c.store_short-at.new.out c.args.dest.now c.store_short-at.ensures.back (omega arith);
+      back = c.store_low.ensures.back ∙ stays (1 + length dst) c.store_low.result c.store_short-at.new.out
+          c.args.dest.now c.store_short-at.ensures.back (omega arith);
       len = search rules;
     }

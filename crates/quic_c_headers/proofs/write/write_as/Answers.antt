@@ -13,7 +13,8 @@ use Rattle.quic_c_headers.proofs.write.write_as.Goals as goal
 
 pub returns-then-not-is_shaped-clause-refused : goal.returns-then-not-is_shaped-clause-refused
 returns-then-not-is_shaped-clause-refused c = λ _ clear head can.
-    let yes = c.is_shaped.ensures.1 (shaped c.args.words.now c.args.dst.now c.args.src.now c.args.token.now clear head can) in
+    let yes =
+    c.is_shaped.ensures.1 (shaped c.args.words.now c.args.dst.now c.args.src.now c.args.token.now clear head can) in
     search (rules, yes, c.if-not-is_shaped)
 
 pub returns-then-not-fits-clause-room : goal.returns-then-not-fits-clause-room
@@ -24,9 +25,11 @@ returns-then-not-fits-clause-room c = λ _.
     let src : List ℕ = c.source_of-source.result.now in
     let token : List ℕ = c.token_of-own.result.now in
     let len : ℕ = c.stored_length_len.result in
-    let is : IsShaped words dst c.args.src.now c.args.token.now = search (rules, c.is_shaped.ensures, c.if-not-is_shaped) in
+    let is : IsShaped words dst c.args.src.now c.args.token.now =
+    search (rules, c.is_shaped.ensures, c.if-not-is_shaped) in
     let number = c.written_part-number.result in
-    let small : length c.args.dest.now < stored_size k dst src token number len = elim (cases_lt (length c.args.dest.now) (stored_size k dst src token number len)) [
+    let small : length c.args.dest.now < stored_size k dst src token number len = elim
+    (cases_lt (length c.args.dest.now) (stored_size k dst src token number len)) [
       | inl less ↦ less
       | inr fits ↦ absurd (let no = c.if-not-fits.ensures.1 fits in search (rules, no))
     ] in
@@ -34,13 +37,16 @@ returns-then-not-fits-clause-room c = λ _.
     let size : stored_size k dst src token number len ≡ stored_size k dst src token part len =
     ap (λ (p : PacketNumber). stored_size k dst src token p len) c.written_part-number.ensures.value in
     let whole : length (stored_described k len words dst src token) ≡ stored_size k dst src token part len =
-    stored_length k (first_word k words.flags + type_bits k words.version + number_bits k part) (first_word k words.flags) words.version dst src token part len in
-    let same : stored_described k len words dst src token ≡ described_bytes words.length_len (clear_by k words.flags) (header_described k words dst src token) =
+    stored_length k (first_word k words.flags + type_bits k words.version + number_bits k part)
+    (first_word k words.flags) words.version dst src token part len in
+    let same : stored_described k len words dst src token ≡ described_bytes words.length_len (clear_by k words.flags)
+    (header_described k words dst src token) =
     bytes_described k len words dst src token is.numbered c.requires.kind c.stored_length_len.ensures.same in
     record {
       clear = clear_by k words.flags;
       head = header_described k words dst src token;
-      can = can_described k words dst c.args.src.now c.args.token.now src token is c.requires.kind c.source_of-source.ensures.has c.token_of-own.ensures.has;
+      can = can_described k words dst c.args.src.now c.args.token.now src token is c.requires.kind
+          c.source_of-source.ensures.has c.token_of-own.ensures.has;
       full = omega (arith, small, size, whole, ap length same);
     }
 
@@ -56,9 +62,12 @@ returns-then-has_len-clause-wrote c =
     let is : IsShaped words dst src c.args.token.now = search (rules, c.is_shaped.ensures, c.if-not-is_shaped) in
     let has : IsTrue (carries_length k) = search (rules, c.has_len.ensures, c.if-has_len) in
     let number = is.numbered.number (inl (with_length k words c.requires.kind has)) in
-    let same = numbered_described k words dst src token has number.0 number.1 ∙ bytes_described k words.length_len words dst src token is.numbered c.requires.kind (λ _. refl) in
+    let same =
+    numbered_described k words dst src token has number.0 number.1
+    ∙ bytes_described k words.length_len words dst src token is.numbered c.requires.kind (λ _. refl) in
     let within : n ≤ length new = search rules in
-    let all = written n c.args.dest.now new _ _ within c.store_numbered.ensures.front c.store_numbered.ensures.back same in
+    let all =
+    written n c.args.dest.now new _ _ within c.store_numbered.ensures.front c.store_numbered.ensures.back same in
     let count : to_z w64 n ≡ pos n = search rules in
     inr (inr (
       n,
@@ -81,11 +90,14 @@ returns-else-has_len-clause-wrote c =
     let token : List ℕ = c.token_of-own.result.now in
     let n : ℕ = c.store.result in
     let new : List ℕ = c.store.new.out in
-    let is : IsShaped words dst c.args.src.now c.args.token.now = search (rules, c.is_shaped.ensures, c.if-not-is_shaped) in
-    let same : stored_described k c.stored_length_len.result words dst src token ≡ described_bytes words.length_len (clear_by k words.flags) (header_described k words dst src token) =
+    let is : IsShaped words dst c.args.src.now c.args.token.now =
+    search (rules, c.is_shaped.ensures, c.if-not-is_shaped) in
+    let same : stored_described k c.stored_length_len.result words dst src token
+    ≡ described_bytes words.length_len (clear_by k words.flags) (header_described k words dst src token) =
     bytes_described k c.stored_length_len.result words dst src token is.numbered c.requires.kind c.stored_length_len.ensures.same in
     let front : take n new ≡ stored_described k c.stored_length_len.result words dst src token = c.store.ensures.front
-    ∙ stored_as k c.first_word.result c.stored_length_len.result words dst src token c.written_part-number.result c.first_word.ensures c.written_part-number.ensures.value in
+    ∙ stored_as k c.first_word.result c.stored_length_len.result words dst src token c.written_part-number.result
+    c.first_word.ensures c.written_part-number.ensures.value in
     let back : drop n new ≡ drop n c.args.dest.now = c.store.ensures.back (record { dst = refl; src = refl }) in
     let within : n ≤ length new = search rules in
     let all = written n c.args.dest.now new _ _ within front back same in
@@ -96,7 +108,8 @@ returns-else-has_len-clause-wrote c =
       record {
         clear = clear_by k words.flags;
         head = header_described k words dst src token;
-        can = can_described k words dst c.args.src.now c.args.token.now src token is c.requires.kind c.source_of-source.ensures.has c.token_of-own.ensures.has;
+        can = can_described k words dst c.args.src.now c.args.token.now src token is c.requires.kind
+            c.source_of-source.ensures.has c.token_of-own.ensures.has;
         front = all.0;
         count_is = all.1;
       },

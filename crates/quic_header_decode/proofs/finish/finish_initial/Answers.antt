@@ -11,7 +11,13 @@ pub returns-clause-opened : goal.returns-clause-opened
 returns-clause-opened c =
     let start = c.args.head.token_pos.start in
     let end = c.args.head.token_pos.end in
-    ap (λ (token : List ℕ). let h : Header = header.Initial (record { dst_cid = c.args.head.dst_cid; src_cid = c.args.head.src_cid; token = token; number = c.args.number; version = c.args.head.version }) in h)
+    ap (λ (token : List ℕ). let h : Header = header.Initial (record {
+      dst_cid = c.args.head.dst_cid;
+      src_cid = c.args.head.src_cid;
+      token = token;
+      number = c.args.number;
+      version = c.args.head.version;
+    }) in h)
     (c.in-Ok-slice.ensures.ok ∙ ap (λ (xs : List ℕ). slice_range xs start end) c.in-Ok.ensures.head
     ∙ between-take c.args.packet.items start end c.args.end c.requires.within)
 

@@ -15,9 +15,17 @@ pub returns-clause-initial : goal.returns-clause-initial
 unfolding shortest_varint bytes_of
 returns-clause-initial c = λ context rest known.
     let dst : List ℕ = 0x83 ∷ 0x94 ∷ 0xc8 ∷ 0xf0 ∷ 0x3e ∷ 0x51 ∷ 0x57 ∷ 0x08 ∷ [] in
-    initial_header context (18 + length rest) (0xc0 ∷ 0x00 ∷ 0x00 ∷ 0x00 ∷ 0x01 ∷ 0x08 ∷ (dst ++ (0x00 ∷ 0x00 ∷ 0x44 ∷ 0x9e ∷ rest))) 0xc0 (0x00 ∷ []) [] (0x44 ∷ 0x9e ∷ []) rest
+    initial_header context (18 + length rest) (0xc0 ∷ 0x00 ∷ 0x00 ∷ 0x00 ∷ 0x01 ∷ 0x08
+    ∷ (dst ++ (0x00 ∷ 0x00 ∷ 0x44 ∷ 0x9e ∷ rest))) 0xc0 (0x00 ∷ []) [] (0x44 ∷ 0x9e ∷ []) rest
     (record { dst_cid = dst; src_cid = []; token_pos = record { start = 16; end = 16 }; len = 1182; version = 1 })
-    (record { long = omega arith; fixed = fixed_set context 0xc0 refl; range = omega arith; dst_len = omega arith; src_len = omega arith; text = refl })
+    (record {
+      long = omega arith;
+      fixed = fixed_set context 0xc0 refl;
+      range = omega arith;
+      dst_len = omega arith;
+      src_len = omega arith;
+      text = refl;
+    })
     (one_zero, known) refl (law.shortest_encodes 0 (omega arith)) (law.shortest_encodes 1182 (omega arith)) (omega arith) refl
 
 pub returns-clause-no_token : goal.returns-clause-no_token
@@ -44,7 +52,11 @@ returns-clause-no_token c = λ context known. inr (
             Number 5 ∷ [],
             0xaa ∷ [],
             (0x05 ∷ [], refl, (5, refl, law.shortest_encodes 5 (omega arith))),
-            inl (record { none = λ values rest (front, split, (values_are, width)). omega (arith, width, ap length split, length-append front rest); why = refl }),
+            inl (record {
+              none = λ values rest (front, split, (values_are, width)). omega
+                  (arith, width, ap length split, length-append front rest);
+              why = refl;
+            }),
           ),
         ),
       ),

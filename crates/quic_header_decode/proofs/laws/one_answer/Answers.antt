@@ -4,10 +4,13 @@ use Rattle.quic_header_decode.proofs.CutAnswers.{header_sole, cut_sole, header_a
 use Rattle.quic_header_decode.proofs.laws.one_answer.Goals as goal
 
 pub returns-clause-head : goal.returns-clause-head
-returns-clause-head c = λ context whole bytes one other fits a b. sym (header_sole context whole bytes one fits a) ∙ header_sole context whole bytes other fits b
+returns-clause-head c =
+    λ context whole bytes one other fits a b. sym (header_sole context whole bytes one fits a)
+    ∙ header_sole context whole bytes other fits b
 
 pub returns-clause-cut : goal.returns-clause-cut
-returns-clause-cut c = λ context bytes one other fits a b. sym (cut_sole context bytes one fits a) ∙ cut_sole context bytes other fits b
+returns-clause-cut c =
+    λ context bytes one other fits a b. sym (cut_sole context bytes one fits a) ∙ cut_sole context bytes other fits b
 
 pub returns-clause-header_found : goal.returns-clause-header_found
 returns-clause-header_found c = λ context whole bytes fits room takes. header_answer context whole bytes fits room takes

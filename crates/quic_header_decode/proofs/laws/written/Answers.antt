@@ -31,7 +31,8 @@ table second =
     cond second (kind.Retry ∷ kind.Initial ∷ kind.Standard ZeroRtt ∷ kind.Standard Handshake ∷ [])
     (kind.Initial ∷ kind.Standard ZeroRtt ∷ kind.Standard Handshake ∷ kind.Retry ∷ [])
 
-back_in : (second : Bool) (ty : LongHeaderType) → (place_of ty (table second) ≤ 3) × (slice_index_or (table second) (place_of ty (table second)) kind.Retry ≡ ty)
+back_in : (second : Bool) (ty : LongHeaderType)
+    → (place_of ty (table second) ≤ 3) × (slice_index_or (table second) (place_of ty (table second)) kind.Retry ≡ ty)
 back_in true kind.Initial = (omega arith, refl)
 back_in true kind.Retry = (omega arith, refl)
 back_in true (kind.Standard ZeroRtt) = (omega arith, refl)
@@ -46,7 +47,8 @@ record LongByte (version : ℕ) (ty : LongHeaderType) (first : ℕ) : Type 0 whe
   fixed : first / 64 % 2 ≡ 1
   is : long_type version first ≡ ty
 
-long_byte : (version first low : ℕ) (ty : LongHeaderType) → low < 4 → first ≡ first_byte version ty + low → LongByte version ty first
+long_byte : (version first low : ℕ) (ty : LongHeaderType) → low < 4 → first ≡ first_byte version ty + low
+    → LongByte version ty first
 long_byte version first low ty small from =
     let back = back_in (nat_eq version version_2) ty in
     let third : type_number version ty ≤ 3 = back.0 in
@@ -58,7 +60,8 @@ long_byte version first low ty small from =
     }
 
 apart : (front len number rest : List ℕ) → (front ++ (len ++ number)) ++ rest ≡ front ++ (len ++ (number ++ rest))
-apart front len number rest = append_assoc front (len ++ number) rest ∙ ap (λ (xs : List ℕ). front ++ xs) (append_assoc len number rest)
+apart front len number rest =
+    append_assoc front (len ++ number) rest ∙ ap (λ (xs : List ℕ). front ++ xs) (append_assoc len number rest)
 
 pub returns-clause-initial : goal.returns-clause-initial
 returns-clause-initial c = λ context whole start n h len rest range known dst_len src_len token_fits encoded place.
@@ -69,12 +72,28 @@ returns-clause-initial c = λ context whole start n h len rest range known dst_l
     let front : List ℕ = long_front first h.version h.dst_cid h.src_cid in
     let count : List ℕ = shortest_varint (length h.token) in
     let behind : List ℕ = number_bytes h.number ++ rest in
-    let text : ((front ++ (count ++ h.token)) ++ (len ++ number_bytes h.number)) ++ rest ≡ front ++ (count ++ (h.token ++ (len ++ behind))) =
-    apart (front ++ (count ++ h.token)) len (number_bytes h.number) rest ∙ append_assoc front (count ++ h.token) (len ++ behind)
+    let text : ((front ++ (count ++ h.token)) ++ (len ++ number_bytes h.number)) ++ rest ≡ front
+    ++ (count ++ (h.token ++ (len ++ behind))) =
+    apart (front ++ (count ++ h.token)) len (number_bytes h.number) rest
+    ∙ append_assoc front (count ++ h.token) (len ++ behind)
     ∙ ap (λ (xs : List ℕ). front ++ xs) (append_assoc count h.token (len ++ behind)) in
     initial_header context whole (((front ++ (count ++ h.token)) ++ (len ++ number_bytes h.number)) ++ rest) first count h.token len behind
-    (record { dst_cid = h.dst_cid; src_cid = h.src_cid; token_pos = record { start = start; end = start + length h.token }; len = n; version = h.version })
-    (record { long = byte.long; fixed = fixed_set context first byte.fixed; range = range; dst_len = dst_len; src_len = src_len; text = text })
+    (record {
+      dst_cid = h.dst_cid;
+      src_cid = h.src_cid;
+      token_pos =
+          record { start = start; end = start + length h.token };
+      len = n;
+      version = h.version;
+    })
+    (record {
+      long = byte.long;
+      fixed = fixed_set context first byte.fixed;
+      range = range;
+      dst_len = dst_len;
+      src_len = src_len;
+      text = text;
+    })
     known byte.is (law.shortest_encodes (length h.token) token_fits) encoded place refl
 
 pub returns-clause-long : goal.returns-clause-long
@@ -85,7 +104,14 @@ returns-clause-long c = λ context whole n version ty dst src len rest number ra
     let byte = long_byte version first (size - 1) (kind.Standard ty) (omega (arith, bounds.0, bounds.1)) refl in
     let front : List ℕ = long_front first version dst src in
     long_header context whole ((front ++ (len ++ number_bytes number)) ++ rest) first version dst src len (number_bytes number ++ rest) ty n
-    (record { long = byte.long; fixed = fixed_set context first byte.fixed; range = range; dst_len = dst_len; src_len = src_len; text = apart front len (number_bytes number) rest })
+    (record {
+      long = byte.long;
+      fixed = fixed_set context first byte.fixed;
+      range = range;
+      dst_len = dst_len;
+      src_len = src_len;
+      text = apart front len (number_bytes number) rest;
+    })
     known byte.is encoded
 
 pub returns-clause-retry : goal.returns-clause-retry
@@ -93,12 +119,26 @@ returns-clause-retry c = λ context whole version dst src rest range known dst_l
     let first : ℕ = first_byte version kind.Retry in
     let byte = long_byte version first 0 kind.Retry (omega arith) (omega arith) in
     retry_header context whole (long_front first version dst src ++ rest) first version dst src rest
-    (record { long = byte.long; fixed = fixed_set context first byte.fixed; range = range; dst_len = dst_len; src_len = src_len; text = refl }) known byte.is
+    (record {
+      long = byte.long;
+      fixed = fixed_set context first byte.fixed;
+      range = range;
+      dst_len = dst_len;
+      src_len = src_len;
+      text = refl;
+    }) known byte.is
 
 pub returns-clause-negotiation : goal.returns-clause-negotiation
 returns-clause-negotiation c = λ context whole random dst src rest free fixed dst_len src_len.
     negotiation_header context whole (long_front (bit_or 128 random) 0 dst src ++ rest) random dst src rest
-    (record { long = omega arith; fixed = fixed; range = omega arith; dst_len = dst_len; src_len = src_len; text = ap (λ (n : ℕ). long_front n 0 dst src ++ rest) (or_shifted 1 7 random free) })
+    (record {
+      long = omega arith;
+      fixed = fixed;
+      range = omega arith;
+      dst_len = dst_len;
+      src_len = src_len;
+      text = ap (λ (n : ℕ). long_front n 0 dst src ++ rest) (or_shifted 1 7 random free);
+    })
 
 -- ---- short headers
 
@@ -117,10 +157,14 @@ is_none : (m : ℕ) → m ≡ 0 → false ≡ nat_eq m 1
 is_none m e = grind (arith, nat_tests)
 
 short_byte : (spin key_phase : Bool) (low : ℕ) → low < 4 → ShortByte spin (short_first spin key_phase low)
-short_byte true true low small = record { short = omega arith; fixed = omega arith; spins = is_one (short_first true true low / 32 % 2) (omega arith) }
-short_byte true false low small = record { short = omega arith; fixed = omega arith; spins = is_one (short_first true false low / 32 % 2) (omega arith) }
-short_byte false true low small = record { short = omega arith; fixed = omega arith; spins = is_none (short_first false true low / 32 % 2) (omega arith) }
-short_byte false false low small = record { short = omega arith; fixed = omega arith; spins = is_none (short_first false false low / 32 % 2) (omega arith) }
+short_byte true true low small =
+    record { short = omega arith; fixed = omega arith; spins = is_one (short_first true true low / 32 % 2) (omega arith) }
+short_byte true false low small =
+    record { short = omega arith; fixed = omega arith; spins = is_one (short_first true false low / 32 % 2) (omega arith) }
+short_byte false true low small =
+    record { short = omega arith; fixed = omega arith; spins = is_none (short_first false true low / 32 % 2) (omega arith) }
+short_byte false false low small =
+    record { short = omega arith; fixed = omega arith; spins = is_none (short_first false false low / 32 % 2) (omega arith) }
 
 pub returns-clause-short : goal.returns-clause-short
 returns-clause-short c = λ context whole spin key_phase dst rest number parsed.
@@ -128,5 +172,6 @@ returns-clause-short c = λ context whole spin key_phase dst rest number parsed.
     let low : ℕ = number_size number - 1 in
     let first : ℕ = short_first spin key_phase low in
     let byte = short_byte spin key_phase low (omega (arith, bounds.0, bounds.1)) in
-    short_header context whole (((first ∷ dst) ++ number_bytes number) ++ rest) first spin dst dst (number_bytes number ++ rest) byte.short (fixed_set context first byte.fixed)
+    short_header context whole (((first ∷ dst) ++ number_bytes number) ++ rest) first spin dst dst
+    (number_bytes number ++ rest) byte.short (fixed_set context first byte.fixed)
     (append_assoc (first ∷ dst) (number_bytes number) rest) parsed byte.spins

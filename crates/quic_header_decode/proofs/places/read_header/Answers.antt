@@ -5,4 +5,5 @@ use Rattle.quic_header_decode.proofs.places.read_header.Goals as goal
 
 pub returns-clause-answer : goal.returns-clause-answer
 returns-clause-answer c =
-    read_answer c.args.id_len c.args.versions.now c.args.bytes.now c.are_bytes.ensures (seen_in c.args.bytes.now c.scan_header.result) c.scan_header.ensures.exact
+    read_answer c.args.id_len c.args.versions.now c.args.bytes.now c.are_bytes.ensures
+    (seen_in c.args.bytes.now c.scan_header.result) c.scan_header.ensures.exact

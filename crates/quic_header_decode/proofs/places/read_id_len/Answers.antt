@@ -11,5 +11,6 @@ returns-clause-read c =
     let rest : List ℕ = c.in_ok-len.rest.now in
     let cases = c.in_ok-len.ensures.cases in
     let whole = take_all (length bytes - at) (drop at bytes) (omega (arith, length-drop at bytes)) in
-    let split : drop at bytes ≡ c.from-len.result ∷ rest = sym whole ∙ cases.0 ∙ ap (λ (n : ℕ). n ∷ rest) (sym c.from-len.ensures) in
+    let split : drop at bytes ≡ c.from-len.result ∷ rest =
+    sym whole ∙ cases.0 ∙ ap (λ (n : ℕ). n ∷ rest) (sym c.from-len.ensures) in
     wide_stands bytes at c.from-len.result rest (omega arith) split (omega arith)

@@ -11,5 +11,6 @@ returns-clause-items g c = λ _.
     let within : c.store-len.result ≤ length c.store-len.new.out = search rules in
     let fits : c.len-begin.result + c.store-len.result ≤ c.extend_from_slice.new.self.len = search rules in
     c.truncate.ensures.items
-    ∙ stored_behind c.len-begin.result c.store-len.result c.extend_from_slice.new.self.len old _ c.as_mut_slice.result.now c.store-len.new.out _ _ _
+    ∙ stored_behind c.len-begin.result c.store-len.result c.extend_from_slice.new.self.len old _
+    c.as_mut_slice.result.now c.store-len.new.out _ _ _
     start stood within fits c.store-len.ensures.front

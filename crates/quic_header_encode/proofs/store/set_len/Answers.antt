@@ -24,6 +24,7 @@ returns-then-count-2-clause-set c = λ _.
     let count : ℕ = length old - place in
     let stored = c.store_array-then-count-2.ensures in
     let sum : count + 2 * 2 ^ 30 ≡ 2 * 2 ^ 30 + count = omega arith in
-    len_stored 4 place c.store_array-then-count-2.result old c.store_array-then-count-2.new.bytes c.to_be_bytes-then-count-2.result (omega arith)
+    len_stored 4 place c.store_array-then-count-2.result old c.store_array-then-count-2.new.bytes
+    c.to_be_bytes-then-count-2.result (omega arith)
     (c.to_be_bytes-then-count-2.ensures ∙ ap (bytes_of 4) sum) stored.front stored.back
     ∙ ap (λ (w : ℕ). with_len w place old) (sym c.if-length_len-eq4.true)

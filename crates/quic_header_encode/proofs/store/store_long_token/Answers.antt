@@ -4,4 +4,5 @@ use Rattle.quic_header_encode.proofs.store.store_long_token.Goals as goal
 
 pub returns-clause-back : goal.returns-clause-back
 returns-clause-back c =
-    c.store_bytes.ensures.back ∙ stays c.store_var-at.result c.store_bytes.result _ _ c.store_var-at.ensures.back (omega arith)
+    c.store_bytes.ensures.back
+    ∙ stays c.store_var-at.result c.store_bytes.result _ _ c.store_var-at.ensures.back (omega arith)

@@ -14,4 +14,5 @@ returns-else-token-eq0-clause-front g c =
 
 pub returns-else-token-eq0-clause-back : goal.returns-else-token-eq0-clause-back
 returns-else-token-eq0-clause-back g c =
-    c.store_some.ensures.back ∙ stays c.store_array-at.result c.store_some.result _ _ c.store_array-at.ensures.back (omega arith)
+    c.store_some.ensures.back
+    ∙ stays c.store_array-at.result c.store_some.result _ _ c.store_array-at.ensures.back (omega arith)

@@ -12,10 +12,12 @@ use Rattle.quic_packets.proofs.Openings.{opening_of}
 use Rattle.quic_packets.proofs.opening.open_first.Given as given
 use Rattle.quic_packets.proofs.opening.open_first.Goals as goal
 
-abbrev opening_in : (g : given.Over) → SpaceKeys g.row.H.Denot g.row.P.Denot → g.row.C.Denot → List ℕ → Bool → Expected → Opening
+abbrev opening_in : (g : given.Over) → SpaceKeys g.row.H.Denot g.row.P.Denot → g.row.C.Denot → List ℕ → Bool → Expected
+    → Opening
 opening_in g = opening_of g.H.HeaderKey g.P.PacketKey g.C.ConnectionIdParser
 
-lawful : (g : given.Over) (keys : SpaceKeys g.row.H.Denot g.row.P.Denot) (parser : g.row.C.Denot) (versions : List ℕ) (grease : Bool) (expected : Expected) (space : SpaceId)
+lawful : (g : given.Over) (keys : SpaceKeys g.row.H.Denot g.row.P.Denot) (parser : g.row.C.Denot) (versions : List ℕ)
+    (grease : Bool) (expected : Expected) (space : SpaceId)
     → IsLawful ((opening_in g keys parser versions grease expected).keys space)
 lawful g keys parser versions grease expected space = record {
   protects = g.met.H.HeaderKey.protects (keys_in keys space).header;
@@ -27,24 +29,29 @@ lawful g keys parser versions grease expected space = record {
 pub returns-in-Err-clause-first : goal.returns-in-Err-clause-first
 returns-in-Err-clause-first g c =
     let a = c.args in
-    answers_uncut {opening = opening_in g a.keys.now a.parser.now a.versions.now a.grease a.expected.now} (lawful g a.keys.now a.parser.now a.versions.now a.grease a.expected.now)
+    answers_uncut {opening = opening_in g a.keys.now a.parser.now a.versions.now a.grease a.expected.now}
+    (lawful g a.keys.now a.parser.now a.versions.now a.grease a.expected.now)
     (subst AreBytes c.as_slice.ensures c.are_bytes.ensures) c.in-Err.e c.decode_error.ensures c.in-Err.ensures.answer.some
     (λ (same : c.in-Err.e ≡ error.OutOfMemory). c.in-Err.ensures.memory cc)
 
 pub returns-then-not-room-clause-first : goal.returns-then-not-room-clause-first
 returns-then-not-room-clause-first g c =
     let a = c.args in
-    answers_no_room {opening = opening_in g a.keys.now a.parser.now a.versions.now a.grease a.expected.now} (lawful g a.keys.now a.parser.now a.versions.now a.grease a.expected.now)
+    answers_no_room {opening = opening_in g a.keys.now a.parser.now a.versions.now a.grease a.expected.now}
+    (lawful g a.keys.now a.parser.now a.versions.now a.grease a.expected.now)
     (subst AreBytes c.as_slice.ensures c.are_bytes.ensures) c.in-Ok.parts.0 (c.in-Ok.ensures.answer.some, c.in-Ok.ensures.packet)
 
 pub returns-in-Err-open_part-clause-first : goal.returns-in-Err-open_part-clause-first
 returns-in-Err-open_part-clause-first g c =
     let a = c.args in
-    answers_refused {opening = opening_in g a.keys.now a.parser.now a.versions.now a.grease a.expected.now} (lawful g a.keys.now a.parser.now a.versions.now a.grease a.expected.now)
-    (subst AreBytes c.as_slice.ensures c.are_bytes.ensures) c.in-Ok.parts.0 (c.in-Ok.ensures.answer.some, c.in-Ok.ensures.packet) c.in-Err-open_part.ensures.refused
+    answers_refused {opening = opening_in g a.keys.now a.parser.now a.versions.now a.grease a.expected.now}
+    (lawful g a.keys.now a.parser.now a.versions.now a.grease a.expected.now)
+    (subst AreBytes c.as_slice.ensures c.are_bytes.ensures) c.in-Ok.parts.0
+    (c.in-Ok.ensures.answer.some, c.in-Ok.ensures.packet) c.in-Err-open_part.ensures.refused
 
 pub returns-in-Ok-open_part-clause-first : goal.returns-in-Ok-open_part-clause-first
 returns-in-Ok-open_part-clause-first g c =
     let a = c.args in
-    answers_opened {opening = opening_in g a.keys.now a.parser.now a.versions.now a.grease a.expected.now} (lawful g a.keys.now a.parser.now a.versions.now a.grease a.expected.now)
+    answers_opened {opening = opening_in g a.keys.now a.parser.now a.versions.now a.grease a.expected.now}
+    (lawful g a.keys.now a.parser.now a.versions.now a.grease a.expected.now)
     c.in-Ok.parts.0 (c.in-Ok.ensures.answer.some, c.in-Ok.ensures.packet) c.in-Ok.ensures.rest c.in-Ok-open_part.ensures.opened

@@ -21,11 +21,14 @@ returns-clause-sealed g c =
     } in
     let kept : c.reserve.new.self.items ≡ c.args.out.now.items = c.reserve.ensures.items in
     let tag : c.tag_len-tag.result ≡ keys.tag_size = c.tag_len-tag.ensures in
-    let done = sealed_end keys h c.args.number (payload_of c.args.frames.now) c.args.out.now.items c.write_packet-partial.new.out.items c.finish_last.new.out.items
-    c.write_packet-partial.result.start c.write_packet-partial.result.header_len c.write_packet-partial.result.pn (low_numbered h c.args.number c.requires.low) c.write_packet-partial.ensures.place
+    let done = sealed_end keys h c.args.number (payload_of c.args.frames.now) c.args.out.now.items
+    c.write_packet-partial.new.out.items c.finish_last.new.out.items
+    c.write_packet-partial.result.start c.write_packet-partial.result.header_len c.write_packet-partial.result.pn
+    (low_numbered h c.args.number c.requires.low) c.write_packet-partial.ensures.place
     c.write_packet-partial.ensures.header_len
     (c.write_packet-partial.ensures.start ∙ sym c.as_slice-before.ensures.len ∙ ap length (c.as_slice-before.ensures.value ∙ kept))
-    (c.write_packet-partial.ensures.items ∙ ap (λ (xs : List ℕ). xs ++ (header_bytes h ++ (payload_of c.args.frames.now ++ replicate c.tag_len-tag.result 0))) kept
+    (c.write_packet-partial.ensures.items ∙ ap (λ (xs : List ℕ). xs
+    ++ (header_bytes h ++ (payload_of c.args.frames.now ++ replicate c.tag_len-tag.result 0))) kept
     ∙ ap (λ (n : ℕ). c.args.out.now.items ++ (header_bytes h ++ (payload_of c.args.frames.now ++ replicate n 0))) tag)
     c.finish_last.ensures.sealed c.finish_last.ensures.plain_bytes in
     let counted = c.payload_len-payload.ensures in
@@ -38,8 +41,20 @@ returns-clause-sealed g c =
           writable = c.requires.writable;
           low = c.requires.low;
           fits = c.requires.small;
-          sample = omega (arith, (checked (length (payload_of c.args.frames.now)) counted).0, c.number_size.ensures.value, c.sample_size.ensures, c.tag_len-tag.ensures);
-          short = λ yes. omega (arith, (checked (length (payload_of c.args.frames.now)) counted).1 (c.has_len.ensures ∙ yes), c.number_size.ensures.value, c.tag_len-tag.ensures);
+          sample = omega (
+            arith,
+            (checked (length (payload_of c.args.frames.now)) counted).0,
+            c.number_size.ensures.value,
+            c.sample_size.ensures,
+            c.tag_len-tag.ensures,
+          );
+          short = λ yes. omega (
+            arith,
+            (checked (length (payload_of c.args.frames.now)) counted).1
+                (c.has_len.ensures ∙ yes),
+            c.number_size.ensures.value,
+            c.tag_len-tag.ensures,
+          );
           are_bytes = done.1;
           payload_bytes = c.write_packet-partial.ensures.bytes;
           text = refl;

@@ -8,6 +8,9 @@ use Rattle.quic_header_decode.proofs.protected.ProtectedHeader.decode.Goals as g
 
 pub returns-clause-answer : goal.returns-clause-answer
 returns-clause-answer g c =
-    let context : DecodeOptions = record { parsed = g.P.ConnectionIdParser.parsed c.args.parser.now; versions = c.args.versions.now; grease = c.args.grease } in
+    let context : DecodeOptions =
+    record { parsed = g.P.ConnectionIdParser.parsed c.args.parser.now; versions = c.args.versions.now; grease = c.args.grease } in
     header_answers context _ _ _ c.rest-rest.ensures.bytes (omega (arith, c.remaining-len.ensures.within, c.remaining-len.ensures.value))
-    (λ text id n e. match_ok (λ x. x.1 ≤ length text) (λ r. r ≡ NoMemory → ⊥) (g.P.ConnectionIdParser.parsed c.args.parser.now text) (id, n) (g.met.P.ConnectionIdParser.lawful c.args.parser.now text) e) c.decode_header.ensures.exact
+    (λ text id n e. match_ok (λ x. x.1 ≤ length text) (λ r. r ≡ NoMemory → ⊥)
+    (g.P.ConnectionIdParser.parsed c.args.parser.now text) (id, n)
+    (g.met.P.ConnectionIdParser.lawful c.args.parser.now text) e) c.decode_header.ensures.exact

@@ -236,7 +236,8 @@ def packet_numbers():
     stated(CRYPTO, "window_of", "number", "2 ^ (8 * number_size number)")
     return (
         "It is the low bytes of the one number with these that is greater than the expected one less half the window,"
-        f" and at most half the window greater (17.1, A.3; `IsInWindow`, crates/{CRYPTO}.antt).")
+        f" and at most half the window greater (17.1, A.3; `IsInWindow`, crates/{CRYPTO}.antt),"
+        " or these themselves if that is below 0 (`Expands`).")
 
 
 def writing():
@@ -270,7 +271,7 @@ def any_version():
     yield ""
     lines = ["Header Form (1) = 1", "Version-Specific Bits (7)", f"Version ({8 * width})", *ids]
     yield from figure("Long Header Packet", [*lines, "Version-Specific Data (..)"])
-    yield f"`AnyVersion`, crates/{PLACES}.antt; it reads unknown versions (`IsUnknown`)."
+    yield f"`AnyVersion`, crates/{PLACES}.antt; it reads unknown versions (`IsUnknownVersion`)."
     yield from ["", "### Version Negotiation of any version (RFC 8999, 6)", ""]
     lines = ["Header Form (1) = 1", "Unused (7)", f"Version ({8 * width}) = {zero}", *ids]
     yield from figure("Version Negotiation Packet", [*lines, f"Supported Version ({8 * one}) ..."])

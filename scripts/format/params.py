@@ -144,7 +144,7 @@ def page():
     yield from figure("Transport Parameter", [
         "Transport Parameter ID (i)", "Transport Parameter Length (i)", "Transport Parameter Value (..)"])
     yield (
-        f"`AreEntries`, `IsEntry`, crates/{ENTRY}.antt. Entries without a row are passed (`Accepts`), repeated ones"
+        f"`AreEntries`, `IsEntry`, crates/{ENTRY}.antt. Entries without a row are ignored (`Accepts`), repeated ones"
         " refused unless they may (`IsRepeat`).")
     yield from ["", "### Parameters (18.2)", ""]
     yield from columns([["ID", "Name", "Value", "Default", "Must be"], *rows()])

@@ -75,7 +75,7 @@ impl<'a> PacketMut<'a> {
         self.places.dst_cid(self.packet)
     }
 
-    /// All of its bytes, of which the packet is given up: for a Retry and a version negotiation, which have no
+    /// Consumes the packet and returns all of its bytes: for a Retry and a version negotiation, which have no
     /// protection.
     ///
     /// ```

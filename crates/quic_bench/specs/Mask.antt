@@ -1,14 +1,14 @@
--- A header key that joins one byte of the packet to its first byte and its number.
+-- A header key that XORs one byte of the packet with its first byte and its number.
 use Rattle.std.specs.Prelude.{ℕ, ◌+◌, ◌%◌, List, slice_index, slice_set, bit_xor}
 use Rattle.std.proofs.Common.{zero, suc}
 use Rattle.quic_crypto.specs.Keys.{first_unit, is_short, number_len}
 
--- the bytes with s joined to the count from a place on
+-- the bytes, of which so many from a place on are XORed with s
 abbrev pub mask_at : ℕ → ℕ → ℕ → List ℕ → List ℕ
 mask_at at zero s bytes = bytes
 mask_at at (suc count) s bytes = mask_at (at + 1) count s (slice_set bytes at (bit_xor (slice_index bytes at) s))
 
--- the low bits of s joined to the first byte
+-- the bytes, of which the first is XORed with the low bits of s
 abbrev pub first_masked : ℕ → List ℕ → List ℕ
 first_masked s bytes = slice_set bytes 0 (bit_xor (slice_index bytes 0) (s % first_unit (is_short bytes)))
 

@@ -1,4 +1,4 @@
--- The laws of the key that joins one byte of the packet to its first byte and its number. Proofs are here because an
+-- The laws of the key that XORs one byte of the packet with its first byte and its number. Proofs are here because an
 -- implementation proves its trait's laws from definitions alone.
 use Rattle.std.specs.Prelude.{◌≡◌, ℕ, ◌+◌, ◌/◌, ◌%◌, ◌<◌, ◌≤◌, Bool, true, false, List, length, nat_lt, bit_xor, refl, ◌⊎◌}
 use Rattle.std.proofs.Common.{zero, suc, get_or, set, sym, ap, ◌∙◌, arith, length-set, inl, inr, subst}
@@ -61,7 +61,7 @@ mask_in at (suc count) s bytes i from below room =
           ∙ ap (λ x. bit_xor x s) (get_or-set_other bytes at i (bit_xor (get_or bytes at 0) s) 0 other)
     ]
 
--- new is old with first in place of its first byte, and s joined to the count from a place on
+-- new is old with first in place of its first byte, and so many bytes from a place on XORed with s
 record Masked (at count s head : ℕ) (old new : List ℕ) : Type 0 where
   len : length new ≡ length old
   first : get_or new 0 0 ≡ head

@@ -19,7 +19,8 @@ use quic_header_decode::parser::ConnectionIdParser;
 use quic_header_encode::header::Header;
 use thiserror::Error;
 
-/// Why a packet is not opened. The rest of the datagram is given up: what follows the packet isn't known then.
+/// Why a packet is not opened. The rest of the datagram is given up, even where it is known where the packet ends: a
+/// caller that has to process the remaining packets (RFC 9000, section 12.2) cuts them off before.
 #[derive(Clone, Copy, Debug, PartialEq, Eq, Drop, Error)]
 pub enum OpenError {
     /// No packet can be cut from the datagram, or the packet is too short for a sample. It never holds

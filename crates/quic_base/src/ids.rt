@@ -273,6 +273,10 @@ const _: () = prove!(
     EcnCodepoint::Ect0 as u8 == 2 && EcnCodepoint::Ect1 as u8 == 1 && EcnCodepoint::Ce as u8 == 3
 );
 
+const _: () = prove!(
+    SpaceId::Initial as u8 == 0 && SpaceId::Handshake as u8 == 1 && SpaceId::Data as u8 == 2
+);
+
 impl EcnCodepoint {
     /// The codepoint in the two lowest bits of `x`; `None` if both are 0.
     pub fn from_bits(x: u8) -> Option<EcnCodepoint>

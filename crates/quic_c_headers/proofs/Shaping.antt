@@ -1,5 +1,5 @@
 -- The words of a header that can be written are those of its kind.
-use Rattle.std.proofs.Common.{◌≡◌, ℕ, ◌<◌, ◌≤◌, ◌^◌, ◌⊎◌, List, length, Bool, Some, sym, subst, inl, inr, arith}
+use Rattle.std.proofs.Common.{◌≡◌, ℕ, ◌<◌, ◌≤◌, ◌^◌, ◌⊎◌, List, length, Bool, Some, refl, sym, subst, inl, inr, arith}
 use Rattle.quic_crypto.specs.declared.packet_number.PacketNumber.{PacketNumber}
 use Rattle.quic_header_encode.proofs.Sizes.{number_few}
 use Rattle.quic_header_encode.specs.declared.long_type.LongType.TheVariants.{Handshake, ZeroRtt}
@@ -32,37 +32,37 @@ shaped words dst src token clear (header.Initial h) can =
     let k : words.kind ≡ 0 = can.described.kind in
     record {
       known = omega (arith, k);
-      numbered = with_number words h.number can.described.number (λ _. can.described.len);
-      named = λ _. can.described.version.1;
+      numbered = with_number words h.number can.described.number (λ _. can.described.len refl);
+      named = λ _. (can.described.version refl).1;
       parts = record {
         dst_few = can.dst_few;
-        src_few = λ _. can.described.src_is.1;
-        token_short = λ _. subst (λ (t : List ℕ). length t < 2 ^ 62) (sym can.described.token_is) can.writable.0;
+        src_few = λ _. (can.described.src_is refl).1;
+        token_short = λ _. subst (λ (t : List ℕ). length t < 2 ^ 62) (sym (can.described.token_is refl)) can.writable.0;
       };
     }
 shaped words dst src token clear (header.Long ZeroRtt to from number version) can =
     let k : words.kind ≡ 1 = can.described.kind in
     record {
       known = omega (arith, k);
-      numbered = with_number words number can.described.number (λ _. can.described.len);
-      named = λ _. can.described.version.1;
-      parts = no_token words.kind dst src token (omega (arith, k)) can.dst_few can.described.src_is.1;
+      numbered = with_number words number can.described.number (λ _. can.described.len refl);
+      named = λ _. (can.described.version refl).1;
+      parts = no_token words.kind dst src token (omega (arith, k)) can.dst_few (can.described.src_is refl).1;
     }
 shaped words dst src token clear (header.Long Handshake to from number version) can =
     let k : words.kind ≡ 2 = can.described.kind in
     record {
       known = omega (arith, k);
-      numbered = with_number words number can.described.number (λ _. can.described.len);
-      named = λ _. can.described.version.1;
-      parts = no_token words.kind dst src token (omega (arith, k)) can.dst_few can.described.src_is.1;
+      numbered = with_number words number can.described.number (λ _. can.described.len refl);
+      named = λ _. (can.described.version refl).1;
+      parts = no_token words.kind dst src token (omega (arith, k)) can.dst_few (can.described.src_is refl).1;
     }
 shaped words dst src token clear (header.Retry to from version) can =
     let k : words.kind ≡ 3 = can.described.kind in
     record {
       known = omega (arith, k);
       numbered = without_number words (inl k);
-      named = λ _. can.described.version.1;
-      parts = no_token words.kind dst src token (omega (arith, k)) can.dst_few can.described.src_is.1;
+      named = λ _. (can.described.version refl).1;
+      parts = no_token words.kind dst src token (omega (arith, k)) can.dst_few (can.described.src_is refl).1;
     }
 shaped words dst src token clear (header.Short spin key_phase to number) can =
     let k : words.kind ≡ 4 = can.described.kind in
@@ -78,5 +78,5 @@ shaped words dst src token clear (header.VersionNegotiate random from to) can =
       known = omega (arith, k);
       numbered = without_number words (inr k);
       named = λ e. absurd (omega (arith, k, e));
-      parts = no_token words.kind dst src token (omega (arith, k)) can.dst_few can.described.src_is.1;
+      parts = no_token words.kind dst src token (omega (arith, k)) can.dst_few (can.described.src_is refl).1;
     }

@@ -1,39 +1,54 @@
 -- The header that words describe, and its bytes.
 use Rattle.std.proofs.Common.{◌≡◌, ℕ, ◌+◌, ◌-◌, ◌*◌, ◌/◌, ◌%◌, ◌<◌, ◌≤◌, ◌^◌, ◌⊎◌, Bool, false, List, [], ◌∷◌, ◌++◌, length, take, drop, replicate, IsTrue, refl, sym, ap, subst, ◌∙◌, inl, inr, arith, rules}
-use Rattle.std.specs.Prelude.{◌≢◌, bit_or, nat_eq}
+use Rattle.std.specs.Prelude.{◌≢◌, nat_eq}
 use Rattle.std.proofs.lemmas.Bool.{cases_eq}
-use Rattle.std.proofs.lemmas.List.{append-nil, length-take-le, take-append-drop}
+use Rattle.std.proofs.lemmas.List.{append-nil, length-append, length-replicate, length-take-le, take-append-drop}
 use Rattle.std.proofs.lemmas.Bool.Decides.{nat_tests}
 use Rattle.std.specs.Int.{byte_at}
+use Rattle.quic_base.proofs.PublicLaws.{length-bytes_of}
+use Rattle.quic_header_encode.proofs.Sizes.{long_length}
 use Rattle.quic_base.specs.ConnectionId.{long_id}
 use Rattle.quic_base.specs.Number.{has_bit, bytes_of}
 use Rattle.quic_crypto.specs.declared.packet_number.PacketNumber.{PacketNumber}
+use Rattle.quic_crypto.specs.declared.packet_number.PacketNumber.TheVariants.{U8}
 use Rattle.quic_crypto.specs.PacketNumbers.{low_part, number_bytes, number_size, window_of, IsInRange}
 use Rattle.quic_header_encode.specs.declared.long_type.HeaderKind.{HeaderKind}
 use Rattle.quic_header_encode.specs.declared.long_type.HeaderKind.TheVariants as kind
 use Rattle.quic_header_encode.specs.declared.header.Header.{Header}
-use Rattle.quic_header_encode.specs.Storing.{begun_by, header_of, number_bits, carries_length, token_by, type_bits}
+use Rattle.quic_header_encode.specs.declared.header.Header.TheVariants as header
+use Rattle.quic_header_encode.specs.declared.long_type.LongType.TheVariants.{Handshake, ZeroRtt}
+use Rattle.quic_header_encode.specs.Kinds.{bit_value, fields_of, header_text, row, says, Row}
+use Rattle.quic_header_encode.specs.Storing.{token_by, type_bits, IsTyped}
 use Rattle.quic_header_encode.specs.Starts.{long_front}
-use Rattle.quic_header_encode.specs.Writing.{bit_value, header_with}
 use Rattle.quic_c_headers.specs.declared.words.HeaderFields.{HeaderFields}
 use Rattle.quic_c_headers.specs.Headers.{part_of, described_bytes, CanWriteHeader}
 use Rattle.quic_c_headers.specs.Reading.{kind_word}
-use Rattle.quic_c_headers.specs.Shapes.{first_word, numbered_bytes, numbered_first, short_bytes, IsNumbered, IsShaped}
+use Rattle.quic_c_headers.specs.Shapes.{first_word, worded_bytes, IsNumbered, IsShaped}
 use Rattle.quic_c_headers.specs.Written.{WrotePacketHeader}
 
 -- whether the fixed bit is cleared
 abbrev pub clear_by : HeaderKind → ℕ → Bool
-clear_by kind.Initial flags = has_bit 64 flags
-clear_by kind.ZeroRtt flags = has_bit 64 flags
-clear_by kind.Handshake flags = has_bit 64 flags
-clear_by kind.Retry flags = has_bit 64 flags
-clear_by kind.Short flags = has_bit 64 flags
 clear_by kind.VersionNegotiate flags = false
+clear_by _ flags = has_bit 64 flags
 
 -- the header that they describe
 abbrev pub header_described : HeaderKind → HeaderFields → List ℕ → List ℕ → List ℕ → Header
-header_described k words dst src token =
-    header_of k words.flags words.version dst src token (part_of words.number_len words.number)
+header_described kind.Initial words dst src token =
+    header.Initial (record {
+      dst_cid = dst;
+      src_cid = src;
+      token = token;
+      number = part_of words.number_len words.number;
+      version = words.version;
+    })
+header_described kind.ZeroRtt words dst src token =
+    header.Long ZeroRtt dst src (part_of words.number_len words.number) words.version
+header_described kind.Handshake words dst src token =
+    header.Long Handshake dst src (part_of words.number_len words.number) words.version
+header_described kind.Retry words dst src token = header.Retry dst src words.version
+header_described kind.Short words dst src token =
+    header.Short (has_bit 0x20 words.flags) (has_bit 0x04 words.flags) dst (part_of words.number_len words.number)
+header_described kind.VersionNegotiate words dst src token = header.VersionNegotiate (words.flags % 128) src dst
 
 bit_at : (x n : ℕ) → x < 2 → bit_value (nat_eq x 1) n ≡ n * x
 bit_at x n lt = grind (arith, nat_tests)
@@ -90,12 +105,12 @@ can_described kind.Initial words dst src token from own s e source mine =
       described = record {
         kind = sym e;
         flags = refl;
-        version = (refl, s.named (omega (arith, e)));
+        version = λ _. (refl, s.named (omega (arith, e)));
         number = (n.0, n.1.0, n.1.1);
-        len = s.numbered.len (omega (arith, e));
+        len = λ _. s.numbered.len (omega (arith, e));
         dst_is = refl;
-        src_is = source_described words dst src token from s source (λ z. omega (arith, e, z));
-        token_is = sym (mine (sym e));
+        src_is = λ _. source_described words dst src token from s source (λ z. omega (arith, e, z));
+        token_is = λ _. sym (mine (sym e));
       };
       dst_few = s.parts.dst_few;
       writable = (subst (λ (t : List ℕ). length t < 2 ^ 62) (sym (mine (sym e))) (s.parts.token_short (sym e)), n.1.2);
@@ -106,15 +121,15 @@ can_described kind.ZeroRtt words dst src token from own s e source mine =
       described = record {
         kind = sym e;
         flags = refl;
-        version = (refl, s.named (omega (arith, e)));
+        version = λ _. (refl, s.named (omega (arith, e)));
         number = (n.0, n.1.0, n.1.1);
-        len = s.numbered.len (omega (arith, e));
+        len = λ _. s.numbered.len (omega (arith, e));
         dst_is = refl;
-        src_is = source_described words dst src token from s source (λ z. omega (arith, e, z));
-        token_is = tt;
+        src_is = λ _. source_described words dst src token from s source (λ z. omega (arith, e, z));
+        token_is = λ no. absurd (search (rules, no));
       };
       dst_few = s.parts.dst_few;
-      writable = n.1.2;
+      writable = (omega arith, n.1.2);
     }
 can_described kind.Handshake words dst src token from own s e source mine =
     let n = numbered words s.numbered (inl (omega (arith, e))) in
@@ -122,29 +137,29 @@ can_described kind.Handshake words dst src token from own s e source mine =
       described = record {
         kind = sym e;
         flags = refl;
-        version = (refl, s.named (omega (arith, e)));
+        version = λ _. (refl, s.named (omega (arith, e)));
         number = (n.0, n.1.0, n.1.1);
-        len = s.numbered.len (omega (arith, e));
+        len = λ _. s.numbered.len (omega (arith, e));
         dst_is = refl;
-        src_is = source_described words dst src token from s source (λ z. omega (arith, e, z));
-        token_is = tt;
+        src_is = λ _. source_described words dst src token from s source (λ z. omega (arith, e, z));
+        token_is = λ no. absurd (search (rules, no));
       };
       dst_few = s.parts.dst_few;
-      writable = n.1.2;
+      writable = (omega arith, n.1.2);
     }
 can_described kind.Retry words dst src token from own s e source mine = record {
   described = record {
     kind = sym e;
     flags = refl;
-    version = (refl, s.named (omega (arith, e)));
+    version = λ _. (refl, s.named (omega (arith, e)));
     number = tt;
-    len = tt;
+    len = λ no. absurd (search (rules, no));
     dst_is = refl;
-    src_is = source_described words dst src token from s source (λ z. omega (arith, e, z));
-    token_is = tt;
+    src_is = λ _. source_described words dst src token from s source (λ z. omega (arith, e, z));
+    token_is = λ no. absurd (search (rules, no));
   };
   dst_few = s.parts.dst_few;
-  writable = tt;
+  writable = (omega arith, omega arith);
 }
 can_described kind.Short words dst src token from own s e source mine =
     let n = numbered words s.numbered (inr (sym e)) in
@@ -152,54 +167,67 @@ can_described kind.Short words dst src token from own s e source mine =
       described = record {
         kind = sym e;
         flags = (refl, refl, refl);
-        version = tt;
+        version = λ no. absurd (search (rules, no));
         number = (n.0, n.1.0, n.1.1);
-        len = tt;
+        len = λ no. absurd (search (rules, no));
         dst_is = refl;
-        src_is = tt;
-        token_is = tt;
+        src_is = λ no. absurd (search (rules, no));
+        token_is = λ no. absurd (search (rules, no));
       };
       dst_few = s.parts.dst_few;
-      writable = n.1.2;
+      writable = (omega arith, n.1.2);
     }
 can_described kind.VersionNegotiate words dst src token from own s e source mine = record {
   described = record {
     kind = sym e;
     flags = (refl, refl);
-    version = tt;
+    version = λ no. absurd (search (rules, no));
     number = tt;
-    len = tt;
+    len = λ no. absurd (search (rules, no));
     dst_is = refl;
-    src_is = source_described words dst src token from s source (λ z. omega (arith, e, z));
-    token_is = tt;
+    src_is = λ _. source_described words dst src token from s source (λ z. omega (arith, e, z));
+    token_is = λ no. absurd (search (rules, no));
   };
   dst_few = s.parts.dst_few;
-  writable = tt;
+  writable = (omega arith, omega arith);
 }
 
 -- ---- the bytes
 
-begun_same : (f g : ℕ) (h : ℕ → List ℕ) (a b : ℕ) → f ≡ g → a ≡ b → begun_by f (h a) ≡ begun_by g (h b)
-begun_same f g h a b e same = ap (λ (x : ℕ). begun_by x (h a)) e ∙ ap (λ (n : ℕ). begun_by g (h n)) same
+-- the same text by equal bits, number and count of zeros
+text_same : (r : Row) (a b version m n : ℕ) (dst src token : List ℕ) (number other : PacketNumber) → a ≡ b → m ≡ n
+    → number ≡ other
+    → header_text (replicate m 0) (says r a version dst src token number)
+    ≡ header_text (replicate n 0) (says r b version dst src token other)
+text_same r a b version m n dst src token number other bits count same =
+    ap (λ (x : ℕ). header_text (replicate m 0) (says r x version dst src token number)) bits
+    ∙ ap (λ (k : ℕ). header_text (replicate k 0) (says r b version dst src token number)) count
+    ∙ ap (λ (p : PacketNumber). header_text (replicate n 0) (says r b version dst src token p)) same
 
 -- what is written of them
 abbrev pub stored_described : HeaderKind → ℕ → HeaderFields → List ℕ → List ℕ → List ℕ → List ℕ
 stored_described k len words dst src token =
-    let number = part_of words.number_len words.number in
-    begun_by (first_word k words.flags + type_bits k words.version + number_bits k number)
-    (header_with (replicate len 0) (header_of k (first_word k words.flags) words.version dst src token number))
+    header_text (replicate len 0)
+    (says (row k) (first_word k words.flags) words.version dst src token (part_of words.number_len words.number))
 
 pub stored_as : (k : HeaderKind) (f len : ℕ) (words : HeaderFields) (dst src token : List ℕ) (number : PacketNumber)
-    → f ≡ first_word k words.flags
-    → number ≡ part_of words.number_len words.number
-    → begun_by (f + type_bits k words.version + number_bits k number)
-    (header_with (replicate len 0) (header_of k f words.version dst src token number))
+    → f ≡ first_word k words.flags → number ≡ part_of words.number_len words.number
+    → header_text (replicate len 0) (says (row k) f words.version dst src token number)
     ≡ stored_described k len words dst src token
 stored_as k f len words dst src token number e is =
-    ap (λ (g : ℕ). begun_by (g + type_bits k words.version + number_bits k number)
-    (header_with (replicate len 0) (header_of k g words.version dst src token number))) e
-    ∙ ap (λ (p : PacketNumber). begun_by (first_word k words.flags + type_bits k words.version + number_bits k p)
-    (header_with (replicate len 0) (header_of k (first_word k words.flags) words.version dst src token p))) is
+    text_same (row k) f (first_word k words.flags) words.version len len dst src token number _ e refl is
+
+-- the other bits of the first byte of a header that they describe
+bits_described : (k : HeaderKind) (words : HeaderFields) (dst src token : List ℕ)
+    → first_word k words.flags
+    ≡ (fields_of (header_described k words dst src token)).bits - bit_value (clear_by k words.flags) 64
+bits_described kind.Initial words dst src token = omega (arith, clear_is words.flags)
+bits_described kind.ZeroRtt words dst src token = omega (arith, clear_is words.flags)
+bits_described kind.Handshake words dst src token = omega (arith, clear_is words.flags)
+bits_described kind.Retry words dst src token = omega (arith, clear_is words.flags)
+bits_described kind.Short words dst src token =
+    omega (arith, clear_is words.flags, spin_is words.flags, phase_is words.flags)
+bits_described kind.VersionNegotiate words dst src token = omega arith
 
 pub bytes_described : (k : HeaderKind) (len : ℕ) (words : HeaderFields) (dst src token : List ℕ) → IsNumbered words
     → kind_word k ≡ words.kind
@@ -207,29 +235,23 @@ pub bytes_described : (k : HeaderKind) (len : ℕ) (words : HeaderFields) (dst s
     → stored_described k len words dst src token ≡ described_bytes words.length_len (clear_by k words.flags)
     (header_described k words dst src token)
 bytes_described kind.Initial len words dst src token s e same =
-    begun_same _ _ (λ n. header_with (replicate n 0) (header_described kind.Initial words dst src token)) len words.length_len
-    (omega (arith, clear_is words.flags)) (same (s.len (omega (arith, e))))
+    text_same (row kind.Initial) _ _ words.version len words.length_len dst src token _ _
+    (bits_described kind.Initial words dst src token) (same (s.len (omega (arith, e)))) refl
 bytes_described kind.ZeroRtt len words dst src token s e same =
-    begun_same _ _ (λ n. header_with (replicate n 0) (header_described kind.ZeroRtt words dst src token)) len words.length_len
-    (omega (arith, clear_is words.flags)) (same (s.len (omega (arith, e))))
+    text_same (row kind.ZeroRtt) _ _ words.version len words.length_len dst src token _ _
+    (bits_described kind.ZeroRtt words dst src token) (same (s.len (omega (arith, e)))) refl
 bytes_described kind.Handshake len words dst src token s e same =
-    begun_same _ _ (λ n. header_with (replicate n 0) (header_described kind.Handshake words dst src token)) len words.length_len
-    (omega (arith, clear_is words.flags)) (same (s.len (omega (arith, e))))
+    text_same (row kind.Handshake) _ _ words.version len words.length_len dst src token _ _
+    (bits_described kind.Handshake words dst src token) (same (s.len (omega (arith, e)))) refl
 bytes_described kind.Retry len words dst src token s e same =
-    ap (λ (f : ℕ). begun_by f (header_with (replicate 0 0) (header_described kind.Retry words dst src token)))
-    (let g : first_word kind.Retry words.flags + type_bits kind.Retry words.version + 0 ≡ 192
-    + type_bits kind.Retry words.version - bit_value (has_bit 64 words.flags) 64 =
-    omega (arith, clear_is words.flags) in g)
+    text_same (row kind.Retry) _ _ words.version len len dst src token (U8 0) (U8 0)
+    (bits_described kind.Retry words dst src token) refl refl
 bytes_described kind.Short len words dst src token s e same =
-    let number : PacketNumber = part_of words.number_len words.number in
-    ap (λ (f : ℕ). f ∷ (dst ++ number_bytes number))
-    (let g : first_word kind.Short words.flags + 0 + (number_size number - 1)
-    ≡ 64 + bit_value (has_bit 32 words.flags) 32 + bit_value (has_bit 4 words.flags) 4 + (number_size number - 1)
-    - bit_value (has_bit 64 words.flags) 64 =
-    omega (arith, clear_is words.flags, spin_is words.flags, phase_is words.flags) in g)
+    text_same (row kind.Short) _ _ words.version len len dst src token _ _
+    (bits_described kind.Short words dst src token) refl refl
 bytes_described kind.VersionNegotiate len words dst src token s e same =
-    ap (λ (f : ℕ). begun_by f (header_with (replicate 0 0) (header_described kind.VersionNegotiate words dst src token)))
-    (let g : bit_or 128 (words.flags % 128) + 0 + 0 ≡ bit_or 128 (words.flags % 128) - 0 = omega arith in g)
+    text_same (row kind.VersionNegotiate) _ _ words.version len len dst src token (U8 0) (U8 0)
+    (bits_described kind.VersionNegotiate words dst src token) refl refl
 
 -- ---- what was written
 
@@ -273,23 +295,27 @@ low_bytes len number some few =
       ]
     ]
 
--- the bytes written for a short header are the header that its words describe
-pub short_described : (words : HeaderFields) (dst : List ℕ) → IsShaped words dst [] [] → words.kind ≡ 4
-    → short_bytes words dst ≡ described_bytes words.length_len (clear_by kind.Short words.flags)
-    (header_described kind.Short words dst [] [])
-short_described words dst s e =
-    let n = s.numbered.number (inr e) in
+-- the fields of one, as they are written one after another
+abbrev pub short_fields : HeaderFields → List ℕ → List ℕ
+short_fields words dst =
+    (first_word kind.Short words.flags + (words.number_len - 1)) ∷ (dst ++ bytes_of words.number_len words.number)
+
+pub short_stored : (words : HeaderFields) (dst : List ℕ) → 1 ≤ words.number_len → words.number_len ≤ 4
+    → short_fields words dst ≡ worded_bytes kind.Short words dst [] []
+short_stored words dst some few =
     let part : PacketNumber = part_of words.number_len words.number in
-    let size : words.number_len ≡ number_size part = (part_says words.number_len words.number n.0 n.1).0 in
-    let byte : first_word kind.Short words.flags + (words.number_len - 1) ≡ first_word kind.Short words.flags + 0 + (number_size part - 1) =
-    omega (arith, size) in
+    let size : words.number_len ≡ number_size part = (part_says words.number_len words.number some few).0 in
     ap (λ (xs : List ℕ). (first_word kind.Short words.flags + (words.number_len - 1)) ∷ (dst ++ xs))
-    (sym (low_bytes words.number_len words.number n.0 n.1))
-    ∙ ap (λ (f : ℕ). f ∷ (dst ++ number_bytes part)) byte
-    ∙ bytes_described kind.Short words.length_len words dst [] [] s.numbered (sym e) (λ _. refl)
+    (sym (low_bytes words.number_len words.number some few))
+    ∙ ap (λ (n : ℕ). (first_word kind.Short words.flags + (n - 1)) ∷ (dst ++ number_bytes part)) size
+
+pub short_described : (words : HeaderFields) (dst : List ℕ) → IsShaped words dst [] [] → words.kind ≡ 4
+    → worded_bytes kind.Short words dst [] [] ≡ described_bytes words.length_len (clear_by kind.Short words.flags)
+    (header_described kind.Short words dst [] [])
+short_described words dst s e = bytes_described kind.Short words.length_len words dst [] [] s.numbered (sym e) (λ _. refl)
 
 pub short_wrote : (words : HeaderFields) (dst old new : List ℕ) (n : ℕ) → IsShaped words dst [] [] → words.kind ≡ 4
-    → n ≤ length new → take n new ≡ short_bytes words dst → drop n new ≡ drop n old
+    → n ≤ length new → take n new ≡ worded_bytes kind.Short words dst [] [] → drop n new ≡ drop n old
     → WrotePacketHeader words dst [] [] old new n
 short_wrote words dst old new n s e within front back =
     let all = written n old new _ _ within front back (short_described words dst s e) in
@@ -303,7 +329,7 @@ short_wrote words dst old new n s e within front back =
 
 -- ---- headers of packets with a number and a length
 
-pub with_length : (k : HeaderKind) (words : HeaderFields) → kind_word k ≡ words.kind → IsTrue (carries_length k)
+pub with_length : (k : HeaderKind) (words : HeaderFields) → kind_word k ≡ words.kind → IsTrue (row k).has_len
     → words.kind ≤ 2
 with_length kind.Initial words e has = omega (arith, e)
 with_length kind.ZeroRtt words e has = omega (arith, e)
@@ -312,33 +338,67 @@ with_length kind.Retry words e has = absurd (search (rules, has))
 with_length kind.Short words e has = absurd (search (rules, has))
 with_length kind.VersionNegotiate words e has = absurd (search (rules, has))
 
+-- the fields of one, as they are written one after another
+abbrev pub fields_stored : HeaderKind → HeaderFields → List ℕ → List ℕ → List ℕ → List ℕ
+fields_stored k words dst src token =
+    (long_front (192 - 64 * (words.flags / 64 % 2) + type_bits k words.version + (words.number_len - 1)) words.version dst src
+    ++ token_by k token)
+    ++ (replicate words.length_len 0 ++ bytes_of words.number_len words.number)
+
+pub fields_length : (k : HeaderKind) (words : HeaderFields) (dst src token : List ℕ)
+    → length (fields_stored k words dst src token)
+    ≡ 7 + length dst + length src + length (token_by k token) + (words.length_len + words.number_len)
+fields_length k words dst src token =
+    let first : ℕ = 192 - 64 * (words.flags / 64 % 2) + type_bits k words.version + (words.number_len - 1) in
+    let front : List ℕ = long_front first words.version dst src in
+    omega (
+      arith,
+      length-append (front ++ token_by k token) (replicate words.length_len 0 ++ bytes_of words.number_len words.number),
+      length-append front (token_by k token),
+      length-append (replicate words.length_len 0) (bytes_of words.number_len words.number),
+      length-replicate {A = ℕ} words.length_len 0,
+      length-bytes_of words.number_len words.number,
+      long_length first words.version dst src,
+    )
+
+pub typed : (k : HeaderKind) → IsTrue (row k).has_len → IsTyped k
+typed kind.Initial has = refl
+typed kind.ZeroRtt has = refl
+typed kind.Handshake has = refl
+typed kind.Retry has = refl
+typed kind.Short has = absurd (search (rules, has))
+typed kind.VersionNegotiate has = absurd (search (rules, has))
+
 -- the bytes written for one, field after field, are the header that its words describe
-pub numbered_described : (k : HeaderKind) (words : HeaderFields) (dst src token : List ℕ) → IsTrue (carries_length k)
+pub numbered_described : (k : HeaderKind) (words : HeaderFields) (dst src token : List ℕ) → IsTrue (row k).has_len
     → 1 ≤ words.number_len → words.number_len ≤ 4
-    → numbered_bytes k words dst src token ≡ stored_described k words.length_len words dst src token
+    → fields_stored k words dst src token ≡ worded_bytes k words dst src token
 numbered_described kind.Initial words dst src token has some few =
+    let first : ℕ = 192 - 64 * (words.flags / 64 % 2) + type_bits kind.Initial words.version + (words.number_len - 1) in
     let part : PacketNumber = part_of words.number_len words.number in
     let size : words.number_len ≡ number_size part = (part_says words.number_len words.number some few).0 in
     let own : List ℕ = token_by kind.Initial token in
     let ids : List ℕ = bytes_of 4 words.version ++ (long_id dst ++ long_id src) in
-    ap (λ (xs : List ℕ). (long_front (numbered_first kind.Initial words) words.version dst src ++ own)
+    ap (λ (xs : List ℕ). (long_front (first) words.version dst src ++ own)
     ++ (replicate words.length_len 0 ++ xs))
     (sym (low_bytes words.number_len words.number some few))
     ∙ ap (λ (n : ℕ). (192 - 64 * (words.flags / 64 % 2) + type_bits kind.Initial words.version + (n - 1))
     ∷ ((ids ++ own) ++ (replicate words.length_len 0 ++ number_bytes part))) size
 numbered_described kind.ZeroRtt words dst src token has some few =
+    let first : ℕ = 192 - 64 * (words.flags / 64 % 2) + type_bits kind.ZeroRtt words.version + (words.number_len - 1) in
     let part : PacketNumber = part_of words.number_len words.number in
     let size : words.number_len ≡ number_size part = (part_says words.number_len words.number some few).0 in
-    let front : List ℕ = long_front (numbered_first kind.ZeroRtt words) words.version dst src in
+    let front : List ℕ = long_front (first) words.version dst src in
     let ids : List ℕ = bytes_of 4 words.version ++ (long_id dst ++ long_id src) in
     ap (λ (xs : List ℕ). xs ++ (replicate words.length_len 0 ++ bytes_of words.number_len words.number)) (append-nil front)
     ∙ ap (λ (xs : List ℕ). front ++ (replicate words.length_len 0 ++ xs)) (sym (low_bytes words.number_len words.number some few))
     ∙ ap (λ (n : ℕ). (192 - 64 * (words.flags / 64 % 2) + type_bits kind.ZeroRtt words.version + (n - 1))
     ∷ (ids ++ (replicate words.length_len 0 ++ number_bytes part))) size
 numbered_described kind.Handshake words dst src token has some few =
+    let first : ℕ = 192 - 64 * (words.flags / 64 % 2) + type_bits kind.Handshake words.version + (words.number_len - 1) in
     let part : PacketNumber = part_of words.number_len words.number in
     let size : words.number_len ≡ number_size part = (part_says words.number_len words.number some few).0 in
-    let front : List ℕ = long_front (numbered_first kind.Handshake words) words.version dst src in
+    let front : List ℕ = long_front (first) words.version dst src in
     let ids : List ℕ = bytes_of 4 words.version ++ (long_id dst ++ long_id src) in
     ap (λ (xs : List ℕ). xs ++ (replicate words.length_len 0 ++ bytes_of words.number_len words.number)) (append-nil front)
     ∙ ap (λ (xs : List ℕ). front ++ (replicate words.length_len 0 ++ xs)) (sym (low_bytes words.number_len words.number some few))

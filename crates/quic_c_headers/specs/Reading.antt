@@ -56,10 +56,7 @@ header_words packet (Err (error.UnsupportedVersion version dst_len src_len)) old
   token_len = 0;
   len = 0;
 }
-header_words packet (Err error.UnexpectedEnd) old = old
-header_words packet (Err error.SmallPacket) old = old
-header_words packet (Err error.MalformedCid) old = old
-header_words packet (Err error.TokenOutOfBounds) old = old
+header_words packet _ old = old
 
 -- the first byte is reported unchanged
 abbrev pub HasFirst : Result HeaderPlaces ReadError → List ℕ → Type 0

@@ -1,11 +1,10 @@
 -- What a kind of header has.
-use Rattle.std.specs.Prelude.{◌≡◌, ◌≢◌, ℕ, ◌+◌, ◌-◌, ◌*◌, ◌/◌, ◌%◌, ◌<◌, ◌≤◌, ◌^◌, ◌⊎◌, List, ◌∷◌, ◌++◌, length, take, drop, replicate, bit_or}
-use Rattle.quic_base.specs.Number.{bytes_of}
+use Rattle.std.specs.Prelude.{◌≡◌, ◌≢◌, ℕ, ◌+◌, ◌-◌, ◌*◌, ◌/◌, ◌%◌, ◌<◌, ◌≤◌, ◌^◌, ◌⊎◌, List, [], length, take, drop, replicate, bit_or}
 use Rattle.quic_header_encode.specs.declared.long_type.HeaderKind.{HeaderKind}
 use Rattle.quic_header_encode.specs.declared.long_type.HeaderKind.TheVariants as kind
-use Rattle.quic_header_encode.specs.Storing.{token_by, token_size, type_bits}
-use Rattle.quic_header_encode.specs.Starts.{long_front}
+use Rattle.quic_header_encode.specs.Kinds.{header_text, row, says}
 use Rattle.quic_c_headers.specs.declared.words.HeaderFields.{HeaderFields}
+use Rattle.quic_c_headers.specs.Headers.{part_of}
 
 -- A header of the kind can have this number and these sizes of the number and the length.
 pub record IsNumbered (words : HeaderFields) : Type 0 where
@@ -28,31 +27,15 @@ pub record IsShaped (words : HeaderFields) (dst src token : List ℕ) : Type 0 w
 
 -- the bits of the first byte other than the type and the number's size, by the flags
 abbrev pub first_word : HeaderKind → ℕ → ℕ
-first_word kind.Initial flags = 192 - 64 * (flags / 64 % 2)
-first_word kind.ZeroRtt flags = 192 - 64 * (flags / 64 % 2)
-first_word kind.Handshake flags = 192 - 64 * (flags / 64 % 2)
-first_word kind.Retry flags = 192 - 64 * (flags / 64 % 2)
 first_word kind.Short flags = 64 - 64 * (flags / 64 % 2) + 32 * (flags / 32 % 2) + 4 * (flags / 4 % 2)
 first_word kind.VersionNegotiate flags = bit_or 128 (flags % 128)
+first_word _ flags = 192 - 64 * (flags / 64 % 2)
 
--- the first byte of a packet with a number and a length
-abbrev pub numbered_first : HeaderKind → HeaderFields → ℕ
-numbered_first kind words = 192 - 64 * (words.flags / 64 % 2) + type_bits kind words.version + (words.number_len - 1)
-
--- the bytes of its header: up to the ids' end, an Initial's token, so many zeros as the length, and the number
-abbrev pub numbered_bytes : HeaderKind → HeaderFields → List ℕ → List ℕ → List ℕ → List ℕ
-numbered_bytes kind words dst src token =
-    (long_front (numbered_first kind words) words.version dst src ++ token_by kind token)
-    ++ (replicate words.length_len 0 ++ bytes_of words.number_len words.number)
-
-abbrev pub numbered_size : HeaderKind → HeaderFields → List ℕ → List ℕ → List ℕ → ℕ
-numbered_size kind words dst src token =
-    7 + length dst + length src + token_size kind token + (words.length_len + words.number_len)
-
--- the bytes of a short header: the first, the id and the number
-abbrev pub short_bytes : HeaderFields → List ℕ → List ℕ
-short_bytes words dst =
-    (first_word kind.Short words.flags + (words.number_len - 1)) ∷ (dst ++ bytes_of words.number_len words.number)
+-- the bytes of a header of the kind, with so many zeros as its length
+abbrev pub worded_bytes : HeaderKind → HeaderFields → List ℕ → List ℕ → List ℕ → List ℕ
+worded_bytes kind words dst src token =
+    header_text (replicate words.length_len 0)
+    (says (row kind) (first_word kind words.flags) words.version dst src token (part_of words.number_len words.number))
 
 abbrev pub short_size : HeaderFields → List ℕ → ℕ
 short_size words dst = 1 + length dst + words.number_len
@@ -67,6 +50,6 @@ pub record HasShortRoom (words : HeaderFields) (dst : List ℕ) (room : ℕ) : T
 -- It stands at the front, up to its end, and what stood behind that is the same.
 pub record StoresShort (words : HeaderFields) (dst old new : List ℕ) (end : ℕ) : Type 0 where
   pub size : end ≡ short_size words dst
-  pub front : take end new ≡ short_bytes words dst
+  pub front : take end new ≡ worded_bytes kind.Short words dst [] []
   pub back : drop end new ≡ drop end old
   pub len : length new ≡ length old

@@ -1,13 +1,14 @@
 //! Writes headers from words into the caller's bytes.
-ghost use Rattle.std.specs.Prelude.{◌≡◌, ◌≢◌, ◌+◌, ◌-◌, ◌%◌, ◌^◌, ◌<◌, ◌≤◌, ◌⊎◌, ◌↔◌, ◌++◌, ℕ, [], IsTrue, length, take, drop, replicate, pos, negsuc};
+ghost use Rattle.std.specs.Prelude.{◌≡◌, ◌≢◌, ◌+◌, ◌-◌, ◌*◌, ◌/◌, ◌%◌, ◌^◌, ◌<◌, ◌≤◌, ◌⊎◌, ◌↔◌, ◌++◌, ℕ, [], IsTrue, length, take, drop, replicate, pos, negsuc};
 ghost use Rattle.quic_base.specs.Number.{bytes_of};
 ghost use Rattle.quic_crypto.specs.PacketNumbers.{IsInRange};
 ghost use Rattle.quic_header_encode.specs.declared.long_type.HeaderKind.TheVariants as kind;
-ghost use Rattle.quic_header_encode.specs.Storing.{token_by, token_size, IsTyped};
+ghost use Rattle.quic_header_encode.specs.Kinds.{row};
+ghost use Rattle.quic_header_encode.specs.Storing.{token_by, type_bits, IsTyped};
 ghost use Rattle.quic_header_encode.specs.Starts.{long_front};
 ghost use Rattle.quic_c_headers.specs.Headers.{part_of};
 ghost use Rattle.quic_c_headers.specs.Reading.{kind_word};
-ghost use Rattle.quic_c_headers.specs.Shapes.{first_word, numbered_bytes, numbered_first, numbered_size, short_size, AreParts, HasShortRoom, IsNumbered, IsShaped, StoresShort};
+ghost use Rattle.quic_c_headers.specs.Shapes.{first_word, short_size, worded_bytes, AreParts, HasShortRoom, IsNumbered, IsShaped, StoresShort};
 ghost use Rattle.quic_c_headers.specs.Written.{PacketHeaderNeedsMore, DescribesNoHeader, WrotePacketHeader};
 
 use crate::words::HeaderFields;
@@ -188,7 +189,8 @@ fn store_front(
     requires room { 7 + length dst.now + length src.now ≤ length dest.old }
     ensures end { result ≡ 7 + length dst.now + length src.now }
     ensures front { take result dest.new
-        ≡ long_front (numbered_first kind words.now) words.now.version dst.now src.now }
+        ≡ long_front (192 - 64 * (words.now.flags / 64 % 2) + type_bits kind words.now.version
+        + (words.now.number_len - 1)) words.now.version dst.now src.now }
     ensures back { drop result dest.new ≡ drop result dest.old }
     ensures len { length dest.new ≡ length dest.old }
 {
@@ -202,8 +204,8 @@ fn store_front(
 #[inline(always)]
 fn store_own_token(kind: HeaderKind, dest: &mut [u8], at: usize, token: &[u8]) -> usize
     requires numeric { length token.now < 2 ^ 62 }
-    requires room { at + token_size kind token.now ≤ length dest.old }
-    ensures end { result ≡ at + token_size kind token.now }
+    requires room { at + length (token_by kind token.now) ≤ length dest.old }
+    ensures end { result ≡ at + length (token_by kind token.now) }
     ensures front { take result dest.new ≡ take at dest.old ++ token_by kind token.now }
     ensures back { drop result dest.new ≡ drop result dest.old }
     ensures len { length dest.new ≡ length dest.old }
@@ -241,16 +243,16 @@ fn store_numbered(
     token: &[u8],
     dest: &mut [u8],
 ) -> usize
-    requires typed { IsTyped kind }
+    requires has { IsTrue (row kind).has_len }
     requires known { (words.now.length_len ≡ 2) ⊎ (words.now.length_len ≡ 4) }
     requires some { 1 ≤ words.now.number_len }
     requires few { words.now.number_len ≤ 4 }
     requires dst_few { length dst.now ≤ 20 }
     requires src_few { length src.now ≤ 20 }
     requires numeric { length token.now < 2 ^ 62 }
-    requires room { numbered_size kind words.now dst.now src.now token.now ≤ length dest.old }
-    ensures end { result ≡ numbered_size kind words.now dst.now src.now token.now }
-    ensures front { take result dest.new ≡ numbered_bytes kind words.now dst.now src.now token.now }
+    requires room { length (worded_bytes kind words.now dst.now src.now token.now) ≤ length dest.old }
+    ensures end { result ≡ length (worded_bytes kind words.now dst.now src.now token.now) }
+    ensures front { take result dest.new ≡ worded_bytes kind words.now dst.now src.now token.now }
     ensures back { drop result dest.new ≡ drop result dest.old }
     ensures len { length dest.new ≡ length dest.old }
 {

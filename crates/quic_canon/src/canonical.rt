@@ -158,6 +158,7 @@ pub fn canonical(payload: &[u8], out: &mut Vec<u8>) -> Result<(), CanonError>
     ensures ok { OnOk result (AppendsLeast out.old.items out.new.items payload.now) }
     ensures err { IfErr result (λ e. IsRefused payload.now e) }
     ensures kept { OnErr result (out.new.items ≡ out.old.items) }
+    ensures capacity { OnErr result (vec_capacity out.new ≡ vec_capacity out.old) }
     ensures unread { IfErr result (λ e. (e ≢ CanonError.OutOfMemory) → out.new ≡ out.old) }
     ensures room { vec_len out.old + length payload.now ≤ vec_capacity out.old
         → IfErr result (λ e. IsWrong payload.now e) }

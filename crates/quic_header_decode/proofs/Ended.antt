@@ -4,7 +4,7 @@ use Rattle.std.proofs.Common.{sym, arith, refl, cond, inl, inr, length-drop}
 use Rattle.std.proofs.lemmas.Bool.Decides.{nat_tests}
 use Rattle.quic_header_encode.specs.declared.long_type.HeaderKind.{HeaderKind}
 use Rattle.quic_header_encode.specs.declared.long_type.HeaderKind.TheVariants as kind
-use Rattle.quic_header_encode.specs.Storing.{carries_length}
+use Rattle.quic_header_encode.specs.Kinds.{row}
 use Rattle.quic_header_decode.specs.declared.fields.Place.{Place}
 use Rattle.quic_header_decode.specs.declared.places.HeaderPlaces.{HeaderPlaces}
 use Rattle.quic_header_decode.specs.Grammar.{Cut, HeaderAt, Uncut, past_end}
@@ -15,7 +15,7 @@ use Rattle.quic_header_decode.proofs.Steps.{chosen, none_some, some_same}
 
 -- where a packet ends by its kind
 abbrev End : HeaderKind → ℕ → ℕ → ℕ → Option ℕ
-End k at len whole = cond (carries_length k) (cond (nat_lt whole (at + len)) None (Some (at + len))) (Some whole)
+End k at len whole = cond ((row k).has_len) (cond (nat_lt whole (at + len)) None (Some (at + len))) (Some whole)
 
 values_are : (at len whole q : ℕ) → cond (nat_lt whole (at + len)) None (Some (at + len)) ≡ Some q
     → (q ≡ at + len) × (q ≤ whole)

@@ -33,9 +33,7 @@ with_number (protected.VersionNegotiate random dst src) number packet got = ⊥
 abbrev pub without_number : ProtectedHeader → Header → Type 0
 without_number (protected.Retry dst src version) got = got ≡ header.Retry dst src version
 without_number (protected.VersionNegotiate random dst src) got = got ≡ header.VersionNegotiate random src dst
-without_number (protected.Initial h) got = ⊥
-without_number (protected.Long ty dst src len version) got = ⊥
-without_number (protected.Short spin dst) got = ⊥
+without_number _ got = ⊥
 
 -- the header of an open packet, which ends after the number if it has one
 abbrev pub IsOpenedBy : Bool → ProtectedHeader → ℕ → Header → List ℕ → ℕ → Type 0

@@ -7,7 +7,8 @@ use Rattle.quic_header_encode.specs.declared.long_type.HeaderKind.TheVariants as
 use Rattle.quic_header_encode.specs.declared.long_type.LongHeaderType.{LongHeaderType}
 use Rattle.quic_header_encode.specs.declared.long_type.LongHeaderType.TheVariants as type
 use Rattle.quic_header_encode.specs.declared.long_type.LongType.TheVariants.{Handshake, ZeroRtt}
-use Rattle.quic_header_encode.specs.Storing.{carries_length}
+use Rattle.std.specs.Option.{option_map_or}
+use Rattle.quic_header_encode.specs.Kinds.{row}
 use Rattle.quic_header_decode.specs.declared.fields.Place.{Place}
 use Rattle.quic_header_decode.specs.declared.places.HeaderPlaces.{HeaderPlaces}
 use Rattle.quic_header_decode.specs.declared.places.ReadError.{ReadError}
@@ -21,21 +22,11 @@ use Rattle.quic_header_decode.specs.Refusal.{Refusal, Unsupported, Invalid, NoMe
 
 -- the type of a kind that has one
 abbrev pub type_placed : HeaderKind → LongHeaderType
-type_placed kind.Initial = type.Initial
-type_placed kind.ZeroRtt = type.Standard ZeroRtt
-type_placed kind.Handshake = type.Standard Handshake
-type_placed kind.Retry = type.Retry
-type_placed kind.Short = type.Retry
-type_placed kind.VersionNegotiate = type.Retry
+type_placed kind = option_map_or (λ ty. ty) (row kind).type type.Retry
 
 -- where the receiver's id begins
 abbrev pub dst_place : HeaderKind → ℕ
-dst_place kind.Initial = 6
-dst_place kind.ZeroRtt = 6
-dst_place kind.Handshake = 6
-dst_place kind.Retry = 6
-dst_place kind.Short = 1
-dst_place kind.VersionNegotiate = 6
+dst_place kind = if (row kind).is_long then 6 else 1
 
 abbrev pub dst_part : List ℕ → HeaderPlaces → List ℕ
 dst_part bytes x = slice_range bytes (dst_place x.kind) (dst_place x.kind + x.dst_len)
@@ -122,15 +113,12 @@ abbrev pub IsSeen : Result HeaderPlaces ReadError → ℕ → Type 0
 IsSeen (Ok x) datagram_len = ArePlacesWithin x datagram_len
 IsSeen (Err (error.UnsupportedVersion version dst_len src_len)) datagram_len = (dst_len ≤ 255) × (src_len ≤ 255)
     × (6 + dst_len + 1 + src_len ≤ datagram_len)
-IsSeen (Err error.UnexpectedEnd) datagram_len = Unit {0}
-IsSeen (Err error.SmallPacket) datagram_len = Unit {0}
-IsSeen (Err error.MalformedCid) datagram_len = Unit {0}
-IsSeen (Err error.TokenOutOfBounds) datagram_len = Unit {0}
+IsSeen _ datagram_len = Unit {0}
 
 -- where a packet ends in so many bytes
 abbrev pub ends_at : HeaderPlaces → ℕ → Option ℕ
 ends_at x datagram_len =
-    if carries_length x.kind then (if nat_lt datagram_len (x.header_end + x.len) then None else Some (x.header_end + x.len))
+    if (row x.kind).has_len then (if nat_lt datagram_len (x.header_end + x.len) then None else Some (x.header_end + x.len))
     else Some datagram_len
 
 -- ---- which bytes these are

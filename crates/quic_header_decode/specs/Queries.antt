@@ -17,24 +17,15 @@ space_of (protected.VersionNegotiate random dst src) = None
 
 abbrev pub IsInitial : ProtectedHeader → Type 0
 IsInitial (protected.Initial h) = Unit {0}
-IsInitial (protected.Long ty dst src len version) = ⊥
-IsInitial (protected.Retry dst src version) = ⊥
-IsInitial (protected.Short spin dst) = ⊥
-IsInitial (protected.VersionNegotiate random dst src) = ⊥
+IsInitial _ = ⊥
 
 abbrev pub IsShort : ProtectedHeader → Type 0
-IsShort (protected.Initial h) = ⊥
-IsShort (protected.Long ty dst src len version) = ⊥
-IsShort (protected.Retry dst src version) = ⊥
 IsShort (protected.Short spin dst) = Unit {0}
-IsShort (protected.VersionNegotiate random dst src) = ⊥
+IsShort _ = ⊥
 
 abbrev pub IsZeroRtt : ProtectedHeader → Type 0
-IsZeroRtt (protected.Initial h) = ⊥
 IsZeroRtt (protected.Long ty dst src len version) = ty ≡ ZeroRtt
-IsZeroRtt (protected.Retry dst src version) = ⊥
-IsZeroRtt (protected.Short spin dst) = ⊥
-IsZeroRtt (protected.VersionNegotiate random dst src) = ⊥
+IsZeroRtt _ = ⊥
 
 -- the receiver's id
 abbrev pub dst_of : ProtectedHeader → List ℕ

@@ -93,9 +93,7 @@ wide_header_at id_len versions datagram_len bytes = do
 abbrev pub len_in : ProtectedHeader → Option ℕ
 len_in (protected.Initial h) = Some h.len
 len_in (protected.Long ty dst src len version) = Some len
-len_in (protected.Retry dst src version) = None
-len_in (protected.Short spin dst) = None
-len_in (protected.VersionNegotiate random dst src) = None
+len_in _ = None
 
 -- a header, where it ends, and where its packet ends
 unfoldable pub cut_at : DecodeOptions → List ℕ → Result (ProtectedHeader × ℕ × ℕ) Refusal
@@ -114,17 +112,11 @@ IsRest (Some rest) bytes = (rest.items ≡ bytes) × (0 < length bytes)
 -- where an Initial packet's token begins and ends
 abbrev pub token_start : ProtectedHeader → ℕ
 token_start (protected.Initial h) = h.token_pos.start
-token_start (protected.Long ty dst src len version) = 0
-token_start (protected.Retry dst src version) = 0
-token_start (protected.Short spin dst) = 0
-token_start (protected.VersionNegotiate random dst src) = 0
+token_start _ = 0
 
 abbrev pub token_end : ProtectedHeader → ℕ
 token_end (protected.Initial h) = h.token_pos.end
-token_end (protected.Long ty dst src len version) = 0
-token_end (protected.Retry dst src version) = 0
-token_end (protected.Short spin dst) = 0
-token_end (protected.VersionNegotiate random dst src) = 0
+token_end _ = 0
 
 -- a header that ends at this place has its first byte, and its token is within it
 pub record IsPlaced (h : ProtectedHeader) (at : ℕ) : Type 0 where

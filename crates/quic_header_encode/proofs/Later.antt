@@ -1,23 +1,16 @@
 -- A length that is filled in later is the one that is written at once.
-use Rattle.std.proofs.Common.{◌≡◌, ℕ, ◌+◌, ◌-◌, List, ◌∷◌, ◌++◌, length, take, drop, replicate, IsTrue, refl, sym, ap, ◌∙◌, append_assoc, arith, rules}
+use Rattle.std.proofs.Common.{◌≡◌, ℕ, ◌+◌, ◌-◌, List, [], ◌++◌, length, take, drop, replicate, IsTrue, refl, sym, ap, ◌∙◌, append_assoc, arith, rules}
 use Rattle.std.proofs.lemmas.List.{length-append, length-replicate, take_at, drop_at}
-use Rattle.quic_base.proofs.PublicLaws.{length-short, length-bytes_of}
-use Rattle.quic_base.specs.ConnectionId.{long_id}
-use Rattle.quic_base.specs.Number.{bytes_of}
 use Rattle.quic_base.specs.Varint.{shortest_varint}
 use Rattle.quic_crypto.specs.declared.packet_number.PacketNumber.{PacketNumber}
 use Rattle.quic_crypto.specs.PacketNumbers.{number_bytes, number_size}
-use Rattle.std.specs.Prelude.{bit_or, ◌%◌}
 use Rattle.quic_header_encode.proofs.Writings.{number_length}
 use Rattle.quic_header_encode.specs.declared.header.Header.{Header}
 use Rattle.quic_header_encode.specs.declared.header.Header.TheVariants as header
-use Rattle.quic_header_encode.specs.Storing.{begun_by, header_of, stored_size, length_in, with_len}
-use Rattle.quic_header_encode.specs.declared.long_type.HeaderKind.{HeaderKind}
-use Rattle.quic_header_encode.specs.declared.long_type.HeaderKind.TheVariants as kinds
-use Rattle.quic_header_encode.specs.Types.{first_byte}
-use Rattle.quic_header_encode.specs.declared.long_type.LongHeaderType.TheVariants as kind
+use Rattle.quic_header_encode.specs.Kinds.{fields_of, first_in}
 use Rattle.quic_header_encode.specs.Starts.{long_front}
-use Rattle.quic_header_encode.specs.Writing.{long_first, header_front, has_length, header_bytes, header_size, header_with, size_in, with_length}
+use Rattle.quic_header_encode.specs.Storing.{begun_by, length_in, with_len}
+use Rattle.quic_header_encode.specs.Writing.{has_length, header_bytes, header_size, header_with, size_in, with_length}
 
 -- n elements of a list are written over
 filled : (front zeros number tail len : List ℕ) (n at : ℕ) → length zeros ≡ n → at ≡ length front + n
@@ -73,83 +66,44 @@ sizes front rest width n is =
       length-replicate {A = ℕ} width 0,
     )
 
+-- what a header with a length has before it
+abbrev front_of : Header → List ℕ
+front_of (header.Initial h) =
+    long_front (first_in (fields_of (header.Initial h))) h.version h.dst_cid h.src_cid
+    ++ (shortest_varint (length h.token) ++ h.token)
+front_of (header.Long ty dst src number version) =
+    long_front (first_in (fields_of (header.Long ty dst src number version))) version dst src
+front_of _ = []
+
+-- the same with any first byte, of a header whose number is known
+later : (front first_front body : List ℕ) (width : ℕ) (number : PacketNumber) → length first_front ≡ length front
+    → with_len width (length (front ++ (replicate width 0 ++ number_bytes number)) - number_size number)
+    ((first_front ++ (replicate width 0 ++ number_bytes number)) ++ body)
+    ≡ (first_front ++ (length_in width (number_size number + length body) ++ number_bytes number)) ++ body
+later front first_front body width number same =
+    filled_header first_front (number_bytes number) body width
+    (length (front ++ (replicate width 0 ++ number_bytes number))) (number_size number) (number_length number)
+    (omega (arith, same, sizes front (number_bytes number) width (number_size number) (number_length number)))
+
 pub set_later : (h : Header) (first width : ℕ) (body : List ℕ) → IsTrue (has_length h)
     → with_len width (length (header_with (replicate width 0) h) - size_in h) (begun_by first (header_with (replicate width 0) h) ++ body)
     ≡ begun_by first (header_with (length_in width (size_in h + length body)) h) ++ body
 set_later (header.Initial h) first width body has =
-    let number : List ℕ = number_bytes h.number in
-    let counted = number_length h.number in
-    filled_header (begun_by first (header_front (header.Initial h))) number body width
-    (length (header_with (replicate width 0) (header.Initial h))) (number_size h.number) counted
-    (sizes (header_front (header.Initial h)) number width (number_size h.number) counted)
+    later (front_of (header.Initial h)) (begun_by first (front_of (header.Initial h))) body width h.number refl
 set_later (header.Long ty dst src number version) first width body has =
-    let counted = number_length number in
-    filled_header (begun_by first (header_front (header.Long ty dst src number version))) (number_bytes number) body width
-    (length (header_with (replicate width 0) (header.Long ty dst src number version))) (number_size number) counted
-    (sizes (header_front (header.Long ty dst src number version)) (number_bytes number) width (number_size number) counted)
+    let front : List ℕ = front_of (header.Long ty dst src number version) in
+    later front (begun_by first front) body width number refl
 set_later (header.Retry dst src version) first width body has = absurd (search (rules, has))
 set_later (header.Short spin key_phase dst number) first width body has = absurd (search (rules, has))
 set_later (header.VersionNegotiate random src dst) first width body has = absurd (search (rules, has))
-
-long_length : (first version : ℕ) (dst src : List ℕ)
-    → length (long_front first version dst src) ≡ 7 + length dst + length src
-long_length first version dst src =
-    omega (
-      arith,
-      length-append (first ∷ bytes_of 4 version) (long_id dst ++ long_id src),
-      length-append (long_id dst) (long_id src),
-      length-bytes_of 4 version,
-      length-append (bytes_of 4 version) (long_id dst ++ long_id src),
-    )
-
-front_length : (h : Header) → IsTrue (has_length h) → header_size h ≡ length (header_front h) + (2 + size_in h)
-front_length (header.Initial h) has =
-    let first : ℕ = long_first h.version kind.Initial (number_size h.number) in
-    let front : List ℕ = long_front first h.version h.dst_cid h.src_cid in
-    omega (
-      arith,
-      length-append front (shortest_varint (length h.token) ++ h.token),
-      length-append (shortest_varint (length h.token)) h.token,
-      length-short (length h.token),
-      long_length first h.version h.dst_cid h.src_cid,
-    )
-front_length (header.Long ty dst src number version) has =
-    omega (arith, long_length (long_first version (kind.Standard ty) (number_size number)) version dst src)
-front_length (header.Retry dst src version) has = absurd (search (rules, has))
-front_length (header.Short spin key_phase dst number) has = absurd (search (rules, has))
-front_length (header.VersionNegotiate random src dst) has = absurd (search (rules, has))
 
 pub finished_later : (h : Header) (body : List ℕ) → IsTrue (has_length h)
     → with_length (size_in h) (has_length h) (header_size h) (header_bytes h ++ body)
     ≡ header_with (length_in 2 (size_in h + length body)) h ++ body
 finished_later (header.Initial h) body has =
-    filled_header (header_front (header.Initial h)) (number_bytes h.number) body 2 (header_size (header.Initial h))
-    (number_size h.number) (number_length h.number)
-    (front_length (header.Initial h) has)
+    later (front_of (header.Initial h)) (front_of (header.Initial h)) body 2 h.number refl
 finished_later (header.Long ty dst src number version) body has =
-    filled_header (header_front (header.Long ty dst src number version)) (number_bytes number) body 2
-    (header_size (header.Long ty dst src number version)) (number_size number)
-    (number_length number) (front_length (header.Long ty dst src number version) has)
+    let front : List ℕ = front_of (header.Long ty dst src number version) in later front front body 2 number refl
 finished_later (header.Retry dst src version) body has = absurd (search (rules, has))
 finished_later (header.Short spin key_phase dst number) body has = absurd (search (rules, has))
 finished_later (header.VersionNegotiate random src dst) body has = absurd (search (rules, has))
-
--- a header that is written is as long as it is said to be
-pub stored_length : (k : HeaderKind) (f first version : ℕ) (dst src token : List ℕ) (number : PacketNumber) (len : ℕ)
-    → length (begun_by f (header_with (replicate len 0) (header_of k first version dst src token number)))
-    ≡ stored_size k dst src token number len
-stored_length kinds.Initial f first version dst src token number len =
-    let h : Header = header_of kinds.Initial first version dst src token number in
-    omega (arith, sizes (header_front h) (number_bytes number) len (number_size number) (number_length number), front_length h refl)
-stored_length kinds.ZeroRtt f first version dst src token number len =
-    let h : Header = header_of kinds.ZeroRtt first version dst src token number in
-    omega (arith, sizes (header_front h) (number_bytes number) len (number_size number) (number_length number), front_length h refl)
-stored_length kinds.Handshake f first version dst src token number len =
-    let h : Header = header_of kinds.Handshake first version dst src token number in
-    omega (arith, sizes (header_front h) (number_bytes number) len (number_size number) (number_length number), front_length h refl)
-stored_length kinds.Retry f first version dst src token number len =
-    omega (arith, long_length (first_byte version kind.Retry) version dst src)
-stored_length kinds.Short f first version dst src token number len =
-    omega (arith, length-append dst (number_bytes number), number_length number)
-stored_length kinds.VersionNegotiate f first version dst src token number len =
-    omega (arith, long_length (bit_or 128 (first % 128)) 0 dst src)

@@ -1,3 +1,4 @@
+pub mod Kinds
 pub mod Storing
 pub mod Queries
 pub mod Starts

@@ -1,85 +1,39 @@
 -- The bytes of headers, and a packet that is finished after its payload was appended to its header (RFC 9000, section
 -- 17; RFC 9001, sections 5.3 and 5.4).
-use Rattle.std.specs.Prelude.{◌≡◌, IsTrue, IsOk, OnOk, OnErr, Result, Vec, vec_len, vec_capacity, ◌≤◌, take, drop, ℕ, ◌+◌, ◌-◌, ◌<◌, ◌^◌, Bool, true, false, Option, Some, None, List, [], ◌∷◌, ◌++◌, length, bit_or, if◌then◌else◌, is_some}
+use Rattle.std.specs.Prelude.{◌≡◌, IsTrue, IsOk, OnOk, OnErr, Result, Vec, vec_len, vec_capacity, ◌≤◌, take, drop, ℕ, ◌+◌, ◌-◌, ◌<◌, ◌^◌, Bool, true, false, Option, Some, None, List, [], ◌∷◌, ◌++◌, length}
 use Rattle.std.specs.declared.alloc.Global.{Global}
 use Rattle.quic_base.specs.declared.coding.NoRoom.{NoRoom}
 use Rattle.std.specs.Option.{option_map, option_map_or}
 use Rattle.quic_base.specs.Number.{bytes_of}
-use Rattle.quic_base.specs.Varint.{shortest_varint, size}
 use Rattle.quic_crypto.specs.Keys.{payload_in}
-use Rattle.quic_crypto.specs.PacketNumbers.{IsInRange, number_bytes, number_size}
+use Rattle.quic_crypto.specs.PacketNumbers.{IsInRange, number_size}
 use Rattle.quic_header_encode.specs.declared.header.Header.{Header}
-use Rattle.quic_header_encode.specs.declared.header.Header.TheVariants as header
-use Rattle.quic_header_encode.specs.declared.long_type.LongHeaderType.{LongHeaderType}
-use Rattle.quic_header_encode.specs.declared.long_type.LongHeaderType.TheVariants as kind
+use Rattle.quic_header_encode.specs.Kinds.{fields_of, header_text}
 use Rattle.quic_header_encode.specs.Queries.{number_in}
-use Rattle.quic_header_encode.specs.Starts.{long_front}
-use Rattle.quic_header_encode.specs.Types.{first_byte}
-
--- the first byte of a long header with a number of that many bytes: the lowest two bits say one less
-abbrev pub long_first : ℕ → LongHeaderType → ℕ → ℕ
-long_first version ty count = first_byte version ty + (count - 1)
 
 -- two bytes of length, which are filled in later
 abbrev pub no_length : List ℕ
 no_length = 0 ∷ 0 ∷ []
 
--- the value of a bit of a first byte, by whether it is set
-abbrev pub bit_value : Bool → ℕ → ℕ
-bit_value is_set n = if is_set then n else 0
-
--- the fields of a header before its length and its number
-abbrev pub header_front : Header → List ℕ
-header_front (header.Initial h) =
-    long_front (long_first h.version kind.Initial (number_size h.number)) h.version h.dst_cid h.src_cid
-    ++ (shortest_varint (length h.token) ++ h.token)
-header_front (header.Long ty dst src number version) = long_front
-    (long_first version (kind.Standard ty) (number_size number)) version dst src
-header_front (header.Retry dst src version) = long_front (first_byte version kind.Retry) version dst src
-header_front (header.Short spin key_phase dst number) =
-    (64 + bit_value spin 32 + bit_value key_phase 4 + (number_size number - 1))
-    ∷ dst
-header_front (header.VersionNegotiate random src dst) = long_front (bit_or 128 random) 0 dst src
-
 -- the bytes of a header, with these bytes as its length where it has one
 abbrev pub header_with : List ℕ → Header → List ℕ
-header_with len (header.Initial h) = header_front (header.Initial h) ++ (len ++ number_bytes h.number)
-header_with len (header.Long ty dst src number version) = header_front (header.Long ty dst src number version)
-    ++ (len ++ number_bytes number)
-header_with len (header.Retry dst src version) = header_front (header.Retry dst src version)
-header_with len (header.Short spin key_phase dst number) = header_front (header.Short spin key_phase dst number)
-    ++ number_bytes number
-header_with len (header.VersionNegotiate random src dst) = header_front (header.VersionNegotiate random src dst)
+header_with len h = header_text len (fields_of h)
 
--- the bytes of a header, whose length is not filled in yet
+-- the bytes of a header, whose length is not filled in yet, and how many these are
 abbrev pub header_bytes : Header → List ℕ
 header_bytes h = header_with no_length h
+
+abbrev pub header_size : Header → ℕ
+header_size h = length (header_bytes h)
 
 -- What can be written as a header: its token's length has an encoding, and its packet number takes no more bytes than
 -- it says.
 abbrev pub IsWritable : Header → Type 0
-IsWritable (header.Initial h) = (length h.token < 2 ^ 62) × IsInRange h.number
-IsWritable (header.Long ty dst src number version) = IsInRange number
-IsWritable (header.Retry dst src version) = Unit {0}
-IsWritable (header.Short spin key_phase dst number) = IsInRange number
-IsWritable (header.VersionNegotiate random src dst) = Unit {0}
-
--- how many bytes a header takes
-abbrev pub header_size : Header → ℕ
-header_size (header.Initial h) = 9 + length h.dst_cid + length h.src_cid + size
-    (length h.token) + length h.token + number_size h.number
-header_size (header.Long ty dst src number version) = 9 + length dst + length src + number_size number
-header_size (header.Retry dst src version) = 7 + length dst + length src
-header_size (header.Short spin key_phase dst number) = 1 + length dst + number_size number
-header_size (header.VersionNegotiate random src dst) = 7 + length dst + length src
+IsWritable h = (length (fields_of h).token < 2 ^ 62) × IsInRange (fields_of h).number
 
 -- Initial, Handshake and 0-RTT packets say their length
 abbrev pub has_length : Header → Bool
-has_length (header.Initial h) = true
-has_length (header.Long ty dst src number version) = true
-has_length (header.Retry dst src version) = false
-has_length (header.Short spin key_phase dst number) = false
-has_length (header.VersionNegotiate random src dst) = false
+has_length h = (fields_of h).row.has_len
 
 -- the length of a header's number, where it has one, and whether it has a length
 abbrev pub place_in : Header → Option (ℕ × Bool)
@@ -91,7 +45,7 @@ size_in h = option_map_or number_size (number_in h) 0
 
 -- all packets have a number but Retry and version negotiation
 abbrev pub has_number : Header → Bool
-has_number h = is_some (number_in h)
+has_number h = (fields_of h).row.has_number
 
 -- a packet whose header's length, where it has one, counts the bytes from the number on
 abbrev pub with_length : ℕ → Bool → ℕ → List ℕ → List ℕ
@@ -130,4 +84,5 @@ pub record AppendsHeader (header : Header) (old new : Vec ℕ Global) (result : 
   pub capacity : vec_capacity old ≤ vec_capacity new
   pub err : OnErr result (new.items ≡ old.items)
   pub full : OnErr result (vec_capacity new < vec_len old + header_size header)
+  pub still : OnErr result (vec_capacity new ≡ vec_capacity old)
   pub spare : vec_len old + header_size header ≤ vec_capacity old → IsOk result

@@ -5,7 +5,8 @@ ghost use Rattle.quic_crypto.specs.PacketNumbers.{IsInRange};
 ghost use Rattle.quic_header_encode.specs.declared.header.Header.TheVariants as header;
 ghost use Rattle.quic_header_encode.specs.declared.long_type.LongHeaderType.TheVariants as kind;
 ghost use Rattle.quic_header_encode.specs.Storing.{kind_of, stored_bytes, stored_len, padded_id, padded_room, HasStoreRoom, IsStorable, IsShortToken, StoresHeader};
-ghost use Rattle.quic_header_encode.specs.Writing.{bit_value, header_size, place_in, header_bytes, AppendsHeader, IsWritable, size_in, has_length, finished, HasRoom};
+ghost use Rattle.quic_header_encode.specs.Kinds.{bit_value};
+ghost use Rattle.quic_header_encode.specs.Writing.{header_size, place_in, header_bytes, AppendsHeader, IsWritable, size_in, has_length, finished, HasRoom};
 
 use crate::header::{Header, InitialHeader};
 use crate::long_type::{HeaderKind, LongType};
@@ -409,6 +410,7 @@ impl Header {
         ensures capacity { vec_capacity out.old ≤ vec_capacity out.new }
         ensures err { OnErr result (out.new.items ≡ out.old.items) }
         ensures full { OnErr result (vec_capacity out.new < vec_len out.old + header_size self.now) }
+        ensures still { OnErr result (vec_capacity out.new ≡ vec_capacity out.old) }
         ensures spare { vec_len out.old + header_size self.now ≤ vec_capacity out.old → IsOk result }
     {
         let start = out.len();

@@ -1,6 +1,7 @@
 //! The first bytes of headers, and the types of long headers (RFC 9000, section 17.2; RFC 9369, section 3.2).
 ghost use Rattle.std.specs.Prelude.{◌≡◌, ◌≤◌};
-ghost use Rattle.quic_header_encode.specs.Storing.{kind_of, carries_length, says_number, type_bits, IsTyped};
+ghost use Rattle.quic_header_encode.specs.Kinds.{row};
+ghost use Rattle.quic_header_encode.specs.Storing.{kind_of, type_bits, IsTyped};
 ghost use Rattle.quic_header_encode.specs.Types.{first_byte, long_type};
 
 /// The bit of a first byte that is set in long headers.
@@ -73,7 +74,7 @@ impl HeaderKind {
     /// Whether the packet has a number.
     #[inline(always)]
     pub fn has_number(self) -> bool
-        ensures { result ≡ says_number self }
+        ensures { result ≡ (row self).has_number }
     {
         match self {
             HeaderKind::Retry => false,
@@ -85,7 +86,7 @@ impl HeaderKind {
     /// Whether the header has a length.
     #[inline(always)]
     pub fn has_len(self) -> bool
-        ensures { result ≡ carries_length self }
+        ensures { result ≡ (row self).has_len }
     {
         match self {
             HeaderKind::Initial => true,

@@ -5,7 +5,7 @@ ghost use Rattle.quic_base.specs.ConnectionId.{long_id};
 ghost use Rattle.quic_base.specs.Varint.{shortest_varint, size};
 ghost use Rattle.quic_crypto.specs.PacketNumbers.{IsInRange};
 ghost use Rattle.quic_header_encode.specs.Starts.{long_front};
-ghost use Rattle.quic_header_encode.specs.Storing.{end_bytes, end_size, first_byte_of, stored_bytes, stored_len, token_bytes, token_size, version_field, with_len, HasStoreRoom, HasLongRoom, HasLow, IsExact, IsStorable, IsLong, IsShortToken, TakesLen};
+ghost use Rattle.quic_header_encode.specs.Storing.{end_bytes, first_byte_of, stored_bytes, stored_len, token_bytes, version_field, with_len, HasStoreRoom, HasLongRoom, HasLow, IsExact, IsStorable, IsLong, IsShortToken, TakesLen};
 
 use crate::fields::{store_bytes, store_ends, store_id, store_number};
 use crate::long_type::HeaderKind;
@@ -275,7 +275,7 @@ impl<I: StoredId> HeaderRef<'_, I> {
     fn long_first(&self) -> u8
         requires long { IsLong self.now.kind }
         requires low { HasLow self.now.kind self.now.first }
-        ensures { result ≡ first_byte_of self.now }
+        ensures { result ≡ first_byte_of I.id self.now }
     {
         match self.kind {
             HeaderKind::VersionNegotiate => self.first,
@@ -287,7 +287,8 @@ impl<I: StoredId> HeaderRef<'_, I> {
     // The version in a long header.
     #[inline(always)]
     fn field_version(&self) -> u32
-        ensures { result ≡ version_field self.now }
+        requires { IsLong self.now.kind }
+        ensures { result ≡ version_field I.id self.now }
     {
         match self.kind {
             HeaderKind::VersionNegotiate => 0,
@@ -336,8 +337,8 @@ impl<I: StoredId> HeaderRef<'_, I> {
     fn store_its_token<const SHORT_TOKEN: bool>(&self, out: &mut [u8], at: usize) -> usize
         requires short { SHORT_TOKEN ≡ true → IsShortToken self.now.token.now }
         requires numeric { length self.now.token.now < 2 ^ 62 }
-        requires room { at + token_size self.now.kind self.now.token.now ≤ length out.old }
-        ensures end { result ≡ at + token_size self.now.kind self.now.token.now }
+        requires room { at + length (token_bytes self.now) ≤ length out.old }
+        ensures end { result ≡ at + length (token_bytes self.now) }
         ensures front { take result out.new ≡ take at out.old ++ token_bytes self.now }
         ensures back { drop result out.new ≡ drop result out.old }
         ensures len { length out.new ≡ length out.old }
@@ -353,8 +354,8 @@ impl<I: StoredId> HeaderRef<'_, I> {
     fn store_end(&self, out: &mut [u8], at: usize) -> usize
         requires known { (self.now.length_len ≡ 2) ⊎ (self.now.length_len ≡ 4) }
         requires valid { IsInRange self.now.number.now }
-        requires room { at + end_size self.now.kind self.now.length_len self.now.number.now ≤ length out.old }
-        ensures end { result ≡ at + end_size self.now.kind self.now.length_len self.now.number.now }
+        requires room { at + length (end_bytes self.now) ≤ length out.old }
+        ensures end { result ≡ at + length (end_bytes self.now) }
         ensures front { take result out.new ≡ take at out.old ++ end_bytes self.now }
         ensures back { drop result out.new ≡ drop result out.old }
         ensures len { length out.new ≡ length out.old }

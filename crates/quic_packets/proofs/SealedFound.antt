@@ -28,11 +28,12 @@ use Rattle.quic_header_decode.specs.Headers.{IsOpenedBy}
 use Rattle.quic_header_decode.specs.Queries.{space_of}
 use Rattle.quic_header_encode.specs.Queries.{space_in}
 use Rattle.quic_header_decode.specs.Finish.{IsNumberIn}
-use Rattle.quic_header_encode.specs.Writing.{header_size, long_first, bit_value, size_in, has_number}
+use Rattle.quic_header_encode.specs.Kinds.{bit_value}
+use Rattle.quic_header_encode.specs.Writing.{header_size, size_in, has_number}
 use Rattle.quic_packets.specs.Pairs.{KeyPair}
 use Rattle.quic_packets.specs.Sealing.{sealed_header, protected_len}
 use Rattle.quic_packets.specs.Opening.{IsReadBack}
-use Rattle.quic_packets.proofs.Sealings.{SealedOf, plain_of, long_length, front_length, header_length, size_within, middle}
+use Rattle.quic_packets.proofs.Sealings.{SealedOf, plain_of, long_first, long_length, number_length, front_length, header_length, size_within, middle}
 use Rattle.quic_packets.proofs.Parts.{length_encoded}
 use Rattle.quic_packets.proofs.Opened.{Lawful, Shape, shape, front_bytes, number_known, number_there}
 
@@ -201,7 +202,7 @@ long_sealed seal key laws context ty dst src number version n payload packet res
         refl,
         λ got end opened.
             let known : opened.0 ≡ number = number_known opened.0 number first (tail ++ len) body at at_is
-            (low_byte version size (kind.Standard ty) bounds.0 bounds.1) sealed.writable
+            (low_byte version size (kind.Standard ty) bounds.0 bounds.1) sealed.writable.1
             (subst (IsNumberIn opened.0 at) same opened.1) in (
               opened.2 ∙ ap (λ (k : PacketNumber). header.Long ty dst src k version) known,
               opened.3 ∙ ap (λ (k : PacketNumber). at + number_size k) known ∙ omega arith,
@@ -209,7 +210,7 @@ long_sealed seal key laws context ty dst src number version n payload packet res
         (
           number,
           subst (IsNumberIn number at) (sym same) (number_there number first (tail ++ len) body at at_is
-              (low_byte version size (kind.Standard ty) bounds.0 bounds.1) sealed.writable),
+              (low_byte version size (kind.Standard ty) bounds.0 bounds.1) sealed.writable.1),
           refl,
           omega arith,
         ),
@@ -410,7 +411,8 @@ short_sealed seal key laws context spin key_phase dst number n payload packet re
     let at : ℕ = header_size h - size_in h in
     let same : plain_of seal h n payload ≡ (first ∷ dst) ++ (number_bytes number ++ body) =
     append_assoc (first ∷ dst) (number_bytes number) body in
-    let at_is : at ≡ length (first ∷ dst) = omega arith in
+    let at_is : at ≡ length (first ∷ dst) =
+    omega (arith, length-append (first ∷ dst) (number_bytes number), number_length number) in
     let it =
     sealed_shape seal key laws h n payload packet sealed refl first dst (number_bytes number ++ body) same at_is in
     let b : ℕ = get_or packet 0 0 in
@@ -436,7 +438,7 @@ short_sealed seal key laws context spin key_phase dst number n payload packet re
         ),
         refl,
         λ got end opened.
-            let known : opened.0 ≡ number = number_known opened.0 number first dst body at at_is byte.low sealed.writable
+            let known : opened.0 ≡ number = number_known opened.0 number first dst body at at_is byte.low sealed.writable.1
             (subst (IsNumberIn opened.0 at) same opened.1) in
             let phase : nat_eq (slice_index (plain_of seal h n payload) 0 / 4 % 2) 1 ≡ key_phase = byte.phase_bit in (
               opened.2 ∙ ap (λ (p : Bool). header.Short spin p dst opened.0) phase
@@ -445,7 +447,7 @@ short_sealed seal key laws context spin key_phase dst number n payload packet re
             ),
         (
           number,
-          subst (IsNumberIn number at) (sym same) (number_there number first dst body at at_is byte.low sealed.writable),
+          subst (IsNumberIn number at) (sym same) (number_there number first dst body at at_is byte.low sealed.writable.1),
           ap (λ (p : Bool). let made : Header = header.Short spin p dst number in made) (sym byte.phase_bit),
           omega arith,
         ),

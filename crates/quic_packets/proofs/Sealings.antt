@@ -1,9 +1,9 @@
 -- A header, frames and room for a tag that were written and sealed are a sealed packet.
-use Rattle.std.specs.Prelude.{◌≡◌, ℕ, ◌+◌, ◌-◌, ◌≤◌, ◌^◌, Bool, IsTrue, List, ◌∷◌, ◌++◌, length, take, drop, Option, Some, None, slice_range, replicate, IfSome}
+use Rattle.std.specs.Prelude.{◌≡◌, ℕ, ◌+◌, ◌-◌, ◌<◌, ◌≤◌, ◌^◌, Bool, IsTrue, List, [], ◌∷◌, ◌++◌, length, take, drop, Option, Some, None, slice_range, replicate, IfSome}
 use Rattle.std.proofs.Common.{sym, ap, ◌∙◌, arith, refl, subst, length-append, append_assoc}
-use Rattle.quic_base.specs.Varint.{shortest_varint, size}
+use Rattle.quic_base.specs.Varint.{shortest_varint}
 use Rattle.quic_base.specs.ConnectionId.{long_id}
-use Rattle.quic_base.proofs.PublicLaws.{length-short, length-bytes_of}
+use Rattle.quic_base.proofs.PublicLaws.{length-bytes_of}
 use Rattle.std.proofs.Math.ListN.{length-replicate}
 use Rattle.std.proofs.lemmas.Slice.{between_is}
 use Rattle.quic_base.specs.Number.{AreBytes, bytes_of}
@@ -13,8 +13,10 @@ use Rattle.quic_crypto.specs.PacketNumbers.{number_size, number_bytes, low_part}
 use Rattle.quic_header_encode.specs.declared.header.Header.{Header}
 use Rattle.quic_header_encode.specs.declared.header.Header.TheVariants as header
 use Rattle.quic_header_encode.specs.Starts.{long_front}
+use Rattle.quic_header_encode.specs.Types.{first_byte}
+use Rattle.quic_header_encode.specs.declared.long_type.LongHeaderType.{LongHeaderType}
 use Rattle.quic_header_encode.specs.declared.long_type.LongHeaderType.TheVariants as kind
-use Rattle.quic_header_encode.specs.Writing.{long_first, header_front, header_with, header_bytes, header_size, no_length, place_in, size_in, has_length, has_number, with_length, sealed_packet}
+use Rattle.quic_header_encode.specs.Writing.{header_with, header_bytes, header_size, no_length, place_in, size_in, has_length, has_number, with_length, sealed_packet}
 use Rattle.quic_packets.specs.Pairs.{KeyPair}
 use Rattle.quic_packets.specs.Sealing.{IsLowPart, Sealed, plain_packet, sealed_header, protected_len}
 use Rattle.quic_header_decode.proofs.Steps.{take_front, drop_front}
@@ -63,20 +65,29 @@ long_length first version dst src =
       length-append (bytes_of 4 version) (long_id dst ++ long_id src),
     )
 
+-- the first byte of a long header with a number of that many bytes
+abbrev pub long_first : ℕ → LongHeaderType → ℕ → ℕ
+long_first version ty count = first_byte version ty + (count - 1)
+
+-- what a header with a length has before it
+abbrev front_of : Header → List ℕ
+front_of (header.Initial h) =
+    long_front (long_first h.version kind.Initial (number_size h.number)) h.version h.dst_cid h.src_cid
+    ++ (shortest_varint (length h.token) ++ h.token)
+front_of (header.Long ty dst src number version) =
+    long_front (long_first version (kind.Standard ty) (number_size number)) version dst src
+front_of _ = []
+
 -- where a header's number is
-pub front_length : (h : Header) → IsTrue (has_length h) → header_size h ≡ length (header_front h) + 2 + size_in h
+pub front_length : (h : Header) → IsTrue (has_length h) → header_size h ≡ length (front_of h) + 2 + size_in h
 front_length (header.Initial h) e =
-    let first : ℕ = long_first h.version kind.Initial (number_size h.number) in
-    let front : List ℕ = long_front first h.version h.dst_cid h.src_cid in
+    omega (arith, length-append (front_of (header.Initial h)) (no_length ++ number_bytes h.number), number_length h.number)
+front_length (header.Long ty dst src number version) e =
     omega (
       arith,
-      length-append front (shortest_varint (length h.token) ++ h.token),
-      length-append (shortest_varint (length h.token)) h.token,
-      length-short (length h.token),
-      long_length first h.version h.dst_cid h.src_cid,
+      length-append (front_of (header.Long ty dst src number version)) (no_length ++ number_bytes number),
+      number_length number,
     )
-front_length (header.Long ty dst src number version) e =
-    omega (arith, long_length (long_first version (kind.Standard ty) (number_size number)) version dst src)
 front_length (header.Retry dst src version) e = absurd cc
 front_length (header.Short spin key_phase dst number) e = absurd cc
 front_length (header.VersionNegotiate random src dst) e = absurd cc
@@ -87,8 +98,7 @@ header_length (header.Initial h) len e two =
     omega (
       arith,
       front_length (header.Initial h) refl,
-      length-append (header_front (header.Initial h))
-          (len ++ number_bytes h.number),
+      length-append (front_of (header.Initial h)) (len ++ number_bytes h.number),
       length-append len (number_bytes h.number),
       number_length h.number,
     )
@@ -96,13 +106,12 @@ header_length (header.Long ty dst src number version) len e two =
     omega (
       arith,
       front_length (header.Long ty dst src number version) refl,
-      length-append (header_front (header.Long ty dst src number version)) (len ++ number_bytes number),
+      length-append (front_of (header.Long ty dst src number version)) (len ++ number_bytes number),
       length-append len (number_bytes number),
       number_length number,
     )
 header_length (header.Retry dst src version) len e two = absurd cc
-header_length (header.Short spin key_phase dst number) len e two =
-    omega (arith, length-append (header_front (header.Short spin key_phase dst number)) (number_bytes number), number_length number)
+header_length (header.Short spin key_phase dst number) len e two = refl
 header_length (header.VersionNegotiate random src dst) len e two = absurd cc
 
 -- two bytes of a list are filled in
@@ -127,12 +136,12 @@ filled_in : (h : Header) (tail : List ℕ) → IsTrue (has_number h)
     → with_length (size_in h) (has_length h) (header_size h) (header_bytes h ++ tail)
     ≡ header_with (bytes_of 2 (2 ^ 14 + (length (header_bytes h ++ tail) - (header_size h - size_in h)))) h ++ tail
 filled_in (header.Initial h) tail e =
-    filled (header_front (header.Initial h)) (number_bytes h.number) tail
+    filled (front_of (header.Initial h)) (number_bytes h.number) tail
     (bytes_of 2 (2 ^ 14 + (length (header_bytes (header.Initial h) ++ tail)
     - (header_size (header.Initial h) - number_size h.number))))
     (header_size (header.Initial h) - number_size h.number) (omega (arith, front_length (header.Initial h) refl))
 filled_in (header.Long ty dst src number version) tail e =
-    filled (header_front (header.Long ty dst src number version)) (number_bytes number) tail
+    filled (front_of (header.Long ty dst src number version)) (number_bytes number) tail
     (bytes_of 2 (2 ^ 14 + (length (header_bytes (header.Long ty dst src number version) ++ tail)
     - (header_size (header.Long ty dst src number version) - number_size number))))
     (header_size (header.Long ty dst src number version) - number_size number)
@@ -163,11 +172,26 @@ sealed_parts seal head payload room header_len tag header_is room_is =
     ∙ ap (λ (xs : List ℕ). head ++ seal head xs) inner
 
 pub size_within : (h : Header) → size_in h ≤ header_size h
-size_within (header.Initial h) = omega arith
-size_within (header.Long ty dst src number version) = omega arith
+size_within (header.Initial h) = omega (arith, front_length (header.Initial h) refl)
+size_within (header.Long ty dst src number version) =
+    omega (arith, front_length (header.Long ty dst src number version) refl)
 size_within (header.Retry dst src version) = omega arith
-size_within (header.Short spin key_phase dst number) = omega arith
+size_within (header.Short spin key_phase dst number) =
+    omega (arith, length-append dst (number_bytes number), number_length number)
 size_within (header.VersionNegotiate random src dst) = omega arith
+
+-- the first byte is before the number, and a length between them
+pub number_before : (h : Header) → IsTrue (has_number h) → size_in h < header_size h
+number_before (header.Initial h) e = omega (arith, front_length (header.Initial h) refl)
+number_before (header.Long ty dst src number version) e =
+    omega (arith, front_length (header.Long ty dst src number version) refl)
+number_before (header.Retry dst src version) e = absurd cc
+number_before (header.Short spin key_phase dst number) e =
+    omega (arith, length-append dst (number_bytes number), number_length number)
+number_before (header.VersionNegotiate random src dst) e = absurd cc
+
+pub length_before : (h : Header) → IsTrue (has_length h) → size_in h + 2 ≤ header_size h
+length_before h e = omega (arith, front_length h e)
 
 counted : (whole head size payload tag : ℕ) → size ≤ head → whole ≡ head + (payload + tag)
     → whole - (head - size) ≡ size + payload + tag

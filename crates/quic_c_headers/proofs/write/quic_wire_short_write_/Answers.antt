@@ -5,7 +5,7 @@ use Rattle.quic_base.specs.Number.{bytes_of}
 use Rattle.quic_base.proofs.PublicLaws.{length-bytes_of}
 use Rattle.quic_header_encode.specs.declared.long_type.HeaderKind.TheVariants as kind
 use Rattle.quic_c_headers.specs.Shapes.{IsShaped}
-use Rattle.quic_c_headers.proofs.Writing.{clear_by, header_described, short_can, short_described, short_wrote}
+use Rattle.quic_c_headers.proofs.Writing.{clear_by, header_described, short_can, short_described, short_stored, short_wrote}
 use Rattle.quic_c_headers.proofs.write.quic_wire_short_write_.Goals as goal
 
 pub returns-then-dest-behind_first-clause-room : goal.returns-then-dest-behind_first-clause-room
@@ -14,6 +14,7 @@ returns-then-dest-behind_first-clause-room c = λ _.
     let dst : List ℕ = c.args.dst.now in
     let short : words.kind ≡ 4 = search rules in
     let is : IsShaped words dst [] [] = search (rules, c.is_shaped.ensures, c.if-not-is_shaped) in
+    let number = is.numbered.number (inr short) in
     record {
       clear = clear_by kind.Short words.flags;
       head = header_described kind.Short words dst [] [];
@@ -21,6 +22,7 @@ returns-then-dest-behind_first-clause-room c = λ _.
       full = omega (
         arith,
         ap length (short_described words dst is short),
+        ap length (short_stored words dst number.0 number.1),
         length-append dst (bytes_of words.number_len words.number),
         length-bytes_of words.number_len words.number,
       );

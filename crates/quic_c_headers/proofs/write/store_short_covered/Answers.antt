@@ -3,6 +3,7 @@ use Rattle.std.proofs.Common.{◌≡◌, ◌+◌, ◌-◌, ◌≤◌, ◌∷◌,
 use Rattle.std.specs.Prelude.{drop, take}
 use Rattle.quic_base.specs.Number.{bytes_of}
 use Rattle.quic_header_encode.proofs.Stores.{stays}
+use Rattle.quic_c_headers.proofs.Writing.{short_stored}
 use Rattle.quic_c_headers.proofs.Covered.{covered}
 use Rattle.quic_c_headers.proofs.write.store_short_covered.Goals as goal
 
@@ -26,7 +27,8 @@ returns c =
       front = ap (λ (i : ℕ). take i new) end
           ∙ covered k words.number_len c.short_first.result words.number dst one two new c.requires.fits.some
           c.requires.fits.few (omega arith) (omega arith) within first four id behind
-          ∙ ap (λ (f : ℕ). f ∷ (dst ++ bytes_of words.number_len words.number)) c.short_first.ensures;
+          ∙ ap (λ (f : ℕ). f ∷ (dst ++ bytes_of words.number_len words.number)) c.short_first.ensures
+          ∙ short_stored words dst c.requires.fits.some c.requires.fits.few;
       back = stays (1 + length dst) (length dst + words.number_len + 1) new two c.store.ensures.back (omega arith)
           ∙ stays c.store_array-2.result (length dst + words.number_len + 1) two one c.store_array-2.ensures.back (omega arith)
           ∙ stays 1 (length dst + words.number_len + 1) one c.args.dest.now (search rules) (omega arith);

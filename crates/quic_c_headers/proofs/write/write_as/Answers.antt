@@ -1,14 +1,13 @@
 -- Words without the shape of a header describe none, and a header that they describe is written as its bytes.
-use Rattle.std.proofs.Common.{◌≡◌, ◌+◌, ◌≤◌, ◌<◌, ◌∙◌, ℕ, List, length, IsTrue, ap, inl, inr, refl, arith, rules, to_z, w64}
+use Rattle.std.proofs.Common.{◌≡◌, ◌≤◌, ◌<◌, ◌∙◌, ℕ, List, length, IsTrue, ap, inl, inr, refl, arith, rules, to_z, w64}
 use Rattle.std.proofs.lemmas.Bool.{cases_lt}
-use Rattle.quic_crypto.specs.declared.packet_number.PacketNumber.{PacketNumber}
-use Rattle.std.specs.Prelude.{pos, take, drop}
-use Rattle.quic_header_encode.specs.Storing.{stored_size, number_bits, carries_length, type_bits}
-use Rattle.quic_header_encode.proofs.Later.{stored_length}
-use Rattle.quic_c_headers.specs.Headers.{part_of, described_bytes}
-use Rattle.quic_c_headers.specs.Shapes.{first_word, IsShaped}
+use Rattle.std.specs.Prelude.{pos, replicate, take, drop}
+use Rattle.quic_header_encode.specs.Kinds.{header_text, row, says}
+use Rattle.quic_header_encode.proofs.Sizes.{exact_room}
+use Rattle.quic_c_headers.specs.Headers.{described_bytes}
+use Rattle.quic_c_headers.specs.Shapes.{worded_bytes, IsShaped}
 use Rattle.quic_c_headers.proofs.Shaping.{shaped}
-use Rattle.quic_c_headers.proofs.Writing.{stored_as, bytes_described, can_described, clear_by, header_described, stored_described, numbered_described, with_length, written}
+use Rattle.quic_c_headers.proofs.Writing.{stored_as, bytes_described, can_described, clear_by, header_described, stored_described, with_length, written}
 use Rattle.quic_c_headers.proofs.write.write_as.Goals as goal
 
 pub returns-then-not-is_shaped-clause-refused : goal.returns-then-not-is_shaped-clause-refused
@@ -27,18 +26,13 @@ returns-then-not-fits-clause-room c = λ _.
     let len : ℕ = c.stored_length_len.result in
     let is : IsShaped words dst c.args.src.now c.args.token.now =
     search (rules, c.is_shaped.ensures, c.if-not-is_shaped) in
-    let number = c.written_part-number.result in
-    let small : length c.args.dest.now < stored_size k dst src token number len = elim
-    (cases_lt (length c.args.dest.now) (stored_size k dst src token number len)) [
+    let front = header_text (replicate len 0) (says (row k) c.first_word.result words.version dst src token c.written_part-number.result) in
+    let small : length c.args.dest.now < length front = elim (cases_lt (length c.args.dest.now) (length front)) [
       | inl less ↦ less
       | inr fits ↦ absurd (let no = c.if-not-fits.ensures.1 fits in search (rules, no))
     ] in
-    let part : PacketNumber = part_of words.number_len words.number in
-    let size : stored_size k dst src token number len ≡ stored_size k dst src token part len =
-    ap (λ (p : PacketNumber). stored_size k dst src token p len) c.written_part-number.ensures.value in
-    let whole : length (stored_described k len words dst src token) ≡ stored_size k dst src token part len =
-    stored_length k (first_word k words.flags + type_bits k words.version + number_bits k part)
-    (first_word k words.flags) words.version dst src token part len in
+    let stored : front ≡ stored_described k len words dst src token =
+    stored_as k c.first_word.result len words dst src token c.written_part-number.result c.first_word.ensures c.written_part-number.ensures.value in
     let same : stored_described k len words dst src token ≡ described_bytes words.length_len (clear_by k words.flags)
     (header_described k words dst src token) =
     bytes_described k len words dst src token is.numbered c.requires.kind c.stored_length_len.ensures.same in
@@ -47,7 +41,7 @@ returns-then-not-fits-clause-room c = λ _.
       head = header_described k words dst src token;
       can = can_described k words dst c.args.src.now c.args.token.now src token is c.requires.kind
           c.source_of-source.ensures.has c.token_of-own.ensures.has;
-      full = omega (arith, small, size, whole, ap length same);
+      full = omega (arith, small, ap length stored, ap length same);
     }
 
 pub returns-then-has_len-clause-wrote : goal.returns-then-has_len-clause-wrote
@@ -60,11 +54,9 @@ returns-then-has_len-clause-wrote c =
     let n : ℕ = c.store_numbered.result in
     let new : List ℕ = c.store_numbered.new.dest in
     let is : IsShaped words dst src c.args.token.now = search (rules, c.is_shaped.ensures, c.if-not-is_shaped) in
-    let has : IsTrue (carries_length k) = search (rules, c.has_len.ensures, c.if-has_len) in
-    let number = is.numbered.number (inl (with_length k words c.requires.kind has)) in
+    let has : IsTrue (row k).has_len = search (rules, c.has_len.ensures, c.if-has_len) in
     let same =
-    numbered_described k words dst src token has number.0 number.1
-    ∙ bytes_described k words.length_len words dst src token is.numbered c.requires.kind (λ _. refl) in
+    bytes_described k words.length_len words dst src token is.numbered c.requires.kind (λ _. refl) in
     let within : n ≤ length new = search rules in
     let all =
     written n c.args.dest.now new _ _ within c.store_numbered.ensures.front c.store_numbered.ensures.back same in
@@ -114,3 +106,30 @@ returns-else-has_len-clause-wrote c =
         count_is = all.1;
       },
     ))
+
+pub store_numbered-requires-clause-room : goal.store_numbered-requires-clause-room
+store_numbered-requires-clause-room c =
+    let words = c.args.words.now in
+    let k = c.args.kind in
+    let dst : List ℕ = c.args.dst.now in
+    let source : List ℕ = c.source_of-source.result.now in
+    let token : List ℕ = c.token_of-own.result.now in
+    let len : ℕ = c.stored_length_len.result in
+    let front = header_text (replicate len 0) (says (row k) c.first_word.result words.version dst source token c.written_part-number.result) in
+    let is : IsShaped words dst c.args.src.now c.args.token.now =
+    search (rules, c.is_shaped.ensures, c.if-not-is_shaped) in
+    let has : IsTrue (row k).has_len = search (rules, c.has_len.ensures, c.if-has_len) in
+    let low : words.kind ≤ 2 = with_length k words c.requires.kind has in
+    let fits : length front ≤ length c.args.dest.now = search (rules, c.fits.ensures, c.if-not-fits) in
+    let stored : front ≡ stored_described k len words dst source token =
+    stored_as k c.first_word.result len words dst source token c.written_part-number.result c.first_word.ensures c.written_part-number.ensures.value in
+    let counted : stored_described k len words dst source token ≡ worded_bytes k words dst source token =
+    ap (λ (n : ℕ). stored_described k n words dst source token) (c.stored_length_len.ensures.same (is.numbered.len low)) in
+    let from : worded_bytes k words dst source token ≡ worded_bytes k words dst c.args.src.now token =
+    ap (λ (xs : List ℕ). worded_bytes k words dst xs token) (c.source_of-source.ensures.has (λ e. omega (arith, e, low))) in
+    omega (arith, fits, ap length stored, ap length counted, ap length from)
+
+pub store-requires-clause-room : goal.store-requires-clause-room
+store-requires-clause-room c =
+    let fits = c.fits.ensures.0 (search (rules, c.if-not-fits)) in
+    exact_room (λ i. i.0.now) _ _ fits

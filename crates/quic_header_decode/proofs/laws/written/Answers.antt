@@ -13,7 +13,7 @@ use Rattle.quic_header_encode.specs.declared.long_type.LongHeaderType.TheVariant
 use Rattle.quic_header_encode.specs.declared.long_type.LongType.TheVariants.{Handshake, ZeroRtt}
 use Rattle.quic_header_encode.specs.Types.{version_2, types_of, long_type, type_number, first_byte, place_of}
 use Rattle.quic_header_encode.specs.Starts.{long_front}
-use Rattle.quic_header_encode.specs.Writing.{long_first, bit_value}
+use Rattle.quic_header_encode.specs.Kinds.{bit_value}
 use Rattle.quic_header_decode.proofs.Made.{fixed_set, initial_header, long_header, retry_header, short_header, negotiation_header}
 use Rattle.quic_header_decode.proofs.laws.written.Goals as goal
 
@@ -41,6 +41,10 @@ back_in false kind.Initial = (omega arith, refl)
 back_in false kind.Retry = (omega arith, refl)
 back_in false (kind.Standard ZeroRtt) = (omega arith, refl)
 back_in false (kind.Standard Handshake) = (omega arith, refl)
+
+-- the first byte of a long header with a number of that many bytes
+abbrev long_first : ℕ → LongHeaderType → ℕ → ℕ
+long_first version ty count = first_byte version ty + (count - 1)
 
 record LongByte (version : ℕ) (ty : LongHeaderType) (first : ℕ) : Type 0 where
   long : 128 ≤ first

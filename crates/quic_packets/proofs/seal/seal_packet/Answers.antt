@@ -4,7 +4,7 @@ use Rattle.quic_header_encode.specs.declared.header.Header.{Header}
 use Rattle.quic_packets.specs.Pairs.{KeyPair}
 use Rattle.quic_packets.specs.Sealing.{payload_of}
 use Rattle.quic_header_encode.specs.Writing.{header_size, header_bytes, size_in}
-use Rattle.quic_packets.proofs.Sealings.{low_numbered, plain_of, sealed_end}
+use Rattle.quic_packets.proofs.Sealings.{length_before, low_numbered, number_before, place_is, plain_of, sealed_end}
 use Rattle.std.proofs.lemmas.Grind.{common_steps}
 use Rattle.quic_packets.proofs.seal.seal_packet.Goals as goal
 
@@ -71,3 +71,9 @@ returns-then-is_err-clause-refused g c = search rules
 
 pub write_packet-partial-requires-clause-room : goal.write_packet-partial-requires-clause-room
 write_packet-partial-requires-clause-room g c = grind (arith, common_steps)
+
+pub finish_last-requires-clause-room : goal.finish_last-requires-clause-room
+finish_last-requires-clause-room g c =
+    let h : Header = c.args.header.now in
+    let numbered = low_numbered h c.args.number c.requires.low in
+    grind (arith, common_steps, number_before h numbered, length_before h, place_is h numbered)

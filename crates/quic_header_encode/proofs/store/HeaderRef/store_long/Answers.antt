@@ -1,5 +1,6 @@
 use Rattle.std.proofs.Common.{◌∙◌, arith}
 use Rattle.quic_header_encode.proofs.Stores.{stays}
+use Rattle.quic_header_encode.proofs.Sizes.{long_sized}
 use Rattle.quic_header_encode.proofs.store.HeaderRef.store_long.Goals as goal
 
 pub returns-clause-back : goal.returns-clause-back
@@ -7,3 +8,12 @@ returns-clause-back g c = λ exact.
     c.store_end.ensures.back
     ∙ stays c.store_its_token-at.result c.store_end.result _ _ c.store_its_token-at.ensures.back (omega arith)
     ∙ stays c.store_long_start-at.result c.store_end.result _ _ (c.store_long_start-at.ensures.back exact.dst exact.src) (omega arith)
+
+pub store_its_token-at-requires-clause-room : goal.store_its_token-at-requires-clause-room
+store_its_token-at-requires-clause-room g c = omega (arith, c.requires.room.whole, long_sized g.I.StoredId.id c.args.self.now c.requires.long)
+
+pub store_end-requires-clause-room : goal.store_end-requires-clause-room
+store_end-requires-clause-room g c = omega (arith, c.requires.room.whole, long_sized g.I.StoredId.id c.args.self.now c.requires.long)
+
+pub returns-clause-end : goal.returns-clause-end
+returns-clause-end g c = omega (arith, long_sized g.I.StoredId.id c.args.self.now c.requires.long)

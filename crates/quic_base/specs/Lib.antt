@@ -8,3 +8,4 @@ pub mod ConnectionId
 pub mod ConnectionIdOrder
 pub mod ConnectionIdLoan
 pub mod Cursor
+pub mod One

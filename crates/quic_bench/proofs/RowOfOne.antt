@@ -1,5 +1,5 @@
 -- A datagram that is one packet.
-use Rattle.std.specs.Prelude.{◌≡◌, ◌≢◌, ℕ, ◌<◌, List, [], ◌∷◌, ◌++◌, length, Ok, Err, nat_eq}
+use Rattle.std.specs.Prelude.{◌≡◌, ◌≢◌, ℕ, ◌<◌, List, [], ◌∷◌, ◌++◌, length, map, Ok, Err, nat_eq}
 use Rattle.std.proofs.Common.{sym, ap, subst, ◌∙◌, arith, refl, true, append-nil}
 use Rattle.std.specs.Cmp.Lexicographic.{pointwise}
 use Rattle.std.proofs.lemmas.Bool.Decides.{nat_tests}
@@ -7,6 +7,7 @@ use Rattle.quic_canon.specs.Bytes.{canon_bytes, GivesLeast}
 use Rattle.quic_canon.specs.Least.{IsLeast}
 use Rattle.quic_canon.specs.declared.canonical.CanonBytes.{CanonBytes}
 use Rattle.quic_canon.specs.declared.canonical.CanonBytes.TheVariants.{Same, Rewritten}
+use Rattle.quic_frames.specs.Meaning.{meaning_of}
 use Rattle.quic_frames.specs.Written.{IsPayload}
 use Rattle.quic_frames.specs.declared.frame.Frame.{Frame}
 use Rattle.quic_header_encode.specs.declared.header.Header.{Header}
@@ -73,8 +74,9 @@ sealed_same keys h n frames one other packets payloads before before' start a b 
     a.2 ∙ ap (λ x. x ++ a.0) start ∙ ap (λ x. before' ++ x) packet ∙ sym b.2
 
 -- where there are some, there are not none
-pub are_some : (frames : List Frame) → 0 < length frames → frames ≢ []
-are_some frames some none = let l : length frames ≡ 0 = ap length none in omega arith
+pub are_some : (frames : List Frame) → 0 < length frames → map meaning_of frames ≢ []
+are_some [] some = absurd (omega (arith, some))
+are_some (frame ∷ frames) some = λ none. cc
 
 same_number : (n : ℕ) → nat_eq n n ≡ true
 same_number n = grind (arith, nat_tests)

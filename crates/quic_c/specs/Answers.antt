@@ -6,9 +6,9 @@ use Rattle.quic_frame_fields.specs.declared.frame.fault.Fault.{Fault}
 use Rattle.quic_frame_fields.specs.AckPlace.{ack_at}
 use Rattle.quic_frame_fields.specs.declared.frame.fault.Fault.TheVariants.{InvalidFrameId}
 use Rattle.quic_base.specs.Reading.{◌>>=◌}
-use Rattle.quic_frame_fields.specs.Reading.{varint_at, Invalid, invalid, Broken, IsBlocks, blocks_left, ranges_of, first_range_at}
+use Rattle.quic_frame_fields.specs.Reading.{varint_at, Invalid, invalid, IsBlocks, blocks_left, ranges_of, first_range_at}
 use Rattle.quic_frames.specs.IterState.{IterState}
-use Rattle.quic_frames.specs.Walk.{left, Finds}
+use Rattle.quic_frames.specs.Walk.{Finds, LacksFrame, IsSpent}
 use Rattle.quic_c.specs.declared.words.CFrameIter.{CFrameIter}
 use Rattle.quic_c.specs.declared.words.CFrame.{CFrame}
 use Rattle.quic_c.specs.declared.words.CRange.{CRange}
@@ -37,7 +37,7 @@ pub record IsUnknown (state : IterState) (reported : Invalid) : Type 0 where
 -- The next frame isn't given, and this is reported: the bytes aren't a valid frame, or it is a frame of that extension
 -- and these have unknown types.
 abbrev pub IsRefusedFrame : Bool → IterState → Invalid → Type 0
-IsRefusedFrame basic state reported = (left state ≡ Broken reported ∷ []) ⊎ (basic ≡ true) × IsUnknown state reported
+IsRefusedFrame basic state reported = LacksFrame state reported ⊎ (basic ≡ true) × IsUnknown state reported
 
 -- A frame was read at the place in the words, and its words were given: one of that extension only if these are known.
 pub record GivesFrameWords (basic : Bool) (old : CFrameIter) (payload : List ℕ) (new : CFrameIter)
@@ -62,7 +62,7 @@ pub record AnswersNext (basic : Bool) (old : CFrameIter) (payload : List ℕ) (b
     (new : CFrameIter) (after : CFrame) : Type 0 where
   pub answers : (answer ≡ pos 1) ⊎ (answer ≡ pos 0) ⊎ (answer ≡ negsuc 2) ⊎ (answer ≡ negsuc 0)
   pub frame : answer ≡ pos 1 → GivesFrameWords basic old payload new after
-  pub end : answer ≡ pos 0 → left (state_of old payload) ≡ []
+  pub end : answer ≡ pos 0 → IsSpent (state_of old payload)
   pub invalid : answer ≡ negsuc 2 → GivesInvalid basic old payload new after
   pub outside : (answer ≡ negsuc 0) ↔ (length payload < old.offset)
   pub same : (answer ≡ pos 1) ⊎ (answer ≡ negsuc 2) ⊎ ((new ≡ old) × (after ≡ before))

@@ -3,7 +3,7 @@ use Rattle.std.specs.Prelude.{◌≡◌, ℕ, ◌<◌, ◌≤◌, ◌⊎◌, ◌
 use Rattle.quic_frames.specs.declared.frame.Frame.{Frame}
 use Rattle.quic_frame_fields.specs.Reading.{Invalid}
 use Rattle.quic_frames.specs.IterState.{IterState}
-use Rattle.quic_frames.specs.Walk.{left, Finds}
+use Rattle.quic_frames.specs.Walk.{Finds, IsSpent}
 use Rattle.quic_frames.specs.Padding.{PassesPadding}
 use Rattle.quic_c.specs.declared.words.CFrameIter.{CFrameIter}
 use Rattle.quic_c.specs.declared.words.CFrame.{CFrame}
@@ -30,7 +30,7 @@ Shows {P = P} step old (entry ∷ entries) new = (next : P) × step old entry ne
 
 -- Nothing is left, or the next frame isn't given.
 abbrev pub HasNoFrame : Bool → IterState → Type 0
-HasNoFrame basic state = (left state ≡ []) ⊎ ((reported : Invalid) × IsRefusedFrame basic state reported)
+HasNoFrame basic state = IsSpent state ⊎ ((reported : Invalid) × IsRefusedFrame basic state reported)
 
 -- So many entries were filled, and those after them don't change; more were not filled, as there was no room or no
 -- frame.
@@ -57,7 +57,7 @@ pub record AnswersFill (basic : Bool) (old : CFrameIter) (payload : List ℕ) (b
   pub answers : (answer ≡ pos 1) ⊎ (answer ≡ pos 0) ⊎ (answer ≡ negsuc 2) ⊎ (answer ≡ negsuc 3) ⊎ (answer ≡ negsuc 0)
   pub frames : answer ≡ pos 1
       → (0 < count) × Fills basic (state_of old payload) before (state_of new payload) after count
-  pub end : answer ≡ pos 0 → left (state_of old payload) ≡ []
+  pub end : answer ≡ pos 0 → IsSpent (state_of old payload)
   pub invalid : answer ≡ negsuc 2 → ReportsInvalid basic old payload before new after
   pub room : (answer ≡ negsuc 3) ↔ ((old.offset ≤ length payload) × (before ≡ []))
   pub outside : (answer ≡ negsuc 0) ↔ (length payload < old.offset)

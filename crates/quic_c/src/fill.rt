@@ -1,6 +1,6 @@
 //! Reads the frames of a payload, as many with one call as the caller has room for.
 ghost use Rattle.std.specs.Prelude.{◌≡◌, ◌<◌, ◌≤◌, ◌↔◌, ◌⊎◌, [], true, false, pos, negsuc, length, IfOk, IfErr};
-ghost use Rattle.quic_frames.specs.Walk.{left, first_of, invalid_of};
+ghost use Rattle.quic_frames.specs.Walk.{first_of, invalid_of, IsSpent};
 ghost use Rattle.quic_c.specs.Shown.{state_of, at_front};
 ghost use Rattle.quic_c.specs.Answers.{IsRefusedFrame};
 ghost use Rattle.quic_c.specs.Filling.{AnswersFill, Fills, ReportsInvalid, further};
@@ -30,7 +30,7 @@ fn fill<const COPY: usize>(
     out: &mut [CFrame],
 ) -> Result<Filled, InvalidFrame>
     ensures filled { IfOk result (λ f. Fills basic iter.old out.old (further iter.old f.end f.last) out.new f.count) }
-    ensures none { IfOk result (λ f. f.count ≡ 0 → 0 < length out.old → left iter.old ≡ []) }
+    ensures none { IfOk result (λ f. f.count ≡ 0 → 0 < length out.old → IsSpent iter.old) }
     ensures invalid { IfErr result (λ i. IsRefusedFrame basic iter.old (invalid_of i) × (out.new ≡ out.old)) }
 {
     let mut count = 0;

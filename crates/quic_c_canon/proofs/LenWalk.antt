@@ -3,14 +3,15 @@ use Rattle.std.proofs.Common.{◌≡◌, ◌≢◌, ℕ, zero, suc, ◌+◌, ◌
 use Rattle.std.proofs.lemmas.List.{length-append}
 use Rattle.quic_frames.specs.declared.frame.Frame.{Frame}
 use Rattle.quic_frames.specs.declared.frame.Frame.TheVariants as frames
-use Rattle.quic_frame_fields.specs.Payload.{TypedFrame, AreFrames, IsEither}
-use Rattle.quic_frame_fields.specs.Reading.{Invalid, invalid, Broken}
+use Rattle.quic_frame_fields.specs.Payload.{TypedFrame, AreFrames}
+use Rattle.quic_errors.specs.declared.invalid_frame.InvalidFrame.{InvalidFrame}
 use Rattle.quic_frame_fields.specs.Shortest.{shortest_frame}
 use Rattle.quic_frames.specs.Least.{frame_in, shortest_frames}
 use Rattle.quic_frames.specs.Meaning.{meaning_of}
 use Rattle.quic_frames.specs.Padding.{PassesPadding, behind}
 use Rattle.quic_frames.specs.IterState.{IterState}
-use Rattle.quic_frames.specs.Walk.{GivesFrames, GivesBroken, left, first_of, unplaced, given, Finds}
+use Rattle.quic_frames.specs.Walk.{invalid_of, left, first_of, unplaced, given, Finds, Fails, IsSpent}
+use Rattle.quic_frames.proofs.Turns.{frames_first, spent_left, has_read_all, has_read_error}
 use Rattle.quic_canon.proofs.Steps.{BeginsNone, OneShortest, Walks, walk_on, next_frame, span_of, frame_length, shortest_next, walk_begins, small_at}
 use Rattle.quic_c_canon.specs.Answers.{IsReportedOf, HasLength}
 use Rattle.quic_c_canon.proofs.PaddingBytes.{EachPads, padding_is}
@@ -27,12 +28,12 @@ pub record LenWalk (payload : List ℕ) (total start : ℕ) (state : IterState) 
   pub low : total ≤ start
   pub sums : (found : List TypedFrame) → AreFrames false found payload → Sums payload total start state found
 
-pub len_begins : (payload : List ℕ) (state : IterState) → state ≡ first_of false payload → IsEither false None payload
-    → GivesFrames false payload state → GivesBroken false payload state → LenWalk payload 0 0 state
-len_begins payload state first e whole broken = record {
-  walks = walk_begins payload state first e whole broken;
+pub len_begins : (payload : List ℕ) (state : IterState) → state ≡ first_of false payload
+    → LenWalk payload 0 0 state
+len_begins payload state first = record {
+  walks = walk_begins payload state first;
   low = omega arith;
-  sums = λ found s. record { rest = found; left_are = whole found s; encoded = s; len = omega arith };
+  sums = λ found s. record { rest = found; left_are = frames_first false payload state found first s; encoded = s; len = omega arith };
 }
 
 -- one more frame
@@ -101,44 +102,27 @@ none_given : (rest : List TypedFrame) → [] ≡ map given rest → rest ≡ []
 none_given [] e = refl
 none_given (f ∷ rest) e = absurd cc
 
-not_empty : (found : List TypedFrame) (i : Invalid) → [] ≡ map given found ++ Err i ∷ [] → ⊥
-not_empty [] i e = cc
-not_empty (f ∷ found) i e = cc
-
-no_error : (rest : List TypedFrame) (i : Invalid) → Err i ∷ [] ≡ map given rest → ⊥
-no_error [] i e = cc
-no_error (f ∷ rest) i e = cc
-
-error_is : (rest : List TypedFrame) (i j : Invalid) → Err i ∷ [] ≡ map given rest ++ Err j ∷ [] → i ≡ j
-error_is [] i j e = cc
-error_is (f ∷ rest) i j e = absurd cc
-
 -- nothing is left
-pub len_done : (payload : List ℕ) (total start : ℕ) (state : IterState) → payload ≢ [] → IsEither false None payload
-    → LenWalk payload total start state → left state ≡ [] → HasLength payload total
-len_done payload total start state some (inl a) w none =
-    let s = w.sums a.0 a.1 in
-    let rest = none_given s.rest (sym (ap (map unplaced) none) ∙ s.left_are) in
+pub len_done : (payload : List ℕ) (total start : ℕ) (state : IterState) → payload ≢ []
+    → LenWalk payload total start state → IsSpent state → HasLength payload total
+len_done payload total start state some w spent =
+    let encoded = has_read_all false payload w.walks.found state w.walks.read spent in
+    let s = w.sums w.walks.found encoded in
+    let rest = none_given s.rest (sym (ap (map unplaced) (spent_left state spent)) ∙ s.left_are) in
     record {
       some = some;
-      found = a.0;
-      encoded = a.1;
+      found = w.walks.found;
+      encoded = encoded;
       len = omega (arith, s.len, ap (λ (l : List TypedFrame). length (shortest_frames (map frame_in l))) rest);
     }
-len_done payload total start state some (inr b) w none =
-    let r = w.walks.broken b.0 b.1 b.2 b.3 in absurd (not_empty r.0 (invalid b.1 b.2) (sym (ap (map unplaced) none) ∙ r.1))
 
 -- an invalid frame
-pub len_fails : (payload : List ℕ) (total start : ℕ) (state : IterState) (i : Invalid) → IsEither false None payload
-    → LenWalk payload total start state → left state ≡ Broken i ∷ [] → IsReportedOf payload i
-len_fails payload total start state i (inl a) w is =
-    let s = w.sums a.0 a.1 in absurd (no_error s.rest i (sym (ap (map unplaced) is) ∙ s.left_are))
-len_fails payload total start state i (inr b) w is =
-    let r = w.walks.broken b.0 b.1 b.2 b.3 in
-    record {
-      found = b.0;
-      type = b.1;
-      reason = b.2;
-      broken = b.3;
-      reported_is = error_is r.0 i (invalid b.1 b.2) (sym (ap (map unplaced) is) ∙ r.1);
-    }
+pub len_fails : (payload : List ℕ) (total start : ℕ) (state next : IterState) (error : InvalidFrame)
+    → LenWalk payload total start state → Fails state error next → IsReportedOf payload (invalid_of error)
+len_fails payload total start state next error w f = record {
+  found = w.walks.found;
+  type = f.lacks.type;
+  reason = f.lacks.reason;
+  broken = has_read_error false payload w.walks.found state (invalid_of error) w.walks.read f.lacks;
+  reported_is = f.lacks.says;
+}

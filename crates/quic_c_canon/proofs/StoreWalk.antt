@@ -5,14 +5,15 @@ use Rattle.std.proofs.lemmas.List.{append-nil, length-append, length-take, lengt
 use Rattle.quic_errors.specs.declared.invalid_frame.InvalidFrame.{InvalidFrame}
 use Rattle.quic_frames.specs.declared.frame.Frame.{Frame}
 use Rattle.quic_frames.specs.declared.frame.Frame.TheVariants as frames
-use Rattle.quic_frame_fields.specs.Payload.{TypedFrame, AreFrames, IsEither}
+use Rattle.quic_frame_fields.specs.Payload.{TypedFrame, AreFrames}
 use Rattle.quic_frame_fields.specs.Reading.{Invalid}
 use Rattle.quic_frame_fields.specs.Shortest.{shortest_frame}
 use Rattle.quic_frames.specs.Least.{AreOrExceed, frame_in, shortest_frames}
 use Rattle.quic_frames.specs.Meaning.{meaning_of}
 use Rattle.quic_frames.specs.Padding.{PassesPadding, behind}
 use Rattle.quic_frames.specs.IterState.{IterState}
-use Rattle.quic_frames.specs.Walk.{GivesFrames, GivesBroken, invalid_of, left, first_of, unplaced, given, Finds, Advances}
+use Rattle.quic_frames.specs.Walk.{invalid_of, left, first_of, unplaced, given, Finds, IsSpent, Advances}
+use Rattle.quic_frames.proofs.Turns.{frames_first, fails_left, spent_left}
 use Rattle.quic_canon.proofs.LeastPayloads.{Shortest}
 use Rattle.quic_canon.proofs.Steps.{BeginsNone, Walks, walk_on, next_frame, frame_length, shortest_next, walk_begins, fails_err}
 use Rattle.quic_c_canon.proofs.PaddingBytes.{EachPads, padding_is}
@@ -33,16 +34,15 @@ pub record StoreWalk (payload old new : List ℕ) (at : ℕ) (state : IterState)
   pub stores : (found : List TypedFrame) → AreFrames false found payload → Stores payload old new at state.offset state found
 
 pub store_begins : (payload old : List ℕ) (state : IterState) → state ≡ first_of false payload
-    → IsEither false None payload
-    → GivesFrames false payload state → GivesBroken false payload state → StoreWalk payload old old 0 state
-store_begins payload old state first e whole broken =
+    → StoreWalk payload old old 0 state
+store_begins payload old state first =
     let here : state.offset ≡ 0 = ap (λ (w : IterState). w.offset) first in
     record {
-      walks = subst (λ (n : ℕ). Walks payload n state) (sym here) (walk_begins payload state first e whole broken);
+      walks = subst (λ (n : ℕ). Walks payload n state) (sym here) (walk_begins payload state first);
       same_len = refl;
       stores = λ found s. record {
         rest = found;
-        left_are = whole found s;
+        left_are = frames_first false payload state found first s;
         encoded = subst (λ (n : ℕ). AreFrames false found (drop n payload)) (sym here) s;
         bytes = [];
         parts = refl;
@@ -60,7 +60,8 @@ pub never_fails : (payload old new : List ℕ) (at : ℕ) (state next : IterStat
     → item ≡ Err i → Advances state (Some item) next → ⊥
 never_fails payload old new at state next item i s w e a =
     let l = w.stores s.0 s.1 in
-    no_error l.rest (invalid_of i) (sym (ap (map unplaced) (fails_err state next item i e a)) ∙ l.left_are)
+    no_error l.rest (invalid_of i)
+    (sym (ap (map unplaced) (fails_left state next i (fails_err state next item i e a))) ∙ l.left_are)
 
 -- there is room for the frame that was found
 pub store_room : (payload old new : List ℕ) (at stop : ℕ) (state next : IterState) (frame : Frame) → BeginsNone
@@ -237,12 +238,12 @@ none_given (f ∷ rest) e = absurd cc
 
 -- all is written
 pub store_done : (payload old new : List ℕ) (at : ℕ) (state : IterState) → StoreWalk payload old new at state
-    → left state ≡ []
+    → IsSpent state
     → (found : List TypedFrame) → AreFrames false found payload
     → new ≡ shortest_frames (map frame_in found) ++ drop (length (shortest_frames (map frame_in found))) old
-store_done payload old new at state w none found s =
+store_done payload old new at state w spent found s =
     let l = w.stores found s in
-    let rest = none_given l.rest (sym (ap (map unplaced) none) ∙ l.left_are) in
+    let rest = none_given l.rest (sym (ap (map unplaced) (spent_left state spent)) ∙ l.left_are) in
     let whole : shortest_frames (map frame_in found) ≡ l.bytes =
     l.parts ∙ ap (λ (x : List TypedFrame). l.bytes ++ shortest_frames (map frame_in x)) rest ∙ append-nil l.bytes in
     l.front ∙ ap (λ (n : ℕ). l.bytes ++ drop n old) l.at_is ∙ ap (λ (x : List ℕ). x ++ drop (length x) old) (sym whole)

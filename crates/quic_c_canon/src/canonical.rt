@@ -1,17 +1,17 @@
 //! The shortest payload of each meaning, written into the caller's bytes.
 ghost use Rattle.std.specs.Prelude.{◌≡◌, ◌≢◌, ◌+◌, ◌<◌, ◌≤◌, ◌⊎◌, ◌↔◌, ◌++◌, [], List, pos, negsuc, length, map, take, drop, replicate, IfOk, IfErr, IsErr, None, false};
-ghost use Rattle.quic_frame_fields.specs.Payload.{TypedFrame, AreFrames, IsEither};
+ghost use Rattle.quic_frame_fields.specs.Payload.{TypedFrame, AreFrames};
 ghost use Rattle.quic_frame_fields.specs.Shortest.{shortest_frame};
 ghost use Rattle.quic_frames.specs.InRange.{CanStand};
 ghost use Rattle.quic_frames.specs.Least.{frame_in, shortest_frames};
 ghost use Rattle.quic_frames.specs.Meaning.{meaning_of};
-ghost use Rattle.quic_frames.specs.Walk.{invalid_of, first_of, GivesFrames, GivesBroken};
+ghost use Rattle.quic_frames.specs.Walk.{invalid_of, first_of};
 ghost use Rattle.quic_c_canon.specs.Answers.{type_word, reason_word, GivesLeastLen, LeastNeedsMore, IsReportedOf, ReportsInvalidPayload, HasLength};
 
 use crate::words::CCanonical;
 use quic_canon::laws::one_least;
 use quic_frames::frame::{Frame, FrameType, InvalidFrame, Iter};
-use quic_frames::laws::{least_encoding, one_reading, read_back, read_from_a_place};
+use quic_frames::laws::{least_encoding, one_reading, read_back};
 
 // The number for a type.
 fn type_word(ty: Option<FrameType>) -> u64
@@ -49,11 +49,7 @@ fn frame_len(frame: &Frame<'_>, last: bool, len: usize) -> usize
 fn begin(payload: &[u8]) -> Result<Iter<'_>, ()>
     ensures empty { IsErr result ↔ (payload.now ≡ []) }
     ensures first { IfOk result (λ it. it ≡ first_of false payload.now) }
-    ensures either { IsEither false None payload.now }
-    ensures frames { IfOk result (λ it. GivesFrames false payload.now it) }
-    ensures broken { IfOk result (λ it. GivesBroken false payload.now it) }
 {
-    read_from_a_place();
     if payload.is_empty() {
         return Err(());
     }

@@ -12,7 +12,8 @@ use Rattle.quic_frame_fields.specs.Payload.{TypedFrame, IsFrame, AreFrames}
 use Rattle.quic_frame_fields.specs.Reading.{Whole, Invalid}
 use Rattle.quic_frames.specs.Meaning.{meaning_of}
 use Rattle.quic_frames.specs.IterState.{IterState}
-use Rattle.quic_frames.specs.Walk.{left, unplaced, given, Advances}
+use Rattle.quic_frames.specs.Walk.{left, first_of, unplaced, given, Advances}
+use Rattle.quic_frames.proofs.Turns.{frames_first, finds_left, fails_left, spent_left}
 
 two_power : (t : ℕ) → t < 4 → 0 < 2 ^ t
 two_power zero lt = omega arith
@@ -39,22 +40,22 @@ content_is (Err f) x old new content bytes is wrote e empty = absurd (err_is_not
 -- An iterator over a payload of one frame has that frame left.
 pub one_left : (found : TypedFrame) (bytes payload : List ℕ) (it : IterState) → IsFrame false found bytes
     → payload ≡ bytes
-    → ((fs : List TypedFrame) → AreFrames false fs payload → map unplaced (left it) ≡ map given fs)
+    → it ≡ first_of false payload
     → map unplaced (left it) ≡ map given (found ∷ [])
-one_left found bytes payload it f is gives =
+one_left found bytes payload it f is first =
     let one : AreFrames false (found ∷ []) bytes = (bytes, [], sym (append-nil bytes), f, λ opens. refl, refl) in
-    gives (found ∷ []) (subst (AreFrames false (found ∷ [])) (sym is) one)
+    frames_first false payload it (found ∷ []) first (subst (AreFrames false (found ∷ [])) (sym is) one)
 
 -- The first item that it gives is that frame.
 pub gives_it : (found : TypedFrame) (it new : IterState) (item : Option (Result Frame InvalidFrame))
     → map unplaced (left it) ≡ map given (found ∷ [])
     → Advances it item new
     → (frame : Frame) × (item ≡ Some (Ok frame)) × (meaning_of frame ≡ found.frame)
-gives_it found it new None one a = absurd (omega (arith, ap length (ap (map unplaced) (sym a.0) ∙ one)))
-gives_it found it new (Some (Err e)) one a = cc (ap (map unplaced) (sym a.0) ∙ one)
+gives_it found it new None one a = absurd (omega (arith, ap length (ap (map unplaced) (sym (spent_left it a.0)) ∙ one)))
+gives_it found it new (Some (Err e)) one a = cc (ap (map unplaced) (sym (fails_left it new e a)) ∙ one)
 gives_it found it new (Some (Ok frame)) one a =
     let here : map unplaced (Whole it.offset new.offset a.found ∷ left new) ≡ map given (found ∷ []) =
-    ap (map unplaced) (sym a.first) ∙ one in
+    ap (map unplaced) (sym (finds_left it new frame a)) ∙ one in
     (frame, refl, sym a.says ∙ ap (λ (f : TypedFrame). f.frame) (same here))
   where
     same : {f g : TypedFrame} {rs : List (Result TypedFrame Invalid)} → given f ∷ rs ≡ given g ∷ [] → f ≡ g

@@ -4,16 +4,18 @@ use Rattle.std.specs.Prelude.{◌⊎◌, slice_range}
 use Rattle.std.proofs.lemmas.List.{length-append, length-drop}
 use Rattle.quic_frames.specs.declared.frame.Frame.{Frame}
 use Rattle.quic_frame_fields.specs.declared.frame.fault.Fault.{Fault}
-use Rattle.quic_frame_fields.specs.Payload.{TypedFrame, AreFrames, IsBroken, IsEither}
-use Rattle.quic_frame_fields.specs.Reading.{Invalid, invalid, Broken}
+use Rattle.quic_frame_fields.specs.Payload.{TypedFrame, AreFrames, IsBroken}
+use Rattle.quic_frame_fields.specs.Reading.{invalid}
 use Rattle.quic_frame_fields.specs.Shortest.{shortest_frame}
 use Rattle.quic_frames.specs.Least.{frame_in, shortest_frames}
 use Rattle.quic_frames.specs.IterState.{IterState}
-use Rattle.quic_frames.specs.Walk.{GivesFrames, GivesBroken, left, first_of, unplaced, given, Finds}
+use Rattle.quic_frames.specs.Walk.{invalid_of, left, first_of, unplaced, given, Finds, Fails, IsSpent}
+use Rattle.quic_errors.specs.declared.invalid_frame.InvalidFrame.{InvalidFrame}
+use Rattle.quic_frames.proofs.Turns.{frames_first, has_read_all, has_read_error}
 use Rattle.quic_canon.specs.Front.{IsCut, IsFront}
 use Rattle.quic_canon.proofs.LeastPayloads.{Shortest}
 use Rattle.quic_canon.proofs.Cuts.{take_on}
-use Rattle.quic_canon.proofs.Steps.{BeginsNone, OneShortest, Walks, here, given_on, walk_on, next_frame, at_most, span_of, Tested, shortest_there, longer_there, shortest_next, walk_begins}
+use Rattle.quic_canon.proofs.Steps.{BeginsNone, OneShortest, Walks, here, given_on, walk_on, next_frame, at_most, span_of, Tested, shortest_there, longer_there, shortest_next, walk_begins, spent_at}
 
 -- The first n bytes are in their shortest encoding, and either all frames so far are, or the next one isn't.
 pub record InFront (payload : List ℕ) (n : ℕ) (state : IterState) (found : List TypedFrame) : Type 0 where
@@ -41,13 +43,11 @@ front_begins payload state found first are s = record {
 }
 
 pub front_walk_begins : (payload : List ℕ) (state : IterState) → state ≡ first_of false payload
-    → IsEither false None payload
-    → GivesFrames false payload state → GivesBroken false payload state
     → FrontWalk payload 0 0 state
-front_walk_begins payload state first e whole broken = record {
-  walks = walk_begins payload state first e whole broken;
+front_walk_begins payload state first = record {
+  walks = walk_begins payload state first;
   before = omega arith;
-  in_front = λ found s. front_begins payload state found first (whole found s) s;
+  in_front = λ found s. front_begins payload state found first (frames_first false payload state found first s) s;
 }
 
 -- the frames that are left where all before are in their shortest encodings
@@ -164,23 +164,19 @@ front_stays payload front start old new frame differs w f =
     later is some others rest (inl a) = absurd (differs (a.0 ∙ is))
     later is some others rest (inr a) = inr (let lt = a.0 in omega (arith, lt, is, some), a.1)
 
-not_empty : (found : List TypedFrame) (i : Invalid) → [] ≡ map given found ++ Err i ∷ [] → ⊥
-not_empty [] i e = cc
-not_empty (f ∷ found) i e = cc
-
 -- nothing is left
-pub front_done : (payload : List ℕ) (front start : ℕ) (state : IterState) → payload ≢ [] → IsEither false None payload
-    → FrontWalk payload front start state → left state ≡ [] → IsFront payload front
-front_done payload front start state some (inl a) w none =
-    let f = w.in_front a.0 a.1 in
-    let at = w.walks.done none in
+pub front_done : (payload : List ℕ) (front start : ℕ) (state : IterState) → payload ≢ []
+    → FrontWalk payload front start state → IsSpent state → IsFront payload front
+front_done payload front start state some w spent =
+    let encoded = has_read_all false payload w.walks.found state w.walks.read spent in
+    let f = w.in_front w.walks.found encoded in
     record {
       some = some;
-      found = a.0;
-      encoded = a.1;
+      found = w.walks.found;
+      encoded = encoded;
       others = f.others;
       cut = f.cut;
-      shorter = λ lt. shorter (w.walks.start_is ∙ at) f.others f.rest lt f.is_there;
+      shorter = λ lt. shorter (w.walks.start_is ∙ spent_at payload start state w.walks spent) f.others f.rest lt f.is_there;
     }
   where
     shorter : state.offset ≡ length payload → (others rest : List TypedFrame) → front < length payload
@@ -189,26 +185,20 @@ front_done payload front start state some (inl a) w none =
         → length (shortest_frames (map frame_in others)) < length payload - front
     shorter is others rest lt (inl b) = let e = b.0 in absurd (omega (arith, lt, e, is))
     shorter is others rest lt (inr b) = b.1
-front_done payload front start state some (inr b) w none =
-    let r = w.walks.broken b.0 b.1 b.2 b.3 in absurd (not_empty r.0 (invalid b.1 b.2) (sym (ap (map unplaced) none) ∙ r.1))
 
 -- an invalid frame
-pub front_fails : (payload : List ℕ) (front start : ℕ) (state : IterState) (i : Invalid) → IsEither false None payload
-    → FrontWalk payload front start state → left state ≡ Broken i ∷ []
+pub front_fails : (payload : List ℕ) (front start : ℕ) (state next : IterState) (error : InvalidFrame)
+    → FrontWalk payload front start state → Fails state error next
     → (found : List TypedFrame) × (type : Option ℕ) × (reason : Fault) × IsBroken false None found payload type reason
-    × (i ≡ invalid type reason)
-front_fails payload front start state i (inl a) w is =
-    let f = w.in_front a.0 a.1 in absurd (no_error f.rest i (sym (ap (map unplaced) is) ∙ f.left_are))
-  where
-    no_error : (rest : List TypedFrame) (i : Invalid) → Err i ∷ [] ≡ map given rest → ⊥
-    no_error [] i e = cc
-    no_error (f ∷ rest) i e = cc
-front_fails payload front start state i (inr b) w is =
-    let r = w.walks.broken b.0 b.1 b.2 b.3 in (b.0, b.1, b.2, b.3, error_is r.0 i (invalid b.1 b.2) (sym (ap (map unplaced) is) ∙ r.1))
-  where
-    error_is : (rest : List TypedFrame) (i j : Invalid) → Err i ∷ [] ≡ map given rest ++ Err j ∷ [] → i ≡ j
-    error_is [] i j e = cc
-    error_is (f ∷ rest) i j e = absurd cc
+    × (invalid_of error ≡ invalid type reason)
+front_fails payload front start state next error w f =
+    (
+      w.walks.found,
+      f.lacks.type,
+      f.lacks.reason,
+      has_read_error false payload w.walks.found state (invalid_of error) w.walks.read f.lacks,
+      f.lacks.says,
+    )
 
 pub grows_to : (payload : List ℕ) (front start stop : ℕ) (old new : IterState) (frame : Frame) (b : Bool) → BeginsNone
     → OneShortest → front ≡ start

@@ -3,7 +3,8 @@ use Rattle.std.proofs.Common.{◌≡◌, ◌≢◌, ℕ, Bool, true, false, List
 use Rattle.quic_base.specs.Number.{AreBytes}
 use Rattle.quic_base.proofs.PublicLaws.{encoded_bound}
 use Rattle.quic_frame_fields.specs.declared.frame.fault.Fault.{Fault}
-use Rattle.quic_frame_fields.specs.Payload.{Meaning, TypedFrame, IsFrame, AreFrames, IsBroken}
+use Rattle.quic_frame_fields.specs.Payload.{Meaning, TypedFrame, IsFrame, AreFrames, IsBroken, Complete, FailsAfter, IsReadingAfter}
+use Rattle.quic_base.specs.One.{ExactlyOne}
 use Rattle.quic_frames.specs.Least.{AreOrExceed, frame_in, all_written, shortest_frames}
 use Rattle.quic_canon.specs.Same.{AreSameFrames, IsSame}
 use Rattle.quic_canon.specs.Least.{IsLeast}
@@ -154,8 +155,10 @@ least_is_strict payload least one shortest encoded written l =
 
 -- a payload with an error has none
 pub broken_has_none : (found : List TypedFrame) (least payload : List ℕ) (type : Option ℕ) (reason : Fault)
-    → ((some others : List TypedFrame) (bytes : List ℕ) (type : Option ℕ) (reason : Fault) → AreBytes bytes
-    → AreFrames false some bytes → IsBroken false None others bytes type reason → ⊥)
+    → ((before : Option ℕ) (bytes : List ℕ) → AreBytes bytes → ExactlyOne (IsReadingAfter false before bytes))
     → AreBytes payload → IsBroken false None found payload type reason → IsLeast least payload → ⊥
-broken_has_none found least payload type reason never_both fits b l =
-    never_both l.same.others found payload type reason fits l.same.other_encoded b
+broken_has_none found least payload type reason one fits b l =
+    let it = one None payload fits in
+    let same : Complete l.same.others ≡ FailsAfter found type reason =
+    it.only (Complete l.same.others) l.same.other_encoded ∙ sym (it.only (FailsAfter found type reason) b) in
+    cc same

@@ -6,6 +6,7 @@ use Rattle.quic_frames.specs.Meaning.{meaning_of}
 use Rattle.quic_frames.specs.Padding.{PassesPadding, behind}
 use Rattle.quic_frames.specs.IterState.{IterState}
 use Rattle.quic_frames.specs.Walk.{Finds, left}
+use Rattle.quic_frames.proofs.Turns.{finds_left}
 use Rattle.quic_canon.proofs.FrontWalk.{FrontWalk, grows_to, stays_at}
 use Rattle.quic_canon.proofs.RewriteWalk.{RewriteWalk, rewrite_keeps}
 use Rattle.quic_canon.proofs.Spans.{one_byte}
@@ -117,7 +118,7 @@ fewer : (count k : ℕ) (old : IterState) → EachPads count old → k ≤ count
 fewer count zero old each le = omega arith
 fewer count (suc k) old each le =
     let so_far = fewer count k old each (omega arith) in
-    let one = ap length (each k (omega arith)).first in
+    let one = ap length (finds_left _ _ _ (each k (omega arith))) in
     omega (arith, so_far, one)
 
 padding_shortens : (count : ℕ) (old new : IterState) → PassesPadding old count new
@@ -129,12 +130,12 @@ pub padding_goes_on : (count : ℕ) (old next new : IterState) (frame : Frame) �
     → PassesPadding next count new
     → length (left new) < length (left old)
 padding_goes_on count old next new frame f p =
-    let one = ap length f.first in omega (arith, one, padding_shortens count next new p)
+    let one = ap length (finds_left old next frame f) in omega (arith, one, padding_shortens count next new p)
 
 pub frame_goes_on : (old next there : IterState) (frame : Frame) → Finds old frame next → there ≡ next
     → length (left there) < length (left old)
 frame_goes_on old next there frame f is =
-    let one = ap length f.first in subst (λ (w : IterState). length (left w) < length (left old)) (sym is) (omega (arith, one))
+    let one = ap length (finds_left old next frame f) in subst (λ (w : IterState). length (left w) < length (left old)) (sym is) (omega (arith, one))
 
 pub padding_goes_on_as : (count : ℕ) (old next new there : IterState) (frame : Frame) → Finds old frame next
     → PassesPadding next count new

@@ -4,17 +4,18 @@ use Rattle.std.specs.Prelude.{slice_range, Vec, vec_len, vec_capacity}
 use Rattle.std.specs.declared.alloc.Global.{Global}
 use Rattle.std.proofs.lemmas.List.{append-nil, length-append}
 use Rattle.quic_frames.specs.declared.frame.Frame.{Frame}
-use Rattle.quic_frame_fields.specs.Payload.{TypedFrame, AreFrames, IsEither}
+use Rattle.quic_frame_fields.specs.Payload.{TypedFrame, AreFrames}
 use Rattle.quic_frame_fields.specs.Reading.{Invalid}
 use Rattle.quic_frames.specs.Meaning.{meaning_of}
 use Rattle.quic_frame_fields.specs.Shortest.{shortest_frame}
 use Rattle.quic_frames.specs.Least.{frame_in, shortest_frames}
 use Rattle.quic_frames.specs.IterState.{IterState}
-use Rattle.quic_frames.specs.Walk.{GivesFrames, GivesBroken, invalid_of, left, first_of, unplaced, given, Finds, Advances}
+use Rattle.quic_frames.specs.Walk.{invalid_of, left, first_of, unplaced, given, Finds, IsSpent, Advances}
+use Rattle.quic_frames.proofs.Turns.{frames_first, fails_left, spent_left}
 use Rattle.quic_errors.specs.declared.invalid_frame.InvalidFrame.{InvalidFrame}
 use Rattle.quic_canon.proofs.LeastPayloads.{Shortest}
 use Rattle.quic_canon.proofs.Cuts.{slice_on, slice_none}
-use Rattle.quic_canon.proofs.Steps.{BeginsNone, OneShortest, Walks, walk_on, next_frame, at_most, span_of, Tested, frame_length, shortest_there, shortest_next, walk_begins, fails_err}
+use Rattle.quic_canon.proofs.Steps.{BeginsNone, OneShortest, Walks, walk_on, next_frame, at_most, span_of, Tested, frame_length, shortest_there, shortest_next, walk_begins, spent_at, fails_err}
 
 -- What was written, and the bytes from a place on that stand as they are, are what the frames so far become.
 pub record Rewrites (old new : Vec ℕ Global) (payload : List ℕ) (from start : ℕ) (state : IterState)
@@ -33,15 +34,13 @@ pub record RewriteWalk (old new : Vec ℕ Global) (payload : List ℕ) (from sta
   pub rewrites : (found : List TypedFrame) → AreFrames false found payload → Rewrites old new payload from start state found
 
 pub rewrite_walk_begins : (old : Vec ℕ Global) (payload : List ℕ) (state : IterState) → state ≡ first_of false payload
-    → IsEither false None payload
-    → GivesFrames false payload state → GivesBroken false payload state
     → RewriteWalk old old payload 0 0 state
-rewrite_walk_begins old payload state first e whole broken = record {
-  walks = walk_begins payload state first e whole broken;
+rewrite_walk_begins old payload state first = record {
+  walks = walk_begins payload state first;
   capacity = omega arith;
   rewrites = λ found s. record {
     rest = found;
-    left_are = whole found s;
+    left_are = frames_first false payload state found first s;
     encoded = s;
     bytes = [];
     parts = refl;
@@ -60,7 +59,8 @@ pub never_fails : (old new : Vec ℕ Global) (payload : List ℕ) (from start : 
     → item ≡ Err i → Advances state (Some item) next → ⊥
 never_fails old new payload from start state next item i s w e a =
     let r = w.rewrites s.0 s.1 in
-    no_error r.rest (invalid_of i) (sym (ap (map unplaced) (fails_err state next item i e a)) ∙ r.left_are)
+    no_error r.rest (invalid_of i)
+    (sym (ap (map unplaced) (fails_left state next i (fails_err state next item i e a))) ∙ r.left_are)
 
 -- the bytes so far are no more than the payload has
 few_bytes : (old new : Vec ℕ Global) (payload : List ℕ) (from start : ℕ) (state : IterState) (found : List TypedFrame)
@@ -224,22 +224,22 @@ no_rest (f ∷ rest) e = absurd cc
 -- all is written
 pub rewrite_done : (old new out : Vec ℕ Global) (payload : List ℕ) (from start : ℕ) (state : IterState)
     → RewriteWalk old new payload from start state
-    → left state ≡ [] → out.items ≡ new.items ++ slice_range payload from (length payload)
+    → IsSpent state → out.items ≡ new.items ++ slice_range payload from (length payload)
     → (found : List TypedFrame) → AreFrames false found payload
     → out.items ≡ old.items ++ shortest_frames (map frame_in found)
-rewrite_done old new out payload from start state w none copied found s =
+rewrite_done old new out payload from start state w spent copied found s =
     let r = w.rewrites found s in
-    let rest = no_rest r.rest (sym (ap (map unplaced) none) ∙ r.left_are) in
+    let rest = no_rest r.rest (sym (ap (map unplaced) (spent_left state spent)) ∙ r.left_are) in
     let whole : shortest_frames (map frame_in found) ≡ r.bytes =
     r.parts ∙ ap (λ (l : List TypedFrame). r.bytes ++ shortest_frames (map frame_in l)) rest ∙ append-nil r.bytes in
-    copied ∙ ap (λ (n : ℕ). new.items ++ slice_range payload from n) (sym (w.walks.done none)) ∙ r.wrote
+    copied ∙ ap (λ (n : ℕ). new.items ++ slice_range payload from n) (sym (spent_at payload start state w.walks spent)) ∙ r.wrote
     ∙ ap (λ (l : List ℕ). old.items ++ l) (sym whole)
 
 pub room_to_end : (old new : Vec ℕ Global) (payload : List ℕ) (from start : ℕ) (state : IterState) → Shortest
     → ((found : List TypedFrame) × AreFrames false found payload) → RewriteWalk old new payload from start state
-    → left state ≡ []
+    → IsSpent state
     → vec_len old + length payload ≤ vec_capacity old
     → vec_len new + length (slice_range payload from (length payload)) ≤ vec_capacity new
-room_to_end old new payload from start state all s w none room =
-    subst (λ (n : ℕ). vec_len new + length (slice_range payload from n) ≤ vec_capacity new) (w.walks.done none)
+room_to_end old new payload from start state all s w spent room =
+    subst (λ (n : ℕ). vec_len new + length (slice_range payload from n) ≤ vec_capacity new) (spent_at payload start state w.walks spent)
     (room_to_copy old new payload from start state all s w room)

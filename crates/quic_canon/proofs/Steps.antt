@@ -5,17 +5,17 @@ use Rattle.std.proofs.lemmas.Bool.Decides.{nat_tests}
 use Rattle.std.proofs.lemmas.List.{append-nil, length-drop}
 use Rattle.quic_base.proofs.PublicLaws.{same_back}
 use Rattle.quic_frames.specs.declared.frame.Frame.{Frame}
-use Rattle.quic_frame_fields.specs.declared.frame.fault.Fault.{Fault}
 use Rattle.quic_frame_fields.specs.Table.{is_open}
-use Rattle.quic_frame_fields.specs.Payload.{Meaning, TypedFrame, IsFrame, AreFrames, IsBroken, IsEither}
-use Rattle.quic_frame_fields.specs.Reading.{Invalid, invalid, Item, Broken}
+use Rattle.quic_frame_fields.specs.Payload.{Meaning, TypedFrame, IsFrame, AreFrames}
+use Rattle.quic_frame_fields.specs.Reading.{Invalid, Item}
 use Rattle.quic_frames.specs.Meaning.{meaning_of}
 use Rattle.quic_frames.specs.InRange.{HasNoTypeZero, CanStand}
 use Rattle.quic_frames.specs.Found.{found_as}
 use Rattle.quic_frame_fields.specs.Shortest.{shortest_frame}
 use Rattle.quic_frames.specs.Least.{AreOrExceed, is_end, frame_in, shortest_frames}
 use Rattle.quic_frames.specs.IterState.{IterState}
-use Rattle.quic_frames.specs.Walk.{GivesFrames, GivesBroken, invalid_of, left, first_of, unplaced, given, Stands, Finds, Advances}
+use Rattle.quic_frames.specs.Walk.{left, first_of, unplaced, given, Stands, Finds, Fails, IsSpent, Advances}
+use Rattle.quic_frames.proofs.Turns.{HasRead, has_read_none, has_read_more, finds_left, left_done}
 use Rattle.quic_errors.specs.declared.invalid_frame.InvalidFrame.{InvalidFrame}
 use Rattle.quic_canon.proofs.Cuts.{cut_there, length-slice_range, split_front, cases_bool}
 
@@ -60,13 +60,10 @@ abbrev pub Reported : Type 0
 Reported = Result TypedFrame Invalid
 
 pub record Walks (payload : List ℕ) (start : ℕ) (state : IterState) : Type 0 where
-  pub strict_is : state.strict ≡ false
-  pub payload_is : state.payload ≡ payload
+  pub found : List TypedFrame
+  pub read : HasRead false payload found state
   pub start_is : state.offset ≡ start
   pub within : start ≤ length payload
-  pub broken : (found : List TypedFrame) (type : Option ℕ) (reason : Fault) → IsBroken false None found payload type reason
-      → (rest : List TypedFrame) × (map unplaced (left state) ≡ map given rest ++ Err (invalid type reason) ∷ [])
-  pub done : left state ≡ [] → start ≡ length payload
 
 -- One frame has one encoding at the front of bytes.
 front_is : (f : TypedFrame) (a b c d : List ℕ) → BeginsNone → a ++ b ≡ c ++ d → IsFrame false f a → IsFrame false f c
@@ -99,12 +96,15 @@ pub here : (payload : List ℕ) (start : ℕ) (old new : IterState) (frame : Fra
     → (f : Finds old frame new)
     → Here payload start new.offset f.found old new
 here payload start old new frame w f = record {
-  stands = subst (λ (l : List ℕ). Stands false l start new.offset f.found) w.payload_is
+  stands = subst (λ (l : List ℕ). Stands false l start new.offset f.found) w.read.same_payload
       (subst (λ (n : ℕ). Stands false old.payload n new.offset f.found) w.start_is
-      (subst (λ (b : Bool). Stands b old.payload old.offset new.offset f.found) w.strict_is f.stands));
-  opens = λ e. f.ends e ∙ ap length w.payload_is;
-  first = ap (map unplaced) f.first;
-  done = ((λ e. f.is_done.0 e ∙ ap length w.payload_is), (λ e. f.is_done.1 (e ∙ sym (ap length w.payload_is))));
+      (subst (λ (b : Bool). Stands b old.payload old.offset new.offset f.found) w.read.same_strict f.stands));
+  opens = λ e. f.ends e ∙ ap length w.read.same_payload;
+  first = ap (map unplaced) (finds_left old new frame f);
+  done = (
+    (λ e. (left_done old new frame f).0 e ∙ ap length w.read.same_payload),
+    (λ e. (left_done old new frame f).1 (e ∙ sym (ap length w.read.same_payload))),
+  );
 }
 
 pub given_on : (found : TypedFrame) (items : List Reported) (rest : List TypedFrame) → Ok found ∷ items ≡ map given rest
@@ -115,27 +115,15 @@ given_on found items (r ∷ rest) e =
     let tails : items ≡ map given rest = cc in
     (rest, ap (λ (f : TypedFrame). f ∷ rest) (sym head), tails)
 
-broken_on : (found : TypedFrame) (i : Invalid) (items : List Reported) (rest : List TypedFrame)
-    → Ok found ∷ items ≡ map given rest ++ Err i ∷ []
-    → (more : List TypedFrame) × (items ≡ map given more ++ Err i ∷ [])
-broken_on found i items [] e = absurd cc
-broken_on found i items (r ∷ rest) e = let tails : items ≡ map given rest ++ Err i ∷ [] = cc in (rest, tails)
-
 pub walk_on : (payload : List ℕ) (start : ℕ) (old new : IterState) (frame : Frame) → Walks payload start old
     → Finds old frame new
     → Walks payload new.offset new
-walk_on payload start old new frame w f =
-    let h = here payload start old new frame w f in
-    record {
-      strict_is = ap (λ (state : IterState). state.strict) f.comes ∙ w.strict_is;
-      payload_is = ap (λ (state : IterState). state.payload) f.comes ∙ w.payload_is;
-      start_is = refl;
-      within = h.stands.within;
-      broken = λ found type reason b.
-          let r = w.broken found type reason b in
-          broken_on f.found (invalid type reason) (map unplaced (left new)) r.0 (sym h.first ∙ r.1);
-      done = h.done.0;
-    }
+walk_on payload start old new frame w f = record {
+  found = w.found ++ f.found ∷ [];
+  read = has_read_more false payload w.found old new frame w.read f;
+  start_is = refl;
+  within = (here payload start old new frame w f).stands.within;
+}
 
 nothing_left : (items : List Item) → map unplaced items ≡ [] → items ≡ []
 nothing_left [] e = refl
@@ -282,33 +270,19 @@ shortest_next found rest more last is end =
     ap (λ (l : List TypedFrame). shortest_frames (map frame_in l)) is
     ∙ ap (λ (b : Bool). shortest_frame b found.frame ++ shortest_frames (map frame_in more)) end
 
-not_done : (payload : List ℕ) (state : IterState) → IsEither false None payload → GivesFrames false payload state
-    → GivesBroken false payload state
-    → left state ≡ [] → 0 ≡ length payload
-not_done payload state (inl a) whole broken none =
-    sym (ap length (empty a.0 payload a.1 (sym (ap (map unplaced) none) ∙ whole a.0 a.1)))
-  where
-    empty : (found : List TypedFrame) (bytes : List ℕ) → AreFrames false found bytes → [] ≡ map given found → bytes ≡ []
-    empty [] bytes s e = s
-    empty (f ∷ found) bytes s e = absurd cc
-not_done payload state (inr a) whole broken none =
-    absurd (some a.0 (invalid a.1 a.2) (sym (ap (map unplaced) none) ∙ broken a.0 a.1 a.2 a.3))
-  where
-    some : (found : List TypedFrame) (i : Invalid) → [] ≡ map given found ++ Err i ∷ [] → ⊥
-    some [] i e = cc
-    some (f ∷ found) i e = cc
-
-pub walk_begins : (payload : List ℕ) (state : IterState) → state ≡ first_of false payload → IsEither false None payload
-    → GivesFrames false payload state → GivesBroken false payload state
-    → Walks payload 0 state
-walk_begins payload state first e whole broken = record {
-  strict_is = ap (λ (w : IterState). w.strict) first;
-  payload_is = ap (λ (w : IterState). w.payload) first;
+pub walk_begins : (payload : List ℕ) (state : IterState) → state ≡ first_of false payload → Walks payload 0 state
+walk_begins payload state first = record {
+  found = [];
+  read = has_read_none false payload state first;
   start_is = ap (λ (w : IterState). w.offset) first;
   within = omega arith;
-  broken = λ found type reason b. (found, broken found type reason b);
-  done = not_done payload state e whole broken;
 }
+
+-- nothing is left
+pub spent_at : (payload : List ℕ) (start : ℕ) (state : IterState) → Walks payload start state → IsSpent state
+    → start ≡ length payload
+spent_at payload start state w (inl broken) = absurd (cc (broken, w.read.goes_on))
+spent_at payload start state w (inr end) = sym w.start_is ∙ end ∙ ap length w.read.same_payload
 
 -- ---- what a step gave
 
@@ -317,9 +291,8 @@ pub finds_ok : (old new : IterState) (item : Result Frame InvalidFrame) (frame :
 finds_ok old new item frame e a = subst (λ (r : Result Frame InvalidFrame). Advances old (Some r) new) e a
 
 pub fails_err : (old new : IterState) (item : Result Frame InvalidFrame) (i : InvalidFrame) → item ≡ Err i
-    → Advances old (Some item) new
-    → left old ≡ Broken (invalid_of i) ∷ []
-fails_err old new item i e a = (subst (λ (r : Result Frame InvalidFrame). Advances old (Some r) new) e a).0
+    → Advances old (Some item) new → Fails old i new
+fails_err old new item i e a = subst (λ (r : Result Frame InvalidFrame). Advances old (Some r) new) e a
 
 -- the same by the number that the code holds
 pub stands_at : (payload : List ℕ) (start stop : ℕ) (old new : IterState) (frame : Frame) → Exact
@@ -327,7 +300,7 @@ pub stands_at : (payload : List ℕ) (start stop : ℕ) (old new : IterState) (f
     → stop ≡ new.offset → CanStand (eqb stop (length payload)) frame
 stands_at payload start stop old new frame exact w f at =
     subst (λ (n : ℕ). CanStand (eqb n (length payload)) frame) (sym at)
-    (can_stand old new frame (length payload) exact w.strict_is (sym (ap length w.payload_is)) f)
+    (can_stand old new frame (length payload) exact w.read.same_strict (sym (ap length w.read.same_payload)) f)
 
 pub small_at : (payload : List ℕ) (start stop : ℕ) (old new : IterState) (frame : Frame) → OneShortest
     → Walks payload start old → Finds old frame new

@@ -1,11 +1,9 @@
 -- What is written of frames.
 use Rattle.std.specs.Prelude.{◌≡◌, ◌≢◌, ℕ, ◌<◌, List, [], ◌∷◌, length, map, Bool}
 use Rattle.std.proofs.Common.{inl, inr, sym, ap, arith, refl, length-append}
-use Rattle.quic_base.proofs.PublicLaws.{encoded_bound}
-use Rattle.quic_frame_fields.specs.Payload.{TypedFrame, IsFrame, AreFrames}
-use Rattle.quic_frames.specs.declared.frame.Frame.{Frame}
+use Rattle.quic_frame_fields.specs.Payload.{Meaning, TypedFrame, IsFrame, AreFrames}
 use Rattle.quic_frames.specs.Least.{AreOrExceed, frame_in}
-use Rattle.quic_frames.specs.Meaning.{meaning_of}
+use Rattle.quic_frames.proofs.Items.{frame_some}
 
 -- neither of two byte lists is shorter than the other
 pub as_short : (some others : List ℕ) → AreOrExceed some others → AreOrExceed others some → others ≡ some
@@ -13,27 +11,14 @@ as_short some others (inl same) back = sym same
 as_short some others (inr longer) (inl same) = same
 as_short some others (inr longer) (inr shorter) = absurd (omega arith)
 
--- a frame takes a byte
-frame_some : (strict : Bool) (found : TypedFrame) (bytes : List ℕ) → IsFrame strict found bytes → 0 < length bytes
-frame_some strict found bytes frame =
-    omega (
-      arith,
-      ap length frame.parts,
-      length-append frame.type_bytes frame.field_bytes,
-      (encoded_bound found.type frame.type_bytes frame.type_encoded.encoded).1,
-    )
-
-found_some : (strict : Bool) (found : List TypedFrame) (frames : List Frame) (bytes : List ℕ)
-    → AreFrames strict found bytes
-    → map frame_in found ≡ map meaning_of frames → length bytes ≡ 0 → frames ≡ []
-found_some strict [] [] bytes are same none = refl
-found_some strict [] (frame ∷ frames) bytes are same none = absurd cc
+found_some : (strict : Bool) (found : List TypedFrame) (frames : List Meaning) (bytes : List ℕ)
+    → AreFrames strict found bytes → map frame_in found ≡ frames → length bytes ≡ 0 → frames ≡ []
+found_some strict [] frames bytes are same none = sym same
 found_some strict (found ∷ others) frames bytes are same none =
     absurd (omega (arith, none, frame_some strict found are.0 are.3, ap length are.2, length-append are.0 are.1))
 
 -- frames take a byte
-pub payload_some : (strict : Bool) (found : List TypedFrame) (frames : List Frame) (bytes : List ℕ)
-    → AreFrames strict found bytes
-    → map frame_in found ≡ map meaning_of frames → frames ≢ [] → bytes ≢ []
+pub payload_some : (strict : Bool) (found : List TypedFrame) (frames : List Meaning) (bytes : List ℕ)
+    → AreFrames strict found bytes → map frame_in found ≡ frames → frames ≢ [] → bytes ≢ []
 payload_some strict found frames bytes are same some none =
     some (found_some strict found frames bytes are same (ap length none))

@@ -3,9 +3,8 @@ ghost use Rattle.std.specs.Prelude.{◌≡◌, ◌≢◌, ◌<◌, ◌↔◌, �
 ghost use Rattle.quic_base.specs.Number.{AreBytes};
 ghost use Rattle.quic_frame_fields.specs.Field.{AreApart};
 ghost use Rattle.quic_frames.specs.Least.{frame_in, shortest_frames};
-ghost use Rattle.quic_frames.specs.Written.{IsPayload};
-ghost use Rattle.quic_frames.specs.declared.frame.Frame.{Frame};
-ghost use Rattle.quic_frame_fields.specs.Payload.{TypedFrame, AreFrames, IsBroken};
+ghost use Rattle.quic_frames.specs.Written.{IsShortestOf};
+ghost use Rattle.quic_frame_fields.specs.Payload.{Meaning, TypedFrame, AreFrames, IsBroken};
 ghost use Rattle.quic_frame_fields.specs.Sets.{is_in};
 ghost use Rattle.quic_frame_fields.specs.declared.frame.fault.Fault.{Fault};
 ghost use Rattle.quic_canon.specs.Same.{AreSameFrames, IsSame};
@@ -46,10 +45,10 @@ pub fn one_least()
     least_encoding();
 }
 
-/// A payload that is written of frames is canonical: `canonical` appends exactly its bytes, and `canonical_of` gives it
-/// without a copy. A sealed packet has such a payload.
+/// A payload that is written from frames is canonical: `canonical` appends exactly its bytes, and `canonical_of` returns
+/// it without a copy. A sealed packet has such a payload.
 pub fn written_is_least()
-    ensures { (frames : List Frame) (payload : List ℕ) → frames ≢ [] → IsPayload frames payload
+    ensures { (frames : List Meaning) (payload : List ℕ) → frames ≢ [] → IsShortestOf frames payload
         → IsLeast payload payload }
 {
     one_least();

@@ -1,6 +1,6 @@
 -- What a payload means (RFC 9000, section 12.4). The first argument of the relations says whether a type must be in its
 -- shortest encoding.
-use Rattle.std.specs.Prelude.{◌≡◌, ◌≢◌, ℕ, List, [], ◌∷◌, ◌++◌, Option, Some, None, Bool, true, false, ◌⊎◌}
+use Rattle.std.specs.Prelude.{◌≡◌, ◌≢◌, ℕ, ◌+◌, List, [], ◌∷◌, ◌++◌, length, Option, Some, None, Bool, true, false, ◌⊎◌}
 use Rattle.quic_base.specs.Varint.{Encodes, shortest_varint}
 use Rattle.quic_frame_fields.specs.declared.frame.fault.Fault.{Fault}
 use Rattle.quic_frame_fields.specs.declared.frame.fault.Fault.TheVariants.{UnexpectedEnd, InvalidFrameId, LongType}
@@ -99,9 +99,26 @@ pub record IsBroken (strict : Bool) (before : Option ℕ) (found : List TypedFra
   pub closed : AreClosed found
   pub no_frame : IsNoFrame strict (last_type before found) back type reason
 
--- The bytes are frames, or frames followed by an invalid one.
-abbrev pub IsEither : Bool → Option ℕ → List ℕ → Type 0
-IsEither strict before bytes =
-    ((found : List TypedFrame) × AreFrames strict found bytes)
-    ⊎ ((found : List TypedFrame) × (type : Option ℕ) × (reason : Fault)
-    × IsBroken strict before found bytes type reason)
+-- What a payload is read as: frames to its end; or frames and then an error, with its type and its reason.
+pub data Reading : Type 0 where
+  Complete : List TypedFrame → Reading
+  FailsAfter : List TypedFrame → Option ℕ → Fault → Reading
+
+-- This is the reading of the bytes, after a frame of the given type.
+abbrev pub IsReadingAfter : Bool → Option ℕ → List ℕ → Reading → Type 0
+IsReadingAfter strict before bytes (Complete found) = AreFrames strict found bytes
+IsReadingAfter strict before bytes (FailsAfter found type reason) = IsBroken strict before found bytes type reason
+
+-- This is the reading of a payload.
+abbrev pub IsReadingOf : Bool → List ℕ → Reading → Type 0
+IsReadingOf strict bytes reading = IsReadingAfter strict None bytes reading
+
+-- these frames, and then this reading
+abbrev pub followed_by : List TypedFrame → Reading → Reading
+followed_by found (Complete others) = Complete (found ++ others)
+followed_by found (FailsAfter others type reason) = FailsAfter (found ++ others) type reason
+
+-- how many items a reading has: its frames, and its error if there is one
+abbrev pub item_count : Reading → ℕ
+item_count (Complete found) = length found
+item_count (FailsAfter found type reason) = length found + 1

@@ -5,12 +5,12 @@ use Rattle.quic_base.specs.Number.{AreBytes}
 use Rattle.quic_base.proofs.PublicLaws.{back_bytes}
 use Rattle.quic_frame_fields.specs.declared.frame.fault.Fault.{Fault}
 use Rattle.quic_frame_fields.specs.Table.{is_open}
-use Rattle.quic_frame_fields.specs.Payload.{TypedFrame, IsFrame, AreFrames, last_type, BeginsWithType, IsNoFrame, IsBroken, IsEither}
+use Rattle.quic_frame_fields.specs.Payload.{TypedFrame, IsFrame, AreFrames, last_type, BeginsWithType, IsNoFrame, IsBroken, Reading, Complete, FailsAfter, IsReadingAfter}
 use Rattle.quic_frame_fields.specs.Reading.{Invalid, invalid, found_at, Item, Whole, Broken, items_after, items_from, items_of}
 use Rattle.quic_frames.specs.Walk.{unplaced, given}
 use Rattle.quic_frame_fields.proofs.Steps.{true_is_not_false}
 use Rattle.quic_frame_fields.proofs.Varints.{varint_some}
-use Rattle.quic_frames.proofs.Frames.{found_takes, found_again, found_fails, no_frame_again}
+use Rattle.quic_frames.proofs.Frames.{TakesFound, found_takes, found_again, found_fails, no_frame_again}
 
 abbrev Reported : Type 0
 Reported = Result TypedFrame Invalid
@@ -24,7 +24,7 @@ pub is_some_bytes : (bytes : List ℕ) → 0 < length bytes → bytes ≢ []
 is_some_bytes [] lt e = absurd (omega (arith, lt))
 is_some_bytes (b ∷ bytes) lt e = cc
 
-some_length : (bytes : List ℕ) → bytes ≢ [] → 1 ≤ length bytes
+pub some_length : (bytes : List ℕ) → bytes ≢ [] → 1 ≤ length bytes
 some_length [] some = absurd (some refl)
 some_length (b ∷ bytes) some = omega arith
 
@@ -192,7 +192,7 @@ broken_gives strict (p ∷ ps) (suc m) start before bytes type reason fits le s 
     ap (map unplaced) (items_ok strict m start before bytes (p, left) (is_some_bytes bytes (omega (arith, sizes, some))) here)
     ∙ ap (λ (l : List Reported). Ok p ∷ l) others
 
--- ---- each payload is either
+-- ---- each payload has a reading
 
 back_is_nil : (front back : List ℕ) → front ++ back ≡ [] → back ≡ []
 back_is_nil [] back e = e
@@ -208,43 +208,40 @@ closed_or : (b : Bool) (left : List ℕ) → (b ≡ true → left ≡ []) → le
 closed_or true left opens some = absurd (some (opens refl))
 closed_or false left opens some = refl
 
-either_in : (strict : Bool) (n : ℕ) (before : Option ℕ) (bytes : List ℕ) → AreBytes bytes → length bytes ≤ n
-    → IsEither strict before bytes
-either_in strict zero before bytes fits le = inl ([], nothing bytes le)
-either_in strict (suc n) before bytes fits le =
+-- a frame before a reading of what follows it
+push : (strict : Bool) (before : Option ℕ) (bytes : List ℕ) (x : TypedFrame × List ℕ) → TakesFound strict x.0 bytes x.1
+    → (r : Reading) → IsReadingAfter strict (Some x.0.type) x.1 r
+    → (all : Reading) × IsReadingAfter strict before bytes all
+push strict before bytes x t (Complete others) s = (Complete (x.0 ∷ others), (t.front, x.1, t.parts, t.frame, t.opens, s))
+push strict before bytes x t (FailsAfter others type reason) s =
+    let not_done : x.1 ≢ [] =
+    λ h. no_frame_some strict (last_type (Some x.0.type) others) s.back type reason s.no_frame
+    (back_is_nil s.front s.back (sym s.parts ∙ h)) in (
+      FailsAfter (x.0 ∷ others) type reason,
+      record {
+        front = t.front ++ s.front;
+        back = s.back;
+        parts = t.parts ∙ ap (λ (l : List ℕ). t.front ++ l) s.parts ∙ sym (append_assoc t.front s.front s.back);
+        frames = (t.front, s.front, refl, t.frame, (λ opens. absurd (not_done (t.opens opens))), s.frames);
+        closed = (closed_or (is_open x.0.type) x.1 t.opens not_done, s.closed);
+        no_frame = s.no_frame;
+      },
+    )
+
+reading_in : (strict : Bool) (n : ℕ) (before : Option ℕ) (bytes : List ℕ) → AreBytes bytes → length bytes ≤ n
+    → (reading : Reading) × IsReadingAfter strict before bytes reading
+reading_in strict zero before bytes fits le = (Complete [], nothing bytes le)
+reading_in strict (suc n) before bytes fits le =
     elim (reads strict before bytes) [
-      | ends e ↦ inl ([], e)
+      | ends e ↦ (Complete [], e)
       | finds x some e ↦
-          let t = found_takes strict before bytes x fits e in
           let less = shorter strict before bytes x fits e in
           let lt = less.less in
-          elim (either_in strict n (Some x.0.type) x.1 less.fits (omega (arith, lt))) [
-            | inl a ↦ inl (x.0 ∷ a.0, (t.front, x.1, t.parts, t.frame, t.opens, a.1))
-            | inr a ↦
-                let s = a.3 in
-                let not_done : x.1 ≢ [] =
-                λ h. no_frame_some strict (last_type (Some x.0.type) a.0) s.back a.1 a.2 s.no_frame
-                (back_is_nil s.front s.back (sym s.parts ∙ h)) in
-                inr (
-                  x.0 ∷ a.0,
-                  a.1,
-                  a.2,
-                  record {
-                    front = t.front ++ s.front;
-                    back = s.back;
-                    parts = t.parts ∙ ap (λ (l : List ℕ). t.front ++ l) s.parts ∙ sym (append_assoc t.front s.front s.back);
-                    frames = (t.front, s.front, refl, t.frame, (λ opens. absurd (not_done (t.opens opens))), s.frames);
-                    closed = (closed_or (is_open x.0.type) x.1 t.opens not_done, s.closed);
-                    no_frame = s.no_frame;
-                  },
-                )
-          ]
+          let others = reading_in strict n (Some x.0.type) x.1 less.fits (omega (arith, lt)) in
+          push strict before bytes x (found_takes strict before bytes x fits e) others.0 others.1
       | fails i some e ↦
-          let reported = found_fails strict before bytes i fits some e in
-          inr (
-            [],
-            reported.type,
-            reported.reason,
+          let reported = found_fails strict before bytes i fits some e in (
+            FailsAfter [] reported.type reported.reason,
             record {
               front = [];
               back = bytes;
@@ -256,8 +253,9 @@ either_in strict (suc n) before bytes fits le =
           )
     ]
 
-pub is_either : (strict : Bool) (before : Option ℕ) (bytes : List ℕ) → AreBytes bytes → IsEither strict before bytes
-is_either strict before bytes fits = either_in strict (length bytes) before bytes fits (omega arith)
+pub has_reading : (strict : Bool) (before : Option ℕ) (bytes : List ℕ) → AreBytes bytes
+    → (reading : Reading) × IsReadingAfter strict before bytes reading
+has_reading strict before bytes fits = reading_in strict (length bytes) before bytes fits (omega arith)
 
 -- ---- the items of a payload
 
@@ -319,34 +317,7 @@ pub all_read : (strict : Bool) (start : ℕ) (before : Option ℕ) (bytes : List
     → items_of strict start before bytes ≡ [] → bytes ≡ []
 all_read strict start before bytes fits none = some_of strict start before bytes fits (reads strict before bytes) none
 
--- ---- the payload has one reading
-
-reported_same : (ps qs : List TypedFrame) → map given ps ≡ map given qs → ps ≡ qs
-reported_same [] [] e = refl
-reported_same [] (q ∷ qs) e = absurd cc
-reported_same (p ∷ ps) [] e = absurd cc
-reported_same (p ∷ ps) (q ∷ qs) e =
-    let head : p ≡ q = cc in
-    let tails : map given ps ≡ map given qs = cc in
-    cc (head, reported_same ps qs tails)
-
-pub one_reading : (strict : Bool) (ps qs : List TypedFrame) (bytes : List ℕ) → AreFrames strict ps bytes
-    → AreFrames strict qs bytes → ps ≡ qs
-one_reading strict ps qs bytes s t =
-    reported_same ps qs (sym (frames_are_items strict ps 0 None bytes s) ∙ frames_are_items strict qs 0 None bytes t)
-
-reported_differ : (ps qs : List TypedFrame) (i : Invalid) → map given ps ≡ map given qs ++ Err i ∷ [] → ⊥
-reported_differ [] [] i e = cc
-reported_differ [] (q ∷ qs) i e = cc
-reported_differ (p ∷ ps) [] i e = cc
-reported_differ (p ∷ ps) (q ∷ qs) i e =
-    let tails : map given ps ≡ map given qs ++ Err i ∷ [] = cc in reported_differ ps qs i tails
-
-pub never_both : (strict : Bool) (ps qs : List TypedFrame) (bytes : List ℕ) (type : Option ℕ) (reason : Fault)
-    → AreBytes bytes → AreFrames strict ps bytes → IsBroken strict None qs bytes type reason → ⊥
-never_both strict ps qs bytes type reason fits s t =
-    reported_differ ps qs (invalid type reason) (sym (frames_are_items strict ps 0 None bytes s)
-    ∙ broken_are_items strict qs 0 None bytes type reason fits t)
+-- ---- frames that begin others
 
 abbrev found_of : TypedFrame × List ℕ → Result (TypedFrame × List ℕ) Invalid
 found_of x = Ok x

@@ -1,5 +1,5 @@
 -- What bytes that come later can't change.
-use Rattle.std.proofs.Common.{◌≡◌, ◌≢◌, ℕ, zero, suc, ◌+◌, ◌-◌, ◌<◌, Bool, true, false, cond, ltb, eqb, List, [], ◌∷◌, ◌++◌, length, Option, None, Some, Result, Ok, Err, refl, sym, ap, subst, ◌∙◌, append_assoc, inl, inr, arith}
+use Rattle.std.proofs.Common.{◌≡◌, ◌≢◌, ℕ, zero, suc, ◌+◌, ◌-◌, ◌<◌, Bool, true, false, cond, ltb, eqb, List, [], ◌∷◌, ◌++◌, length, map, Option, None, Some, Result, Ok, Err, refl, sym, ap, subst, ◌∙◌, append_assoc, inl, inr, arith}
 use Rattle.std.specs.Prelude.{◌||◌}
 use Rattle.std.proofs.lemmas.List.{length-append}
 use Rattle.quic_base.specs.Number.{AreBytes}
@@ -8,14 +8,14 @@ use Rattle.quic_frame_fields.specs.declared.frame.fault.Fault.{Fault}
 use Rattle.quic_frame_fields.specs.declared.frame.fault.Fault.TheVariants.{UnexpectedEnd, InvalidFrameId, Malformed, LongType}
 use Rattle.quic_frame_fields.specs.Field.{Value, Field, Varint, Counted, Id, Uint64, Bytes16, Blocks, Rest, Implied, Ordered, is_ordered, greatest_of, NumberStops, BelowStops, BlocksStop, StopsWithin}
 use Rattle.quic_frame_fields.specs.Table.{is_open}
-use Rattle.quic_frame_fields.specs.Payload.{TypedFrame, AreFrames, AreClosed, last_type, BeginsWithType, IsNoFrame, IsBroken}
+use Rattle.quic_frame_fields.specs.Payload.{TypedFrame, AreFrames, AreClosed, last_type, BeginsWithType, IsNoFrame, IsBroken, Reading, Complete, FailsAfter, IsReadingAfter, IsReadingOf, followed_by}
+use Rattle.quic_frames.specs.Placed.{Placed, ArePlaced, found_in}
 use Rattle.quic_base.specs.Reading.{◌>>=◌}
-use Rattle.quic_frame_fields.specs.Reading.{id_at, field_at, found_at, of_ranges, Item, Whole, items_of}
+use Rattle.quic_frame_fields.specs.Reading.{id_at, field_at, of_ranges}
 use Rattle.quic_frame_fields.proofs.Steps.{true_is_not_false}
 use Rattle.quic_frame_fields.proofs.Blocks.{blocks_stop}
 use Rattle.quic_frames.proofs.Fields.{field_fails, field_stops, stops_again}
-use Rattle.quic_frames.proofs.Frames.{found_again}
-use Rattle.quic_frames.proofs.Items.{frame_some, items_found, no_items, never_both}
+use Rattle.quic_frames.proofs.Readings.{one_reading}
 
 -- ---- a field that stops
 
@@ -160,74 +160,87 @@ error_lasts strict found bytes more type reason fits known b =
           (back_bytes b.front (b.back ++ more) (subst AreBytes parts fits)) known b.no_frame;
     }
 
+never_both : (strict : Bool) (some others : List TypedFrame) (bytes : List ℕ) (type : Option ℕ) (reason : Fault)
+    → AreBytes bytes → AreFrames strict some bytes → IsBroken strict None others bytes type reason → {P : Type 0} → P
+never_both strict some others bytes type reason fits s b =
+    let one = one_reading strict None bytes fits in
+    let same : Complete some ≡ FailsAfter others type reason =
+    one.only (Complete some) s ∙ sym (one.only (FailsAfter others type reason) b) in
+    absurd (cc same)
+
 -- A front of a payload without an error is cut, if it has one.
 pub only_cut : (strict : Bool) (found others : List TypedFrame) (bytes more : List ℕ) (type : Option ℕ) (reason : Fault)
     → AreBytes (bytes ++ more) → AreFrames strict found (bytes ++ more) → IsBroken strict None others bytes type reason
     → reason ≡ UnexpectedEnd
 only_cut strict found others bytes more type UnexpectedEnd fits s b = refl
 only_cut strict found others bytes more type InvalidFrameId fits s b =
-    absurd (never_both strict found others (bytes ++ more) type InvalidFrameId fits s
-    (error_lasts strict others bytes more type InvalidFrameId fits (λ e. cc) b))
+    never_both strict found others (bytes ++ more) type InvalidFrameId fits s
+    (error_lasts strict others bytes more type InvalidFrameId fits (λ e. cc) b)
 only_cut strict found others bytes more type Malformed fits s b =
-    absurd (never_both strict found others (bytes ++ more) type Malformed fits s
-    (error_lasts strict others bytes more type Malformed fits (λ e. cc) b))
+    never_both strict found others (bytes ++ more) type Malformed fits s
+    (error_lasts strict others bytes more type Malformed fits (λ e. cc) b)
 only_cut strict found others bytes more type LongType fits s b =
-    absurd (never_both strict found others (bytes ++ more) type LongType fits s
-    (error_lasts strict others bytes more type LongType fits (λ e. cc) b))
+    never_both strict found others (bytes ++ more) type LongType fits s
+    (error_lasts strict others bytes more type LongType fits (λ e. cc) b)
 
 -- ---- frames
 
-some_front : (a b : List ℕ) → 0 < length a → a ++ b ≢ []
-some_front a b some e = absurd (omega (arith, some, length-append a b, ap length e))
+frames_then : (strict : Bool) (found others : List TypedFrame) (bytes more : List ℕ) → AreFrames strict found bytes
+    → AreClosed found → AreFrames strict others more → AreFrames strict (found ++ others) (bytes ++ more)
+frames_then strict [] others bytes more are closed follow = rw are follow
+frames_then strict (f ∷ found) others bytes more are closed follow = (
+  are.0,
+  are.1 ++ more,
+  ap (λ (l : List ℕ). l ++ more) are.2 ∙ append_assoc are.0 are.1 more,
+  are.3,
+  (λ opens. absurd (true_is_not_false (sym opens ∙ closed.0))),
+  frames_then strict found others are.1 more are.5 closed.1 follow,
+)
 
--- where a frame ends
-stop_is : (start : ℕ) (bytes front back : List ℕ) → bytes ≡ front ++ back
-    → start + (length bytes - length back) ≡ start + length front
-stop_is start bytes front back e = omega (arith, ap length e, length-append front back)
+closed_then : (found others : List TypedFrame) → AreClosed found → AreClosed others → AreClosed (found ++ others)
+closed_then [] others closed follow = follow
+closed_then (f ∷ found) others closed follow = (closed.0, closed_then found others closed.1 follow)
 
-frames_on : (strict : Bool) (found : List TypedFrame) (start : ℕ) (before : Option ℕ) (bytes more : List ℕ)
-    → AreBytes (bytes ++ more) → AreFrames strict found bytes → AreClosed found
-    → items_of strict start before (bytes ++ more) ≡ items_of strict start before bytes
-    ++ items_of strict (start + length bytes) (last_type before found) more
-frames_on strict [] start before bytes more fits s closed =
-    let none : items_of strict start before bytes ≡ [] =
-    ap (items_of strict start before) s ∙ no_items strict start before in
-    let same : start ≡ start + length bytes = omega (arith, ap length s) in
-    ap (λ (l : List ℕ). items_of strict start before (l ++ more)) s ∙ ap (λ (n : ℕ). items_of strict n before more) same
-    ∙ ap (λ (l : List Item). l ++ items_of strict (start + length bytes) before more) (sym none)
-frames_on strict (p ∷ ps) start before bytes more fits s closed =
-    let parts : bytes ++ more ≡ s.0 ++ (s.1 ++ more) = ap (λ (l : List ℕ). l ++ more) s.2 ∙ append_assoc s.0 s.1 more in
-    let some = frame_some strict p s.0 s.3 in
-    let open_less : (back : List ℕ) → is_open p.type ≡ true → back ≡ [] =
-    λ back opens. absurd (true_is_not_false (sym opens ∙ closed.0)) in
-    let long =
-    ap (found_at strict before) parts
-    ∙ found_again strict before p s.0 (s.1 ++ more) s.3 (open_less (s.1 ++ more)) in
-    let here = ap (found_at strict before) s.2 ∙ found_again strict before p s.0 s.1 s.3 (open_less s.1) in
-    let one =
-    items_found strict start before (bytes ++ more) (p, s.1 ++ more) fits
-    (λ e. some_front s.0 (s.1 ++ more) some (sym parts ∙ e)) long in
-    let two =
-    items_found strict start before bytes (p, s.1) (front_bytes bytes more fits) (λ e. some_front s.0 s.1 some (sym s.2 ∙ e)) here in
-    let stop = start + length s.0 in
-    let stop_long : start + (length (bytes ++ more) - length (s.1 ++ more)) ≡ stop =
-    stop_is start (bytes ++ more) s.0 (s.1 ++ more) parts in
-    let stop_here : start + (length bytes - length s.1) ≡ stop = stop_is start bytes s.0 s.1 s.2 in
-    let at_end : stop + length s.1 ≡ start + length bytes = omega (arith, ap length s.2, length-append s.0 s.1) in
-    let others =
-    frames_on strict ps stop (Some p.type) s.1 more (back_bytes s.0 (s.1 ++ more) (subst AreBytes parts fits)) s.5 closed.1 in
-    one ∙ ap (λ (n : ℕ). Whole start n p ∷ items_of strict n (Some p.type) (s.1 ++ more)) stop_long
-    ∙ ap (λ (l : List Item). Whole start stop p ∷ l) others
-    ∙ ap (λ (n : ℕ). Whole start stop p ∷ (items_of strict stop (Some p.type) s.1
-    ++ items_of strict n (last_type (Some p.type) ps) more)) at_end
-    ∙ ap (λ (l : List Item). l ++ items_of strict (start + length bytes) (last_type (Some p.type) ps) more)
-    (sym (two ∙ ap (λ (n : ℕ). Whole start n p ∷ items_of strict n (Some p.type) s.1) stop_here))
+last_then : (before : Option ℕ) (found others : List TypedFrame)
+    → last_type before (found ++ others) ≡ last_type (last_type before found) others
+last_then before [] others = refl
+last_then before (f ∷ found) others = last_then (Some f.type) found others
 
--- Frames that aren't open stay in their places, whatever follows.
-pub frames_stay : (strict : Bool) (found : List TypedFrame) (bytes more : List ℕ) → AreBytes (bytes ++ more)
-    → AreFrames strict found bytes → AreClosed found
-    → items_of strict 0 None (bytes ++ more) ≡ items_of strict 0 None bytes ++ items_of strict (length bytes) (last_type None found) more
-frames_stay strict found bytes more fits s closed =
-    let e : 0 + length bytes ≡ length bytes = omega arith in
-    frames_on strict found 0 None bytes more fits s closed
-    ∙ ap (λ (n : ℕ). items_of strict 0 None bytes ++ items_of strict n (last_type None found) more) e
+-- Frames that aren't open are read again, and then what follows.
+pub frames_stay : (strict : Bool) (found : List TypedFrame) (bytes more : List ℕ) (rest : Reading)
+    → IsReadingOf strict bytes (Complete found) → AreClosed found
+    → IsReadingAfter strict (last_type None found) more rest
+    → IsReadingOf strict (bytes ++ more) (followed_by found rest)
+frames_stay strict found bytes more (Complete others) are closed follow =
+    frames_then strict found others bytes more are closed follow
+frames_stay strict found bytes more (FailsAfter others type reason) are closed b = record {
+  front = bytes ++ b.front;
+  back = b.back;
+  parts = ap (λ (l : List ℕ). bytes ++ l) b.parts ∙ sym (append_assoc bytes b.front b.back);
+  frames = frames_then strict found others bytes b.front are closed b.frames;
+  closed = closed_then found others closed b.closed;
+  no_frame = subst (λ (t : Option ℕ). IsNoFrame strict t b.back type reason)
+      (sym (last_then None found others)) b.no_frame;
+}
+
+-- They stay where they are.
+pub places_stay : (strict : Bool) (start : ℕ) (frames others : List Placed) (bytes more : List ℕ)
+    → ArePlaced strict start frames bytes → AreClosed (map found_in frames)
+    → ArePlaced strict (start + length bytes) others more
+    → ArePlaced strict start (frames ++ others) (bytes ++ more)
+places_stay strict start [] others bytes more are closed follow =
+    let at : start + length bytes ≡ start = omega (arith, ap length are) in
+    rw are (subst (λ (n : ℕ). ArePlaced strict n others more) at follow)
+places_stay strict start (p ∷ frames) others bytes more are closed follow =
+    let at : start + length bytes ≡ p.stop + length are.1 =
+    omega (arith, ap length are.2, length-append are.0 are.1, are.6) in (
+      are.0,
+      are.1 ++ more,
+      ap (λ (l : List ℕ). l ++ more) are.2 ∙ append_assoc are.0 are.1 more,
+      are.3,
+      (λ opens. absurd (true_is_not_false (sym opens ∙ closed.0))),
+      are.5,
+      are.6,
+      places_stay strict p.stop frames others are.1 more are.7 closed.1
+          (subst (λ (n : ℕ). ArePlaced strict n others more) at follow),
+    )

@@ -3,12 +3,14 @@ mod Fields
 mod Rows
 mod Frames
 pub mod Items
+pub mod Readings
 mod Later
 mod Reasons
 mod Finding
 pub mod Placing
 mod Places
 mod Padding
+pub mod Turns
 mod SizeBounds
 mod LeastFields
 mod LeastFrames

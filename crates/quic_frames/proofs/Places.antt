@@ -1,25 +1,26 @@
 -- Where frames are in a payload, as an iterator comes over it.
 use Rattle.std.proofs.Common.{◌≡◌, ◌≢◌, ℕ, ◌+◌, ◌-◌, ◌<◌, ◌≤◌, Bool, true, false, eqb, List, [], ◌∷◌, ◌++◌, length, take, drop, Option, Some, None, Ok, Err, refl, sym, ap, subst, ◌∙◌, append_assoc, inl, inr, arith}
-use Rattle.std.specs.Prelude.{◌⊎◌, slice_range}
+use Rattle.std.specs.Prelude.{◌⊎◌, slice_range, if◌then◌else◌}
 use Rattle.std.proofs.lemmas.List.{append-nil, length-append, length-drop, length-take, take_at, take-append-drop, drop_at, take_rest}
 use Rattle.std.proofs.lemmas.Bool.Decides.{nat_tests}
 use Rattle.quic_base.specs.Number.{AreBytes}
 use Rattle.quic_base.proofs.PublicLaws.{back_bytes}
 use Rattle.quic_frames.specs.declared.frame.Frame.{Frame}
+use Rattle.quic_errors.specs.declared.invalid_frame.InvalidFrame.{InvalidFrame}
 use Rattle.quic_frame_fields.specs.Field.{Value, Number, Bytes, Ranges, Field, IsField, AreFields}
 use Rattle.quic_frame_fields.specs.Field as kinds
 use Rattle.quic_frame_fields.specs.Table.{is_open}
 use Rattle.quic_frame_fields.specs.Payload.{TypedFrame, IsFrame}
-use Rattle.quic_frame_fields.specs.Reading.{Invalid, found_at, Whole, Broken, items_of}
+use Rattle.quic_frame_fields.specs.Reading.{found_at}
 use Rattle.quic_frame_fields.proofs.AckPlaces.{stand_in_frame}
 use Rattle.quic_frames.specs.declared.frame.Frame.TheVariants as frames
 use Rattle.quic_frames.specs.Found.{found_as, HasItsBlocksBehind}
 use Rattle.quic_frames.specs.InRange.{HasNoTypeZero}
 use Rattle.quic_frames.specs.IterState.{IterState}
-use Rattle.quic_frames.specs.Walk.{left, bytes_of_value, last_bytes, Stands, StandsAsRead, Finds}
+use Rattle.quic_frames.specs.Walk.{bytes_left, rest_of, invalid_of, bytes_of_value, last_bytes, Stands, StandsAsRead, Finds, Fails, IsSpent}
 use Rattle.quic_frames.proofs.Finding.{found_padding}
-use Rattle.quic_frames.proofs.Frames.{TakesFound, found_takes}
-use Rattle.quic_frames.proofs.Items.{frame_some, nothing, items_found, items_broken, no_items, all_read}
+use Rattle.quic_frames.proofs.Frames.{TakesFound, found_takes, found_fails}
+use Rattle.quic_frames.proofs.Items.{frame_some, no_frame_some, some_length}
 
 -- ---- the last bytes of a frame
 
@@ -160,20 +161,6 @@ cut_stands strict payload offset stop found rest c =
           ];
     }
 
-cut_rest : (strict : Bool) (payload : List ℕ) (offset stop : ℕ) (found : TypedFrame) (rest : List ℕ)
-    → Cut strict payload offset stop found rest → drop stop payload ≡ rest
-cut_rest strict payload offset stop found rest c =
-    let whole : payload ≡ (c.first ++ c.front) ++ rest = c.whole ∙ sym (append_assoc c.first c.front rest) in
-    let len : length (c.first ++ c.front) ≡ stop = length-append c.first c.front ∙ c.ends in
-    ap (drop stop) whole ∙ drop_at (c.first ++ c.front) rest stop len
-
-drop_nothing : (payload : List ℕ) (offset : ℕ) → offset ≤ length payload → drop offset payload ≡ []
-    → offset ≡ length payload
-drop_nothing payload offset le e = omega (arith, length-drop offset payload, ap length e, le)
-
-drop_all : (payload : List ℕ) (offset : ℕ) → offset ≡ length payload → drop offset payload ≡ []
-drop_all payload offset e = nothing (drop offset payload) (omega (arith, length-drop offset payload))
-
 -- the bytes from a place on, as the code cuts them
 pub rest_is : (payload : List ℕ) (offset : ℕ)
     → take (length payload - offset) (drop offset payload) ≡ drop offset payload
@@ -204,45 +191,22 @@ finds strict payload offset last ty frame rest apart fits le some e =
     let stop = length payload - length rest in
     let t = found_takes strict last bytes (found, rest) fits e in
     let c = cut_at strict payload offset found rest le t in
-    let after : drop stop payload ≡ rest = cut_rest strict payload offset stop found rest c in
     let size : length bytes ≡ length payload - offset = length-drop offset payload in
-    let some_left : bytes ≢ [] = λ h. absurd (omega (arith, ap length h, size, some)) in
-    let fewer : length rest ≤ length bytes = omega (arith, ap length t.parts, length-append t.front rest) in
-    let same : offset + (length bytes - length rest) ≡ stop = omega (arith, size, fewer, le) in
-    let items = items_found strict offset last bytes (found, rest) fits some_left e in
-    let rest_fits : AreBytes rest = back_bytes t.front rest (subst AreBytes t.parts fits) in
     let long : length t.front ≡ stop - offset =
     omega (arith, ap length t.parts, length-append t.front rest, size, le) in
     let here : slice_range payload offset stop ≡ t.front =
     ap (take (stop - offset)) t.parts ∙ take_at t.front rest (stop - offset) long in
     record {
+      goes_on = refl;
+      octets = fits;
       found = found;
       says = refl;
       distinct = apart.0;
       comes = refl;
-      first = items ∙ ap (λ (n : ℕ). Whole offset n found ∷ items_of strict n (Some ty) rest) same
-          ∙ ap (λ (l : List ℕ). Whole offset stop found ∷ items_of strict stop (Some ty) l) (sym after);
       stands = cut_stands strict payload offset stop found rest c;
       blocks = subst (λ (l : List ℕ). StandsAsRead ty frame l) (sym here) (stand_as_read ty frame bytes t.front rest fits t.parts apart.1);
       ends = λ opens. omega (arith, ap length (t.opens opens));
-      is_done = (
-        (λ none. drop_nothing payload stop c.within (after ∙ all_read strict stop (Some ty) rest rest_fits
-            (ap (items_of strict stop (Some ty)) (sym after) ∙ none))),
-        (λ end. ap (items_of strict stop (Some ty)) (drop_all payload stop end) ∙ no_items strict stop (Some ty)),
-      );
     }
-
--- an invalid frame
-pub breaks : (strict : Bool) (payload : List ℕ) (offset : ℕ) (last : Option ℕ) (i : Invalid) → offset < length payload
-    → found_at strict last (drop offset payload) ≡ Err i → left (at_place strict payload offset last) ≡ Broken i ∷ []
-breaks strict payload offset last i some e =
-    items_broken strict offset last (drop offset payload) i (λ h. absurd (omega (arith, ap length h, length-drop offset payload, some))) e
-
--- nothing
-pub is_over : (strict : Bool) (payload : List ℕ) (offset : ℕ) (last : Option ℕ) → length (drop offset payload) ≡ 0
-    → left (at_place strict payload offset last) ≡ []
-is_over strict payload offset last none =
-    ap (items_of strict offset last) (nothing (drop offset payload) (omega arith)) ∙ no_items strict offset last
 
 -- the same of a walk whose parts are given separately
 abbrev pub walk : Bool → List ℕ → ℕ → Option ℕ → Bool → IterState
@@ -312,30 +276,70 @@ padding_here strict payload offset last b old v f le some fits front =
     (finds_here strict payload offset last b old 0 frames.Padding rest tt tt v f le some fits
     (found_padding strict last bytes rest front))
 
-pub breaks_here : (strict : Bool) (payload : List ℕ) (offset : ℕ) (last : Option ℕ) (b : Bool) (old : IterState) (i : Invalid)
+-- no frame at the offset
+pub breaks_here : (strict : Bool) (payload : List ℕ) (offset : ℕ) (last : Option ℕ) (b : Bool) (old : IterState)
+    (error : InvalidFrame)
     → walk strict payload offset last b ≡ old → b ≡ false
     → eqb (length (take (length payload - offset) (drop offset payload))) 0 ≡ false
-    → found_at strict last (take (length payload - offset) (drop offset payload)) ≡ Err i
-    → (left old ≡ Broken i ∷ []) × (walk strict payload offset last true ≡ record old { is_broken = true })
-breaks_here strict payload offset last b old i v f some e =
+    → AreBytes (take (length payload - offset) (drop offset payload))
+    → found_at strict last (take (length payload - offset) (drop offset payload)) ≡ Err (invalid_of error)
+    → Fails old error (walk strict payload offset last true)
+breaks_here strict payload offset last b old error v f some fits e =
     let cut = rest_is payload offset in
-    let is = is_not_broken strict payload offset last b old v f in (
-      ap left (sym is)
-          ∙ breaks strict payload offset last i (some_bytes payload offset some) (ap (found_at strict last) (sym cut) ∙ e),
-      ap (λ (o : IterState). record o { is_broken = true }) is,
-    )
+    let less = some_bytes payload offset some in
+    let octets = subst AreBytes cut fits in
+    let left_some : drop offset payload ≢ [] = λ h. absurd (omega (arith, ap length h, length-drop offset payload, less)) in
+    let told = found_fails strict last (drop offset payload) (invalid_of error) octets left_some
+    (ap (found_at strict last) (sym cut) ∙ e) in
+    subst (λ (o : IterState). Fails o error (walk strict payload offset last true))
+    (is_not_broken strict payload offset last b old v f)
+    (record {
+      lacks = record {
+        goes_on = refl;
+        type = told.type;
+        reason = told.reason;
+        no_frame = told.no_frame;
+        says = told.is_reported;
+      };
+      octets = octets;
+      comes = refl;
+    })
 
 pub is_broken_here : (strict : Bool) (payload : List ℕ) (offset : ℕ) (last : Option ℕ) (b : Bool) (old : IterState)
-    → walk strict payload offset last b ≡ old → b ≡ true → left old ≡ []
-is_broken_here strict payload offset last b old v t =
-    ap left (sym v) ∙ ap (λ (c : Bool). left (walk strict payload offset last c)) t
+    → walk strict payload offset last b ≡ old → b ≡ true → IsSpent old
+is_broken_here strict payload offset last b old v t = inl (ap (λ (s : IterState). s.is_broken) (sym v) ∙ t)
 
 pub is_over_here : (strict : Bool) (payload : List ℕ) (offset : ℕ) (last : Option ℕ) (b : Bool) (old : IterState)
-    → walk strict payload offset last b ≡ old → b ≡ false
-    → eqb (length (take (length payload - offset) (drop offset payload))) 0 ≡ true → left old ≡ []
-is_over_here strict payload offset last b old v f none =
-    let size : length (take (length payload - offset) (drop offset payload)) ≡ length (drop offset payload) =
-    ap length (rest_is payload offset) in
-    let zero_left : length (drop offset payload) ≡ 0 =
-    let n : eqb (length (drop offset payload)) 0 ≡ true = rw size at none in grind (arith, nat_tests) in
-    ap left (sym (is_not_broken strict payload offset last b old v f)) ∙ is_over strict payload offset last zero_left
+    → walk strict payload offset last b ≡ old → offset ≤ length payload
+    → eqb (length (take (length payload - offset) (drop offset payload))) 0 ≡ true → IsSpent old
+is_over_here strict payload offset last b old v le none =
+    let size : length (take (length payload - offset) (drop offset payload)) ≡ length payload - offset =
+    ap length (rest_is payload offset) ∙ length-drop offset payload in
+    let end : offset ≡ length payload =
+    let n : length payload - offset ≡ 0 = zero_left (length payload - offset) (rw size at none) in omega (arith, n, le) in
+    inr (ap (λ (s : IterState). s.offset) (sym v) ∙ end ∙ ap (λ (s : IterState). length s.payload) v)
+  where
+    zero_left : (n : ℕ) → eqb n 0 ≡ true → n ≡ 0
+    zero_left n e = grind (arith, nat_tests)
+
+-- ---- fewer bytes are left
+
+pub finds_fewer : (old new : IterState) (frame : Frame) → Finds old frame new → bytes_left new < bytes_left old
+finds_fewer old new frame f =
+    let some = f.stands.some in
+    let within = f.stands.within in
+    let same : bytes_left new ≡ length old.payload - new.offset =
+    ap (λ (s : IterState). if s.is_broken then 0 else length s.payload - new.offset) f.comes
+    ∙ ap (λ (b : Bool). if b then 0 else length old.payload - new.offset) f.goes_on in
+    let before : bytes_left old ≡ length old.payload - old.offset =
+    ap (λ (b : Bool). if b then 0 else length old.payload - old.offset) f.goes_on in
+    omega (arith, same, before, some, within)
+
+pub fails_fewer : (old new : IterState) (error : InvalidFrame) → Fails old error new → bytes_left new < bytes_left old
+fails_fewer old new error f =
+    let l = f.lacks in
+    let some = some_length (rest_of old) (no_frame_some old.strict old.last (rest_of old) l.type l.reason l.no_frame) in
+    let before : bytes_left old ≡ length old.payload - old.offset =
+    ap (λ (b : Bool). if b then 0 else length old.payload - old.offset) l.goes_on in
+    let after : bytes_left new ≡ 0 = ap bytes_left f.comes in
+    omega (arith, before, after, some, length-drop old.offset old.payload)

@@ -1,7 +1,8 @@
 //! Laws of payloads, which no single call carries. The functions do nothing.
-ghost use Rattle.std.specs.Prelude.{◌≡◌, ◌≢◌, ◌<◌, ◌≤◌, ◌^◌, ◌++◌, ℕ, List, [], ◌∷◌, None, Some, Option, Bool, Err, true, false, if◌then◌else◌, drop, map, length};
+ghost use Rattle.std.specs.Prelude.{◌≡◌, ◌≢◌, ◌<◌, ◌≤◌, ◌^◌, ◌+◌, ◌++◌, ℕ, List, [], ◌∷◌, None, Some, Option, Bool, Err, true, false, if◌then◌else◌, map, length};
 ghost use Rattle.std.specs.declared.ops.Range.{Range};
 ghost use Rattle.quic_base.specs.Number.{AreBytes};
+ghost use Rattle.quic_base.specs.One.{ExactlyOne};
 ghost use Rattle.quic_ranges.specs.Runs.{IsMaximalRuns, IsGreatest, member};
 ghost use Rattle.quic_frame_fields.specs.Acks.{parts_of, ranges_acked};
 ghost use Rattle.quic_frame_fields.specs.Field.{AreApart, AreBlocks};
@@ -10,11 +11,10 @@ ghost use Rattle.quic_frame_fields.specs.Sets.{AreCounts, ranges_in, greatest_in
 ghost use Rattle.quic_frames.specs.InRange.{IsTypedFrame, AreTyped, HasNoTypeZero, CanStand, CanFollow};
 ghost use Rattle.quic_frames.specs.Least.{AreOrExceed, shortest_frames, frame_in, as_written, all_written};
 ghost use Rattle.quic_frames.specs.Meaning.{meaning_of};
-ghost use Rattle.quic_frame_fields.specs.Payload.{Meaning, TypedFrame, IsFrame, AreFrames, AreClosed, IsBroken, IsEither, last_type};
+ghost use Rattle.quic_frame_fields.specs.Payload.{Meaning, TypedFrame, IsFrame, AreFrames, AreClosed, IsBroken, Reading, Complete, IsReadingAfter, IsReadingOf, followed_by, last_type};
 ghost use Rattle.quic_frame_fields.specs.Reading.{Broken, IsBlocks, invalid, items_of, ranges_of, reason_text};
 ghost use Rattle.quic_errors.specs.Codes.{long_type_reason};
-ghost use Rattle.quic_frames.specs.Placed.{Placed, ArePlaced, IsPlacedBroken, whole};
-ghost use Rattle.quic_frames.specs.Walk.{given, left, resumed, unplaced};
+ghost use Rattle.quic_frames.specs.Placed.{Placed, ArePlaced, IsPlacedBroken, found_in, whole};
 ghost use Rattle.quic_frame_fields.specs.Shortest.{shortest_frame, stream_header};
 ghost use Rattle.quic_frame_fields.specs.declared.frame.Stream.{Stream};
 ghost use Rattle.quic_frame_fields.specs.Table.{is_open};
@@ -27,15 +27,14 @@ ghost use Rattle.quic_frame_fields.specs.declared.frame.fault.Fault.TheVariants.
 
 use crate::frame::RETIRE_CONNECTION_ID_SIZE_BOUND;
 
-/// A payload has one reading: it is all valid frames, or valid frames followed by an error, and never both. That holds
-/// where types may be in any encoding, and where they must be in their shortest.
+/// A payload has one reading: frames to its end, or frames up to an error, with that error's type and reason. So has what
+/// follows a frame. That holds where types may be in any encoding, and where they must be in their shortest.
 pub fn one_reading()
-    ensures either { (strict : Bool) (bytes : List ℕ) → AreBytes bytes → IsEither strict None bytes }
-    ensures one { (strict : Bool) (some others : List TypedFrame) (bytes : List ℕ)
+    ensures one { (strict : Bool) (before : Option ℕ) (bytes : List ℕ) → AreBytes bytes
+        → ExactlyOne (IsReadingAfter strict before bytes) }
+    // The frames are one list also where the bytes aren't known to be such.
+    ensures frames { (strict : Bool) (some others : List TypedFrame) (bytes : List ℕ)
         → AreFrames strict some bytes → AreFrames strict others bytes → some ≡ others }
-    ensures never_both { (strict : Bool) (some others : List TypedFrame) (bytes : List ℕ) (type : Option ℕ)
-        (reason : Fault)
-        → AreBytes bytes → AreFrames strict some bytes → IsBroken strict None others bytes type reason → ⊥ }
     // No frame that isn't open begins another one.
     ensures begins_none { (strict : Bool) (one other : TypedFrame) (bytes longer rest : List ℕ)
         → is_open one.type ≡ false
@@ -45,12 +44,18 @@ pub fn one_reading()
         → AreFrames strict found bytes → AreFrames false found bytes }
 {}
 
-/// Appending bytes changes no result: each frame that isn't open is read again at its place, and an error other than
-/// `unexpected end` is reported again, after the same frames, with the same type and reason.
+/// Appending bytes changes no result: frames that aren't open are read again, and then what follows them; an error other
+/// than `unexpected end` is reported again, after the same frames, with the same type and reason.
 pub fn lasting()
-    ensures frames { (strict : Bool) (found : List TypedFrame) (bytes more : List ℕ) → AreBytes (bytes ++ more)
-        → AreFrames strict found bytes → AreClosed found → items_of strict 0 None (bytes ++ more)
-        ≡ items_of strict 0 None bytes ++ items_of strict (length bytes) (last_type None found) more }
+    ensures frames { (strict : Bool) (found : List TypedFrame) (bytes more : List ℕ) (rest : Reading)
+        → IsReadingOf strict bytes (Complete found) → AreClosed found
+        → IsReadingAfter strict (last_type None found) more rest
+        → IsReadingOf strict (bytes ++ more) (followed_by found rest) }
+    // They stay where they are.
+    ensures places { (strict : Bool) (start : ℕ) (frames others : List Placed) (bytes more : List ℕ)
+        → ArePlaced strict start frames bytes → AreClosed (map found_in frames)
+        → ArePlaced strict (start + length bytes) others more
+        → ArePlaced strict start (frames ++ others) (bytes ++ more) }
     ensures error { (strict : Bool) (found : List TypedFrame) (bytes more : List ℕ) (type : Option ℕ) (reason : Fault)
         → AreBytes (bytes ++ more) → reason ≢ UnexpectedEnd
         → IsBroken strict None found bytes type reason → IsBroken strict None found (bytes ++ more) type reason }
@@ -75,20 +80,6 @@ pub fn items_in_place()
     ensures broken { (strict : Bool) (frames : List Placed) (bytes : List ℕ) (type : Option ℕ) (reason : Fault)
         → AreBytes bytes → IsPlacedBroken strict frames bytes type reason
         → items_of strict 0 None bytes ≡ map whole frames ++ Broken (invalid type reason) ∷ [] }
-{}
-
-/// An iterator that `Iter::resume` gives at a place gives the frames of the bytes from there on, whatever comes before:
-/// exactly their frames, or those before an invalid frame, and then the error of that.
-pub fn read_from_a_place()
-    ensures either { (strict : Bool) (payload : List ℕ) (offset : ℕ) (last : Option ℕ) → AreBytes payload
-        → IsEither strict last (drop offset payload) }
-    ensures frames { (strict : Bool) (payload : List ℕ) (offset : ℕ) (last : Option ℕ) (found : List TypedFrame)
-        → AreFrames strict found (drop offset payload)
-        → map unplaced (left (resumed payload offset last strict)) ≡ map given found }
-    ensures broken { (strict : Bool) (payload : List ℕ) (offset : ℕ) (last : Option ℕ) (found : List TypedFrame)
-        (type : Option ℕ) (reason : Fault) → AreBytes payload
-        → IsBroken strict last found (drop offset payload) type reason
-        → map unplaced (left (resumed payload offset last strict)) ≡ map given found ++ Err (invalid type reason) ∷ [] }
 {}
 
 /// Bytes encode at most one list of ranges as the blocks of an ACK, and no two of its ranges touch.

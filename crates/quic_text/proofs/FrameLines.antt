@@ -6,13 +6,14 @@ use Rattle.quic_frames.specs.Meaning.{meaning_of, type_of}
 use Rattle.quic_frames.specs.Payload.{Meaning}
 use Rattle.quic_frames.specs.IterState.{IterState}
 use Rattle.quic_frames.specs.Walk.{left, Finds}
+use Rattle.quic_frames.proofs.Turns.{finds_left}
 use Rattle.quic_text.specs.Printed.{Printed, line_bytes, is_plain}
 use Rattle.quic_text.specs.FrameText.{frame_line, item_line}
 
 pub first_line : (old new : IterState) (frame : Frame) → Finds old frame new
     → map item_line (left old) ≡ frame_line old.offset new.offset (type_of (meaning_of frame)) ∷ map item_line (left new)
 first_line old new frame f =
-    ap (map item_line) f.first
+    ap (map item_line) (finds_left old new frame f)
     ∙ ap (λ (m : Meaning). frame_line old.offset new.offset (type_of m) ∷ map item_line (left new)) f.says
 
 -- what was printed so far, the line and what is left

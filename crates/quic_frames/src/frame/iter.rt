@@ -1,10 +1,11 @@
 //! The frames of a payload, one after the other.
 ghost use Rattle.std.specs.Prelude.{◌≡◌, ◌<◌, ◌≤◌, ◌↔◌, ℕ, [], ◌∷◌, None, IfErr, IfOk, IfSome, IsErr, IsNone, IsTrue, codes, true, false, drop, length, slice_index};
 ghost use Rattle.quic_base.specs.Number.{AreBytes};
+ghost use Rattle.quic_base.specs.One.{ExactlyOne};
 ghost use Rattle.quic_errors.specs.Codes.{IsError, protocol_violation};
-ghost use Rattle.quic_frame_fields.specs.Payload.{IsEither};
+ghost use Rattle.quic_frame_fields.specs.Payload.{Reading, IsReadingOf, item_count};
 ghost use Rattle.quic_frames.specs.Padding.{PassesPadding};
-ghost use Rattle.quic_frames.specs.Walk.{left, first_of, resumed, GivesFrames, GivesBroken, BeginsWalk};
+ghost use Rattle.quic_frames.specs.Walk.{first_of, resumed, IsLeft, BeginsWalk};
 
 use super::found::read_typed_frame;
 use super::{Frame, FrameType, InvalidFrame};
@@ -41,17 +42,17 @@ impl<'a> Iter<'a> {
         ensures refusal { IfErr result (λ e. IsError e protocol_violation (codes "packet payload is empty")) }
         ensures first { IfOk result (λ it. it ≡ first_of false payload.now) }
 
-        // Each payload is all valid frames, or valid frames followed by an error.
-        ensures either { IsEither false None payload.now }
 
-        // It gives exactly the frames of a valid payload,
-        ensures frames { IfOk result (λ it. GivesFrames false payload.now it) }
+        // Each payload has one reading: frames to its end, or frames up to an error, with its type and reason.
+        ensures one { ExactlyOne (IsReadingOf false payload.now) }
 
-        // or those before an invalid frame, and then the error of that.
-        ensures broken { IfOk result (λ it. GivesBroken false payload.now it) }
+        // That is what the iterator gives,
+        ensures gives { IfOk result (λ it. (reading : Reading) → IsReadingOf false payload.now reading
+            → IsLeft it reading) }
 
-        // At most as many items as bytes.
-        ensures few { IfOk result (λ it. length (left it) ≤ length payload.now) }
+        // and it has at most as many items as the payload has bytes.
+        ensures few { (reading : Reading) → IsReadingOf false payload.now reading
+            → item_count reading ≤ length payload.now }
     {
         Iter::begin(payload, false)
     }
@@ -62,10 +63,11 @@ impl<'a> Iter<'a> {
         ensures empty { IsErr result ↔ (payload.now ≡ []) }
         ensures refusal { IfErr result (λ e. IsError e protocol_violation (codes "packet payload is empty")) }
         ensures first { IfOk result (λ it. it ≡ first_of true payload.now) }
-        ensures either { IsEither true None payload.now }
-        ensures frames { IfOk result (λ it. GivesFrames true payload.now it) }
-        ensures broken { IfOk result (λ it. GivesBroken true payload.now it) }
-        ensures few { IfOk result (λ it. length (left it) ≤ length payload.now) }
+        ensures one { ExactlyOne (IsReadingOf true payload.now) }
+        ensures gives { IfOk result (λ it. (reading : Reading) → IsReadingOf true payload.now reading
+            → IsLeft it reading) }
+        ensures few { (reading : Reading) → IsReadingOf true payload.now reading
+            → item_count reading ≤ length payload.now }
     {
         Iter::begin(payload, true)
     }
@@ -180,14 +182,14 @@ fn zeros(bytes: &[u8]) -> usize
 /// bytes of a frame are a slice of the payload that ends at `offset`; those of an ACK's blocks come after its type, its
 /// greatest number, its delay and the count of its ranges (RFC 9000, section 19.3).
 impl<'a> Iterator for Iter<'a> {
-    ghost use Rattle.std.specs.Iterator.{item_count};
-    ghost use Rattle.quic_frames.specs.Walk.{left, Advances};
+    ghost use Rattle.std.specs.Iterator.{at_most};
+    ghost use Rattle.quic_frames.specs.Walk.{bytes_left, Advances};
 
     type Item = Result<Frame<'a>, InvalidFrame>;
 
     ghost next_gives = { Advances };
 
-    ghost remaining = { item_count left };
+    ghost remaining = { λ it. at_most (bytes_left it) };
 
     #[inline(always)]
     fn next(&mut self) -> Option<Result<Frame<'a>, InvalidFrame>> {

@@ -49,7 +49,7 @@ returns-clause-filled g c =
       | then-loop-count-test+in-Some-Err+else-count-eq0 w ↦
           let steps =
           subst (λ f. Advances here.iter (Some f) w.next.new.self) w.in-Some-Err.field-0-is w.in-Some-Err.ensures.steps in
-          ends (inr (inr (invalid_of w.in-Some-Err.invalid, inl steps.0)))
+          ends (inr (inr (invalid_of w.in-Some-Err.invalid, inl steps.lacks)))
       | then-loop-count-test+in-None w ↦ ends (inr (inl w.in-None.ensures.steps.0))
       | then-loop-count-test+in-Some-Ok+then-is_unknown+else-count-eq0-2 w ↦
           let frame = w.in-Some-Ok.frame in

@@ -1,7 +1,7 @@
-use Rattle.std.proofs.Common.{arith, rules, refl, ap, inl, inr, ◌≡◌, ◌<◌, ◌∙◌, [], false, None, length, set, List}
+use Rattle.std.proofs.Common.{arith, rules, refl, subst, ap, inl, inr, ◌≡◌, ◌<◌, ◌∙◌, [], false, None, length, set, List}
 use Rattle.std.proofs.lemmas.List.{drop-set}
-use Rattle.quic_frames.proofs.Items.{all_read}
-use Rattle.quic_frames.specs.Walk.{left, first_of, invalid_of}
+use Rattle.quic_frames.proofs.Turns.{spent_is_empty}
+use Rattle.quic_frames.specs.Walk.{first_of, invalid_of, IsSpent}
 use Rattle.quic_c.specs.declared.words.CFrame.{CFrame}
 use Rattle.quic_c.specs.Shown.{state_of, at_front}
 use Rattle.quic_c.specs.Answers.{IsRefusedFrame}
@@ -16,9 +16,8 @@ returns-in-Ok-clause-frames c =
     let room : 0 < length c.args.out.now = search rules in
     let some : 0 < c.in-Ok.filled.count = elim (kinds c.in-Ok.filled.count) [
       | inl none ↦
-          let over : left (first_of false c.args.payload.now) ≡ [] = rw front at (facts.none none room) in
-          let nothing : c.args.payload.now ≡ [] =
-          all_read false 0 None c.args.payload.now (λ i. (c.type_inv.payload i).fits) over in
+          let over : IsSpent (first_of false c.args.payload.now) = subst IsSpent front (facts.none none room) in
+          let nothing = spent_is_empty false c.args.payload.now over in
           absurd (search rules)
       | inr some ↦ some
     ] in

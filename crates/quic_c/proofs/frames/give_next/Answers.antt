@@ -1,8 +1,7 @@
 use Rattle.std.proofs.Common.{rules, arith, inl, inr, sym, subst, ap, refl, ◌∙◌, ◌≡◌, [], ◌∷◌, Some}
 use Rattle.std.proofs.lemmas.Grind.{common_steps}
-use Rattle.quic_frame_fields.specs.Reading.{Broken}
 use Rattle.quic_frames.specs.IterState.{IterState}
-use Rattle.quic_frames.specs.Walk.{invalid_of, left, Advances, Finds}
+use Rattle.quic_frames.specs.Walk.{invalid_of, Advances, Finds, LacksFrame, IsSpent}
 use Rattle.quic_c.specs.Answers.{GivesInvalid, IsRefusedFrame, unknown_type}
 use Rattle.quic_c.specs.Filling.{further}
 use Rattle.quic_c.specs.Shown.{frame_kind_of, type_in, state_of}
@@ -13,7 +12,7 @@ pub returns-in-None : goal.returns-in-None
 returns-in-None g c = record {
   answers = inr (inl refl);
   frame = search rules;
-  end = λ _. ap left c.requires.state ∙ c.in-None.ensures.steps.0;
+  end = λ _. subst IsSpent (sym c.requires.state) c.in-None.ensures.steps.0;
   invalid = search rules;
   outside = grind (arith, common_steps);
   same = inr (inr (refl, refl));
@@ -23,8 +22,8 @@ pub returns-in-Some-Err : goal.returns-in-Some-Err
 returns-in-Some-Err g c =
     let s =
     subst (λ f. Advances c.args.iter.now (Some f) c.next.new.self) c.in-Some-Err.field-0-is c.in-Some-Err.ensures.steps in
-    let here : left (state_of c.args.frames.now c.args.iter.now.payload) ≡ Broken (invalid_of c.in-Some-Err.invalid) ∷ [] =
-    ap left c.requires.state ∙ s.0 in
+    let here : LacksFrame (state_of c.args.frames.now c.args.iter.now.payload) (invalid_of c.in-Some-Err.invalid) =
+    subst (λ (w : IterState). LacksFrame w (invalid_of c.in-Some-Err.invalid)) (sym c.requires.state) s.lacks in
     let gives : GivesInvalid c.args.basic c.args.frames.now c.args.iter.now.payload c.refuse-in-Some-Err.new.frames
     c.refuse-in-Some-Err.new.out =
     record {

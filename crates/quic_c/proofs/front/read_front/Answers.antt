@@ -1,7 +1,6 @@
 use Rattle.std.proofs.Common.{ap, ◌∙◌, inl, inr, refl, pos, to_z, w64, ◌≡◌, [], ◌∷◌, None, Some, subst, rules}
-use Rattle.quic_frame_fields.specs.Reading.{Broken}
-use Rattle.quic_frames.proofs.Items.{all_read}
-use Rattle.quic_frames.specs.Walk.{invalid_of, left, first_of, Advances, Finds}
+use Rattle.quic_frames.proofs.Turns.{spent_is_empty}
+use Rattle.quic_frames.specs.Walk.{invalid_of, first_of, Advances, Finds, LacksFrame, IsSpent}
 use Rattle.quic_c.specs.Shown.{frame_kind_of}
 use Rattle.quic_c.specs.Answers.{unknown_type}
 use Rattle.quic_c.specs.Front.{ReportsNone}
@@ -10,18 +9,17 @@ use Rattle.quic_c.proofs.front.read_front.Goals as goal
 
 pub returns-in-None : goal.returns-in-None
 returns-in-None g c =
-    let over : left (first_of c.args.strict c.args.payload.now) ≡ [] =
-    rw c.in-Some.ensures.state at c.in-None.ensures.steps.0 in
-    let nothing : c.args.payload.now ≡ [] =
-    all_read c.args.strict 0 None c.args.payload.now (λ i. (c.type_inv.payload i).fits) over in
+    let over : IsSpent (first_of c.args.strict c.args.payload.now) =
+    subst IsSpent c.in-Some.ensures.state c.in-None.ensures.steps.0 in
+    let nothing = spent_is_empty c.args.strict c.args.payload.now over in
     search rules
 
 pub returns-in-Some-Err : goal.returns-in-Some-Err
 returns-in-Some-Err g c =
     let s =
     subst (λ f. Advances c.in-Some.iter (Some f) c.next.new.self) c.in-Some-Err.field-0-is c.in-Some-Err.ensures.steps in
-    let first : left (first_of c.args.strict c.args.payload.now) ≡ Broken (invalid_of c.in-Some-Err.invalid) ∷ [] =
-    rw c.in-Some.ensures.state at s.0 in
+    let first : LacksFrame (first_of c.args.strict c.args.payload.now) (invalid_of c.in-Some-Err.invalid) =
+    subst (λ w. LacksFrame w (invalid_of c.in-Some-Err.invalid)) c.in-Some.ensures.state s.lacks in
     let reports : ReportsNone c.args.strict c.args.basic c.args.payload.now c.show_invalid-in-Some-Err.result =
     record { reported = invalid_of c.in-Some-Err.invalid; first = inl first; is = c.show_invalid-in-Some-Err.ensures } in
     record {

@@ -1,5 +1,4 @@
 use Rattle.std.proofs.Common.{false, arith}
-use Rattle.quic_frames.specs.Walk.{invalid_of}
 use Rattle.quic_canon.proofs.Steps.{finds_ok, fails_err, stands_at, small_at}
 use Rattle.quic_canon.proofs.PaddingWalk.{padding_goes_on_as, frame_goes_on}
 use Rattle.quic_c_canon.proofs.LenWalk.{len_begins, len_on, len_passed, len_as, len_done, len_fails}
@@ -8,14 +7,14 @@ use Rattle.quic_c_canon.proofs.canonical.shortest_len.Goals.{then-stop-start-eq1
 
 pub loop-item-init : goal.loop-item-init
 loop-item-init c =
-    len_begins c.args.payload.now c.in-Ok.iter c.in-Ok.ensures.first c.in-Ok.ensures.either c.in-Ok.ensures.frames c.in-Ok.ensures.broken
+    len_begins c.args.payload.now c.in-Ok.iter c.in-Ok.ensures.first
 
 pub returns-in-Err-clause-err : goal.returns-in-Err-clause-err
 returns-in-Err-clause-err c =
     let a =
     fails_err c.loop-item.iter c.next.new.self c.in-Some.item c.in-Err.invalid c.in-Err.is c.in-Some.ensures.steps in
-    len_fails c.args.payload.now c.loop-item.total c.loop-item.start c.loop-item.iter (invalid_of c.in-Err.invalid)
-    c.in-Ok.ensures.either c.loop-item.invariant a
+    len_fails c.args.payload.now c.loop-item.total c.loop-item.start c.loop-item.iter c.next.new.self c.in-Err.invalid
+    c.loop-item.invariant a
 
 pub frame_len-len-requires-clause-stands : goal.frame_len-len-requires-clause-stands
 frame_len-len-requires-clause-stands c =
@@ -62,7 +61,7 @@ loop-item-smaller c =
 
 pub returns-clause-ok : goal.returns-clause-ok
 returns-clause-ok c =
-    len_done c.args.payload.now c.loop-item.total c.loop-item.start c.loop-item.iter c.requires c.in-Ok.ensures.either
+    len_done c.args.payload.now c.loop-item.total c.loop-item.start c.loop-item.iter c.requires
     c.loop-item.invariant c.in_default-next.ensures.steps.0
 
 pub overflow_add-total : goal.overflow_add-total

@@ -6,8 +6,7 @@ use Rattle.quic_c_canon.proofs.canonical.store.Goals as goal
 
 pub loop-item-init : goal.loop-item-init
 loop-item-init c =
-    store_begins c.args.payload.now c.args.dest.now c.in-Ok.iter c.in-Ok.ensures.first c.in-Ok.ensures.either
-    c.in-Ok.ensures.frames c.in-Ok.ensures.broken
+    store_begins c.args.payload.now c.args.dest.now c.in-Ok.iter c.in-Ok.ensures.first
 
 pub unreachable-requires-in_default-item : goal.unreachable-requires-in_default-item
 unreachable-requires-in_default-item c =

@@ -32,7 +32,7 @@ unreachable-requires-in-None c =
     content_is c.encode.result c.in_ok-encode.field-0 _ _ _ (shortest_frame true m) c.deref.ensures.value
     (c.encode.ensures true).ok c.in_ok-encode.was c.requires.empty in
     let one =
-    one_left (as_written true m) (shortest_frame true m) _ c.in-Ok.frames encoded content c.in-Ok.ensures.frames in
+    one_left (as_written true m) (shortest_frame true m) _ c.in-Ok.frames encoded content c.in-Ok.ensures.first in
     let first = gives_it (as_written true m) c.in-Ok.frames c.next.new.self c.next.result one c.next.ensures.steps in
     let given = first.1 in
     cc
@@ -47,7 +47,7 @@ unreachable-requires-in-Some-Err c =
     content_is c.encode.result c.in_ok-encode.field-0 _ _ _ (shortest_frame true m) c.deref.ensures.value
     (c.encode.ensures true).ok c.in_ok-encode.was c.requires.empty in
     let one =
-    one_left (as_written true m) (shortest_frame true m) _ c.in-Ok.frames encoded content c.in-Ok.ensures.frames in
+    one_left (as_written true m) (shortest_frame true m) _ c.in-Ok.frames encoded content c.in-Ok.ensures.first in
     let first = gives_it (as_written true m) c.in-Ok.frames c.next.new.self c.next.result one c.next.ensures.steps in
     let given = first.1 in
     cc
@@ -62,7 +62,7 @@ unreachable-requires-in_default-frame c =
     content_is c.encode.result c.in_ok-encode.field-0 _ _ _ (shortest_frame true m) c.deref.ensures.value
     (c.encode.ensures true).ok c.in_ok-encode.was c.requires.empty in
     let one =
-    one_left (as_written true m) (shortest_frame true m) _ c.in-Ok.frames encoded content c.in-Ok.ensures.frames in
+    one_left (as_written true m) (shortest_frame true m) _ c.in-Ok.frames encoded content c.in-Ok.ensures.first in
     let first = gives_it (as_written true m) c.in-Ok.frames c.next.new.self c.next.result one c.next.ensures.steps in
     let given = first.1 in
     let same : c.in-Some-Ok.frame ≡ first.0 = cc in
@@ -78,7 +78,7 @@ loop-range-init c =
     content_is c.encode.result c.in_ok-encode.field-0 _ _ _ (shortest_frame true m) c.deref.ensures.value
     (c.encode.ensures true).ok c.in_ok-encode.was c.requires.empty in
     let one =
-    one_left (as_written true m) (shortest_frame true m) _ c.in-Ok.frames encoded content c.in-Ok.ensures.frames in
+    one_left (as_written true m) (shortest_frame true m) _ c.in-Ok.frames encoded content c.in-Ok.ensures.first in
     let first = gives_it (as_written true m) c.in-Ok.frames c.next.new.self c.next.result one c.next.ensures.steps in
     let given = first.1 in
     let same : frames.Ack c.in-Ack.ack ≡ first.0 = cc in
@@ -122,7 +122,7 @@ returns c =
     content_is c.encode.result c.in_ok-encode.field-0 _ _ _ (shortest_frame true m) c.deref.ensures.value
     (c.encode.ensures true).ok c.in_ok-encode.was c.requires.empty in
     let one =
-    one_left (as_written true m) (shortest_frame true m) _ c.in-Ok.frames encoded content c.in-Ok.ensures.frames in
+    one_left (as_written true m) (shortest_frame true m) _ c.in-Ok.frames encoded content c.in-Ok.ensures.first in
     let first = gives_it (as_written true m) c.in-Ok.frames c.next.new.self c.next.result one c.next.ensures.steps in
     let given = first.1 in
     let same : frames.Ack c.in-Ack.ack ≡ first.0 = cc in

@@ -1,6 +1,6 @@
 use Rattle.std.proofs.Common.{Some, subst, ◌∙◌}
-use Rattle.quic_frames.specs.Walk.{Advances, invalid_of}
-use Rattle.quic_callers.proofs.Walks.{met, tells}
+use Rattle.quic_frames.specs.Walk.{Advances}
+use Rattle.quic_callers.proofs.Walks.{reports}
 use Rattle.quic_callers.proofs.Counts.{counted_first, counted_other, counted_stream, all_counted}
 use Rattle.quic_callers.proofs.payloads.all_stream_data.Goals as goal
 
@@ -33,15 +33,12 @@ loop-item-preserved c =
 
 pub returns-in-Err-clause-err : goal.returns-in-Err-clause-err
 returns-in-Err-clause-err c =
-    let steps =
+    let fails =
     subst (λ r. Advances c.loop-item.item-iterator (Some r) c.next.new.self) c.in-Err.is c.in-Some.ensures.steps in
-    let begun = c.in_ok-item-items.ensures in
-    tells c.args.payload.now c.in-Err.invalid c.to_error.result
-    (met c.args.payload.now c.in_ok-item-items.item-items c.loop-item.item-iterator (invalid_of c.in-Err.invalid)
-    begun.first c.loop-item.invariant.2.came steps.0 begun.either begun.frames begun.broken) c.to_error.ensures
+    reports c.args.payload.now c.loop-item.invariant.2.found c.loop-item.item-iterator c.next.new.self
+    c.in-Err.invalid c.to_error.result c.loop-item.invariant.2.read fails c.to_error.ensures
 
 pub returns-clause-ok : goal.returns-clause-ok
 returns-clause-ok c =
-    let begun = c.in_ok-item-items.ensures in
-    all_counted c.args.payload.now c.in_ok-item-items.item-items c.loop-item.item-iterator c.loop-item.count begun.first
-    c.loop-item.invariant.2 c.in-None.ensures.steps.0 begun.either begun.frames begun.broken
+    all_counted c.args.payload.now c.loop-item.item-iterator c.loop-item.count c.loop-item.invariant.2
+    c.in-None.ensures.steps.0

@@ -7,8 +7,7 @@ use Rattle.quic_canon.proofs.canonical.rewrite.Goals as goal
 
 pub loop-item-init : goal.loop-item-init
 loop-item-init c =
-    rewrite_walk_begins c.args.out.now c.args.payload.now c.in-Ok.iter c.in-Ok.ensures.first c.in-Ok.ensures.either
-    c.in-Ok.ensures.frames c.in-Ok.ensures.broken
+    rewrite_walk_begins c.args.out.now c.args.payload.now c.in-Ok.iter c.in-Ok.ensures.first
 
 pub unreachable-requires-in_default-item : goal.unreachable-requires-in_default-item
 unreachable-requires-in_default-item c =

@@ -1,6 +1,5 @@
 use Rattle.std.proofs.Common.{◌≡◌, ◌≢◌, true, false}
 use Rattle.quic_frames.specs.declared.frame.InvalidFrame.{InvalidFrame}
-use Rattle.quic_frames.specs.Walk.{invalid_of}
 use Rattle.quic_canon.specs.declared.canonical.CanonError.TheVariants.{Invalid, OutOfMemory}
 use Rattle.quic_canon.proofs.Steps.{finds_ok, fails_err, stands_at, small_at}
 use Rattle.quic_canon.proofs.PaddingWalk.{padding_grows, padding_stays, padding_goes_on}
@@ -12,15 +11,14 @@ not_memory invalid e = cc
 
 pub loop-item-init : goal.loop-item-init
 loop-item-init c =
-    front_walk_begins c.args.payload.now c.in-Ok.iter c.in-Ok.ensures.first c.in-Ok.ensures.either
-    c.in-Ok.ensures.frames c.in-Ok.ensures.broken
+    front_walk_begins c.args.payload.now c.in-Ok.iter c.in-Ok.ensures.first
 
 pub returns-in-Err-clause-err : goal.returns-in-Err-clause-err
 returns-in-Err-clause-err c =
     let a =
     fails_err c.loop-item.iter c.next.new.self c.in-Some.item c.in-Err.invalid c.in-Err.is c.in-Some.ensures.steps in (
-      front_fails c.args.payload.now c.loop-item.front c.loop-item.start c.loop-item.iter (invalid_of c.in-Err.invalid)
-          c.in-Ok.ensures.either c.loop-item.invariant a,
+      front_fails c.args.payload.now c.loop-item.front c.loop-item.start c.loop-item.iter c.next.new.self
+          c.in-Err.invalid c.loop-item.invariant a,
       not_memory c.in-Err.invalid,
     )
 
@@ -141,5 +139,5 @@ loop-item-smaller-else-front-stop c =
 pub returns-clause-ok : goal.returns-clause-ok
 returns-clause-ok c =
     front_done c.args.payload.now c.loop-item.front c.loop-item.start c.loop-item.iter
-    (λ h. let e : false ≡ true = c.in-Ok.ensures.empty.1 h in cc) c.in-Ok.ensures.either c.loop-item.invariant
+    (λ h. let e : false ≡ true = c.in-Ok.ensures.empty.1 h in cc) c.loop-item.invariant
     c.in_default-next.ensures.steps.0

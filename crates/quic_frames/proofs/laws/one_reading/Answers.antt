@@ -1,15 +1,12 @@
-use Rattle.std.specs.Prelude.{None}
-use Rattle.quic_frames.proofs.Items.{is_either, one_reading, never_both, begins_none, frames_relaxed}
+use Rattle.quic_frames.proofs.Items.{begins_none, frames_relaxed}
+use Rattle.quic_frames.proofs.Readings.{one_reading, one_list}
 use Rattle.quic_frames.proofs.laws.one_reading.Goals as goal
-
-pub returns-clause-either : goal.returns-clause-either
-returns-clause-either c = λ strict bytes fits. is_either strict None bytes fits
 
 pub returns-clause-one : goal.returns-clause-one
 returns-clause-one c = one_reading
 
-pub returns-clause-never_both : goal.returns-clause-never_both
-returns-clause-never_both c = never_both
+pub returns-clause-frames : goal.returns-clause-frames
+returns-clause-frames c = one_list
 
 pub returns-clause-begins_none : goal.returns-clause-begins_none
 returns-clause-begins_none c = begins_none

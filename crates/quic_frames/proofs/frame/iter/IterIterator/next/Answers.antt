@@ -1,7 +1,6 @@
-use Rattle.std.proofs.Common.{refl, sym, ap, ◌∙◌, length, rules}
-use Rattle.quic_frames.specs.Walk.{invalid_of}
+use Rattle.std.proofs.Common.{refl, sym, ◌∙◌, rules}
 use Rattle.quic_frames.specs.Found.{found_as}
-use Rattle.quic_frames.proofs.Places.{finds_here, padding_here, breaks_here, is_broken_here, is_over_here, fewer_left}
+use Rattle.quic_frames.proofs.Places.{finds_here, padding_here, breaks_here, is_broken_here, is_over_here, fewer_left, finds_fewer, fails_fewer}
 use Rattle.quic_frames.proofs.frame.iter.IterIterator.next.Goals as goal
 use Rattle.quic_frames.proofs.frame.iter.IterIterator.next.Goals.{then-self-via-then-self, then-self-via-else-self+then-is_empty}
 
@@ -15,8 +14,8 @@ returns-then-self-clause-steps c =
         refl,
       )
       | then-self-via-else-self+then-is_empty w ↦ (
-        is_over_here self.strict self.payload.now self.offset self.last
-            self.is_broken _ c.self.view_is w.if-self.false (sym w.is_empty.ensures ∙ w.if-is_empty.true),
+        is_over_here self.strict self.payload.now self.offset self.last self.is_broken _ c.self.view_is
+            c.self.invariant (sym w.is_empty.ensures ∙ w.if-is_empty.true),
         refl,
       )
     ]
@@ -30,7 +29,7 @@ returns-then-is_padding-clause-steps c =
 
 pub returns-then-is_padding-clause-goes : goal.returns-then-is_padding-clause-goes
 returns-then-is_padding-clause-goes c =
-    let fewer = ap length (returns-then-is_padding-clause-steps c).first in
+    let fewer = finds_fewer _ _ _ (returns-then-is_padding-clause-steps c) in
     search rules
 
 pub overflow_sub-self : goal.overflow_sub-self
@@ -49,16 +48,17 @@ returns-in-Ok-clause-steps c =
 
 pub returns-in-Ok-clause-goes : goal.returns-in-Ok-clause-goes
 returns-in-Ok-clause-goes c =
-    let fewer = ap length (returns-in-Ok-clause-steps c).first in
+    let fewer = finds_fewer _ _ _ (returns-in-Ok-clause-steps c) in
     search rules
 
 pub returns-in-Err-clause-steps : goal.returns-in-Err-clause-steps
 returns-in-Err-clause-steps c =
     let self = c.self.inside in
-    breaks_here self.strict self.payload.now self.offset self.last self.is_broken _ (invalid_of c.in-Err.invalid)
-    c.self.view_is c.if-self.false (sym c.is_empty.ensures ∙ c.if-is_empty.false) c.in-Err.ensures.gives
+    breaks_here self.strict self.payload.now self.offset self.last self.is_broken _ c.in-Err.invalid
+    c.self.view_is c.if-self.false (sym c.is_empty.ensures ∙ c.if-is_empty.false) c.is_padding.ensures.bytes
+    c.in-Err.ensures.gives
 
 pub returns-in-Err-clause-goes : goal.returns-in-Err-clause-goes
 returns-in-Err-clause-goes c =
-    let fewer = ap length (returns-in-Err-clause-steps c).0 in
+    let fewer = fails_fewer _ _ _ (returns-in-Err-clause-steps c) in
     search rules

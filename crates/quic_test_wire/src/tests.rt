@@ -1,0 +1,87 @@
+//! One payload, one datagram and one list for each call.
+use bytes::BytesMut;
+use quic_checks::Checks;
+use quic_wire::calls::{
+    PayloadError, cut_first, cut_plain, first_item, is_lost, next_item, read_parameters,
+    read_payload, shorten, write_payload,
+};
+use quic_wire::frame::Frame;
+use quic_wire::ids::Side;
+use quic_wire::packet::FixedLengthConnectionIdParser;
+use std::test::Fail;
+
+#[test]
+fn payloads_are_read(rt: HostRuntime) -> Result<(), Fail> {
+    let mut checks = Checks::new(rt.alloc());
+    let Ok((frames, error)) = read_payload(rt.alloc(), b"\x40\x00\x0a\x00\x01\x61".as_slice())
+    else {
+        return Err("a payload".into());
+    };
+    checks.same(frames.len(), 2);
+    checks.holds(error.is_none());
+    let Ok((frames, error)) = read_payload(rt.alloc(), b"\x01\x01\x21".as_slice()) else {
+        return Err("a broken payload".into());
+    };
+    checks.same(frames.len(), 2);
+    match error {
+        Some(invalid) => checks.same(invalid.reason, "invalid frame ID"),
+        None => checks.holds(false),
+    }
+    match read_payload(rt.alloc(), b"".as_slice()) {
+        Err(PayloadError::Empty) => checks.holds(true),
+        _ => checks.holds(false),
+    }
+    checks.verdict()
+}
+
+#[test]
+fn items_are_given(rt: HostRuntime) -> Result<(), Fail> {
+    let mut checks = Checks::new(rt.alloc());
+    let Ok(mut items) = first_item(b"\x01\x21".as_slice()) else {
+        return Err("a payload".into());
+    };
+    checks.holds(matches!(next_item(&mut items), Some(Ok(Frame::Ping))));
+    checks.holds(matches!(next_item(&mut items), Some(Err(_))));
+    checks.holds(next_item(&mut items).is_none());
+    checks.verdict()
+}
+
+#[test]
+fn payloads_are_written(rt: HostRuntime) -> Result<(), Fail> {
+    let mut checks = Checks::new(rt.alloc());
+    let mut out = Vec::new(rt.alloc());
+    checks.holds(write_payload(&[Frame::Ping, Frame::Padding], &mut out).is_ok());
+    checks.same(out.as_slice(), b"\x01\x00".as_slice());
+    checks.holds(shorten(b"\x40\x00\x0a\x00\x01\x61".as_slice(), &mut out).is_ok());
+    checks.same(out.as_slice(), b"\x01\x00\x00\x08\x00\x61".as_slice());
+    checks.verdict()
+}
+
+#[test]
+fn what_is_lost(rt: HostRuntime) -> Result<(), Fail> {
+    let mut checks = Checks::new(rt.alloc());
+    checks.holds(matches!(is_lost(rt.alloc(), b"\x01\x21".as_slice()), Ok(true)));
+    checks.holds(matches!(is_lost(rt.alloc(), b"\x01\x06".as_slice()), Ok(false)));
+    checks.verdict()
+}
+
+#[test]
+fn datagrams_are_cut(rt: HostRuntime) -> Result<(), Fail> {
+    let mut checks = Checks::new(rt.alloc());
+    let parser = FixedLengthConnectionIdParser::new(1);
+    let mut short = Vec::new(rt.alloc());
+    short.extend_from_slice(b"\x40\xaa\x01\x02".as_slice())?;
+    checks.holds(cut_first(BytesMut::from_vec(short), &parser, &[1], false).is_ok());
+    let mut retry = Vec::new(rt.alloc());
+    retry.extend_from_slice(b"\xf0\x00\x00\x00\x01\x01\xaa\x01\xbb\x01\x02".as_slice())?;
+    checks.holds(cut_plain(BytesMut::from_vec(retry), &parser, &[1], false).is_ok());
+    checks.verdict()
+}
+
+#[test]
+fn lists_are_read(rt: HostRuntime) -> Result<(), Fail> {
+    let mut checks = Checks::new(rt.alloc());
+    checks.holds(read_parameters(Side::Client, b"\x01\x01\x05".as_slice()).is_ok());
+    checks.holds(read_parameters(Side::Client, b"\x01\x02\x05".as_slice()).is_err());
+    checks.verdict()
+}

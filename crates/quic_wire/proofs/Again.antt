@@ -1,0 +1,64 @@
+-- What is written of frames is read as these.
+use Rattle.std.proofs.Common.{◌≡◌, ◌≢◌, ℕ, List, [], ◌∷◌, map, refl, Bool, false, true, Option, None, Some, sym, ap, ◌∙◌, subst, Result, Ok}
+use Rattle.quic_base.specs.declared.ids.Side.{Side}
+use Rattle.quic_canon.specs.Least.{IsLeast}
+use Rattle.quic_errors.specs.declared.invalid_frame.InvalidFrame.{InvalidFrame}
+use Rattle.quic_base.specs.One.{ReturnsOne}
+use Rattle.quic_frame_fields.specs.Payload.{Meaning, TypedFrame, AreFrames, Reading, Complete, FailsAfter, IsReadingOf}
+use Rattle.quic_frames.specs.declared.frame.Frame.{Frame}
+use Rattle.quic_frames.specs.Least.{frame_in}
+use Rattle.quic_frames.specs.Meaning.{meaning_of}
+use Rattle.quic_frames.specs.Written.{IsShortestOf}
+use Rattle.quic_params.specs.Meaning.{IsReadAnswer}
+use Rattle.quic_params.specs.Range.{plain}
+use Rattle.quic_params.specs.Writing.{written}
+use Rattle.quic_params.specs.declared.error.Error.{Error}
+use Rattle.quic_params.specs.declared.record.TransportParameters.{TransportParameters}
+use Rattle.quic_wire.specs.Reading.{IsReturnedAs}
+
+pub read_again : (strict : Bool) (frames : List Meaning) (payload : List ℕ)
+    → ((some others : List TypedFrame) (bytes : List ℕ) → AreFrames false some bytes → AreFrames false others bytes
+    → some ≡ others)
+    → ((bytes least : List ℕ) → IsLeast least bytes
+    → (found : List TypedFrame) × AreFrames true found least × AreFrames false found least)
+    → IsShortestOf frames payload → IsLeast payload payload
+    → (found : List TypedFrame) × IsReadingOf strict payload (Complete found) × (map frame_in found ≡ frames)
+read_again false frames payload one strictly is least = (is.found, is.encoded, is.means)
+read_again true frames payload one strictly is least =
+    let read = strictly payload payload least in
+    (read.0, read.1, ap (map frame_in) (one read.0 is.found payload read.2 is.encoded) ∙ is.means)
+
+pub some_meanings : (frames : List Frame) → frames ≢ [] → map meaning_of frames ≢ []
+some_meanings [] some = absurd (some refl)
+some_meanings (frame ∷ frames) some = λ none. cc
+
+-- ---- and so are they returned
+
+abbrev ReadAs : List Frame → List ℕ → Type 0
+ReadAs frames payload = (found : List TypedFrame) × IsReadingOf false payload (Complete found)
+    × (map frame_in found ≡ map meaning_of frames)
+
+is_whole : (found : List TypedFrame) (frames others : List Frame) (error : Option InvalidFrame) (reading : Reading)
+    → map frame_in found ≡ map meaning_of frames → Complete found ≡ reading → IsReturnedAs others error reading
+    → (error ≡ None) × (map meaning_of others ≡ map meaning_of frames)
+is_whole found frames others None (Complete read) means e given =
+    let same : found ≡ read = cc in (cc, given ∙ ap (map frame_in) (sym same) ∙ means)
+is_whole found frames others (Some i) (Complete read) means e given = absurd given
+is_whole found frames others None (FailsAfter read type reason) means e given = absurd cc
+is_whole found frames others (Some i) (FailsAfter read type reason) means e given = absurd cc
+
+pub given_again : (frames others : List Frame) (error : Option InvalidFrame) (payload : List ℕ) → ReadAs frames payload
+    → ReturnsOne (IsReadingOf false payload) (IsReturnedAs others error)
+    → (error ≡ None) × (map meaning_of others ≡ map meaning_of frames)
+given_again frames others error payload read gives =
+    is_whole read.0 frames others error gives.one.it read.2 (gives.one.only (Complete read.0) read.1) gives.returned
+
+-- ---- parameters
+
+pub list_again : (side : Side) (params : TransportParameters) (list : List ℕ) (result : Result TransportParameters Error)
+    → list ≡ written params → IsReadAnswer side (written params) (Ok (plain params))
+    → ReturnsOne (IsReadAnswer side list) (λ answer. result ≡ answer) → result ≡ Ok (plain params)
+list_again side params list result are is gives =
+    let answer : IsReadAnswer side list (Ok (plain params)) =
+    subst (λ (bytes : List ℕ). IsReadAnswer side bytes (Ok (plain params))) (sym are) is in
+    gives.returned ∙ sym (gives.one.only (Ok (plain params)) answer)

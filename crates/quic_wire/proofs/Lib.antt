@@ -1,0 +1,7 @@
+mod Again
+mod Numbered
+mod Opened
+mod Parsers
+mod Shortest
+mod Walks
+mod Written

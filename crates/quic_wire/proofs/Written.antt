@@ -1,0 +1,65 @@
+-- What is written, and headers that are read back.
+use Rattle.std.proofs.Common.{◌≡◌, ℕ, ◌+◌, List, [], ◌++◌, length, Option, None, Result, Ok, refl, sym, ap, ◌∙◌, subst, arith, append_assoc, length-append}
+use Rattle.std.specs.Prelude.{MatchOption}
+use Rattle.std.proofs.lemmas.List.{append-nil}
+use Rattle.quic_header_decode.specs.Grammar.{CutAnswer, HeaderAt}
+use Rattle.quic_header_decode.specs.Headers.{without_number}
+use Rattle.quic_header_decode.specs.Packet.{CutPacket}
+use Rattle.quic_header_decode.specs.Reading.{DecodeOptions, len_in}
+use Rattle.quic_header_decode.specs.Refusal.{Refusal}
+use Rattle.quic_header_decode.specs.declared.protected.ProtectedHeader.{ProtectedHeader}
+use Rattle.quic_header_decode.specs.declared.protected.ProtectedHeader.TheVariants as protected
+use Rattle.quic_header_encode.specs.Writing.{header_bytes}
+use Rattle.quic_header_encode.specs.declared.header.Header.{Header}
+use Rattle.quic_base.specs.One.{ReturnsOne}
+use Rattle.quic_wire.specs.Plain.{IsPlainInRange}
+
+-- ---- bytes that are appended
+
+pub puts_part : (old all now new part rest left : List ℕ) → left ≡ part ++ rest → now ++ left ≡ old ++ all
+    → new ≡ now ++ part → new ++ rest ≡ old ++ all
+puts_part old all now new part rest left split so_far text =
+    ap (λ (bytes : List ℕ). bytes ++ rest) text ∙ append_assoc now part rest
+    ∙ ap (λ (bytes : List ℕ). now ++ bytes) (sym split) ∙ so_far
+
+pub puts_all : (old all now left : List ℕ) → left ≡ [] → now ++ left ≡ old ++ all → now ≡ old ++ all
+puts_all old all now left none so_far =
+    sym (append-nil now) ∙ ap (λ (bytes : List ℕ). now ++ bytes) (sym none) ∙ so_far
+
+-- ---- headers of packets without protection
+
+lacks_length : (read : ProtectedHeader) (header : Header) → without_number read header → len_in read ≡ None
+lacks_length (protected.Retry dst src version) header is = refl
+lacks_length (protected.VersionNegotiate random dst src) header is = refl
+lacks_length (protected.Initial h) header is = absurd is
+lacks_length (protected.Long ty dst src len version) header is = absurd is
+lacks_length (protected.Short spin dst) header is = absurd is
+
+abbrev Again : DecodeOptions → Type 0
+Again options = (header : Header) (rest : List ℕ) → IsPlainInRange options header
+    → (read : ProtectedHeader) × without_number read header
+    × HeaderAt options (length (header_bytes header ++ rest)) (header_bytes header ++ rest) read rest
+
+pub plain_cut : (options : DecodeOptions) (bytes : List ℕ) (packet : CutPacket) → Again options
+    → ReturnsOne (CutAnswer options bytes) (λ answer. answer ≡ Ok (packet.head, packet.header_end, length packet.bytes))
+    → (header : Header) (rest : List ℕ) → bytes ≡ header_bytes header ++ rest → IsPlainInRange options header
+    → without_number packet.head header
+plain_cut options bytes packet again gives header rest text range =
+    let written : List ℕ = header_bytes header in
+    let back = again header rest range in
+    let at : HeaderAt options (length bytes) bytes back.0 rest =
+    subst (λ (b : List ℕ). HeaderAt options (length b) b back.0 rest) (sym text) back.2 in
+    let end : MatchOption (len_in back.0) (length bytes ≡ length bytes)
+    (λ len. length bytes ≡ length written + len) =
+    subst (λ (o : Option ℕ). MatchOption o (length bytes ≡ length bytes) (λ len. length bytes ≡ length written + len))
+    (sym (lacks_length back.0 header back.1)) refl in
+    let cut : CutAnswer options bytes (Ok (back.0, length written, length bytes)) =
+    (rest, at, omega (arith, ap length text, length-append written rest), end, omega arith) in
+    let same : (let r : Result (ProtectedHeader × ℕ × ℕ) Refusal = Ok (back.0, length written, length bytes) in r)
+    ≡ Ok (packet.head, packet.header_end, length packet.bytes) =
+    gives.one.only (Ok (back.0, length written, length bytes)) cut ∙ gives.returned in
+    let parts : (let p : ProtectedHeader × ℕ × ℕ = (back.0, length written, length bytes) in p)
+    ≡ (packet.head, packet.header_end, length packet.bytes) =
+    cc in
+    let head : back.0 ≡ packet.head = ap (λ (p : ProtectedHeader × ℕ × ℕ). p.0) parts in
+    subst (λ (h : ProtectedHeader). without_number h header) head back.1

@@ -1,0 +1,15 @@
+-- Headers of packets without protection that are read back (RFC 9000, sections 17.2.1 and 17.2.5).
+use Rattle.std.specs.Prelude.{◌+◌, ◌<◌, ◌≤◌, ◌^◌, IsTrue, length}
+use Rattle.quic_header_decode.specs.Grammar.{IsKnownVersion, is_fixed}
+use Rattle.quic_header_decode.specs.Reading.{DecodeOptions}
+use Rattle.quic_header_encode.specs.declared.header.Header.{Header}
+use Rattle.quic_header_encode.specs.declared.header.Header.TheVariants as header
+
+-- A Retry has a known version. Of a version negotiation's first byte the bits below the highest are free, but for the
+-- fixed bit.
+abbrev pub IsPlainInRange : DecodeOptions → Header → Type 0
+IsPlainInRange options (header.Retry dst src version) =
+    (version < 2 ^ 32) × IsKnownVersion options version × (length dst ≤ 20) × (length src ≤ 20)
+IsPlainInRange options (header.VersionNegotiate random src dst) =
+    (random < 128) × IsTrue (is_fixed options (128 + random)) × (length dst ≤ 20) × (length src ≤ 20)
+IsPlainInRange options h = ⊥

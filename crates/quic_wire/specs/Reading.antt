@@ -1,0 +1,22 @@
+-- What a call returned of a payload's reading (RFC 9000, section 12.4).
+use Rattle.std.specs.Prelude.{◌≡◌, ⊤, List, map, Option, Some, None}
+use Rattle.quic_errors.specs.declared.invalid_frame.InvalidFrame.{InvalidFrame}
+use Rattle.quic_frame_fields.specs.Payload.{Reading, Complete, FailsAfter}
+use Rattle.quic_frame_fields.specs.Reading.{invalid}
+use Rattle.quic_frame_fields.specs.declared.frame.fault.Fault.TheVariants.{UnexpectedEnd}
+use Rattle.quic_frames.specs.declared.frame.Frame.{Frame}
+use Rattle.quic_frames.specs.Least.{frame_in}
+use Rattle.quic_frames.specs.Meaning.{meaning_of}
+use Rattle.quic_frames.specs.Walk.{invalid_of}
+
+-- These frames were returned, and this error after them, or none.
+abbrev pub IsReturnedAs : List Frame → Option InvalidFrame → Reading → Type 0
+IsReturnedAs frames None (Complete found) = map meaning_of frames ≡ map frame_in found
+IsReturnedAs frames (Some e) (FailsAfter found type reason) =
+    (map meaning_of frames ≡ map frame_in found) × (invalid_of e ≡ invalid type reason)
+IsReturnedAs frames error reading = ⊥
+
+-- More bytes may make it a payload without an error: it has none, or ends too early.
+abbrev pub MayGoOn : Reading → Type 0
+MayGoOn (Complete found) = ⊤
+MayGoOn (FailsAfter found type reason) = reason ≡ UnexpectedEnd

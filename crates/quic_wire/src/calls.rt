@@ -1,0 +1,256 @@
+//! Functions that return what the laws speak of, or report that memory ran out. Each is proved from public contracts.
+ghost use Rattle.std.specs.Prelude.{◌↔◌, false, ◌≡◌, ◌≢◌, ◌++◌, ◌+◌, ◌≤◌, ℕ, List, [], length, map, codes, IfErr, IfOk, IsErrOf, IsTrue, MatchBool, MatchResult, OnErr, OnOk, vec_capacity, vec_len};
+ghost use Rattle.quic_base.specs.Number.{AreBytes};
+ghost use Rattle.quic_base.specs.One.{ReturnsOne};
+ghost use Rattle.quic_canon.specs.Least.{IsLeast};
+ghost use Rattle.quic_canon.specs.Refusal.{IsRefused, IsWrong};
+ghost use Rattle.quic_frame_fields.specs.Payload.{Complete, IsReadingOf, Reading, TypedFrame};
+ghost use Rattle.quic_frames.specs.InRange.{AreTyped, CanFollow};
+ghost use Rattle.quic_frames.specs.Meaning.{meaning_of};
+ghost use Rattle.quic_frames.specs.Written.{IsPayload};
+ghost use Rattle.quic_header_decode.specs.Grammar.{CutAnswer};
+ghost use Rattle.quic_header_decode.specs.Headers.{without_number};
+ghost use Rattle.quic_header_decode.specs.Refusal.{GivesRead};
+ghost use Rattle.quic_header_encode.specs.Queries.{space_in};
+ghost use Rattle.quic_header_encode.specs.Writing.{header_bytes};
+ghost use Rattle.quic_packets.specs.Opening.{AreExpected, BeginsSealed, Opens, ReturnsSealed, packet_of};
+ghost use Rattle.quic_packets.specs.Pairs.{IsLawful};
+ghost use Rattle.quic_packets.specs.Sealing.{IsAppended, PacketContents};
+ghost use Rattle.quic_params.specs.Meaning.{IsReadAnswer};
+ghost use Rattle.quic_params.specs.Range.{IsRecordInRange, plain};
+ghost use Rattle.quic_params.specs.Writing.{written};
+ghost use Rattle.quic_wire.specs.Plain.{IsPlainInRange};
+ghost use Rattle.quic_wire.specs.Reading.{IsReturnedAs, MayGoOn};
+
+use crate::laws::{
+    every_datagram, every_list, every_payload, frames_again, headers_again, lasting, one_shortest,
+    packets_again, parameters_again,
+};
+use bytes::BytesMut;
+use quic_base::coding::{NoRoom, are_bytes};
+use quic_base::ids::Side;
+use quic_canon::canonical::{CanonError, canonical};
+use quic_frames::frame::{Frame, InvalidFrame, Iter};
+use quic_frames::laws::{least_encoding, read_back};
+use quic_packets::crypto::{HeaderKey, PacketKey};
+use quic_packets::packet::{
+    ConnectionIdParser, Expected, Header, OpenError, Opened, PacketDecodeError, PartialDecode,
+    SpaceKeys, open_packet,
+};
+use quic_packets::pairs::OpeningKeys;
+use quic_params::transport_parameters::{Error, TransportParameters};
+use std::alloc::Global;
+use thiserror::Error as ThisError;
+
+// ---- Reading.
+
+/// Why a payload isn't read to its end.
+#[derive(Clone, Copy, Debug, PartialEq, Eq, ThisError)]
+pub enum PayloadError {
+    /// The payload has no frame.
+    #[error("packet payload is empty")]
+    Empty,
+    /// Memory ran out.
+    #[error("out of memory")]
+    OutOfMemory,
+}
+
+/// Reads a payload with `Iter`: its frames, and the error after them if there is one.
+pub fn read_payload<'a>(
+    alloc: Global,
+    payload: &'a [u8],
+) -> Result<(Vec<Frame<'a>>, Option<InvalidFrame>), PayloadError>
+    ensures one { IfOk result (λ x. ReturnsOne (IsReadingOf false payload.now) (IsReturnedAs x.0.items x.1)) }
+    ensures empty { IsErrOf result PayloadError.Empty ↔ (payload.now ≡ []) }
+{
+    every_payload();
+    are_bytes(payload);
+    let mut frames = Vec::new(alloc);
+    let Ok(items) = Iter::new(payload) else {
+        return Err(PayloadError::Empty);
+    };
+    for item in items {
+        match item {
+            Ok(frame) => {
+                if frames.push(frame).is_err() {
+                    return Err(PayloadError::OutOfMemory);
+                }
+            }
+            Err(invalid) => return Ok((frames, Some(invalid))),
+        }
+    }
+    Ok((frames, None))
+}
+
+/// Cuts the first packet from a datagram with `PartialDecode::new`.
+pub fn cut_first<P: ConnectionIdParser>(
+    datagram: BytesMut,
+    parser: &P,
+    versions: &[u32],
+    grease: bool,
+) -> Result<(PartialDecode, Option<BytesMut>), PacketDecodeError>
+    ensures one { ReturnsOne (CutAnswer
+        (record { parsed = P.parsed parser.now; versions = versions.now; grease = grease }) datagram.items)
+        (GivesRead (λ x. (x.0.head, x.0.header_end, length x.0.bytes)) result) }
+{
+    every_datagram();
+    are_bytes(datagram.as_slice());
+    PartialDecode::new(datagram, parser, versions, grease)
+}
+
+/// Reads a list of transport parameters with `TransportParameters::read`. It doesn't allocate.
+pub fn read_parameters(side: Side, list: &[u8]) -> Result<TransportParameters, Error>
+    ensures one { ReturnsOne (IsReadAnswer side list.now) (λ answer. result ≡ answer) }
+{
+    every_list();
+    are_bytes(list);
+    let mut rest = list;
+    TransportParameters::read(side, &mut rest)
+}
+
+/// Appends the shortest payload with the meaning of `payload`, with `canonical`.
+pub fn shorten(payload: &[u8], out: &mut Vec<u8>) -> Result<(), CanonError>
+    ensures one { OnOk result (ReturnsOne (λ least. IsLeast least payload.now)
+        (λ least. out.new.items ≡ out.old.items ++ least)) }
+    ensures refused { IfErr result (λ e. IsRefused payload.now e) }
+    ensures kept { OnErr result (out.new.items ≡ out.old.items) }
+    // With room for the payload's length it doesn't fail for lack of memory.
+    ensures room { vec_len out.old + length payload.now ≤ vec_capacity out.old
+        → IfErr result (λ e. IsWrong payload.now e) }
+{
+    one_shortest();
+    canonical(payload, out)
+}
+
+// ---- What is written, and reading it again.
+
+/// Reads a payload that was written from frames: it has these frames, and no error.
+pub fn read_frames<'a>(
+    alloc: Global,
+    frames: &[Frame<'_>],
+    payload: &'a [u8],
+) -> Result<Vec<Frame<'a>>, PayloadError>
+    requires some { frames.now ≢ [] }
+    requires written { IsPayload frames.now payload.now }
+    ensures { IfOk result (λ read. map meaning_of read.items ≡ map meaning_of frames.now) }
+{
+    frames_again();
+    let (read, error) = match read_payload(alloc, payload) {
+        Ok(parts) => parts,
+        Err(e) => return Err(e),
+    };
+    match error {
+        None => Ok(read),
+        Some(_) => unreachable!(),
+    }
+}
+
+/// Reads a list that was written from parameters.
+pub fn read_own(side: Side, params: &TransportParameters, list: &[u8]) -> TransportParameters
+    requires range { IsRecordInRange side params.now }
+    requires written { list.now ≡ written params.now }
+    ensures { result ≡ plain params.now }
+{
+    parameters_again();
+    params.type_bounds();
+    match read_parameters(side, list) {
+        Ok(read) => read,
+        Err(_) => unreachable!(),
+    }
+}
+
+/// Appends frames with `Frame::encode`, the last one as the last of its payload.
+pub fn write_payload(frames: &[Frame<'_>], out: &mut Vec<u8>) -> Result<(), NoRoom>
+    requires { CanFollow frames.now }
+    ensures { OnOk result (IsAppended (IsPayload frames.now) out.old.items out.new.items) }
+{
+    are_typed(frames);
+    read_back();
+    least_encoding();
+    for i in 0..frames.len() {
+        let last = i + 1 == frames.len();
+        frames[i].encode(last, out)?;
+    }
+    Ok(())
+}
+
+// The values in the frames are within the bounds of their types.
+fn are_typed(frames: &[Frame<'_>])
+    ensures { AreTyped frames.now }
+{
+    for i in 0..frames.len() {
+        frames[i].type_bounds();
+    }
+}
+
+/// Cuts a datagram that begins with a written Retry or version negotiation: its header is what was written.
+pub fn cut_plain<P: ConnectionIdParser>(
+    datagram: BytesMut,
+    parser: &P,
+    versions: &[u32],
+    grease: bool,
+) -> Result<PartialDecode, PacketDecodeError>
+    ensures { IfOk result (λ x. (header : Header) (rest : List ℕ) → datagram.items ≡ header_bytes header ++ rest
+        → IsPlainInRange (record { parsed = P.parsed parser.now; versions = versions.now; grease = grease }) header
+        → without_number x.head header) }
+{
+    headers_again();
+    match cut_first(datagram, parser, versions, grease) {
+        Ok((packet, _rest)) => Ok(packet),
+        Err(e) => Err(e),
+    }
+}
+
+/// Opens a packet with `open_packet`: one that was sealed with these keys is opened to what was sealed, unless memory
+/// runs out.
+pub fn open_sealed<C: ConnectionIdParser, H: HeaderKey, P: PacketKey>(
+    datagram: BytesMut,
+    parser: &C,
+    versions: &[u32],
+    grease: bool,
+    keys: &SpaceKeys<H, P>,
+    expected: &Expected,
+) -> Result<(Opened, Option<BytesMut>), OpenError>
+    requires { AreExpected expected.now }
+    ensures sealed { let opening = ⟦<SpaceKeys<H, P> as OpeningKeys<C>>⟧.opening keys.now parser.now versions.now grease
+        expected.now in
+        (contents : PacketContents) (rest : List ℕ) → BeginsSealed opening datagram.items contents rest
+        → MatchResult result (λ x. ReturnsSealed opening contents rest x.0 x.1) (λ e. e ≡ OpenError.OutOfMemory) }
+    // So lawful keys open it.
+    ensures opens { let opening = ⟦<SpaceKeys<H, P> as OpeningKeys<C>>⟧.opening keys.now parser.now versions.now grease
+        expected.now in
+        IfOk result (λ x. (contents : PacketContents) (rest : List ℕ) → IsLawful (opening.keys (space_in contents.header))
+        → BeginsSealed opening datagram.items contents rest → Opens opening datagram.items (packet_of x.0) rest) }
+{
+    packets_again();
+    open_packet(datagram, parser, versions, grease, keys, expected)
+}
+
+/// Whether no payload that begins with these bytes is without an error: true if reading them fails for another reason
+/// than an unexpected end. It doesn't allocate.
+pub fn is_lost(front: &[u8]) -> bool
+    ensures lost { IsTrue result → (more : List ℕ) (found : List TypedFrame) → AreBytes (front.now ++ more)
+        → IsReadingOf false (front.now ++ more) (Complete found) → ⊥ }
+    ensures going { result ≡ false → (reading : Reading) → IsReadingOf false front.now reading → MayGoOn reading }
+{
+    lasting();
+    every_payload();
+    are_bytes(front);
+    let Ok(items) = Iter::new(front) else {
+        return false;
+    };
+    for item in items {
+        match item {
+            Ok(_) => {}
+            Err(invalid) => return is_final(invalid.reason),
+        }
+    }
+    false
+}
+
+// Whether an error with this reason remains one whatever bytes follow.
+fn is_final(reason: &str) -> bool
+    ensures { MatchBool result (reason.now ≢ codes "unexpected end") (reason.now ≡ codes "unexpected end") }
+{
+    reason != "unexpected end"
+}

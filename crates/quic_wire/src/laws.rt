@@ -1,0 +1,136 @@
+//! What is proved of the wire layer, in one place (RFC 9000, sections 12, 17, 18 and 19). Each law holds for all bytes,
+//! and speaks of bytes and of the grammar in `specs/`. The module `calls` has functions that return what the laws speak
+//! of. The functions here do nothing at run time.
+ghost use Rattle.std.specs.Prelude.{◌≡◌, ◌≢◌, ◌+◌, ◌++◌, ℕ, List, [], Bool, true, false, drop, length, map, None, Option, Ok};
+ghost use Rattle.quic_base.specs.Number.{AreBytes};
+ghost use Rattle.quic_base.specs.One.{ExactlyOne};
+ghost use Rattle.quic_base.specs.Varint.{Encodes};
+ghost use Rattle.quic_canon.specs.Least.{IsLeast};
+ghost use Rattle.quic_frame_fields.specs.Payload.{AreClosed, Complete, FailsAfter, IsReadingAfter, IsReadingOf, Meaning, Reading, TypedFrame, followed_by, last_type};
+ghost use Rattle.quic_frame_fields.specs.declared.frame.fault.Fault.{Fault};
+ghost use Rattle.quic_frame_fields.specs.declared.frame.fault.Fault.TheVariants.{UnexpectedEnd};
+ghost use Rattle.quic_frames.specs.Least.{frame_in};
+ghost use Rattle.quic_frames.specs.Written.{IsShortestOf};
+ghost use Rattle.quic_header_decode.specs.Grammar.{CutAnswer, HeaderAt};
+ghost use Rattle.quic_header_decode.specs.Headers.{IsOpenedBy, without_number};
+ghost use Rattle.quic_header_decode.specs.Reading.{DecodeOptions, TakesWithin};
+ghost use Rattle.quic_header_decode.specs.declared.protected.ProtectedHeader.{ProtectedHeader};
+ghost use Rattle.quic_header_encode.specs.Queries.{space_in};
+ghost use Rattle.quic_header_encode.specs.Writing.{IsWritable, header_bytes, header_with, size_in};
+ghost use Rattle.quic_packets.specs.Opening.{BeginsSealed, IsReadBack, Opening, Opens, returned_by};
+ghost use Rattle.quic_packets.specs.Pairs.{IsLawful};
+ghost use Rattle.quic_packets.specs.Sealing.{PacketContents};
+ghost use Rattle.quic_params.specs.Meaning.{IsReadAnswer};
+ghost use Rattle.quic_params.specs.Order.{IsOrder};
+ghost use Rattle.quic_params.specs.Range.{IsRecordInRange, IsTypedRecord, plain};
+ghost use Rattle.quic_params.specs.Writing.{written, written_in};
+ghost use Rattle.quic_wire.specs.Plain.{IsPlainInRange};
+
+use quic_base::ids::Side;
+use quic_packets::packet::Header;
+use quic_params::transport_parameters::TransportParameters;
+
+// ---- What bytes are.
+
+/// Every payload has one reading: its frames; or its frames up to an error, with that error's type and reason.
+pub fn every_payload()
+    ensures { (strict : Bool) (bytes : List ℕ) → AreBytes bytes → ExactlyOne (IsReadingOf strict bytes) }
+{
+    quic_frames::laws::one_reading();
+}
+
+/// Every datagram begins with one packet, or is refused for one reason.
+pub fn every_datagram()
+    ensures { (options : DecodeOptions) (bytes : List ℕ) → AreBytes bytes → TakesWithin options
+        → ExactlyOne (CutAnswer options bytes) }
+{
+    quic_header_decode::laws::one_answer();
+}
+
+/// Every list of transport parameters has one answer for a side: a record, or an error.
+pub fn every_list()
+    ensures { (side : Side) (bytes : List ℕ) → AreBytes bytes → ExactlyOne (IsReadAnswer side bytes) }
+{
+    quic_params::laws::one_answer();
+    quic_params::laws::answer_as_a_function();
+}
+
+/// Every payload without an error has one shortest payload of the same meaning, and no other payload has one.
+pub fn one_shortest()
+    ensures one { (frames : List TypedFrame) (payload : List ℕ) → payload ≢ []
+        → IsReadingOf false payload (Complete frames) → ExactlyOne (λ least. IsLeast least payload) }
+    ensures none { (least payload : List ℕ) → IsLeast least payload
+        → (payload ≢ []) × ((frames : List TypedFrame) × IsReadingOf false payload (Complete frames)) }
+{
+    quic_canon::laws::one_least();
+}
+
+// ---- What is written is read back.
+
+/// The shortest payload of some frames is read as these frames, also if types must be in their shortest encodings.
+pub fn frames_again()
+    ensures { (strict : Bool) (frames : List Meaning) (payload : List ℕ) → frames ≢ [] → IsShortestOf frames payload
+        → (found : List TypedFrame) × IsReadingOf strict payload (Complete found)
+        × (map frame_in found ≡ frames) }
+{
+    quic_frames::laws::one_reading();
+    quic_canon::laws::one_least();
+    quic_canon::laws::written_is_least();
+}
+
+/// A header is read as itself.
+pub fn headers_again()
+    // Those without a packet number, a Retry's and a version negotiation's, whatever follows them.
+    ensures plain { (options : DecodeOptions) (header : Header) (rest : List ℕ) → IsPlainInRange options header
+        → (read : ProtectedHeader) × without_number read header
+        × HeaderAt options (length (header_bytes header ++ rest)) (header_bytes header ++ rest) read rest }
+    // The others, in a packet whose header protection is removed, with their length in any encoding.
+    ensures numbered { (options : DecodeOptions) (header : Header) (count : ℕ) (len payload : List ℕ)
+        → IsWritable header → IsReadBack options header [] → Encodes count len
+        → let packet = header_with len header ++ payload in (read : ProtectedHeader) × (at : ℕ)
+        × HeaderAt options (length packet) packet read (drop at packet)
+        × IsOpenedBy true read at header packet (at + size_in header) }
+{
+    quic_header_decode::laws::written();
+}
+
+/// A packet that was sealed with lawful keys is opened with them to its header, packet number and payload, whatever
+/// follows it.
+pub fn packets_again()
+    ensures { (opening : Opening) (bytes : List ℕ) (contents : PacketContents) (rest : List ℕ)
+        → IsLawful (opening.keys (space_in contents.header)) → BeginsSealed opening bytes contents rest
+        → Opens opening bytes (returned_by opening contents) rest }
+{
+    quic_packets::laws::sealed_opens();
+}
+
+/// Parameters in range for a side are read by it as they were written, except for grease and the order.
+pub fn parameters_again()
+    ensures own { (side : Side) (params : TransportParameters) → IsTypedRecord params → IsRecordInRange side params
+        → IsReadAnswer side (written params) (Ok (plain params)) }
+    // The order in which they are written doesn't matter.
+    ensures any { (side : Side) (params : TransportParameters) (order : List ℕ) → IsTypedRecord params
+        → IsRecordInRange side params → IsOrder order
+        → IsReadAnswer side (written_in params order) (Ok (plain params)) }
+{
+    quic_params::laws::read_back();
+}
+
+// ---- What lasts, whatever follows.
+
+/// Appending bytes removes no frame that isn't open, and no error except an unexpected end.
+pub fn lasting()
+    ensures frames { (strict : Bool) (found : List TypedFrame) (bytes more : List ℕ) (rest : Reading)
+        → IsReadingOf strict bytes (Complete found) → AreClosed found
+        → IsReadingAfter strict (last_type None found) more rest
+        → IsReadingOf strict (bytes ++ more) (followed_by found rest) }
+    ensures error { (strict : Bool) (found : List TypedFrame) (bytes more : List ℕ) (type : Option ℕ) (reason : Fault)
+        → AreBytes (bytes ++ more) → reason ≢ UnexpectedEnd → IsReadingOf strict bytes (FailsAfter found type reason)
+        → IsReadingOf strict (bytes ++ more) (FailsAfter found type reason) }
+    // So no front of a payload without an error is malformed, or has an invalid frame type or one in a longer encoding.
+    ensures front { (strict : Bool) (found others : List TypedFrame) (bytes more : List ℕ) (type : Option ℕ)
+        (reason : Fault) → AreBytes (bytes ++ more) → IsReadingOf strict (bytes ++ more) (Complete found)
+        → IsReadingOf strict bytes (FailsAfter others type reason) → reason ≡ UnexpectedEnd }
+{
+    quic_frames::laws::lasting();
+}

@@ -228,8 +228,7 @@ def notes(group, optional):
         stated(PAYLOAD, "AreFrames", "strict (found ∷ others) bytes", (
             "(front back : List ℕ) × (bytes ≡ front ++ back) × IsFrame strict found front × (is_open found.type ≡ true"
             " → back ≡ []) × AreFrames strict others back"))
-        stated(TABLE, "is_open", "t", "is_open_row (row_of t)")
-        stated(TABLE, "has_rest", "(field ∷ fields)", "is_rest field || has_rest fields")
+        stated(TABLE, "is_open", "t", "option_map_or (λ (r : Row). list_any is_rest r.fields) (row_of t) false")
         stated(FIELD, "is_rest", "Rest", "true")
         rest = {frame.type for frame in group if any(part.kind == "Rest" for part in frame.parts)}
         yield f"{parts['Rest'].name} goes to the payload's end (`Rest`) {distinguished_by(rest, types)}."

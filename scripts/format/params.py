@@ -126,7 +126,7 @@ def address():
 
 def page():
     """Lists of parameters, and each parameter."""
-    stated(ENTRY, "IsEntry", "number bytes", "Follows (Encodes number) (Follows (Encodes (length bytes)) (Is bytes))")
+    stated(ENTRY, "IsEntry", "number bytes", "Follows (Encodes number) (Follows (Encodes (length bytes)) (λ value. value ≡ bytes))")
     stated(ENTRY, "AreEntries", "(last ∷ earlier) bytes", (
         "Follows (AreEntries earlier) (IsEntry last.number last.bytes) bytes"))
     stated(ENTRY, "IsRepeat", "id before", "((row_of id).once ≡ true) × IsGiven id before")

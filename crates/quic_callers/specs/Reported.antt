@@ -2,10 +2,9 @@
 use Rattle.std.specs.Prelude.{◌≡◌, ◌⊎◌, ℕ, List, [], Option, None, false, codes}
 use Rattle.quic_errors.specs.Codes.{IsError, IsErrorOf, protocol_violation}
 use Rattle.quic_errors.specs.declared.transport_error.Error.{Error}
-use Rattle.quic_frame_fields.specs.Payload.{TypedFrame, AreFrames, IsBroken}
+use Rattle.quic_frame_fields.specs.Payload.{TypedFrame, IsBroken}
 use Rattle.quic_frame_fields.specs.Reading.{reason_text}
 use Rattle.quic_frame_fields.specs.declared.frame.fault.Fault.{Fault}
-use Rattle.quic_frame_fields.specs.declared.frame.fault.Fault.TheVariants.{UnexpectedEnd}
 
 -- The payload has no frame, or it is frames and then an invalid one, and the error has its type and the reason.
 abbrev pub IsReported : List ℕ → Error → Type 0
@@ -13,10 +12,3 @@ IsReported payload error =
     ((payload ≡ []) × IsError error protocol_violation (codes "packet payload is empty"))
     ⊎ ((found : List TypedFrame) × (type : Option ℕ) × (reason : Fault) × IsBroken false None found payload type reason
     × IsErrorOf type (reason_text reason) error)
-
--- More bytes may make the payload valid: there are none yet, or they are frames, or frames and then one that is cut
--- off.
-abbrev pub MayGoOn : List ℕ → Type 0
-MayGoOn front =
-    (front ≡ []) ⊎ ((found : List TypedFrame) × AreFrames false found front)
-    ⊎ ((found : List TypedFrame) × (type : Option ℕ) × IsBroken false None found front type UnexpectedEnd)

@@ -1,8 +1,7 @@
 //! Payloads: what a capture reader and a connection do with their frames.
-ghost use Rattle.std.specs.Prelude.{◌≡◌, ◌≢◌, ◌<◌, ◌^◌, ◌-◌, ◌++◌, List, ℕ, false, codes, length, min, IsTrue, IfErr, IfOk, MatchBool, OnOk};
-ghost use Rattle.quic_base.specs.Number.{AreBytes};
+ghost use Rattle.std.specs.Prelude.{◌≡◌, ◌<◌, ◌^◌, ◌-◌, ◌++◌, List, false, length, min, IfErr, IfOk, OnOk};
 ghost use Rattle.quic_callers.specs.Data.{streams_len};
-ghost use Rattle.quic_callers.specs.Reported.{IsReported, MayGoOn};
+ghost use Rattle.quic_callers.specs.Reported.{IsReported};
 ghost use Rattle.quic_frame_fields.specs.Payload.{TypedFrame, AreFrames};
 ghost use Rattle.quic_frame_fields.specs.Shortest.{shortest_frame};
 ghost use Rattle.quic_frames.specs.Meaning.{meaning_of};
@@ -10,7 +9,7 @@ ghost use Rattle.quic_frames.specs.declared.frame.Frame.TheVariants as frames;
 
 use quic_base::coding::NoRoom;
 use quic_frames::frame::{Frame, FrameType, Iter, Stream, StreamMeta};
-use quic_frames::laws::{lasting, stream_header_and_data};
+use quic_frames::laws::stream_header_and_data;
 use quic_frames::transport_error::Error;
 
 /// How many bytes of stream data a payload has, up to its error, and the type that the error names.
@@ -48,33 +47,6 @@ pub fn all_stream_data(payload: &[u8]) -> Result<usize, Error>
         }
     }
     Ok(count)
-}
-
-/// Whether no payload that begins with these bytes can be valid: exactly where reading them fails for another reason
-/// than `unexpected end`.
-pub fn is_lost(front: &[u8]) -> bool
-    ensures lost { IsTrue result → (more : List ℕ) (found : List TypedFrame) → AreBytes (front.now ++ more)
-        → AreFrames false found (front.now ++ more) → ⊥ }
-    ensures going { result ≡ false → MayGoOn front.now }
-{
-    lasting();
-    let Ok(frames) = Iter::new(front) else {
-        return false;
-    };
-    for item in frames {
-        match item {
-            Ok(_) => {}
-            Err(invalid) => return is_final(invalid.reason),
-        }
-    }
-    false
-}
-
-// Whether an error with this reason remains one whatever bytes follow.
-fn is_final(reason: &str) -> bool
-    ensures { MatchBool result (reason.now ≢ codes "unexpected end") (reason.now ≡ codes "unexpected end") }
-{
-    reason != "unexpected end"
 }
 
 /// Appends a STREAM as a sender of data does: its header, and then the data. That is its shortest encoding, as the last

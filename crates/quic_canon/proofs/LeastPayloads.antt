@@ -6,7 +6,8 @@ use Rattle.quic_frame_fields.specs.declared.frame.fault.Fault.{Fault}
 use Rattle.quic_frame_fields.specs.Payload.{Meaning, TypedFrame, IsFrame, AreFrames, IsBroken, Complete, FailsAfter, IsReadingAfter}
 use Rattle.quic_base.specs.One.{ExactlyOne}
 use Rattle.quic_frames.specs.Least.{AreOrExceed, frame_in, all_written, shortest_frames}
-use Rattle.quic_canon.specs.Same.{AreSameFrames, IsSame}
+use Rattle.std.specs.List.{AllZip}
+use Rattle.quic_canon.specs.Same.{IsSameFrame, IsSame}
 use Rattle.quic_canon.specs.Least.{IsLeast}
 use Rattle.quic_canon.proofs.SameFrames.{frames_same, frames_themselves}
 
@@ -47,7 +48,7 @@ make_same payload other frames others some s t e = record {
   encoded = s;
   others = others;
   other_encoded = t;
-  same = subst (λ (l : List Meaning). AreSameFrames (map frame_in frames) l) e (frames_themselves (map frame_in frames));
+  same = subst (λ (l : List Meaning). AllZip IsSameFrame (map frame_in frames) l) e (frames_themselves (map frame_in frames));
 }
 
 front_nil : (front back : List ℕ) → front ++ back ≡ [] → front ≡ []
@@ -61,7 +62,7 @@ no_frame found bytes f none =
 
 filled : (frames others : List TypedFrame) (payload other : List ℕ) → payload ≢ [] → AreFrames false frames payload
     → AreFrames false others other
-    → AreSameFrames (map frame_in frames) (map frame_in others) → other ≢ []
+    → AllZip IsSameFrame (map frame_in frames) (map frame_in others) → other ≢ []
 filled [] others payload other some s t same none = some s
 filled (f ∷ frames) [] payload other some s t same none = absurd same
 filled (f ∷ frames) (g ∷ others) payload other some s t same none =

@@ -7,7 +7,8 @@ use Rattle.quic_frame_fields.specs.Field.{Value, Number, Bytes, Ranges, Field, V
 use Rattle.quic_frame_fields.specs.Table.{Name, Row, rows, row_of}
 use Rattle.quic_frame_fields.specs.Payload.{Meaning, TypedFrame, IsFrame, AreFrames}
 use Rattle.quic_frames.specs.Least.{frame_in}
-use Rattle.quic_canon.specs.Same.{IsSameValue, AreSameValues, is_ack, compared_values, IsSameFrame, AreSameFrames}
+use Rattle.std.specs.List.{AllZip}
+use Rattle.quic_canon.specs.Same.{IsSameValue, is_ack, compared_values, IsSameFrame}
 use Rattle.quic_canon.proofs.SameSets.{one_list_of_set}
 
 -- ---- values of frames hold ranges that never touch
@@ -70,7 +71,7 @@ value_is (Bytes bytes) (Ranges others) h k same = same
 value_is (Bytes bytes) (Number m) h k same = same
 value_is (Bytes bytes) (Bytes others) h k same = same
 
-values_are : (values others : List Value) → AreDown values → AreDown others → AreSameValues values others
+values_are : (values others : List Value) → AreDown values → AreDown others → AllZip IsSameValue values others
     → values ≡ others
 values_are [] [] h k same = refl
 values_are [] (other ∷ others) h k same = absurd same
@@ -246,7 +247,7 @@ acks_same values others a b e =
 
 values_same : (b : Bool) (values others : List Value) → AreDown values → AreDown others → (b ≡ true → IsAckOf values)
     → (b ≡ true → IsAckOf others)
-    → AreSameValues (if b then drop 1 values else values) (if b then drop 1 others else others) → values ≡ others
+    → AllZip IsSameValue (if b then drop 1 values else values) (if b then drop 1 others else others) → values ≡ others
 values_same true values others h k acks acks' same =
     acks_same values others (acks refl) (acks' refl) (values_are (drop 1 values) (drop 1 others) (down_drop values h)
     (down_drop others k) same)
@@ -260,16 +261,16 @@ meaning_is frame other e f =
 frame_same : (frame other : Meaning) → IsKnown frame → IsKnown other → IsSameFrame frame other → frame ≡ other
 frame_same frame other h k s =
     let ack : is_ack other.name ≡ is_ack frame.name = ap is_ack (sym s.name) in
-    let reported : AreSameValues (if is_ack frame.name then drop 1 frame.values else frame.values)
+    let reported : AllZip IsSameValue (if is_ack frame.name then drop 1 frame.values else frame.values)
     (if is_ack frame.name then drop 1 other.values else other.values) =
-    subst (λ (b : Bool). AreSameValues (compared_values frame) (if b then drop 1 other.values else other.values)) ack s.values in
+    subst (λ (b : Bool). AllZip IsSameValue (compared_values frame) (if b then drop 1 other.values else other.values)) ack s.values in
     meaning_is frame other s.name (values_same (is_ack frame.name) frame.values other.values h.down k.down h.acks
     (λ e. k.acks (ack ∙ e)) reported)
 
 -- Payloads that mean the same are the same frames.
 pub frames_same : (found others : List TypedFrame) (payload other : List ℕ) → AreFrames false found payload
     → AreFrames false others other
-    → AreSameFrames (map frame_in found) (map frame_in others)
+    → AllZip IsSameFrame (map frame_in found) (map frame_in others)
     → map frame_in found ≡ map frame_in others
 frames_same [] [] payload other s t same = refl
 frames_same [] (g ∷ others) payload other s t same = absurd same
@@ -286,11 +287,11 @@ value_itself (Number n) = refl
 value_itself (Bytes bytes) = refl
 value_itself (Ranges ranges) = λ n. refl
 
-values_themselves : (values : List Value) → AreSameValues values values
+values_themselves : (values : List Value) → AllZip IsSameValue values values
 values_themselves [] = tt
 values_themselves (value ∷ values) = (value_itself value, values_themselves values)
 
-pub frames_themselves : (frames : List Meaning) → AreSameFrames frames frames
+pub frames_themselves : (frames : List Meaning) → AllZip IsSameFrame frames frames
 frames_themselves [] = tt
 frames_themselves (frame ∷ frames) =
     (record { name = refl; values = values_themselves (compared_values frame) }, frames_themselves frames)

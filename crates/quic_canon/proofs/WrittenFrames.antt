@@ -1,7 +1,7 @@
 -- What is written of frames.
-use Rattle.std.specs.Prelude.{◌≡◌, ◌≢◌, ℕ, ◌<◌, List, [], ◌∷◌, length, map, Bool}
-use Rattle.std.proofs.Common.{inl, inr, sym, ap, arith, refl, length-append}
-use Rattle.quic_frame_fields.specs.Payload.{Meaning, TypedFrame, IsFrame, AreFrames}
+use Rattle.std.specs.Prelude.{◌≡◌, ◌≢◌, ℕ, List, [], ◌∷◌, length, map, Bool}
+use Rattle.std.proofs.Common.{inl, inr, sym, ap, arith, length-append}
+use Rattle.quic_frame_fields.specs.Payload.{Meaning, TypedFrame, AreFrames}
 use Rattle.quic_frames.specs.Least.{AreOrExceed, frame_in}
 use Rattle.quic_frames.proofs.Items.{frame_some}
 

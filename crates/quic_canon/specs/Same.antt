@@ -1,5 +1,6 @@
 -- Payloads that mean the same: equal frames in equal order, ACKs by their delays, their counts and the numbers in them.
-use Rattle.std.specs.Prelude.{◌≡◌, ◌≢◌, ⊤, ℕ, List, [], ◌∷◌, drop, map, Bool, true, false, if◌then◌else◌}
+use Rattle.std.specs.Prelude.{◌≡◌, ◌≢◌, ℕ, List, [], ◌∷◌, drop, map, Bool, true, false, if◌then◌else◌}
+use Rattle.std.specs.List.{AllZip}
 use Rattle.quic_frame_fields.specs.Field.{Value, Ranges}
 use Rattle.quic_frame_fields.specs.Table.{Name, Ack}
 use Rattle.quic_frame_fields.specs.Payload.{Meaning, TypedFrame, AreFrames}
@@ -10,11 +11,6 @@ use Rattle.quic_frames.specs.Least.{frame_in}
 abbrev pub IsSameValue : Value → Value → Type 0
 IsSameValue (Ranges some) (Ranges others) = (n : ℕ) → is_in some n ≡ is_in others n
 IsSameValue value other = value ≡ other
-
-abbrev pub AreSameValues : List Value → List Value → Type 0
-AreSameValues [] [] = ⊤
-AreSameValues (value ∷ values) (other ∷ others) = IsSameValue value other × AreSameValues values others
-AreSameValues values others = ⊥
 
 abbrev pub is_ack : Name → Bool
 is_ack Ack = true
@@ -27,12 +23,7 @@ compared_values frame = if is_ack frame.name then drop 1 frame.values else frame
 
 pub record IsSameFrame (frame other : Meaning) : Type 0 where
   pub name : frame.name ≡ other.name
-  pub values : AreSameValues (compared_values frame) (compared_values other)
-
-abbrev pub AreSameFrames : List Meaning → List Meaning → Type 0
-AreSameFrames [] [] = ⊤
-AreSameFrames (frame ∷ frames) (other ∷ others) = IsSameFrame frame other × AreSameFrames frames others
-AreSameFrames frames others = ⊥
+  pub values : AllZip IsSameValue (compared_values frame) (compared_values other)
 
 -- Both are payloads, and mean the same.
 pub record IsSame (payload other : List ℕ) : Type 0 where
@@ -41,4 +32,4 @@ pub record IsSame (payload other : List ℕ) : Type 0 where
   pub encoded : AreFrames false frames payload
   pub others : List TypedFrame
   pub other_encoded : AreFrames false others other
-  pub same : AreSameFrames (map frame_in frames) (map frame_in others)
+  pub same : AllZip IsSameFrame (map frame_in frames) (map frame_in others)

@@ -7,7 +7,8 @@ ghost use Rattle.quic_frames.specs.Written.{IsShortestOf};
 ghost use Rattle.quic_frame_fields.specs.Payload.{Meaning, TypedFrame, AreFrames, IsBroken};
 ghost use Rattle.quic_frame_fields.specs.Sets.{is_in};
 ghost use Rattle.quic_frame_fields.specs.declared.frame.fault.Fault.{Fault};
-ghost use Rattle.quic_canon.specs.Same.{AreSameFrames, IsSame};
+ghost use Rattle.std.specs.List.{AllZip};
+ghost use Rattle.quic_canon.specs.Same.{IsSameFrame, IsSame};
 ghost use Rattle.quic_canon.specs.Least.{IsLeast};
 
 use quic_frames::laws::{least_encoding, one_reading};
@@ -18,7 +19,7 @@ pub fn one_list_of_a_set()
         → ((n : ℕ) → is_in some n ≡ is_in others n) → some ≡ others }
     // So payloads mean the same exactly if their frames have the same values.
     ensures frames { (found others : List TypedFrame) (payload other : List ℕ) → AreFrames false found payload
-        → AreFrames false others other → AreSameFrames (map frame_in found) (map frame_in others)
+        → AreFrames false others other → AllZip IsSameFrame (map frame_in found) (map frame_in others)
         → map frame_in found ≡ map frame_in others }
 {}
 

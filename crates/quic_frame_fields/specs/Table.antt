@@ -1,37 +1,19 @@
 -- The types of frames, and the fields of each (RFC 9000, section 19; RFC 9221, section 4; the last row and 0x1f are
 -- of the ACK frequency extension).
-use Rattle.std.specs.Prelude.{ℕ, List, [], ◌∷◌, Option, Some, None, Bool, true, false, ◌==◌, ◌||◌, if◌then◌else◌}
+use Rattle.std.specs.Prelude.{ℕ, List, [], ◌∷◌, Option, Some, None, Bool, true, false, ◌==◌, if◌then◌else◌}
+use Rattle.std.specs.List.{list_any}
 use Rattle.std.specs.Map.{lookup}
+use Rattle.std.specs.Option.{option_map_or}
 use Rattle.quic_base.specs.declared.ids.Dir.{Dir}
 use Rattle.quic_base.specs.declared.ids.Dir.TheVariants.{Bi, Uni}
 use Rattle.quic_base.specs.Ids.{dir_number}
 use Rattle.quic_frame_fields.specs.Field.{Field, Varint, Counted, Id, Uint64, Bytes16, Blocks, Rest, Implied, Ordered, is_rest}
 
 pub data Name : Type 0 where
-  Padding : Name
-  Ping : Name
-  Ack : Name
-  ResetStream : Name
-  StopSending : Name
-  Crypto : Name
-  NewToken : Name
-  Stream : Name
-  MaxData : Name
-  MaxStreamData : Name
-  MaxStreams : Name
-  DataBlocked : Name
-  StreamDataBlocked : Name
-  StreamsBlocked : Name
-  NewConnectionId : Name
-  RetireConnectionId : Name
-  PathChallenge : Name
-  PathResponse : Name
-  ConnectionClose : Name
-  ApplicationClose : Name
-  HandshakeDone : Name
-  ImmediateAck : Name
-  Datagram : Name
-  AckFrequency : Name
+  Padding Ping Ack ResetStream StopSending Crypto NewToken Stream : Name
+  MaxData MaxStreamData MaxStreams DataBlocked StreamDataBlocked StreamsBlocked : Name
+  NewConnectionId RetireConnectionId PathChallenge PathResponse : Name
+  ConnectionClose ApplicationClose HandshakeDone ImmediateAck Datagram AckFrequency : Name
 
 pub record Row : Type 0 where
   pub name : Name
@@ -204,14 +186,6 @@ rows =
 abbrev pub row_of : ℕ → Option Row
 row_of t = lookup (λ u. t == u) rows
 
-abbrev pub has_rest : List Field → Bool
-has_rest [] = false
-has_rest (field ∷ fields) = is_rest field || has_rest fields
-
-abbrev pub is_open_row : Option Row → Bool
-is_open_row None = false
-is_open_row (Some r) = has_rest r.fields
-
 -- a frame of this type takes all remaining bytes
 abbrev pub is_open : ℕ → Bool
-is_open t = is_open_row (row_of t)
+is_open t = option_map_or (λ (r : Row). list_any is_rest r.fields) (row_of t) false

@@ -10,7 +10,7 @@ use Rattle.quic_base.proofs.PublicLaws.{front_bytes, back_bytes}
 use Rattle.quic_frame_fields.specs.declared.frame.fault.Fault.{Fault}
 use Rattle.quic_frame_fields.specs.declared.frame.fault.Fault.TheVariants.{UnexpectedEnd, Malformed}
 use Rattle.quic_frame_fields.specs.Field.{Value, is_rest, Number, Bytes, Ranges, Field, Varint, Counted, Id, Uint64, Bytes16, Blocks, Rest, Implied, Ordered, is_ordered, greatest_of, IsField, AreFields, Stops, StopsWithin, IsReason}
-use Rattle.quic_frame_fields.specs.Table.{has_rest}
+use Rattle.std.specs.List.{list_any}
 use Rattle.quic_base.specs.Reading.{◌>>=◌}
 use Rattle.quic_frame_fields.specs.Reading.{varint_at, bytes_at, counted_at, id_at, eight_at, blocks_at, of_number, of_bytes, of_ranges, ranges_of, field_at, fields_at}
 use Rattle.quic_frame_fields.proofs.Steps.{bind_ok, bind_err, mapped_err, err_of, only_fault, only_fault_else, true_is_not_false, ok_is_not_err, append_is_nil, guard_ok, ok_is}
@@ -231,7 +231,7 @@ pub record TakesAll (fields : List Field) (before after : List Value) (bytes lef
   pub front : List ℕ
   pub parts : bytes ≡ front ++ left
   pub encoded : AreFields fields before after front
-  pub opens : has_rest fields ≡ true → left ≡ []
+  pub opens : list_any is_rest fields ≡ true → left ≡ []
 
 rest_takes_all : (field : Field) (before : List Value) (bytes : List ℕ) (x : List Value × List ℕ)
     → field_at field before bytes ≡ Ok x → is_rest field ≡ true → x.1 ≡ []
@@ -264,7 +264,7 @@ fields_take (field ∷ fields) before bytes x fits e =
       front = t.front ++ u.front;
       parts = t.split ∙ ap (λ (l : List ℕ). t.front ++ l) u.parts ∙ sym (append_assoc t.front u.front x.1);
       encoded = (a.0.0, t.front, u.front, refl, t.is, u.encoded);
-      opens = nothing_left (is_rest field) (has_rest fields) a.0.1 u.front x.1 u.parts (rest_takes_all field before bytes a.0 a.1) u.opens;
+      opens = nothing_left (is_rest field) (list_any is_rest fields) a.0.1 u.front x.1 u.parts (rest_takes_all field before bytes a.0 a.1) u.opens;
     }
 
 -- a field that takes all that is left comes last only
@@ -282,7 +282,7 @@ or_false true = refl
 or_false false = refl
 
 pub fields_again : (fields : List Field) (before after : List Value) (front left : List ℕ) → is_well fields ≡ true
-    → (has_rest fields ≡ true → left ≡ []) → AreFields fields before after front
+    → (list_any is_rest fields ≡ true → left ≡ []) → AreFields fields before after front
     → fields_at fields before (front ++ left) ≡ Ok (after, left)
 fields_again [] before after front left well closed s = rw (s.0, s.1) refl
 fields_again (field ∷ []) before after front left well closed s =
@@ -297,7 +297,7 @@ fields_again (field ∷ next ∷ fields) before after front left well closed s =
     ap (λ (l : List ℕ). l ++ left) s.3 ∙ append_assoc s.1 s.2 left in
     let one =
     field_again field before values s.1 (s.2 ++ left) (λ opens. absurd (true_is_not_false (sym opens ∙ w.0))) s.4 in
-    let others_closed : has_rest (next ∷ fields) ≡ true → left ≡ [] = λ opens. closed (rw w.0 opens) in
+    let others_closed : list_any is_rest (next ∷ fields) ≡ true → left ≡ [] = λ opens. closed (rw w.0 opens) in
     let two = fields_again (next ∷ fields) (before ++ values) after s.2 left w.1 others_closed s.5 in
     ap (fields_at (field ∷ next ∷ fields) before) regrouped
     ∙ ap (λ r. r >>= λ y. fields_at (next ∷ fields) (before ++ y.0) y.1) one ∙ two

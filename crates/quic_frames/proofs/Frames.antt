@@ -8,7 +8,10 @@ use Rattle.quic_base.specs.Varint.{Encodes, shortest_varint, size}
 use Rattle.quic_base.proofs.PublicLaws.{back_bytes, length-short, short_least}
 use Rattle.quic_frame_fields.specs.declared.frame.fault.Fault.{Fault}
 use Rattle.quic_frame_fields.specs.declared.frame.fault.Fault.TheVariants.{InvalidFrameId, LongType}
-use Rattle.quic_frame_fields.specs.Table.{Row, row_of, has_rest, is_open, is_open_row}
+use Rattle.std.specs.List.{list_any}
+use Rattle.std.specs.Option.{option_map_or}
+use Rattle.quic_frame_fields.specs.Field.{is_rest}
+use Rattle.quic_frame_fields.specs.Table.{Row, row_of, is_open}
 use Rattle.quic_frame_fields.specs.Payload.{Meaning, TypedFrame, IsType, IsFrame, LacksType, IsNoFrame}
 use Rattle.quic_frame_fields.specs.Reading.{varint_at, fields_at, row_at, in_row, frame_at, Invalid, invalid, after_type, is_long_type, at_type, found_at}
 use Rattle.quic_frame_fields.proofs.Steps.{bind_ok, mapped_err, err_of, ok_is, true_is_not_false}
@@ -143,6 +146,9 @@ at_type_err strict before total (Err f) i e = inl (f, refl, cc)
 
 -- ---- frames
 
+abbrev is_open_row : Option Row → Bool
+is_open_row row = option_map_or (λ (r : Row). list_any is_rest r.fields) row false
+
 pub record TakesFound (strict : Bool) (found : TypedFrame) (bytes left : List ℕ) : Type 0 where
   pub front : List ℕ
   pub parts : bytes ≡ front ++ left
@@ -196,7 +202,7 @@ found_again strict before found front back frame closed =
     let regrouped : front ++ back ≡ frame.type_bytes ++ (frame.field_bytes ++ back) =
     ap (λ (l : List ℕ). l ++ back) frame.parts ∙ append_assoc frame.type_bytes frame.field_bytes back in
     let one = type_again strict before found.type frame.type_bytes (frame.field_bytes ++ back) frame.type_encoded in
-    let row_closed : has_rest frame.row.fields ≡ true → back ≡ [] = λ h. closed (ap is_open_row frame.in_table ∙ h) in
+    let row_closed : list_any is_rest frame.row.fields ≡ true → back ≡ [] = λ h. closed (ap is_open_row frame.in_table ∙ h) in
     let two =
     fields_again frame.row.fields [] found.frame.values frame.field_bytes back
     (row_is_well found.type frame.row frame.in_table) row_closed frame.fields in

@@ -2,12 +2,14 @@
 use bytes::BytesMut;
 use quic_checks::Checks;
 use quic_wire::calls::{
-    PayloadError, cut_first, cut_plain, first_item, is_lost, next_item, read_parameters,
-    read_payload, shorten, write_payload,
+    PayloadError, cut_first, cut_plain, frames_read_back, is_lost, parameters_read_back, read_parameters, read_payload,
+    shorten, write_payload,
 };
 use quic_wire::frame::Frame;
 use quic_wire::ids::Side;
 use quic_wire::packet::FixedLengthConnectionIdParser;
+use quic_wire::transport_parameters::{ReservedTransportParameter, TransportParameters};
+use quic_wire::varint::VarInt;
 use std::test::Fail;
 
 #[test]
@@ -35,18 +37,6 @@ fn payloads_are_read(rt: HostRuntime) -> Result<(), Fail> {
 }
 
 #[test]
-fn items_are_given(rt: HostRuntime) -> Result<(), Fail> {
-    let mut checks = Checks::new(rt.alloc());
-    let Ok(mut items) = first_item(b"\x01\x21".as_slice()) else {
-        return Err("a payload".into());
-    };
-    checks.holds(matches!(next_item(&mut items), Some(Ok(Frame::Ping))));
-    checks.holds(matches!(next_item(&mut items), Some(Err(_))));
-    checks.holds(next_item(&mut items).is_none());
-    checks.verdict()
-}
-
-#[test]
 fn payloads_are_written(rt: HostRuntime) -> Result<(), Fail> {
     let mut checks = Checks::new(rt.alloc());
     let mut out = Vec::new(rt.alloc());
@@ -58,10 +48,23 @@ fn payloads_are_written(rt: HostRuntime) -> Result<(), Fail> {
 }
 
 #[test]
+fn frames_are_read_back(rt: HostRuntime) -> Result<(), Fail> {
+    let mut checks = Checks::new(rt.alloc());
+    let mut out = Vec::new(rt.alloc());
+    match frames_read_back(rt.alloc(), &[Frame::Ping, Frame::HandshakeDone], &mut out) {
+        Ok(frames) => checks.same(frames.len(), 2),
+        Err(_) => checks.holds(false),
+    }
+    checks.verdict()
+}
+
+#[test]
 fn what_is_lost(rt: HostRuntime) -> Result<(), Fail> {
     let mut checks = Checks::new(rt.alloc());
-    checks.holds(matches!(is_lost(rt.alloc(), b"\x01\x21".as_slice()), Ok(true)));
-    checks.holds(matches!(is_lost(rt.alloc(), b"\x01\x06".as_slice()), Ok(false)));
+    checks.holds(is_lost(b"\x01\x21".as_slice()));
+    checks.holds(!is_lost(b"\x01\x06".as_slice()));
+    checks.holds(!is_lost(b"\x01".as_slice()));
+    checks.holds(!is_lost(b"".as_slice()));
     checks.verdict()
 }
 
@@ -83,5 +86,20 @@ fn lists_are_read(rt: HostRuntime) -> Result<(), Fail> {
     let mut checks = Checks::new(rt.alloc());
     checks.holds(read_parameters(Side::Client, b"\x01\x01\x05".as_slice()).is_ok());
     checks.holds(read_parameters(Side::Client, b"\x01\x02\x05".as_slice()).is_err());
+    checks.verdict()
+}
+
+#[test]
+fn parameters_are_read_back(rt: HostRuntime) -> Result<(), Fail> {
+    let mut checks = Checks::new(rt.alloc());
+    let mut params = TransportParameters::default();
+    params.max_idle_timeout = VarInt::from_u32(30000);
+    let mut greased = params;
+    greased.grease_transport_parameter = Some(ReservedTransportParameter::new(0, b"\xaa\xbb"));
+    if greased.in_range(Side::Client) {
+        let mut out = Vec::new(rt.alloc());
+        checks.same(parameters_read_back(Side::Client, &greased, &mut out), Ok(params));
+        checks.same(out.as_slice(), b"\x01\x04\x80\x00\x75\x30\x1b\x02\xaa\xbb".as_slice());
+    }
     checks.verdict()
 }

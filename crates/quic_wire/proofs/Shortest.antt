@@ -4,14 +4,15 @@ use Rattle.std.proofs.lemmas.List.{length-append}
 use Rattle.std.specs.Prelude.{OnOk, Result, Ok, Err}
 use Rattle.quic_canon.specs.Least.{IsLeast}
 use Rattle.quic_canon.specs.Refusal.{AppendsLeast}
-use Rattle.quic_canon.specs.Same.{AreSameFrames}
+use Rattle.std.specs.List.{AllZip}
+use Rattle.quic_canon.specs.Same.{IsSameFrame}
 use Rattle.quic_frame_fields.specs.Payload.{TypedFrame, AreFrames, IsReadingOf, Complete}
 use Rattle.quic_frames.proofs.Items.{frame_some}
 use Rattle.quic_frames.specs.Least.{frame_in}
 use Rattle.quic_base.specs.One.{ExactlyOne, ReturnsOne}
 
 some_of : (frames others : List TypedFrame) (least payload : List ℕ) → least ≢ [] → AreFrames false frames least
-    → AreFrames false others payload → AreSameFrames (map frame_in frames) (map frame_in others) → payload ≢ []
+    → AreFrames false others payload → AllZip IsSameFrame (map frame_in frames) (map frame_in others) → payload ≢ []
 some_of [] others least payload some encoded other same none = some encoded
 some_of (f ∷ frames) [] least payload some encoded other same none = same
 some_of (f ∷ frames) (g ∷ others) least payload some encoded other same none =

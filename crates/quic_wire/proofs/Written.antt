@@ -1,6 +1,6 @@
 -- What is written, and headers that are read back.
 use Rattle.std.proofs.Common.{◌≡◌, ℕ, ◌+◌, List, [], ◌++◌, length, Option, None, Result, Ok, refl, sym, ap, ◌∙◌, subst, arith, append_assoc, length-append}
-use Rattle.std.specs.Prelude.{MatchOption}
+use Rattle.std.specs.Prelude.{MatchOption, OnOk, Err}
 use Rattle.std.proofs.lemmas.List.{append-nil}
 use Rattle.quic_header_decode.specs.Grammar.{CutAnswer, HeaderAt}
 use Rattle.quic_header_decode.specs.Headers.{without_number}
@@ -25,6 +25,12 @@ puts_part old all now new part rest left split so_far text =
 pub puts_all : (old all now left : List ℕ) → left ≡ [] → now ++ left ≡ old ++ all → now ≡ old ++ all
 puts_all old all now left none so_far =
     sym (append-nil now) ∙ ap (λ (bytes : List ℕ). now ++ bytes) (sym none) ∙ so_far
+
+-- what was written into an empty buffer is its content
+pub content_is : {T E : Type 0} (result : Result T E) (x : T) (old new content bytes : List ℕ) → content ≡ new
+    → OnOk result (new ≡ old ++ bytes) → result ≡ Ok x → old ≡ [] → content ≡ bytes
+content_is (Ok y) x old new content bytes is wrote e empty = is ∙ wrote ∙ ap (λ (l : List ℕ). l ++ bytes) empty
+content_is (Err f) x old new content bytes is wrote e empty = absurd cc
 
 -- ---- headers of packets without protection
 

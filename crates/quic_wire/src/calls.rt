@@ -18,7 +18,6 @@ ghost use Rattle.quic_packets.specs.Pairs.{IsLawful};
 ghost use Rattle.quic_packets.specs.Sealing.{IsAppended, PacketContents};
 ghost use Rattle.quic_params.specs.Meaning.{IsReadAnswer};
 ghost use Rattle.quic_params.specs.Range.{IsRecordInRange, plain};
-ghost use Rattle.quic_params.specs.Writing.{written};
 ghost use Rattle.quic_wire.specs.Plain.{IsPlainInRange};
 ghost use Rattle.quic_wire.specs.Reading.{IsReturnedAs, MayGoOn};
 
@@ -124,8 +123,26 @@ pub fn shorten(payload: &[u8], out: &mut Vec<u8>) -> Result<(), CanonError>
 
 // ---- What is written, and reading it again.
 
-/// Reads a payload that was written from frames: it has these frames, and no error.
-pub fn read_frames<'a>(
+/// Writes frames as a payload and reads it: it has these frames, and no error. The caller must ensure that the frames
+/// can be written one after the other, and that the buffer is empty.
+pub fn frames_read_back<'a>(
+    alloc: Global,
+    frames: &[Frame<'_>],
+    out: &'a mut Vec<u8>,
+) -> Result<Vec<Frame<'a>>, PayloadError>
+    requires some { frames.now ≢ [] }
+    requires follow { CanFollow frames.now }
+    requires empty { out.old.items ≡ [] }
+    ensures { IfOk result (λ read. map meaning_of read.items ≡ map meaning_of frames.now) }
+{
+    if write_payload(frames, out).is_err() {
+        return Err(PayloadError::OutOfMemory);
+    }
+    read_frames(alloc, frames, out)
+}
+
+// Reads a payload that was written from frames.
+fn read_frames<'a>(
     alloc: Global,
     frames: &[Frame<'_>],
     payload: &'a [u8],
@@ -135,26 +152,29 @@ pub fn read_frames<'a>(
     ensures { IfOk result (λ read. map meaning_of read.items ≡ map meaning_of frames.now) }
 {
     frames_again();
-    let (read, error) = match read_payload(alloc, payload) {
-        Ok(parts) => parts,
-        Err(e) => return Err(e),
-    };
+    let (read, error) = read_payload(alloc, payload)?;
     match error {
         None => Ok(read),
         Some(_) => unreachable!(),
     }
 }
 
-/// Reads a list that was written from parameters.
-pub fn read_own(side: Side, params: &TransportParameters, list: &[u8]) -> TransportParameters
+/// Writes parameters as a list and reads it as the given side: the parameters without grease and in the order of the
+/// table. The caller must ensure that they are in range for that side, and that the buffer is empty.
+pub fn parameters_read_back(
+    side: Side,
+    params: &TransportParameters,
+    out: &mut Vec<u8>,
+) -> Result<TransportParameters, NoRoom>
     requires range { IsRecordInRange side params.now }
-    requires written { list.now ≡ written params.now }
-    ensures { result ≡ plain params.now }
+    requires empty { out.old.items ≡ [] }
+    ensures { IfOk result (λ read. read ≡ plain params.now) }
 {
     parameters_again();
     params.type_bounds();
-    match read_parameters(side, list) {
-        Ok(read) => read,
+    params.write(out)?;
+    match read_parameters(side, out) {
+        Ok(read) => Ok(read),
         Err(_) => unreachable!(),
     }
 }

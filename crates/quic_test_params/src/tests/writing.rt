@@ -1,7 +1,6 @@
 //! What is written of records.
 use super::{DOWNWARD, WHOLE, preferred, two_limits, whole};
 use quic_base::ids::Side;
-use quic_callers::params::written_and_read;
 use quic_checks::Checks;
 use quic_params::transport_parameters::{
     ReservedTransportParameter, TransportParameters, WriteOrder,
@@ -98,23 +97,6 @@ fn a_preferred_address(rt: HostRuntime) -> Result<(), Fail> {
         text.as_str(),
         "7f000001002a0000000000000000000000000000000100180142abababababababababababababababab0000000000000000000000000000000000000000000100180142abababababababababababababababab0000000000000000000000000000000000000000000000000142abababababababababababababababab",
     );
-    checks.verdict()
-}
-
-// By the client that knows both calls by their contracts alone.
-#[test]
-fn written_and_read_back(rt: HostRuntime) -> Result<(), Fail> {
-    let mut checks = Checks::new(rt.alloc());
-    let params = whole();
-    let mut greased = params;
-    greased.grease_transport_parameter = Some(ReservedTransportParameter::new(7, b"grease"));
-    greased.write_order = WriteOrder::new(DOWNWARD);
-    if greased.in_range(Side::Client) {
-        let mut out = Vec::new(rt.alloc());
-        let read = written_and_read(Side::Client, &greased, &mut out);
-        checks.same(read, Ok(params));
-        checks.same(out.len(), 75 + 9);
-    }
     checks.verdict()
 }
 

@@ -1,6 +1,6 @@
-use Rattle.std.proofs.Common.{false}
+use Rattle.std.proofs.Common.{false, refl}
 use Rattle.quic_canon.proofs.Steps.{finds_ok, stands_at}
-use Rattle.quic_canon.proofs.PaddingWalk.{padding_goes_on}
+use Rattle.quic_canon.proofs.PaddingWalk.{padding_goes_on, frame_goes_on}
 use Rattle.quic_c_canon.proofs.StoreWalk.{store_begins, never_fails, store_room, store_on, pad_room, store_pads, store_done}
 use Rattle.quic_c_canon.proofs.canonical.store.Goals as goal
 
@@ -76,3 +76,9 @@ pub returns : goal.returns
 returns c =
     store_done c.args.payload.now c.args.dest.now c.loop-item.dest c.loop-item.at c.loop-item.iter c.loop-item.invariant
     c.in_default-next.ensures.steps.0
+
+pub loop-item-smaller : goal.loop-item-smaller
+loop-item-smaller c =
+    let f =
+    finds_ok c.loop-item.iter c.next.new.self c.in-Some.item c.in-Ok-item.frame c.in-Ok-item.is c.in-Some.ensures.steps in
+    frame_goes_on c.loop-item.iter c.next.new.self c.next.new.self c.in-Ok-item.frame f refl

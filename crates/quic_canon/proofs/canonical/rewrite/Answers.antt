@@ -1,7 +1,6 @@
 use Rattle.std.proofs.Common.{arith, false}
 use Rattle.quic_canon.proofs.Steps.{stands_at, small_at, finds_ok}
 use Rattle.quic_canon.proofs.RewriteWalk.{RewriteWalk, walk_as, rewrite_walk_begins, never_fails, room_to_copy, room_to_write, rewrite_keeps, rewrite_writes, rewrite_done, room_to_end}
-use Rattle.std.proofs.lemmas.Grind.{common_steps}
 use Rattle.quic_canon.proofs.PaddingWalk.{passed_as, stands_as, padding_goes_on_as, frame_goes_on}
 use Rattle.quic_canon.proofs.canonical.rewrite.Goals as goal
 
@@ -101,7 +100,11 @@ returns c =
     c.loop-item.iter c.loop-item.invariant c.in_default-next.ensures.steps.0 c.copy-2.ensures.items
 
 pub slice_bounds-copy-count : goal.slice_bounds-copy-count
-slice_bounds-copy-count c = grind (arith, common_steps)
+slice_bounds-copy-count c =
+    let r = c.loop-item.invariant.rewrites c.requires.whole.0 c.requires.whole.1 in
+    omega (arith, r.within, c.loop-item.invariant.walks.within)
 
 pub slice_bounds-copy-start : goal.slice_bounds-copy-start
-slice_bounds-copy-start c = grind (arith, common_steps)
+slice_bounds-copy-start c =
+    let r = c.loop-item.invariant.rewrites c.requires.whole.0 c.requires.whole.1 in
+    omega (arith, r.within, c.loop-item.invariant.walks.within)

@@ -1,8 +1,8 @@
-use Rattle.std.proofs.Common.{◌≡◌, ◌≢◌, true, false}
+use Rattle.std.proofs.Common.{◌≡◌, ◌≢◌, true, false, refl}
 use Rattle.quic_frames.specs.declared.frame.InvalidFrame.{InvalidFrame}
 use Rattle.quic_canon.specs.declared.canonical.CanonError.TheVariants.{Invalid, OutOfMemory}
 use Rattle.quic_canon.proofs.Steps.{finds_ok, fails_err, stands_at, small_at}
-use Rattle.quic_canon.proofs.PaddingWalk.{padding_grows, padding_stays, padding_goes_on}
+use Rattle.quic_canon.proofs.PaddingWalk.{padding_grows, padding_stays, padding_goes_on, frame_goes_on}
 use Rattle.quic_canon.proofs.FrontWalk.{FrontWalk, front_is, front_walk_begins, front_done, front_fails, grows_to, ends_at, stays_at}
 use Rattle.quic_canon.proofs.canonical.shortest_front.Goals as goal
 
@@ -135,6 +135,12 @@ loop-item-smaller-else-front-stop c =
     finds_ok c.loop-item.iter c.next.new.self c.in-Some.item c.in-Ok-item.frame c.in-Ok-item.is c.in-Some.ensures.steps in
     padding_goes_on c.pass_padding.result c.loop-item.iter c.next.new.self c.pass_padding.new.self c.in-Ok-item.frame f
     c.pass_padding.ensures
+
+pub loop-item-smaller : goal.loop-item-smaller
+loop-item-smaller c =
+    let f =
+    finds_ok c.loop-item.iter c.next.new.self c.in-Some.item c.in-Ok-item.frame c.in-Ok-item.is c.in-Some.ensures.steps in
+    frame_goes_on c.loop-item.iter c.next.new.self c.next.new.self c.in-Ok-item.frame f refl
 
 pub returns-clause-ok : goal.returns-clause-ok
 returns-clause-ok c =

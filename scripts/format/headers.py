@@ -44,9 +44,9 @@ FIELDS = {
     "IsId values bytes": lambda: ["NAME Length (8)", f"NAME (0..{8 * most_of_id()})"],
     "IsVarint values bytes": lambda: ["NAME (i)"],
     "(values ≡ Number (length rest) ∷ []) × (length bytes ≡ token_length_of before)": lambda: ["NAME (..)"],
-    "(id : List ℕ) × (values ≡ Bytes id ∷ []) × (context.parsed (bytes ++ rest) ≡ Ok (id, length bytes))":
+    "(id : List ℕ) × (values ≡ Bytes id ∷ []) × (options.parsed (bytes ++ rest) ≡ Ok (id, length bytes))":
         lambda: ["NAME (..)"],
-    "(values ≡ []) × (bytes ≡ []) × Contains context.versions version": lambda: [],
+    "(values ≡ []) × (bytes ≡ []) × Contains options.versions version": lambda: [],
 }
 # What a header says when it is written: its bits and its fields, by its row.
 SAYS = {
@@ -134,7 +134,7 @@ def first_parts(head):
     stated("quic_base/specs/Number", "has_bit", "bit byte", "(byte / bit % 2) == 1")
     form = stated(GRAMMAR, "is_long", "first", "nat_le <bit> first")["bit"]
     yield form, 2, "Header Form", 0 if head.title == "1-RTT" else 1
-    yield stated(GRAMMAR, "is_fixed", "context first", "context.grease || has_bit <bit> first")["bit"], 2, "Fixed Bit", 1
+    yield stated(GRAMMAR, "is_fixed", "options first", "options.grease || has_bit <bit> first")["bit"], 2, "Fixed Bit", 1
     if head.type:
         found = stated(TYPES, "long_type", "version first", (
             "slice_index_or (types_of version) (first / <unit> % <count>) kind.Retry"))
@@ -194,8 +194,8 @@ def notes(head):
 def checked(head):
     """StopsAtField where a header ends otherwise than the paragraphs on all say."""
     if "Length" in row(head):
-        stated(GRAMMAR, "Cut", "context bytes h p q", (
-            "(rest : List ℕ) × HeaderAt context (length bytes) bytes h rest × (p + length rest ≡ length bytes)"
+        stated(GRAMMAR, "Cut", "options bytes h p q", (
+            "(rest : List ℕ) × HeaderAt options (length bytes) bytes h rest × (p + length rest ≡ length bytes)"
             " × MatchOption (len_in h) (q ≡ length bytes) (λ len. q ≡ p + len) × (q ≤ length bytes)"))
 
 
@@ -244,22 +244,22 @@ def written_lines():
 
 def reading():
     """How headers are read."""
-    stated(GRAMMAR, "HeaderAt", "context datagram_len bytes h rest", (
-        "(first : ℕ) × (text : List ℕ) × (values : List HeaderValue) × (bytes ≡ first ∷ text) × (is_fixed context first ≡"
-        " true) × AreHeaderFields context (header_row_of first (num (take 4 text))) [] values text rest"
+    stated(GRAMMAR, "HeaderAt", "options datagram_len bytes h rest", (
+        "(first : ℕ) × (text : List ℕ) × (values : List HeaderValue) × (bytes ≡ first ∷ text) × (is_fixed options first ≡"
+        " true) × AreHeaderFields options (header_row_of first (num (take 4 text))) [] values text rest"
         " × IsHeader datagram_len first values h"))
-    stated(GRAMMAR, "AreHeaderFields", "context (field ∷ fields) before after bytes rest", (
-        "(values : List HeaderValue) × (left : List ℕ) × BeginsWithField context field before values bytes left"
-        " × AreHeaderFields context fields (before ++ values) after left rest"))
-    stated(GRAMMAR, "BeginsWithField", "context field before values bytes rest", (
-        "(front : List ℕ) × (bytes ≡ front ++ rest) × IsHeaderField context field before values front rest"))
+    stated(GRAMMAR, "AreHeaderFields", "options (field ∷ fields) before after bytes rest", (
+        "(values : List HeaderValue) × (left : List ℕ) × BeginsWithField options field before values bytes left"
+        " × AreHeaderFields options fields (before ++ values) after left rest"))
+    stated(GRAMMAR, "BeginsWithField", "options field before values bytes rest", (
+        "(front : List ℕ) × (bytes ≡ front ++ rest) × IsHeaderField options field before values front rest"))
     stated(GRAMMAR, "token_length_of", "(version ∷ destination ∷ source ∷ Number count ∷ [])", "count")
     version = stated(TYPES, "version_2", "", "<number>")["number"]
     types = ", ".join(f"{type_number(head, 'second')} {head.title}" for head in ALL if head.type)
     return (
         "A header is its first byte and its row's fields one after another (`HeaderAt`, `header_row_of`, `row_behind_ids`,"
         f" `typed_row`, crates/{GRAMMAR}.antt); its packet ends as many bytes after Length as that says (`Cut`). Any"
-        " fixed bit may be clear where `context.grease` holds (RFC 9287; `is_fixed`). Versions but 0 are known ones"
+        " fixed bit may be clear where `options.grease` holds (RFC 9287; `is_fixed`). Versions but 0 are known ones"
         f" (`Supported`). Version 2 ({version:#x}; RFC 9369, 3.2) has the Long Packet Types {types} (`types_of`).")
 
 

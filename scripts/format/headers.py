@@ -10,6 +10,7 @@ KEYS = "quic_crypto/specs/Keys"
 TYPES = "quic_header_encode/specs/Types"
 QUERIES = "quic_header_encode/specs/Queries"
 STARTS = "quic_header_encode/specs/Starts"
+KINDS = "quic_header_encode/specs/Kinds"
 WRITING = "quic_header_encode/specs/Writing"
 GRAMMAR = "quic_header_decode/specs/Grammar"
 HEADS = "quic_header_decode/specs/Headers"
@@ -18,17 +19,19 @@ SPACES = "quic_header_decode/specs/Queries"
 PLACES = "quic_header_decode/specs/Places"
 NEGOTIATION = "quic_c_headers/specs/Negotiation"
 
-# A header: its section in RFC 9000, its name in ProtectedHeader and in Header with what they hold, its type.
-Figure = collections.namedtuple("Figure", "title section read written type")
+# A header: its section in RFC 9000, its name in ProtectedHeader and in Header with what they hold, its row, its type.
+Figure = collections.namedtuple("Figure", "title section read written row type")
 LONG = ("(protected.Long ty dst src len version)", "(header.Long ty dst src number version)")
 ALL = [
     Figure("Version Negotiation", "17.2.1", "(protected.VersionNegotiate random dst src)",
-         "(header.VersionNegotiate random src dst)", None),
-    Figure("Initial", "17.2.2", "(protected.Initial h)", "(header.Initial h)", "kind.Initial"),
-    Figure("0-RTT", "17.2.3", *LONG, "kind.Standard ZeroRtt"),
-    Figure("Handshake", "17.2.4", *LONG, "kind.Standard Handshake"),
-    Figure("Retry", "17.2.5", "(protected.Retry dst src version)", "(header.Retry dst src version)", "kind.Retry"),
-    Figure("1-RTT", "17.3.1", "(protected.Short spin dst)", "(header.Short spin key_phase dst number)", None),
+           "(header.VersionNegotiate random src dst)", "row kinds.VersionNegotiate", None),
+    Figure("Initial", "17.2.2", "(protected.Initial h)", "(header.Initial h)", "row kinds.Initial", "kind.Initial"),
+    Figure("0-RTT", "17.2.3", *LONG, "standard_row ty", "kind.Standard ZeroRtt"),
+    Figure("Handshake", "17.2.4", *LONG, "standard_row ty", "kind.Standard Handshake"),
+    Figure("Retry", "17.2.5", "(protected.Retry dst src version)", "(header.Retry dst src version)", "row kinds.Retry",
+           "kind.Retry"),
+    Figure("1-RTT", "17.3.1", "(protected.Short spin dst)", "(header.Short spin key_phase dst number)",
+           "row kinds.Short", None),
 ]
 # The RFC's names of fields.
 NAMES = {
@@ -36,27 +39,29 @@ NAMES = {
     "TokenLength": "Token Length", "Token": "Token", "Length": "Length", "ShortId": "Destination Connection ID",
 }
 # What a field is, by the right side of its clause of IsHeaderField.
-KINDS = {
+FIELDS = {
     "(n : ℕ) × (values ≡ Number n ∷ []) × IsNumber <width> n bytes": lambda width: [f"NAME ({8 * width})"],
     "IsId values bytes": lambda: ["NAME Length (8)", f"NAME (0..{8 * most_of_id()})"],
     "IsVarint values bytes": lambda: ["NAME (i)"],
     "(values ≡ Number (length rest) ∷ []) × (length bytes ≡ token_length_of before)": lambda: ["NAME (..)"],
-    "(id : List ℕ) × (values ≡ Bytes id ∷ []) × (context.parsed (bytes ++ rest) ≡ Ok (id, length bytes))":
+    "(id : List ℕ) × (values ≡ Bytes id ∷ []) × (options.parsed (bytes ++ rest) ≡ Ok (id, length bytes))":
         lambda: ["NAME (..)"],
-    "(values ≡ []) × (bytes ≡ []) × Contains context.versions version": lambda: [],
+    "(values ≡ []) × (bytes ≡ []) × Contains options.versions version": lambda: [],
 }
-# How a header is written: the fields before its length and its number, and with these.
-WRITTEN = {
-    "Version Negotiation": ("long_front (bit_or 128 random) 0 dst src", "<front..>"),
-    "Initial": ("long_front (long_first h.version kind.Initial (number_size h.number)) h.version h.dst_cid h.src_cid"
-                " ++ (shortest_varint (length h.token) ++ h.token)", "<front..> ++ (len ++ number_bytes h.number)"),
-    "0-RTT": ("long_front (long_first version (kind.Standard ty) (number_size number)) version dst src",
-              "<front..> ++ (len ++ number_bytes number)"),
-    "Retry": ("long_front (first_byte version kind.Retry) version dst src", "<front..>"),
-    "1-RTT": ("(64 + bit_value spin 32 + bit_value key_phase 4 + (number_size number - 1)) ∷ dst",
-              "<front..> ++ number_bytes number"),
+# What a header says when it is written: its bits and its fields, by its row.
+SAYS = {
+    "Version Negotiation": "(<bits..>) 0 dst src [] (U8 0)",
+    "Initial": "<bits> h.version h.dst_cid h.src_cid h.token h.number",
+    "0-RTT": "<bits> version dst src [] number",
+    "Handshake": "<bits> version dst src [] number",
+    "Retry": "<bits> version dst src [] (U8 0)",
+    "1-RTT": "(0x40 + <bits..>) 0 dst [] [] number",
 }
-WRITTEN["Handshake"] = WRITTEN["0-RTT"]
+# These bits in words: those that are given are a version negotiation's seven, and the spin bit and the key phase.
+BITS = {
+    "bit_or 0x80 random": "0x80, and the low seven as given",
+    "bit_value spin 0x20 + bit_value key_phase 0x04": "0x40, 0x20 by `spin`, 0x04 by `key_phase`",
+}
 # What the values of a row are to a header, in order.
 MEANT = {
     "Version Negotiation": "(first ≡ 0x80 + random) × (values ≡ Number <version> ∷ Bytes dst ∷ Bytes src ∷ [])",
@@ -83,7 +88,7 @@ def lines_of(field):
     """The lines of a field in the RFC's words."""
     kind = field.split()[0]
     lefts = {left.strip("()").split()[1].strip("("): right for left, right in clauses(GRAMMAR, "IsHeaderField").items()}
-    for template, lines in KINDS.items():
+    for template, lines in FIELDS.items():
         found = matched(template, lefts.get(kind, ""))
         if found is not None:
             return [line.replace("NAME", NAMES.get(kind, kind)) for line in lines(**found)]
@@ -129,7 +134,7 @@ def first_parts(head):
     stated("quic_base/specs/Number", "has_bit", "bit byte", "(byte / bit % 2) == 1")
     form = stated(GRAMMAR, "is_long", "first", "nat_le <bit> first")["bit"]
     yield form, 2, "Header Form", 0 if head.title == "1-RTT" else 1
-    yield stated(GRAMMAR, "is_fixed", "context first", "context.grease || has_bit <bit> first")["bit"], 2, "Fixed Bit", 1
+    yield stated(GRAMMAR, "is_fixed", "options first", "options.grease || has_bit <bit> first")["bit"], 2, "Fixed Bit", 1
     if head.type:
         found = stated(TYPES, "long_type", "version first", (
             "slice_index_or (types_of version) (first / <unit> % <count>) kind.Retry"))
@@ -140,8 +145,10 @@ def first_parts(head):
             "got ≡ header.Short spin (nat_eq (slice_index packet 0 / <unit> % <count>) 1) dst number"))
         yield found["unit"], found["count"], "Key Phase", None
     if is_protected(head):
-        found = stated(QUERIES, "reserved_zero", f"{head.written} first", "nat_eq (first / <unit> % <count>) 0")
-        yield found["unit"], found["count"], "Reserved Bits", None
+        found = stated(QUERIES, "reserved_zero", "h first", (
+            "nat_eq (first / (if (fields_of h).row.is_long then <long> else <short>) % <count>) 0"))
+        unit = found["long" if written_row(head)["is_long"] else "short"]
+        yield unit, found["count"], "Reserved Bits", None
         yield 1, stated(KEYS, "number_len", "first", "first % <count> + 1")["count"], "Packet Number Length", None
 
 
@@ -185,34 +192,74 @@ def notes(head):
 
 
 def checked(head):
-    """StopsAtField where a header ends or is written otherwise than the paragraphs on all say."""
+    """StopsAtField where a header ends otherwise than the paragraphs on all say."""
     if "Length" in row(head):
-        stated(GRAMMAR, "Cut", "context bytes h p q", (
-            "(rest : List ℕ) × HeaderAt context (length bytes) bytes h rest × (p + length rest ≡ length bytes)"
+        stated(GRAMMAR, "Cut", "options bytes h p q", (
+            "(rest : List ℕ) × HeaderAt options (length bytes) bytes h rest × (p + length rest ≡ length bytes)"
             " × MatchOption (len_in h) (q ≡ length bytes) (λ len. q ≡ p + len) × (q ≤ length bytes)"))
-    front, whole = WRITTEN[head.title]
-    stated(WRITING, "header_front", head.written, front)
-    stated(WRITING, "header_with", f"len {head.written}", whole.replace("<front..>", f"header_front {head.written}"))
+
+
+def written_row(head):
+    """Whether a written header is long, and has a token, a length and a number: by its row."""
+    stated(KINDS, "has", "type is_long token len number", (
+        "record { type = type; is_long = is_long; has_token = token; has_len = len; has_number = number }"))
+    name, left = head.row.split(" ", 1)
+    has = stated(KINDS, name, left, "has <type..> <is_long> <token> <len> <number>")
+    wanted = {None: "None", "kind.Standard ZeroRtt": "(Some (kind.Standard ty))",
+              "kind.Standard Handshake": "(Some (kind.Standard ty))"}.get(head.type, f"(Some {head.type})")
+    if has["type"] != wanted:
+        fail(f"{head.row} in crates/{KINDS}.antt", has["type"])
+    return {name: it == "true" for name, it in has.items() if name != "type"}
+
+
+def written_fields(head):
+    """The fields of a written header, in the order of `header_text`."""
+    stated(KINDS, "header_text", "len f", (
+        "let ids = if f.row.is_long then long_front (first_in f) (version_in f) f.dst f.src else first_in f ∷ f.dst in"
+        " let front = if f.row.has_token then ids ++ (shortest_varint (length f.token) ++ f.token) else ids in"
+        " let number = if f.row.has_len then len ++ number_bytes f.number else number_bytes f.number in"
+        " if f.row.has_number then front ++ number else front"))
+    stated(STARTS, "long_front", "first version dst src", "(first ∷ bytes_of 4 version) ++ (long_id dst ++ long_id src)")
+    has = written_row(head)
+    return (["Version", "DestinationId", "SourceId"] if has["is_long"] else ["ShortId"]) + [
+        field for field, name in (("TokenLength", "token"), ("Token", "token"), ("Length", "len")) if has[name]]
+
+
+def written_lines():
+    """A table of what is written, by the rows."""
+    yield "| | First byte | Version, both ids | Token | Length | Packet Number |"
+    yield "|---|---|---|---|---|---|"
+    for head in ALL:
+        if written_fields(head) != [field for field in row(head) if not field.startswith("Supported")]:
+            fail(f"{head.row} in crates/{KINDS}.antt", " ".join(written_fields(head)))
+        has = written_row(head)
+        if has["number"] != is_protected(head):
+            fail(f"{head.row} in crates/{KINDS}.antt", "a number, or none, where reading says otherwise")
+        bits = stated(KINDS, "fields_of", head.written, f"says ({head.row}) {SAYS[head.title]}")["bits"]
+        first = BITS.get(bits) or f"{bits:#x}"
+        first += "".join([", the type" if head.type else "", ", the number's length" if has["number"] else ""])
+        cells = ["yes" if has[name] else "no" for name in ("is_long", "token", "len", "number")]
+        yield f"| {head.title} | {first} | {' | '.join(cells)} |"
 
 
 def reading():
     """How headers are read."""
-    stated(GRAMMAR, "HeaderAt", "context datagram_len bytes h rest", (
-        "(first : ℕ) × (text : List ℕ) × (values : List HeaderValue) × (bytes ≡ first ∷ text) × (is_fixed context first ≡"
-        " true) × AreHeaderFields context (header_row_of first (num (take 4 text))) [] values text rest"
+    stated(GRAMMAR, "HeaderAt", "options datagram_len bytes h rest", (
+        "(first : ℕ) × (text : List ℕ) × (values : List HeaderValue) × (bytes ≡ first ∷ text) × (is_fixed options first ≡"
+        " true) × AreHeaderFields options (header_row_of first (num (take 4 text))) [] values text rest"
         " × IsHeader datagram_len first values h"))
-    stated(GRAMMAR, "AreHeaderFields", "context (field ∷ fields) before after bytes rest", (
-        "(values : List HeaderValue) × (left : List ℕ) × BeginsWithField context field before values bytes left"
-        " × AreHeaderFields context fields (before ++ values) after left rest"))
-    stated(GRAMMAR, "BeginsWithField", "context field before values bytes rest", (
-        "(front : List ℕ) × (bytes ≡ front ++ rest) × IsHeaderField context field before values front rest"))
+    stated(GRAMMAR, "AreHeaderFields", "options (field ∷ fields) before after bytes rest", (
+        "(values : List HeaderValue) × (left : List ℕ) × BeginsWithField options field before values bytes left"
+        " × AreHeaderFields options fields (before ++ values) after left rest"))
+    stated(GRAMMAR, "BeginsWithField", "options field before values bytes rest", (
+        "(front : List ℕ) × (bytes ≡ front ++ rest) × IsHeaderField options field before values front rest"))
     stated(GRAMMAR, "token_length_of", "(version ∷ destination ∷ source ∷ Number count ∷ [])", "count")
     version = stated(TYPES, "version_2", "", "<number>")["number"]
     types = ", ".join(f"{type_number(head, 'second')} {head.title}" for head in ALL if head.type)
     return (
         "A header is its first byte and its row's fields one after another (`HeaderAt`, `header_row_of`, `row_behind_ids`,"
         f" `typed_row`, crates/{GRAMMAR}.antt); its packet ends as many bytes after Length as that says (`Cut`). Any"
-        " fixed bit may be clear where `context.grease` holds (RFC 9287; `is_fixed`). Versions but 0 are known ones"
+        " fixed bit may be clear where `options.grease` holds (RFC 9287; `is_fixed`). Versions but 0 are known ones"
         f" (`Supported`). Version 2 ({version:#x}; RFC 9369, 3.2) has the Long Packet Types {types} (`types_of`).")
 
 
@@ -242,17 +289,21 @@ def packet_numbers():
 
 def writing():
     """How headers are written."""
-    stated(STARTS, "long_front", "first version dst src", "(first ∷ bytes_of 4 version) ++ (long_id dst ++ long_id src)")
-    stated(WRITING, "long_first", "version ty count", "first_byte version ty + (count - 1)")
-    stated(TYPES, "first_byte", "version ty", "192 + 16 * type_number version ty")
+    stated(KINDS, "first_in", "f", (
+        "let typed = option_map_or (λ ty. f.bits + 16 * type_number f.version ty) f.row.type f.bits in"
+        " if f.row.has_number then typed + (number_size f.number - 1) else typed"))
+    stated(KINDS, "version_in", "f", "if is_some f.row.type then f.version else 0")
+    stated(KINDS, "bit_value", "is_set n", "if is_set then n else 0")
     stated(TYPES, "type_number", "version ty", "place_of ty (types_of version)")
+    stated(WRITING, "header_with", "len h", "header_text len (fields_of h)")
     stated(WRITING, "no_length", "", "0 ∷ 0 ∷ []")
     stated(WRITING, "with_length", "pn_len true header_len bytes", (
         "let at = header_len - pn_len in take (at - 2) bytes ++ (bytes_of 2 (2 ^ 14 + (length bytes - at)) ++ drop at"
         " bytes)"))
     return (
-        f"Headers are written in this order (`header_with`, crates/{WRITING}.antt), Length in two bytes, the fixed bit"
-        " set, reserved and unused bits clear; the low seven of a version negotiation are given.")
+        f"Headers are written in this order (`header_text`, crates/{KINDS}.antt), each with the fields of its row (`row`):"
+        " Length in two bytes, Token Length in its shortest encoding. The first byte (`first_in`) has these bits, 16"
+        " times the number of the type, and one less than the length of the number; reserved and unused bits are clear.")
 
 
 def any_version():
@@ -286,6 +337,8 @@ def page():
     yield "## Headers"
     for paragraph in (reading(), protection(), packet_numbers(), writing()):
         yield from ["", paragraph]
+    yield ""
+    yield from written_lines()
     yield ""
     for head in ALL:
         checked(head)

@@ -251,37 +251,37 @@ one_answer id_len versions packet old new words answer other law fits t u =
 
 -- a packet is cut at the place in the words
 abbrev IsCut : DecodeOptions → List ℕ → CHeader → Type 0
-IsCut context packet words = (h : ProtectedHeader) × Cut context packet h words.header_end words.end
+IsCut options packet words = (h : ProtectedHeader) × Cut options packet h words.header_end words.end
 
 abbrev Law : Type 0
 Law =
-    (context : DecodeOptions) (bytes : List ℕ) (x : HeaderPlaces) (q : ℕ)
-    → HeaderAt context (length bytes) bytes (header_in bytes x) (drop x.header_end bytes) → x.header_end
+    (options : DecodeOptions) (bytes : List ℕ) (x : HeaderPlaces) (q : ℕ)
+    → HeaderAt options (length bytes) bytes (header_in bytes x) (drop x.header_end bytes) → x.header_end
     ≤ length bytes
-    → ends_at x (length bytes) ≡ Some q → Cut context bytes (header_in bytes x) x.header_end q
+    → ends_at x (length bytes) ≡ Some q → Cut options bytes (header_in bytes x) x.header_end q
 
-ended : (context : DecodeOptions) (packet : List ℕ) (x : HeaderPlaces) (end : Option ℕ) (old new : CHeader) → Law
-    → HeaderAt context (length packet) packet (header_in packet x) (drop x.header_end packet)
+ended : (options : DecodeOptions) (packet : List ℕ) (x : HeaderPlaces) (end : Option ℕ) (old new : CHeader) → Law
+    → HeaderAt options (length packet) packet (header_in packet x) (drop x.header_end packet)
     → x.header_end ≤ length packet → ends_at x (length packet) ≡ end → 0 ≡ whole_word end
-    → new ≡ header_words packet (Ok x) old → IsCut context packet new
-ended context packet x None old new law head within ends zero words = absurd (omega (arith, zero))
-ended context packet x (Some q) old new law head within ends zero words =
+    → new ≡ header_words packet (Ok x) old → IsCut options packet new
+ended options packet x None old new law head within ends zero words = absurd (omega (arith, zero))
+ended options packet x (Some q) old new law head within ends zero words =
     let stop : new.end ≡ q =
     ap (λ (w : CHeader). w.end) words ∙ ap (λ (o : Option ℕ). unwrap_or o (length packet)) ends in
     let start : new.header_end ≡ x.header_end = ap (λ (w : CHeader). w.header_end) words in
-    (header_in packet x, rw (start, stop) (law context packet x q head within ends))
+    (header_in packet x, rw (start, stop) (law options packet x q head within ends))
 
-cut_there : (context : DecodeOptions) (packet : List ℕ) (read : Result HeaderPlaces ReadError) (old new : CHeader) → Law
-    → ReadAnswer context packet (seen_in packet read) → IsSeen read (length packet)
-    → 0 ≡ answer_word read (length packet) → new ≡ header_words packet read old → IsCut context packet new
-cut_there context packet (Ok x) old new law right stored zero words =
-    ended context packet x (ends_at x (length packet)) old new law right stored.head refl zero words
-cut_there context packet (Err (error.UnsupportedVersion version dst_len src_len)) old new law right stored zero words =
+cut_there : (options : DecodeOptions) (packet : List ℕ) (read : Result HeaderPlaces ReadError) (old new : CHeader) → Law
+    → ReadAnswer options packet (seen_in packet read) → IsSeen read (length packet)
+    → 0 ≡ answer_word read (length packet) → new ≡ header_words packet read old → IsCut options packet new
+cut_there options packet (Ok x) old new law right stored zero words =
+    ended options packet x (ends_at x (length packet)) old new law right stored.head refl zero words
+cut_there options packet (Err (error.UnsupportedVersion version dst_len src_len)) old new law right stored zero words =
     absurd (omega (arith, zero))
-cut_there context packet (Err error.UnexpectedEnd) old new law right stored zero words = absurd (omega (arith, zero))
-cut_there context packet (Err error.SmallPacket) old new law right stored zero words = absurd (omega (arith, zero))
-cut_there context packet (Err error.MalformedCid) old new law right stored zero words = absurd (omega (arith, zero))
-cut_there context packet (Err error.TokenOutOfBounds) old new law right stored zero words = absurd (omega (arith, zero))
+cut_there options packet (Err error.UnexpectedEnd) old new law right stored zero words = absurd (omega (arith, zero))
+cut_there options packet (Err error.SmallPacket) old new law right stored zero words = absurd (omega (arith, zero))
+cut_there options packet (Err error.MalformedCid) old new law right stored zero words = absurd (omega (arith, zero))
+cut_there options packet (Err error.TokenOutOfBounds) old new law right stored zero words = absurd (omega (arith, zero))
 
 -- a packet that is reported to be complete is cut at the place in the words
 pub whole_cut : (id_len : ℕ) (versions packet : List ℕ) (old new : CHeader) (answer : ℕ) → Law

@@ -120,18 +120,18 @@ places packet dst src = record {
 }
 
 -- the header that is there, by its parts
-header_at : (context : DecodeOptions) (packet dst src rest d s left : List ℕ) (random : ℕ) → d ≡ dst → s ≡ src
+header_at : (options : DecodeOptions) (packet dst src rest d s left : List ℕ) (random : ℕ) → d ≡ dst → s ≡ src
     → left ≡ rest
-    → HeaderAt context (length packet) packet (protected.VersionNegotiate random dst src) rest
-    → HeaderAt context (length packet) packet (protected.VersionNegotiate random d s) left
-header_at context packet dst src rest d s left random e f g h = rw (e, f, g) h
+    → HeaderAt options (length packet) packet (protected.VersionNegotiate random dst src) rest
+    → HeaderAt options (length packet) packet (protected.VersionNegotiate random d s) left
+header_at options packet dst src rest d s left random e f g h = rw (e, f, g) h
 
 pub reported : (id_len : ℕ) (versions packet dst src rest : List ℕ) (old : CHeader) → IsNegotiation packet dst src rest
     → length dst ≤ 20 → length src ≤ 20
     → Reported id_len versions packet old 0 (negotiation_words packet dst src)
 unfolding places
 reported id_len versions packet dst src rest old (first, number, whole, long, word) few less =
-    let context : DecodeOptions = any_fixed id_len versions in
+    let options : DecodeOptions = any_fixed id_len versions in
     let zero_word = law.is_number_4 0 (omega arith) in
     let zeros : number ≡ bytes_of 4 0 =
     law.num_injective number (bytes_of 4 0) word.bytes zero_word.bytes (word.width ∙ sym zero_word.width)
@@ -161,14 +161,14 @@ reported id_len versions packet dst src rest old (first, number, whole, long, wo
     whole ∙ ap (λ (x : ℕ). x ∷ (number ++ ids)) least ∙ ap (λ (xs : List ℕ). (128 + random) ∷ (xs ++ ids)) zeros
     ∙ ap (λ (xs : List ℕ). (128 + random) ∷ (bytes_of 4 0 ++ xs)) (sym (append_assoc (long_id dst) (long_id src) rest))
     ∙ ap (λ (xs : List ℕ). (128 + random) ∷ xs) (sym (append_assoc (bytes_of 4 0) (long_id dst ++ long_id src) rest)) in
-    let start : LongStart context packet (128 + random) 0 dst src rest =
+    let start : LongStart options packet (128 + random) 0 dst src rest =
     record { long = omega arith; fixed = refl; range = omega arith; dst_len = few; src_len = less; text = text } in
     let within : 7 + length dst + length src ≤ length packet =
     omega (arith, ap length two, length-append next (src ++ rest), length-append src rest, place) in
     record {
       read = Ok (places packet dst src);
-      right = header_at context packet dst src rest _ _ _ random dst_is.0 src_is.0 behind
-          (negotiation_header context (length packet) packet random dst src rest start);
+      right = header_at options packet dst src rest _ _ _ random dst_is.0 src_is.0 behind
+          (negotiation_header options (length packet) packet random dst src rest start);
       stored = record {
         fields = (omega arith, (refl, refl), refl, refl);
         dst_few = few;

@@ -1,12 +1,13 @@
 -- Headers that are written and read again.
-use Rattle.std.specs.Prelude.{◌≡◌, ℕ, ◌+◌, ◌/◌, ◌%◌, ◌<◌, ◌≤◌, ◌⊎◌, ◌||◌, Bool, true, false, nat_eq, IsTrue, List, ◌++◌, length, Option, None, Result, Ok, Err, IfOk, IfErr, IsErrOf, MatchOption, MatchResult}
+use Rattle.std.specs.Prelude.{◌≡◌, ℕ, ◌+◌, ◌/◌, ◌%◌, ◌<◌, ◌≤◌, ◌⊎◌, ◌||◌, Bool, true, false, nat_eq, IsTrue, List, ◌++◌, length, Option, None, Result, Ok, Err, IfOk, IfErr, MatchOption, MatchResult}
 use Rattle.std.proofs.Common.{sym, ap, ◌∙◌, arith, refl, subst, inl, inr, length-append}
 use Rattle.quic_header_decode.specs.declared.decode_error.PacketDecodeError.{PacketDecodeError}
 use Rattle.quic_header_decode.specs.declared.decode_error.PacketDecodeError.TheVariants as error
 use Rattle.quic_header_decode.specs.declared.protected.ProtectedHeader.{ProtectedHeader}
 use Rattle.quic_header_decode.specs.Grammar.{HeaderAt, Cut, CutAnswer}
+use Rattle.quic_header_decode.specs.Packet.{IsUncut}
 use Rattle.quic_header_decode.specs.Reading.{DecodeOptions, len_in}
-use Rattle.quic_header_decode.specs.Refusal.{Refusal, RefusesHeader}
+use Rattle.quic_header_decode.specs.Refusal.{Refusal, Invalid, Unsupported}
 
 -- a header without a length, and all that follows, are one packet
 pub alone : (context : DecodeOptions) (bytes front rest : List ℕ) (h : ProtectedHeader) → bytes ≡ front ++ rest
@@ -42,27 +43,27 @@ is_alone h got p end p' len same =
     (sym (ap (λ x. x.0) parts), sym (ap (λ x. x.2) parts))
 
 -- where it wasn't, memory was wanting
-pub no_refusal : (e : PacketDecodeError) (found : ProtectedHeader × ℕ × ℕ) → RefusesHeader e (Ok found)
+pub no_refusal : (options : DecodeOptions) (takes_memory : Bool) (bytes : List ℕ) (found : ProtectedHeader × ℕ × ℕ)
+    → ((one other : Result (ProtectedHeader × ℕ × ℕ) Refusal) → CutAnswer options bytes one → CutAnswer options bytes other → one ≡ other)
+    → CutAnswer options bytes (Ok found) → (e : PacketDecodeError) → IsUncut options takes_memory bytes e
     → e ≡ error.OutOfMemory
-no_refusal (error.UnsupportedVersion src dst version) found refused = absurd cc
-no_refusal (error.InvalidHeader text) found refused = absurd cc
-no_refusal error.OutOfMemory found refused = refl
-
--- as it is reported
-pub as_reported : {T : Type 0} (e : PacketDecodeError) → e ≡ error.OutOfMemory
-    → IsErrOf {T = T} (Err e) error.OutOfMemory
-as_reported {T} e same = ap (λ (x : PacketDecodeError). let r : Result T PacketDecodeError = Err x in r) same
+no_refusal options takes_memory bytes found same cut (error.UnsupportedVersion src dst version) uncut =
+    let clash = same (Ok found) (Err (Unsupported src dst version)) cut uncut in absurd cc
+no_refusal options takes_memory bytes found same cut (error.InvalidHeader text) uncut =
+    let clash = same (Ok found) (Err (Invalid text.now)) cut uncut in absurd cc
+no_refusal options takes_memory bytes found same cut error.OutOfMemory uncut = refl
 
 -- which is the parser's, since nothing follows the packet
-pub parsers_memory : (context : DecodeOptions) (takes : Bool) (bytes : List ℕ) (h : ProtectedHeader) (p : ℕ)
-    → ((one other : Result (ProtectedHeader × ℕ × ℕ) Refusal) → CutAnswer context bytes one → CutAnswer context bytes other → one ≡ other)
-    → Cut context bytes h p (length bytes)
-    → IsTrue takes ⊎ ((g : ProtectedHeader) × (a : ℕ) × (q : ℕ) × Cut context bytes g a q × (q < length bytes))
-    → IsTrue takes
-parsers_memory context takes bytes h p same cut (inl is) = is
-parsers_memory context takes bytes h p same cut (inr (g, a, q, other, less)) =
-    let end = (is_alone g h a q p (length bytes) (same (Ok (g, a, q)) (Ok (h, p, length bytes)) other cut)).1 in
-    absurd (omega (arith, end, less))
+pub parsers_memory : (options : DecodeOptions) (takes_memory : Bool) (bytes : List ℕ) (h : ProtectedHeader) (p : ℕ)
+    → ((one other : Result (ProtectedHeader × ℕ × ℕ) Refusal) → CutAnswer options bytes one → CutAnswer options bytes other → one ≡ other)
+    → Cut options bytes h p (length bytes) → IsUncut options takes_memory bytes error.OutOfMemory
+    → IsTrue takes_memory
+parsers_memory options takes_memory bytes h p same cut (inl is) = is
+parsers_memory options takes_memory bytes h p same cut (inr (packet, rest, first, some)) =
+    let q : ℕ = length packet.bytes in
+    let end = (is_alone packet.head h packet.header_end q p (length bytes)
+    (same (Ok (packet.head, packet.header_end, q)) (Ok (h, p, length bytes)) first.cut cut)).1 in
+    absurd (omega (arith, end, some, ap length first.text, length-append packet.bytes rest))
 
 -- a first byte of a version negotiation with the fixed bit, or where that may be clear
 pub fixed : (grease : Bool) (random : ℕ) → random < 128 → IsTrue grease ⊎ (64 ≤ random)

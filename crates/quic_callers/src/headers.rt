@@ -4,7 +4,7 @@ ghost use Rattle.std.specs.Prelude.{◌≡◌, ◌≢◌, ◌++◌, ◌<◌, ◌
 ghost use Rattle.quic_header_encode.specs.Writing.{IsWritable, header_bytes};
 ghost use Rattle.quic_header_decode.specs.declared.protected.ProtectedHeader.{ProtectedHeader};
 ghost use Rattle.quic_header_decode.specs.Grammar.{Cut, HeaderAt};
-ghost use Rattle.quic_header_decode.specs.Reading.{len_in};
+ghost use Rattle.quic_header_decode.specs.Reading.{len_in, read_by};
 
 use bytes::BytesMut;
 use quic_base::coding::are_bytes;
@@ -24,7 +24,7 @@ fn cut_alone<C: ConnectionIdParser>(
     grease: bool,
 ) -> Result<PartialDecode, PacketDecodeError>
     ensures { (h : ProtectedHeader) (front rest : List ℕ) → datagram.items ≡ front ++ rest → len_in h ≡ None
-        → HeaderAt (record { parsed = C.parsed parser.now; versions = versions.now; grease = grease })
+        → HeaderAt (read_by (C.parsed parser.now) versions.now grease)
         (length datagram.items) datagram.items h rest
         → MatchResult result (λ x. (x.head ≡ h) × (x.bytes ≡ datagram.items))
         (λ e. (e ≡ PacketDecodeError.OutOfMemory) × IsTrue (C.takes_memory parser.now)) }
@@ -45,8 +45,7 @@ fn cut_len<C: ConnectionIdParser>(
     grease: bool,
 ) -> Option<usize>
     ensures { IfSome result (λ len. (h : ProtectedHeader) × (end : ℕ)
-        × Cut (record { parsed = C.parsed parser.now; versions = versions.now; grease = grease })
-        datagram.items h end len) }
+        × Cut (read_by (C.parsed parser.now) versions.now grease) datagram.items h end len) }
 {
     match PartialDecode::new(datagram, parser, versions, grease) {
         Ok((packet, _rest)) => Some(packet.len()),

@@ -17,22 +17,22 @@ fits h e whole left len at sum le =
     rw (test, place)
 
 -- what a cursor read is what the datagram begins with
-pub header_read : (context : DecodeOptions) (bytes before after : List ℕ) (start stop : ℕ) (h : ProtectedHeader)
+pub header_read : (options : DecodeOptions) (bytes before after : List ℕ) (start stop : ℕ) (h : ProtectedHeader)
     → before ≡ bytes → start ≡ 0 → after ≡ before
-    → header_at context (length before) (drop start before) ≡ Ok (h, drop stop after)
-    → header_at context (length bytes) bytes ≡ Ok (h, drop stop bytes)
-header_read context bytes before after start stop h whole at_front kept read =
-    let shown : header_at context (length bytes) bytes ≡ header_at context (length before) (drop start before) =
+    → header_at options (length before) (drop start before) ≡ Ok (h, drop stop after)
+    → header_at options (length bytes) bytes ≡ Ok (h, drop stop bytes)
+header_read options bytes before after start stop h whole at_front kept read =
+    let shown : header_at options (length bytes) bytes ≡ header_at options (length before) (drop start before) =
     rw (whole, at_front) in
     shown ∙ read
     ∙ ap (λ (xs : List ℕ). let r : Result (ProtectedHeader × List ℕ) Refusal = Ok (h, drop stop xs) in r) (kept ∙ whole)
 
-pub cut_read : (context : DecodeOptions) (bytes : List ℕ) (stop remaining len : ℕ) (h : ProtectedHeader)
-    → header_at context (length bytes) bytes ≡ Ok (h, drop stop bytes)
+pub cut_read : (options : DecodeOptions) (bytes : List ℕ) (stop remaining len : ℕ) (h : ProtectedHeader)
+    → header_at options (length bytes) bytes ≡ Ok (h, drop stop bytes)
     → stop + remaining ≡ length bytes → len ≡ unwrap_or (len_in h) remaining → len ≤ remaining
-    → cut_at context bytes ≡ Ok (h, stop, stop + len)
+    → cut_at options bytes ≡ Ok (h, stop, stop + len)
 unfolding cut_at
-cut_read context bytes stop remaining len h read sum len_is le =
+cut_read options bytes stop remaining len h read sum len_is le =
     let left : length (drop stop bytes) ≡ remaining = omega (arith, length-drop stop bytes) in
     rw (read, left, ← len_is) (fits h (Invalid (codes "packet too short to contain payload length")) (length bytes) remaining len stop sum le)
 

@@ -38,69 +38,69 @@ at_more : (others : ℕ → List ℕ → Answer) (start : ℕ) (bytes : List ℕ
 at_more others start bytes h p q lt = taken (nat_lt q (length bytes)) _ _ _ (grind (arith, nat_tests)) refl
 
 -- what the grammar calls the packets of a datagram is what reading finds
-again : (context : DecodeOptions) (n start : ℕ) (bytes : List ℕ) (ps : List PlacedPacket) (end : Option Refusal)
-    → AreBytes bytes → length bytes < n → ArePackets context start bytes ps end
-    → packets_from context n start bytes ≡ (ps, end)
+again : (options : DecodeOptions) (n start : ℕ) (bytes : List ℕ) (ps : List PlacedPacket) (end : Option Refusal)
+    → AreBytes bytes → length bytes < n → ArePackets options start bytes ps end
+    → packets_from options n start bytes ≡ (ps, end)
 unfolding packets_from
-again context zero start bytes ps end fits le are = absurd (omega (arith, le))
-again context (suc n) start bytes _ _ fits le (last _ _ h p cut) =
-    ap (and_then (packets_from context n) start bytes) (cut_again context bytes h p (length bytes) cut)
-    ∙ at_last (packets_from context n) start bytes h p
-again context (suc n) start bytes _ end fits le (more _ _ h p q others _ cut lt are) =
-    let inner : packets_from context n (start + q) (drop q bytes) ≡ (others, end) =
-    again context n (start + q) (drop q bytes) others end (rest_bytes q bytes fits)
-    (omega (arith, le, lt, length-drop q bytes, cut_positive context bytes h p q cut)) are in
-    ap (and_then (packets_from context n) start bytes) (cut_again context bytes h p q cut)
-    ∙ at_more (packets_from context n) start bytes h p q lt
+again options zero start bytes ps end fits le are = absurd (omega (arith, le))
+again options (suc n) start bytes _ _ fits le (last _ _ h p cut) =
+    ap (and_then (packets_from options n) start bytes) (cut_again options bytes h p (length bytes) cut)
+    ∙ at_last (packets_from options n) start bytes h p
+again options (suc n) start bytes _ end fits le (more _ _ h p q others _ cut lt are) =
+    let inner : packets_from options n (start + q) (drop q bytes) ≡ (others, end) =
+    again options n (start + q) (drop q bytes) others end (rest_bytes q bytes fits)
+    (omega (arith, le, lt, length-drop q bytes, cut_positive options bytes h p q cut)) are in
+    ap (and_then (packets_from options n) start bytes) (cut_again options bytes h p q cut)
+    ∙ at_more (packets_from options n) start bytes h p q lt
     ∙ ap (λ (r : Answer). let a : Answer = (record { start = start; stop = start + q; header = h } ∷ r.0, r.1) in a) inner
-again context (suc n) start bytes _ _ fits le (refused _ _ e uncut) =
-    ap (and_then (packets_from context n) start bytes) (uncut_again context bytes e fits uncut)
+again options (suc n) start bytes _ _ fits le (refused _ _ e uncut) =
+    ap (and_then (packets_from options n) start bytes) (uncut_again options bytes e fits uncut)
 
-pub packets_again : (context : DecodeOptions) (bytes : List ℕ) (ps : List PlacedPacket) (end : Option Refusal)
-    → AreBytes bytes → ArePackets context 0 bytes ps end → packets_in context bytes ≡ (ps, end)
+pub packets_again : (options : DecodeOptions) (bytes : List ℕ) (ps : List PlacedPacket) (end : Option Refusal)
+    → AreBytes bytes → ArePackets options 0 bytes ps end → packets_in options bytes ≡ (ps, end)
 unfolding packets_in
-packets_again context bytes ps end fits are = again context (suc (length bytes)) 0 bytes ps end fits (omega arith) are
+packets_again options bytes ps end fits are = again options (suc (length bytes)) 0 bytes ps end fits (omega arith) are
 
 -- and what reading finds is what the grammar calls so
 abbrev Found : DecodeOptions → ℕ → List ℕ → Answer → Type 0
-Found context start bytes answer = ArePackets context start bytes answer.0 answer.1
+Found options start bytes answer = ArePackets options start bytes answer.0 answer.1
 
-found_after : (context : DecodeOptions) (others : ℕ → List ℕ → Answer) (start : ℕ) (bytes : List ℕ)
+found_after : (options : DecodeOptions) (others : ℕ → List ℕ → Answer) (start : ℕ) (bytes : List ℕ)
     (r : Result (ProtectedHeader × ℕ × ℕ) Refusal)
-    → CutAnswer context bytes r
-    → ((q : ℕ) → 0 < q → q < length bytes → Found context (start + q) (drop q bytes) (others (start + q) (drop q bytes)))
-    → Found context start bytes (and_then others start bytes r)
-found_after context others start bytes (Err e) right rest = refused start bytes e right
-found_after context others start bytes (Ok cut) right rest =
+    → CutAnswer options bytes r
+    → ((q : ℕ) → 0 < q → q < length bytes → Found options (start + q) (drop q bytes) (others (start + q) (drop q bytes)))
+    → Found options start bytes (and_then others start bytes r)
+found_after options others start bytes (Err e) right rest = refused start bytes e right
+found_after options others start bytes (Ok cut) right rest =
     elim (cases_lt cut.2 (length bytes)) [
       | inl lt ↦
-          subst (Found context start bytes) (sym (at_more others start bytes cut.0 cut.1 cut.2 lt))
-          (more start bytes cut.0 cut.1 cut.2 _ _ right lt (rest cut.2 (cut_positive context bytes cut.0 cut.1 cut.2 right) lt))
+          subst (Found options start bytes) (sym (at_more others start bytes cut.0 cut.1 cut.2 lt))
+          (more start bytes cut.0 cut.1 cut.2 _ _ right lt (rest cut.2 (cut_positive options bytes cut.0 cut.1 cut.2 right) lt))
       | inr ge ↦
           let all : cut.2 ≡ length bytes = omega (arith, ge, right.4) in
-          subst (Found context start bytes) (sym (ap (λ (q : ℕ). and_then others start bytes
+          subst (Found options start bytes) (sym (ap (λ (q : ℕ). and_then others start bytes
           (let r : Result (ProtectedHeader × ℕ × ℕ) Refusal = Ok (cut.0, cut.1, q) in r)) all
           ∙ at_last others start bytes cut.0 cut.1))
-          (last start bytes cut.0 cut.1 (subst (λ (q : ℕ). Cut context bytes cut.0 cut.1 q) all right))
+          (last start bytes cut.0 cut.1 (subst (λ (q : ℕ). Cut options bytes cut.0 cut.1 q) all right))
     ]
 
-found : (context : DecodeOptions) (n start : ℕ) (bytes : List ℕ) → AreBytes bytes → Takes context → length bytes < n
-    → Found context start bytes (packets_from context n start bytes)
+found : (options : DecodeOptions) (n start : ℕ) (bytes : List ℕ) → AreBytes bytes → Takes options → length bytes < n
+    → Found options start bytes (packets_from options n start bytes)
 unfolding packets_from
-found context zero start bytes fits takes le = absurd (omega (arith, le))
-found context (suc n) start bytes fits takes le =
-    found_after context (packets_from context n) start bytes (cut_at context bytes) (cut_answer context bytes fits takes)
-    (λ q some lt. found context n (start + q) (drop q bytes) (rest_bytes q bytes fits) takes
+found options zero start bytes fits takes le = absurd (omega (arith, le))
+found options (suc n) start bytes fits takes le =
+    found_after options (packets_from options n) start bytes (cut_at options bytes) (cut_answer options bytes fits takes)
+    (λ q some lt. found options n (start + q) (drop q bytes) (rest_bytes q bytes fits) takes
     (omega (arith, le, some, lt, length-drop q bytes)))
 
-pub packets_found : (context : DecodeOptions) (bytes : List ℕ) → AreBytes bytes → Takes context
-    → ArePackets context 0 bytes (packets_in context bytes).0 (packets_in context bytes).1
+pub packets_found : (options : DecodeOptions) (bytes : List ℕ) → AreBytes bytes → Takes options
+    → ArePackets options 0 bytes (packets_in options bytes).0 (packets_in options bytes).1
 unfolding packets_in
-packets_found context bytes fits takes = found context (suc (length bytes)) 0 bytes fits takes (omega arith)
+packets_found options bytes fits takes = found options (suc (length bytes)) 0 bytes fits takes (omega arith)
 
 -- wherever its first packet is said to start
-pub some_packets : (context : DecodeOptions) (start : ℕ) (bytes : List ℕ) → AreBytes bytes → Takes context
-    → (ps : List PlacedPacket) × (end : Option Refusal) × ArePackets context start bytes ps end
-some_packets context start bytes fits takes =
-    let answer : Answer = packets_from context (suc (length bytes)) start bytes in
-    (answer.0, answer.1, found context (suc (length bytes)) start bytes fits takes (omega arith))
+pub some_packets : (options : DecodeOptions) (start : ℕ) (bytes : List ℕ) → AreBytes bytes → Takes options
+    → (ps : List PlacedPacket) × (end : Option Refusal) × ArePackets options start bytes ps end
+some_packets options start bytes fits takes =
+    let answer : Answer = packets_from options (suc (length bytes)) start bytes in
+    (answer.0, answer.1, found options (suc (length bytes)) start bytes fits takes (omega arith))

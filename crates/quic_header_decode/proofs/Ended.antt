@@ -56,17 +56,17 @@ cut_short kind.Retry first dst src token at len version whole e = absurd (none_s
 cut_short kind.Short first dst src token at len version whole e = absurd (none_some whole (sym e))
 cut_short kind.VersionNegotiate first dst src token at len version whole e = absurd (none_some whole (sym e))
 
-pub whole_cut : (context : DecodeOptions) (bytes : List ℕ) (x : HeaderPlaces) (q : ℕ)
-    → HeaderAt context (length bytes) bytes (header_in bytes x) (drop x.header_end bytes)
+pub whole_cut : (options : DecodeOptions) (bytes : List ℕ) (x : HeaderPlaces) (q : ℕ)
+    → HeaderAt options (length bytes) bytes (header_in bytes x) (drop x.header_end bytes)
     → x.header_end ≤ length bytes → ends_at x (length bytes) ≡ Some q
-    → Cut context bytes (header_in bytes x) x.header_end q
-whole_cut context bytes x q read within ends =
+    → Cut options bytes (header_in bytes x) x.header_end q
+whole_cut options bytes x q read within ends =
     let e = ended x.kind x.first _ _ x.token x.header_end x.len x.version (length bytes) q ends in
     (drop x.header_end bytes, read, omega (arith, length-drop x.header_end bytes), e.0, e.1)
 
-pub cut_off : (context : DecodeOptions) (bytes : List ℕ) (x : HeaderPlaces)
-    → HeaderAt context (length bytes) bytes (header_in bytes x) (drop x.header_end bytes)
-    → x.header_end ≤ length bytes → ends_at x (length bytes) ≡ None → Uncut context bytes (Invalid (codes "packet too short to contain payload length"))
-cut_off context bytes x read within ends =
+pub cut_off : (options : DecodeOptions) (bytes : List ℕ) (x : HeaderPlaces)
+    → HeaderAt options (length bytes) bytes (header_in bytes x) (drop x.header_end bytes)
+    → x.header_end ≤ length bytes → ends_at x (length bytes) ≡ None → Uncut options bytes (Invalid (codes "packet too short to contain payload length"))
+cut_off options bytes x read within ends =
     let e = cut_short x.kind x.first _ _ x.token x.header_end x.len x.version (length bytes) ends in
     past_end (header_in bytes x) (drop x.header_end bytes) x.len read e.0 (omega (arith, e.1, length-drop x.header_end bytes))

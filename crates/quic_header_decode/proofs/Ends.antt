@@ -93,21 +93,21 @@ shifted whole whole' first v count left left' n len d s values (protected.Initia
     )
 
 -- The bytes are a front and then rest, and other bytes after that front leave the header as it is.
-record Moves (context : DecodeOptions) (fields : List HeaderField) (before : List HeaderValue) (whole first : ℕ)
+record Moves (options : DecodeOptions) (fields : List HeaderField) (before : List HeaderValue) (whole first : ℕ)
     (bytes rest : List ℕ) (h : ProtectedHeader) : Type 0 where
   front : List ℕ
   split : bytes ≡ front ++ rest
   moved : (other : List ℕ) (whole' : ℕ) → whole' + length rest ≡ whole + length other
-      → (values : List HeaderValue) × AreHeaderFields context fields before values (front ++ other) other × IsHeader whole' first values h
+      → (values : List HeaderValue) × AreHeaderFields options fields before values (front ++ other) other × IsHeader whole' first values h
 
-typed_moves : (context : DecodeOptions) (whole first len version : ℕ) (dst src left rest : List ℕ)
+typed_moves : (options : DecodeOptions) (whole first len version : ℕ) (dst src left rest : List ℕ)
     (values : List HeaderValue) (h : ProtectedHeader)
     → IsHeader whole first values h → len_in h ≡ Some len
-    → (ty : LongHeaderType) → AreHeaderFields context (typed_row ty) (id_values version dst src) values left rest
-    → Moves context (typed_row ty) (id_values version dst src) whole first left rest h
-typed_moves context whole first len version dst src left rest values h is has kind.Retry (values_are, same) =
+    → (ty : LongHeaderType) → AreHeaderFields options (typed_row ty) (id_values version dst src) values left rest
+    → Moves options (typed_row ty) (id_values version dst src) whole first left rest h
+typed_moves options whole first len version dst src left rest values h is has kind.Retry (values_are, same) =
     absurd (no_ids whole first len version dst src values h is has values_are)
-typed_moves context whole first len version dst src left rest values h is has (kind.Standard ty)
+typed_moves options whole first len version dst src left rest values h is has (kind.Standard ty)
     (v, back, (f, split, (n, is1, encoded)), (values_are, same)) =
     let all : values ≡ Number version ∷ Bytes dst ∷ Bytes src ∷ Number n ∷ [] =
     values_are ∙ ap (λ (xs : List HeaderValue). id_values version dst src ++ xs) is1 in
@@ -120,7 +120,7 @@ typed_moves context whole first len version dst src left rest values h is has (k
         kept whole whole' first version n len dst src values h is has all,
       );
     }
-typed_moves context whole first len version dst src left rest values h is has kind.Initial (
+typed_moves options whole first len version dst src left rest values h is has kind.Initial (
   v1,
   t1,
   (f1, split1, (count, is1, encoded1)),
@@ -170,19 +170,19 @@ typed_moves context whole first len version dst src left rest values h is has ki
       );
     }
 
-behind_moves : (context : DecodeOptions) (whole first len version : ℕ) (dst src left rest : List ℕ)
+behind_moves : (options : DecodeOptions) (whole first len version : ℕ) (dst src left rest : List ℕ)
     (values : List HeaderValue) (h : ProtectedHeader)
     → IsHeader whole first values h → len_in h ≡ Some len
     → (none : Bool) (ty : LongHeaderType)
-    → AreHeaderFields context (cond none [] (Supported version ∷ typed_row ty)) (id_values version dst src) values left rest
-    → Moves context (cond none [] (Supported version ∷ typed_row ty)) (id_values version dst src) whole first left rest h
-behind_moves context whole first len version dst src left rest values h is has true ty (values_are, same) =
+    → AreHeaderFields options (cond none [] (Supported version ∷ typed_row ty)) (id_values version dst src) values left rest
+    → Moves options (cond none [] (Supported version ∷ typed_row ty)) (id_values version dst src) whole first left rest h
+behind_moves options whole first len version dst src left rest values h is has true ty (values_are, same) =
     absurd (no_ids whole first len version dst src values h is has values_are)
-behind_moves context whole first len version dst src left rest values h is has false ty
+behind_moves options whole first len version dst src left rest values h is has false ty
     (v, back, (f, split, (values_are, none, known)), others) =
     let kept_left : left ≡ back = split ∙ ap (λ (xs : List ℕ). xs ++ back) none in
-    let m = typed_moves context whole first len version dst src back rest values h is has ty
-    (subst (λ (xs : List HeaderValue). AreHeaderFields context (typed_row ty) (id_values version dst src ++ xs) values
+    let m = typed_moves options whole first len version dst src back rest values h is has ty
+    (subst (λ (xs : List HeaderValue). AreHeaderFields options (typed_row ty) (id_values version dst src ++ xs) values
     back rest) values_are others) in
     record {
       front = m.front;
@@ -191,24 +191,24 @@ behind_moves context whole first len version dst src left rest values h is has f
           (x.0, ([], m.front ++ other, ([], refl, (refl, refl, known)), x.1), x.2));
     }
 
-row_moves : (context : DecodeOptions) (whole first len : ℕ) (text rest : List ℕ) (values : List HeaderValue) (h : ProtectedHeader)
+row_moves : (options : DecodeOptions) (whole first len : ℕ) (text rest : List ℕ) (values : List HeaderValue) (h : ProtectedHeader)
     → IsHeader whole first values h → len_in h ≡ Some len
     → (long : Bool) → is_long first ≡ long
-    → AreHeaderFields context (cond long (long_row (row_behind_ids first (num (take 4 text)))) (ShortId ∷ [])) [] values text rest
+    → AreHeaderFields options (cond long (long_row (row_behind_ids first (num (take 4 text)))) (ShortId ∷ [])) [] values text rest
     → (front : List ℕ) × (text ≡ front ++ rest) × ((other : List ℕ) (whole' : ℕ) → whole' + length rest ≡ whole + length other
-    → (values : List HeaderValue) × AreHeaderFields context (header_row_of first (num (take 4 (front ++ other)))) []
+    → (values : List HeaderValue) × AreHeaderFields options (header_row_of first (num (take 4 (front ++ other)))) []
     values (front ++ other) other × IsHeader whole' first values h)
-row_moves context whole first len text rest values h is has false short (v, back, (f, split, (id, is1, parsed)), (values_are, same)) =
+row_moves options whole first len text rest values h is has false short (v, back, (f, split, (id, is1, parsed)), (values_are, same)) =
     absurd (no_id whole first len values id h is has (values_are ∙ is1))
-row_moves context whole first len text rest values h is has true long d =
-    let x = ids_of context (row_behind_ids first (num (take 4 text))) values text rest d in
+row_moves options whole first len text rest values h is has true long d =
+    let x = ids_of options (row_behind_ids first (num (take 4 text))) values text rest d in
     let version : ℕ = x.0 in
     let dst : List ℕ = x.1 in
     let src : List ℕ = x.2 in
     let left : List ℕ = x.3 in
     let ids : Ids text version dst src left = x.4 in
-    let m = behind_moves context whole first len version dst src left rest values h is has (nat_eq version 0) (long_type version first)
-    (subst (λ (n : ℕ). AreHeaderFields context (row_behind_ids first n) (id_values version dst src) values left rest)
+    let m = behind_moves options whole first len version dst src left rest values h is has (nat_eq version 0) (long_type version first)
+    (subst (λ (n : ℕ). AreHeaderFields options (row_behind_ids first n) (id_values version dst src) values left rest)
     (version_is text version dst src left ids) x.5) in
     let front : List ℕ = ids.word ++ (long_id dst ++ (long_id src ++ m.front)) in
     let tail : (xs : List ℕ) → front ++ xs ≡ ids.word ++ (long_id dst ++ (long_id src ++ (m.front ++ xs))) =
@@ -225,8 +225,8 @@ row_moves context whole first len text rest values h is has true long d =
           ap (λ (n : ℕ). header_row_of first n) (version_is (front ++ other) version dst src (m.front ++ other) ids')
           ∙ ap (λ (b : Bool). cond b (long_row (row_behind_ids first version)) (ShortId ∷ [])) long in (
             y.0,
-            subst (λ (fields : List HeaderField). AreHeaderFields context fields [] y.0 (front ++ other) other) (sym row)
-                (of_ids context (row_behind_ids first version) y.0 (front ++ other) other version dst src (m.front ++ other) ids' y.1),
+            subst (λ (fields : List HeaderField). AreHeaderFields options fields [] y.0 (front ++ other) other) (sym row)
+                (of_ids options (row_behind_ids first version) y.0 (front ++ other) other version dst src (m.front ++ other) ids' y.1),
             y.2,
           ),
     )
@@ -241,10 +241,10 @@ ends_of : (o : Option ℕ) (len p q whole : ℕ) → o ≡ Some len → q ≡ p 
 ends_of None len p q whole is stop = absurd cc
 ends_of (Some n) len p q whole is stop = (let same : n ≡ len = cc in stop ∙ ap (λ (k : ℕ). p + k) (sym same))
 
-pub cut_alone : (context : DecodeOptions) (bytes other : List ℕ) (h : ProtectedHeader) (p q len : ℕ)
-    → Cut context bytes h p q → len_in h ≡ Some len → Cut context (take q bytes ++ other) h p q
-cut_alone context bytes other h p q len (rest, (first, text, values, split, fixed, fields, is), sum, ends, within) has =
-    let m = row_moves context (length bytes) first len text rest values h is has (is_long first) refl fields in
+pub cut_alone : (options : DecodeOptions) (bytes other : List ℕ) (h : ProtectedHeader) (p q len : ℕ)
+    → Cut options bytes h p q → len_in h ≡ Some len → Cut options (take q bytes ++ other) h p q
+cut_alone options bytes other h p q len (rest, (first, text, values, split, fixed, fields, is), sum, ends, within) has =
+    let m = row_moves options (length bytes) first len text rest values h is has (is_long first) refl fields in
     let front : List ℕ = first ∷ m.0 in
     let whole : bytes ≡ front ++ rest = split ∙ ap (λ (xs : List ℕ). first ∷ xs) m.1 in
     let stop : q ≡ p + len = stop_of (len_in h) len p q (length bytes) has ends in
@@ -279,40 +279,40 @@ past_token = Invalid (codes "token out of bounds")
 abbrev IsPlain : Refusal → Type 0
 IsPlain e = (e ≡ at_end) ⊎ (e ≡ bad_id) ⊎ (e ≡ past_token)
 
-typed_reported : (context : DecodeOptions) (before : List HeaderValue) (bytes : List ℕ) (e : Refusal) (ty : LongHeaderType)
-    → StopsWithinRow context (typed_row ty) before bytes e → IsPlain e
-typed_reported context before bytes e kind.Retry stops = absurd stops
-typed_reported context before bytes e (kind.Standard ty) (inl stops) = inl stops.why
-typed_reported context before bytes e (kind.Standard ty) (inr d) = absurd d.3
-typed_reported context before bytes e kind.Initial (inl stops) = inl stops.why
-typed_reported context before bytes e kind.Initial (inr (v1, t1, b1, inl stops)) = inr (inr stops.why)
-typed_reported context before bytes e kind.Initial (inr (v1, t1, b1, inr (v2, t2, b2, inl stops))) = inl stops.why
-typed_reported context before bytes e kind.Initial (inr (v1, t1, b1, inr (v2, t2, b2, inr d))) = absurd d.3
+typed_reported : (options : DecodeOptions) (before : List HeaderValue) (bytes : List ℕ) (e : Refusal) (ty : LongHeaderType)
+    → StopsWithinRow options (typed_row ty) before bytes e → IsPlain e
+typed_reported options before bytes e kind.Retry stops = absurd stops
+typed_reported options before bytes e (kind.Standard ty) (inl stops) = inl stops.why
+typed_reported options before bytes e (kind.Standard ty) (inr d) = absurd d.3
+typed_reported options before bytes e kind.Initial (inl stops) = inl stops.why
+typed_reported options before bytes e kind.Initial (inr (v1, t1, b1, inl stops)) = inr (inr stops.why)
+typed_reported options before bytes e kind.Initial (inr (v1, t1, b1, inr (v2, t2, b2, inl stops))) = inl stops.why
+typed_reported options before bytes e kind.Initial (inr (v1, t1, b1, inr (v2, t2, b2, inr d))) = absurd d.3
 
 -- the ids are there, and the version is unknown
 abbrev IsUnknown : DecodeOptions → List ℕ → Refusal → Type 0
-IsUnknown context text e =
+IsUnknown options text e =
     (version : ℕ) × (dst src left : List ℕ) × Ids text version dst src left × (version ≢ 0)
-    × StopsAtField context (Supported version) (id_values version dst src) left e
+    × StopsAtField options (Supported version) (id_values version dst src) left e
 
-behind_reported : (context : DecodeOptions) (first version : ℕ) (text dst src left : List ℕ) (e : Refusal)
+behind_reported : (options : DecodeOptions) (first version : ℕ) (text dst src left : List ℕ) (e : Refusal)
     → Ids text version dst src left
     → (none : Bool) → nat_eq version 0 ≡ none → (ty : LongHeaderType)
-    → StopsWithinRow context (cond none [] (Supported version ∷ typed_row ty)) (id_values version dst src) left e
-    → IsPlain e ⊎ IsUnknown context text e
-behind_reported context first version text dst src left e ids true zero ty stops = absurd stops
-behind_reported context first version text dst src left e ids false some ty (inl stops) =
+    → StopsWithinRow options (cond none [] (Supported version ∷ typed_row ty)) (id_values version dst src) left e
+    → IsPlain e ⊎ IsUnknown options text e
+behind_reported options first version text dst src left e ids true zero ty stops = absurd stops
+behind_reported options first version text dst src left e ids false some ty (inl stops) =
     inr (version, dst, src, left, ids, (let other : version ≢ 0 = grind (arith, nat_tests) in other), stops)
-behind_reported context first version text dst src left e ids false some ty (inr d) =
-    inl (typed_reported context (id_values version dst src ++ d.0) d.1 e ty d.3)
+behind_reported options first version text dst src left e ids false some ty (inr d) =
+    inl (typed_reported options (id_values version dst src ++ d.0) d.1 e ty d.3)
 
-long_reported : (context : DecodeOptions) (first : ℕ) (text : List ℕ) (e : Refusal)
-    → StopsWithinRow context (long_row (row_behind_ids first (num (take 4 text)))) [] text e
-    → IsPlain e ⊎ IsUnknown context text e
-long_reported context first text e (inl stops) = inl (inl stops.why)
-long_reported context first text e (inr (v1, t1, b1, inl stops)) = inl (inr (inl stops.why))
-long_reported context first text e (inr (v1, t1, b1, inr (v2, t2, b2, inl stops))) = inl (inr (inl stops.why))
-long_reported context first text e
+long_reported : (options : DecodeOptions) (first : ℕ) (text : List ℕ) (e : Refusal)
+    → StopsWithinRow options (long_row (row_behind_ids first (num (take 4 text)))) [] text e
+    → IsPlain e ⊎ IsUnknown options text e
+long_reported options first text e (inl stops) = inl (inl stops.why)
+long_reported options first text e (inr (v1, t1, b1, inl stops)) = inl (inr (inl stops.why))
+long_reported options first text e (inr (v1, t1, b1, inr (v2, t2, b2, inl stops))) = inl (inr (inl stops.why))
+long_reported options first text e
     (inr (
       v,
       t1,
@@ -329,16 +329,16 @@ long_reported context first text e
           ∙ ap (λ (xs : List ℕ). long_id dst ++ xs) (split3 ∙ ap (λ (xs : List ℕ). xs ++ left) text3));
     } in
     let values_are : (v ++ d) ++ s ≡ id_values version dst src = rw (is1, is2, is3) in
-    behind_reported context first version text dst src left e ids (nat_eq version 0) refl (long_type version first)
-    (subst (λ (n : ℕ). StopsWithinRow context (row_behind_ids first n) (id_values version dst src) left e)
+    behind_reported options first version text dst src left e ids (nat_eq version 0) refl (long_type version first)
+    (subst (λ (n : ℕ). StopsWithinRow options (row_behind_ids first n) (id_values version dst src) left e)
     (version_is text version dst src left ids)
-    (subst (λ (xs : List HeaderValue). StopsWithinRow context (row_behind_ids first (num (take 4 text))) xs left e) values_are stops))
+    (subst (λ (xs : List HeaderValue). StopsWithinRow options (row_behind_ids first (num (take 4 text))) xs left e) values_are stops))
 
-row_reported : (context : DecodeOptions) (first : ℕ) (text : List ℕ) (e : Refusal) → 128 ≤ first
-    → StopsWithinRow context (header_row_of first (num (take 4 text))) [] text e → IsPlain e ⊎ IsUnknown context text e
-row_reported context first text e long stops =
+row_reported : (options : DecodeOptions) (first : ℕ) (text : List ℕ) (e : Refusal) → 128 ≤ first
+    → StopsWithinRow options (header_row_of first (num (take 4 text))) [] text e → IsPlain e ⊎ IsUnknown options text e
+row_reported options first text e long stops =
     let test : is_long first ≡ true = grind (arith, nat_tests) in
-    long_reported context first text e (subst (λ (b : Bool). StopsWithinRow context
+    long_reported options first text e (subst (λ (b : Bool). StopsWithinRow options
     (cond b (long_row (row_behind_ids first (num (take 4 text)))) (ShortId ∷ [])) [] text e) test stops)
 
 other_size : (e : Refusal) (n : ℕ) → IsPlain e → text_size e ≡ n → n < 13 ⊎ (n ≡ 15) → ⊥
@@ -355,22 +355,22 @@ other_size e n (inr (inr is)) size small = elim small [
   | inr eq ↦ omega (arith, eq, size, ap text_size is)
 ]
 
-pub fixed_alone : (context : DecodeOptions) (bytes other : List ℕ) → 128 ≤ slice_index bytes 0 → Refused context bytes (Invalid (codes "fixed bit unset")) → Refused context (bytes ++ other) (Invalid (codes "fixed bit unset"))
-fixed_alone context [] other long is = absurd (omega (arith, long))
-fixed_alone context (first ∷ text) other long (inl unset) = inl unset
-fixed_alone context (first ∷ text) other long (inr (set, stops)) = elim (row_reported context first text (Invalid (codes "fixed bit unset")) long stops) [
+pub fixed_alone : (options : DecodeOptions) (bytes other : List ℕ) → 128 ≤ slice_index bytes 0 → Refused options bytes (Invalid (codes "fixed bit unset")) → Refused options (bytes ++ other) (Invalid (codes "fixed bit unset"))
+fixed_alone options [] other long is = absurd (omega (arith, long))
+fixed_alone options (first ∷ text) other long (inl unset) = inl unset
+fixed_alone options (first ∷ text) other long (inr (set, stops)) = elim (row_reported options first text (Invalid (codes "fixed bit unset")) long stops) [
   | inl plain ↦ absurd (other_size (Invalid (codes "fixed bit unset")) 15 plain refl (inr refl))
   | inr unknown ↦ absurd (let n : 15 ≡ 0 = ap text_size unknown.6.why in omega (arith, n))
 ]
 
-pub version_alone : (context : DecodeOptions) (bytes other src dst : List ℕ) (version : ℕ) → 128 ≤ slice_index bytes 0
-    → Refused context bytes (Unsupported src dst version)
-    → Refused context (bytes ++ other) (Unsupported src dst version)
-version_alone context [] other src dst version long is = absurd (omega (arith, long))
-version_alone context (first ∷ text) other src dst version long (inl unset) =
+pub version_alone : (options : DecodeOptions) (bytes other src dst : List ℕ) (version : ℕ) → 128 ≤ slice_index bytes 0
+    → Refused options bytes (Unsupported src dst version)
+    → Refused options (bytes ++ other) (Unsupported src dst version)
+version_alone options [] other src dst version long is = absurd (omega (arith, long))
+version_alone options (first ∷ text) other src dst version long (inl unset) =
     absurd (let n : 0 ≡ 15 = ap text_size unset.1 in omega (arith, n))
-version_alone context (first ∷ text) other src dst version long (inr (set, stops)) =
-    elim (row_reported context first text (Unsupported src dst version) long stops) [
+version_alone options (first ∷ text) other src dst version long (inr (set, stops)) =
+    elim (row_reported options first text (Unsupported src dst version) long stops) [
       | inl plain ↦ absurd (other_size (Unsupported src dst version) 0 plain refl (inl (omega arith)))
       | inr (v, d, s, left, ids, some, unknown) ↦
           let e : Refusal = Unsupported src dst version in
@@ -380,7 +380,7 @@ version_alone context (first ∷ text) other src dst version long (inr (set, sto
           ∙ ap (λ (ys : List ℕ). long_id d ++ ys) (append_assoc (long_id s) left other)) in
           let ids' : Ids (text ++ other) v d s (left ++ other) =
           record { word = ids.word; is_word = ids.is_word; dst_len = ids.dst_len; src_len = ids.src_len; text_is = tail } in
-          let stays : StopsAtField context (Supported v) (id_values v d s) (left ++ other) e = record {
+          let stays : StopsAtField options (Supported v) (id_values v d s) (left ++ other) e = record {
             none = λ values rest (front, split, is). unknown.none [] left ([], refl, (refl, refl, is.2));
             why = unknown.why;
           } in
@@ -392,8 +392,8 @@ version_alone context (first ∷ text) other src dst version long (inr (set, sto
           ∙ ap (λ (b : Bool). long_row (cond b [] (Supported v ∷ typed_row (long_type v first)))) nonzero in
           inr (
             set,
-            subst (λ (fields : List HeaderField). StopsWithinRow context fields [] (text ++ other) e) (sym row)
-                (stops_behind_ids context (Supported v ∷ typed_row (long_type v first)) (text ++ other) e v d s
+            subst (λ (fields : List HeaderField). StopsWithinRow options fields [] (text ++ other) e) (sym row)
+                (stops_behind_ids options (Supported v ∷ typed_row (long_type v first)) (text ++ other) e v d s
                 (left ++ other) ids' (inl stays)),
           )
     ]

@@ -37,11 +37,11 @@ id_values version dst src = Number version ∷ Bytes dst ∷ Bytes src ∷ []
 abbrev pub long_row : List HeaderField → List HeaderField
 long_row fields = Version ∷ DestinationId ∷ SourceId ∷ fields
 
-pub ids_of : (context : DecodeOptions) (fields : List HeaderField) (after : List HeaderValue) (text rest : List ℕ)
-    → AreHeaderFields context (long_row fields) [] after text rest
+pub ids_of : (options : DecodeOptions) (fields : List HeaderField) (after : List HeaderValue) (text rest : List ℕ)
+    → AreHeaderFields options (long_row fields) [] after text rest
     → (version : ℕ) × (dst src left : List ℕ) × Ids text version dst src left
-    × AreHeaderFields context fields (id_values version dst src) after left rest
-ids_of context fields after text rest (
+    × AreHeaderFields options fields (id_values version dst src) after left rest
+ids_of options fields after text rest (
   v,
   t1,
   (word, split1, (version, is1, number)),
@@ -60,15 +60,15 @@ ids_of context fields after text rest (
         ∙ ap (λ (xs : List ℕ). long_id dst ++ xs) (split3 ∙ ap (λ (xs : List ℕ). xs ++ left) text3));
   },
   (let values_are : (v ++ d) ++ s ≡ id_values version dst src = rw (is1, is2, is3) in subst
-      (λ (xs : List HeaderValue). AreHeaderFields context fields xs after left rest) values_are others),
+      (λ (xs : List HeaderValue). AreHeaderFields options fields xs after left rest) values_are others),
 )
 
-pub of_ids : (context : DecodeOptions) (fields : List HeaderField) (after : List HeaderValue) (text rest : List ℕ)
+pub of_ids : (options : DecodeOptions) (fields : List HeaderField) (after : List HeaderValue) (text rest : List ℕ)
     (version : ℕ) (dst src left : List ℕ)
     → Ids text version dst src left
-    → AreHeaderFields context fields (id_values version dst src) after left rest
-    → AreHeaderFields context (long_row fields) [] after text rest
-of_ids context fields after text rest version dst src left ids others = (
+    → AreHeaderFields options fields (id_values version dst src) after left rest
+    → AreHeaderFields options (long_row fields) [] after text rest
+of_ids options fields after text rest version dst src left ids others = (
   Number version ∷ [],
   long_id dst ++ (long_id src ++ left),
   (ids.word, ids.text_is, (version, refl, ids.is_word)),
@@ -80,12 +80,12 @@ of_ids context fields after text rest version dst src left ids others = (
   ),
 )
 
-pub stops_behind_ids : (context : DecodeOptions) (fields : List HeaderField) (text : List ℕ) (e : Refusal) (version : ℕ)
+pub stops_behind_ids : (options : DecodeOptions) (fields : List HeaderField) (text : List ℕ) (e : Refusal) (version : ℕ)
     (dst src left : List ℕ)
     → Ids text version dst src left
-    → StopsWithinRow context fields (id_values version dst src) left e
-    → StopsWithinRow context (long_row fields) [] text e
-stops_behind_ids context fields text e version dst src left ids stops = inr (
+    → StopsWithinRow options fields (id_values version dst src) left e
+    → StopsWithinRow options (long_row fields) [] text e
+stops_behind_ids options fields text e version dst src left ids stops = inr (
   Number version ∷ [],
   long_id dst ++ (long_id src ++ left),
   (ids.word, ids.text_is, (version, refl, ids.is_word)),
@@ -157,24 +157,24 @@ made_is whole first values (protected.Initial h) (count, left, start, stop, valu
     ∙ ap (λ (n : ℕ). at h.token_pos.start n) start
 
 -- the values of a row make the header that they are
-typed_is : (context : DecodeOptions) (whole first version : ℕ) (dst src left rest : List ℕ) (values : List HeaderValue)
+typed_is : (options : DecodeOptions) (whole first version : ℕ) (dst src left rest : List ℕ) (values : List HeaderValue)
     → length left ≤ whole → version ≢ 0
     → (ty : LongHeaderType) → long_type version first ≡ ty
-    → AreHeaderFields context (typed_row ty) (id_values version dst src) values left rest
+    → AreHeaderFields options (typed_row ty) (id_values version dst src) values left rest
     → IsHeader whole first values (made whole first values)
-typed_is context whole first version dst src left rest values room some kind.Retry is (values_are, same) =
+typed_is options whole first version dst src left rest values room some kind.Retry is (values_are, same) =
     subst (λ (xs : List HeaderValue). IsHeader whole first xs (made whole first xs)) (sym values_are)
     (subst (IsHeader whole first (id_values version dst src))
     (sym (otherwise (nat_eq version 0) _ _ (protected.Retry dst src version) (grind (arith, nat_tests)) refl))
     (some, is, refl))
-typed_is context whole first version dst src left rest values room some (kind.Standard ty) is
+typed_is options whole first version dst src left rest values room some (kind.Standard ty) is
     (v, back, (f, split, (len, is1, encoded)), (values_are, same)) =
     let all : values ≡ Number version ∷ Bytes dst ∷ Bytes src ∷ Number len ∷ [] =
     values_are ∙ ap (λ (xs : List HeaderValue). id_values version dst src ++ xs) is1 in
     subst (λ (xs : List HeaderValue). IsHeader whole first xs (made whole first xs)) (sym all)
     (subst (IsHeader whole first (Number version ∷ Bytes dst ∷ Bytes src ∷ Number len ∷ []))
     (ap (λ (k : LongHeaderType). long_made k dst src len version) (sym is)) (is, refl))
-typed_is context whole first version dst src left rest values room some kind.Initial is (
+typed_is options whole first version dst src left rest values room some kind.Initial is (
   v1,
   t1,
   (f1, split1, (count, is1, encoded1)),
@@ -198,22 +198,22 @@ typed_is context whole first version dst src left rest values room some kind.Ini
     subst (λ (xs : List HeaderValue). IsHeader whole first xs (made whole first xs)) (sym all)
     (count, length t2, refl, omega (arith, inner), refl)
 
-behind_is : (context : DecodeOptions) (whole first version : ℕ) (dst src left rest : List ℕ) (values : List HeaderValue)
+behind_is : (options : DecodeOptions) (whole first version : ℕ) (dst src left rest : List ℕ) (values : List HeaderValue)
     → length left ≤ whole → 128 ≤ first
     → (none : Bool) → nat_eq version 0 ≡ none
-    → AreHeaderFields context (cond none [] (Supported version ∷ typed_row (long_type version first)))
+    → AreHeaderFields options (cond none [] (Supported version ∷ typed_row (long_type version first)))
     (id_values version dst src) values left rest
     → IsHeader whole first values (made whole first values)
-behind_is context whole first version dst src left rest values room long true is (values_are, same) =
+behind_is options whole first version dst src left rest values room long true is (values_are, same) =
     let zero_version : version ≡ 0 = grind (arith, nat_tests) in
     let all : values ≡ id_values 0 dst src = values_are ∙ ap (λ (n : ℕ). id_values n dst src) zero_version in
     subst (λ (xs : List HeaderValue). IsHeader whole first xs (made whole first xs)) (sym all) (omega arith, refl)
-behind_is context whole first version dst src left rest values room long false is (v, back, (f, split, (values_are, none, known)), others) =
+behind_is options whole first version dst src left rest values room long false is (v, back, (f, split, (values_are, none, known)), others) =
     let some : version ≢ 0 = grind (arith, nat_tests) in
     let kept : left ≡ back = split ∙ ap (λ (xs : List ℕ). xs ++ back) none in
-    typed_is context whole first version dst src back rest values (subst (λ (xs : List ℕ). length xs ≤ whole) kept room)
+    typed_is options whole first version dst src back rest values (subst (λ (xs : List ℕ). length xs ≤ whole) kept room)
     some (long_type version first) refl
-    (subst (λ (xs : List HeaderValue). AreHeaderFields context (typed_row (long_type version first))
+    (subst (λ (xs : List HeaderValue). AreHeaderFields options (typed_row (long_type version first))
     (id_values version dst src ++ xs) values back rest) values_are others)
 
 pub ids_room : (text : List ℕ) (version : ℕ) (dst src left : List ℕ) → Ids text version dst src left
@@ -227,20 +227,20 @@ ids_room text version dst src left ids =
       length-append src left,
     )
 
-row_is : (context : DecodeOptions) (whole first : ℕ) (text rest : List ℕ) (values : List HeaderValue)
+row_is : (options : DecodeOptions) (whole first : ℕ) (text rest : List ℕ) (values : List HeaderValue)
     → length text ≤ whole
     → (long : Bool) → is_long first ≡ long
-    → AreHeaderFields context (cond long (long_row (row_behind_ids first (num (take 4 text)))) (ShortId ∷ [])) [] values text rest
+    → AreHeaderFields options (cond long (long_row (row_behind_ids first (num (take 4 text)))) (ShortId ∷ [])) [] values text rest
     → IsHeader whole first values (made whole first values)
-row_is context whole first text rest values room false is (v, back, (f, split, (dst, is1, parsed)), (values_are, same)) =
+row_is options whole first text rest values room false is (v, back, (f, split, (dst, is1, parsed)), (values_are, same)) =
     subst (λ (xs : List HeaderValue). IsHeader whole first xs (made whole first xs)) (sym (values_are ∙ is1)) (is, refl, refl)
-row_is context whole first text rest values room true is d =
+row_is options whole first text rest values room true is d =
     let long : 128 ≤ first = grind (arith, nat_tests) in
-    let x = ids_of context (row_behind_ids first (num (take 4 text))) values text rest d in
+    let x = ids_of options (row_behind_ids first (num (take 4 text))) values text rest d in
     let same : num (take 4 text) ≡ x.0 = version_is text x.0 x.1 x.2 x.3 x.4 in
-    behind_is context whole first x.0 x.1 x.2 x.3 rest values (omega (arith, room, ids_room text x.0 x.1 x.2 x.3 x.4))
+    behind_is options whole first x.0 x.1 x.2 x.3 rest values (omega (arith, room, ids_room text x.0 x.1 x.2 x.3 x.4))
     long (nat_eq x.0 0) refl
-    (subst (λ (n : ℕ). AreHeaderFields context (row_behind_ids first n) (id_values x.0 x.1 x.2) values x.3 rest) same x.5)
+    (subst (λ (n : ℕ). AreHeaderFields options (row_behind_ids first n) (id_values x.0 x.1 x.2) values x.3 rest) same x.5)
 
 -- ---- the reader, by rows
 
@@ -260,18 +260,18 @@ cond_bind false e x k y same = same refl
 number_value : ℕ × List ℕ → Taken
 number_value x = (Number x.0 ∷ [], x.1)
 
-typed_same : (context : DecodeOptions) (whole first version : ℕ) (dst src left : List ℕ) → nat_eq version 0 ≡ false
+typed_same : (options : DecodeOptions) (whole first version : ℕ) (dst src left : List ℕ) → nat_eq version 0 ≡ false
     → (ty : LongHeaderType) → long_type version first ≡ ty
-    → typed_at ty whole dst src version left ≡ row_at context (typed_row ty) (id_values version dst src) left (finish whole first)
+    → typed_at ty whole dst src version left ≡ row_at options (typed_row ty) (id_values version dst src) left (finish whole first)
 unfolding typed_at
-typed_same context whole first version dst src left some kind.Retry is =
+typed_same options whole first version dst src left some kind.Retry is =
     sym (ap (λ (b : Bool). let r : Result (ProtectedHeader × List ℕ) Refusal = Ok
     (cond b (protected.VersionNegotiate (first - 128) dst src) (protected.Retry dst src version), left) in r) some)
-typed_same context whole first version dst src left some (kind.Standard ty) is =
+typed_same options whole first version dst src left some (kind.Standard ty) is =
     reassoc (ok_or (number_at left) at_end) (λ x. (Number x.0 ∷ [], x.1)) _ _
     (λ len e. sym (ap (λ (k : LongHeaderType). let r : Result (ProtectedHeader × List ℕ) Refusal = Ok
     (long_made k dst src len.0 version, len.1) in r) is))
-typed_same context whole first version dst src left some kind.Initial is =
+typed_same options whole first version dst src left some kind.Initial is =
     reassoc (ok_or (number_at left) at_end) (λ x. (Number x.0 ∷ [], x.1)) _ _
     (λ token e. cond_bind (nat_lt (length token.1) token.0) (Invalid (codes "token out of bounds")) (Number (length (drop token.0 token.1)) ∷ [], drop token.0 token.1) _ _
     (λ within. reassoc (ok_or (number_at (drop token.0 token.1)) at_end) (λ x. (Number x.0 ∷ [], x.1)) _ _
@@ -288,19 +288,19 @@ typed_same context whole first version dst src left some kind.Initial is =
     let sum : length token.1 ≡ token.0 + length (drop token.0 token.1) = omega (arith, length-drop token.0 token.1) in
     ap (λ (n : ℕ). let r : Result (ProtectedHeader × List ℕ) Refusal = Ok (at (whole - n), len.1) in r) sum)))
 
-behind_same : (context : DecodeOptions) (whole first version : ℕ) (dst src left : List ℕ) (none : Bool)
+behind_same : (options : DecodeOptions) (whole first version : ℕ) (dst src left : List ℕ) (none : Bool)
     → nat_eq version 0 ≡ none
     → cond none (Ok (protected.VersionNegotiate (first - 128) dst src, left))
-    (cond (not (list_any (λ known. nat_eq known version) context.versions)) (Err (Unsupported src dst version))
+    (cond (not (list_any (λ known. nat_eq known version) options.versions)) (Err (Unsupported src dst version))
     (typed_at (long_type version first) whole dst src version left))
-    ≡ row_at context (cond none [] (Supported version ∷ typed_row (long_type version first)))
+    ≡ row_at options (cond none [] (Supported version ∷ typed_row (long_type version first)))
     (id_values version dst src) left (finish whole first)
-behind_same context whole first version dst src left true is =
+behind_same options whole first version dst src left true is =
     sym (ap (λ (b : Bool). let r : Result (ProtectedHeader × List ℕ) Refusal = Ok
     (cond b (protected.VersionNegotiate (first - 128) dst src) (protected.Retry dst src version), left) in r) is)
-behind_same context whole first version dst src left false is =
-    cond_bind (not (list_any (λ known. nat_eq known version) context.versions)) (Unsupported src dst version) ([], left) _ _
-    (λ known. typed_same context whole first version dst src left is (long_type version first) refl)
+behind_same options whole first version dst src left false is =
+    cond_bind (not (list_any (λ known. nat_eq known version) options.versions)) (Unsupported src dst version) ([], left) _ _
+    (λ known. typed_same options whole first version dst src left is (long_type version first) refl)
 
 word_says : (text : List ℕ) (x : ℕ × List ℕ) → word_at text ≡ Some x → num (take 4 text) ≡ x.0
 word_says text x e = elim (chosen (nat_lt (length text) 4) _ _ (Some x) e) [
@@ -308,27 +308,27 @@ word_says text x e = elim (chosen (nat_lt (length text) 4) _ _ (Some x) e) [
   | inr long ↦ ap (λ (p : ℕ × List ℕ). p.0) (some_same long.1)
 ]
 
-long_same : (context : DecodeOptions) (whole first : ℕ) (text : List ℕ)
-    → long_at context.versions whole first text ≡ row_at context (long_row (row_behind_ids first (num (take 4 text))))
+long_same : (options : DecodeOptions) (whole first : ℕ) (text : List ℕ)
+    → long_at options.versions whole first text ≡ row_at options (long_row (row_behind_ids first (num (take 4 text))))
     [] text (finish whole first)
 unfolding long_at
-long_same context whole first text =
+long_same options whole first text =
     reassoc (ok_or (word_at text) at_end) (λ x. (Number x.0 ∷ [], x.1)) _ _
     (λ version e. reassoc (ok_or (long_id_at version.1) bad_id) (λ x. (Bytes x.0 ∷ [], x.1)) _ _
     (λ dst f. reassoc (ok_or (long_id_at dst.1) bad_id) (λ x. (Bytes x.0 ∷ [], x.1)) _ _
-    (λ src g. behind_same context whole first version.0 dst.0 src.0 src.1 (nat_eq version.0 0) refl
-    ∙ ap (λ (n : ℕ). row_at context (row_behind_ids first n) (id_values version.0 dst.0 src.0) src.1
+    (λ src g. behind_same options whole first version.0 dst.0 src.0 src.1 (nat_eq version.0 0) refl
+    ∙ ap (λ (n : ℕ). row_at options (row_behind_ids first n) (id_values version.0 dst.0 src.0) src.1
     (finish whole first)) (sym (word_says text version (option_ok (word_at text) at_end version e))))))
 
-form_same : (context : DecodeOptions) (whole first : ℕ) (text : List ℕ) (long : Bool) → is_long first ≡ long
-    → cond (nat_lt first 128) (context.parsed text >>= λ id. Ok
-    (protected.Short (nat_eq (first / 32 % 2) 1) id.0, drop id.1 text)) (long_at context.versions whole first text)
-    ≡ row_at context (cond long (long_row (row_behind_ids first (num (take 4 text)))) (ShortId ∷ [])) [] text (finish whole first)
-form_same context whole first text true is =
-    otherwise (nat_lt first 128) _ _ _ (grind (arith, nat_tests)) (long_same context whole first text)
-form_same context whole first text false is =
+form_same : (options : DecodeOptions) (whole first : ℕ) (text : List ℕ) (long : Bool) → is_long first ≡ long
+    → cond (nat_lt first 128) (options.parsed text >>= λ id. Ok
+    (protected.Short (nat_eq (first / 32 % 2) 1) id.0, drop id.1 text)) (long_at options.versions whole first text)
+    ≡ row_at options (cond long (long_row (row_behind_ids first (num (take 4 text)))) (ShortId ∷ [])) [] text (finish whole first)
+form_same options whole first text true is =
+    otherwise (nat_lt first 128) _ _ _ (grind (arith, nat_tests)) (long_same options whole first text)
+form_same options whole first text false is =
     taken (nat_lt first 128) _ _ _ (grind (arith, nat_tests))
-    (reassoc (context.parsed text) (λ id. (Bytes id.0 ∷ [], drop id.1 text)) _ _ (λ id e. refl))
+    (reassoc (options.parsed text) (λ id. (Bytes id.0 ∷ [], drop id.1 text)) _ _ (λ id e. refl))
 
 fixed_test : (grease : Bool) (m : ℕ) → (not grease && nat_eq (m % 2) 0) ≡ not (grease || nat_eq (m % 2) 1)
 fixed_test true m = refl
@@ -343,35 +343,35 @@ turned true false x y e = refl
 turned false true x y e = refl
 turned false false x y e = absurd cc
 
-by_rows : (context : DecodeOptions) (whole first : ℕ) (text : List ℕ)
-    → header_at context whole (first ∷ text)
-    ≡ cond (is_fixed context first) (row_at context (header_row_of first (num (take 4 text))) [] text (finish whole first)) (Err (Invalid (codes "fixed bit unset")))
+by_rows : (options : DecodeOptions) (whole first : ℕ) (text : List ℕ)
+    → header_at options whole (first ∷ text)
+    ≡ cond (is_fixed options first) (row_at options (header_row_of first (num (take 4 text))) [] text (finish whole first)) (Err (Invalid (codes "fixed bit unset")))
 unfolding header_at
-by_rows context whole first text =
-    turned (not context.grease && nat_eq (first / 64 % 2) 0) (is_fixed context first) (Err (Invalid (codes "fixed bit unset"))) _ (fixed_test context.grease (first / 64))
-    ∙ ap (λ (r : Result (ProtectedHeader × List ℕ) Refusal). cond (is_fixed context first) r (Err (Invalid (codes "fixed bit unset")))) (form_same context whole first text (is_long first) refl)
+by_rows options whole first text =
+    turned (not options.grease && nat_eq (first / 64 % 2) 0) (is_fixed options first) (Err (Invalid (codes "fixed bit unset"))) _ (fixed_test options.grease (first / 64))
+    ∙ ap (λ (r : Result (ProtectedHeader × List ℕ) Refusal). cond (is_fixed options first) r (Err (Invalid (codes "fixed bit unset")))) (form_same options whole first text (is_long first) refl)
 
 -- ---- each way
 
-pub header_again : (context : DecodeOptions) (whole : ℕ) (bytes : List ℕ) (h : ProtectedHeader) (rest : List ℕ)
-    → HeaderAt context whole bytes h rest → header_at context whole bytes ≡ Ok (h, rest)
-header_again context whole bytes h rest (first, text, values, split, fixed, fields, is) =
-    ap (header_at context whole) split ∙ by_rows context whole first text
-    ∙ taken (is_fixed context first) _ _ _ fixed (row_again context (header_row_of first (num (take 4 text))) [] values
+pub header_again : (options : DecodeOptions) (whole : ℕ) (bytes : List ℕ) (h : ProtectedHeader) (rest : List ℕ)
+    → HeaderAt options whole bytes h rest → header_at options whole bytes ≡ Ok (h, rest)
+header_again options whole bytes h rest (first, text, values, split, fixed, fields, is) =
+    ap (header_at options whole) split ∙ by_rows options whole first text
+    ∙ taken (is_fixed options first) _ _ _ fixed (row_again options (header_row_of first (num (take 4 text))) [] values
     text rest (finish whole first) fields)
     ∙ ap (λ (g : ProtectedHeader). let r : Result (ProtectedHeader × List ℕ) Refusal = Ok (g, rest) in r) (made_is whole first values h is)
 
-pub header_found : (context : DecodeOptions) (whole : ℕ) (bytes rest : List ℕ) (h : ProtectedHeader) → AreBytes bytes
-    → length bytes ≤ whole → TakesWithin context
-    → header_at context whole bytes ≡ Ok (h, rest) → HeaderAt context whole bytes h rest
+pub header_found : (options : DecodeOptions) (whole : ℕ) (bytes rest : List ℕ) (h : ProtectedHeader) → AreBytes bytes
+    → length bytes ≤ whole → TakesWithin options
+    → header_at options whole bytes ≡ Ok (h, rest) → HeaderAt options whole bytes h rest
 unfolding header_at
-header_found context whole [] rest h fits room takes e = absurd cc
-header_found context whole (first ∷ text) rest h fits room takes e =
-    elim (chosen (is_fixed context first) _ _ (Ok (h, rest)) (sym (by_rows context whole first text) ∙ e)) [
+header_found options whole [] rest h fits room takes e = absurd cc
+header_found options whole (first ∷ text) rest h fits room takes e =
+    elim (chosen (is_fixed options first) _ _ (Ok (h, rest)) (sym (by_rows options whole first text) ∙ e)) [
       | inr bad ↦ absurd (err_ok (Invalid (codes "fixed bit unset")) (h, rest) bad.1)
       | inl good ↦
           let x =
-          row_found context (header_row_of first (num (take 4 text))) [] text (finish whole first) (h, rest)
+          row_found options (header_row_of first (num (take 4 text))) [] text (finish whole first) (h, rest)
           (λ i. fits (suc i)) takes good.1 in
           let parts = ok_pair x.3 in (
             first,
@@ -379,40 +379,40 @@ header_found context whole (first ∷ text) rest h fits room takes e =
             x.0,
             refl,
             good.0,
-            subst (AreHeaderFields context (header_row_of first (num (take 4 text))) [] x.0 text) parts.1 x.2,
-            subst (IsHeader whole first x.0) parts.0 (row_is context whole first text x.1 x.0 (omega arith) (is_long first) refl x.2),
+            subst (AreHeaderFields options (header_row_of first (num (take 4 text))) [] x.0 text) parts.1 x.2,
+            subst (IsHeader whole first x.0) parts.0 (row_is options whole first text x.1 x.0 (omega arith) (is_long first) refl x.2),
           )
     ]
 
-pub refused_again : (context : DecodeOptions) (whole : ℕ) (bytes : List ℕ) (e : Refusal) → AreBytes bytes
-    → Refused context bytes e → header_at context whole bytes ≡ Err e
+pub refused_again : (options : DecodeOptions) (whole : ℕ) (bytes : List ℕ) (e : Refusal) → AreBytes bytes
+    → Refused options bytes e → header_at options whole bytes ≡ Err e
 unfolding header_at
-refused_again context whole [] e fits is =
+refused_again options whole [] e fits is =
     ap (λ (r : Refusal). let q : Result (ProtectedHeader × List ℕ) Refusal = Err r in q) (sym is)
-refused_again context whole (first ∷ text) e fits (inl (unset, is)) =
-    by_rows context whole first text
-    ∙ otherwise (is_fixed context first) _ _ _ unset (ap (λ (r : Refusal). let q : Result (ProtectedHeader × List ℕ)
+refused_again options whole (first ∷ text) e fits (inl (unset, is)) =
+    by_rows options whole first text
+    ∙ otherwise (is_fixed options first) _ _ _ unset (ap (λ (r : Refusal). let q : Result (ProtectedHeader × List ℕ)
     Refusal = Err r in q) (sym is))
-refused_again context whole (first ∷ text) e fits (inr (set, stops)) =
-    by_rows context whole first text ∙ taken (is_fixed context first) _ _ _ set
-    (row_stops context (header_row_of first (num (take 4 text))) [] text (finish whole first) e (λ i. fits (suc i)) stops)
+refused_again options whole (first ∷ text) e fits (inr (set, stops)) =
+    by_rows options whole first text ∙ taken (is_fixed options first) _ _ _ set
+    (row_stops options (header_row_of first (num (take 4 text))) [] text (finish whole first) e (λ i. fits (suc i)) stops)
 
-pub refused_found : (context : DecodeOptions) (whole : ℕ) (bytes : List ℕ) (e : Refusal) → AreBytes bytes
-    → TakesWithin context → header_at context whole bytes ≡ Err e → Refused context bytes e
+pub refused_found : (options : DecodeOptions) (whole : ℕ) (bytes : List ℕ) (e : Refusal) → AreBytes bytes
+    → TakesWithin options → header_at options whole bytes ≡ Err e → Refused options bytes e
 unfolding header_at
-refused_found context whole [] e fits takes h = sym (err_same _ e h)
-refused_found context whole (first ∷ text) e fits takes h =
-    elim (chosen (is_fixed context first) _ _ (Err e) (sym (by_rows context whole first text) ∙ h)) [
+refused_found options whole [] e fits takes h = sym (err_same _ e h)
+refused_found options whole (first ∷ text) e fits takes h =
+    elim (chosen (is_fixed options first) _ _ (Err e) (sym (by_rows options whole first text) ∙ h)) [
       | inr bad ↦ inl (bad.0, sym (err_same _ e bad.1))
       | inl good ↦ inr (
         good.0,
-        row_refused context (header_row_of first (num (take 4 text))) [] text
+        row_refused options (header_row_of first (num (take 4 text))) [] text
             (finish whole first) e (λ i. fits (suc i)) takes (λ after rest f. ok_err _ e f) good.1,
       )
     ]
 
 -- a header takes a byte
-pub header_strict : (context : DecodeOptions) (whole : ℕ) (bytes : List ℕ) (h : ProtectedHeader) (rest : List ℕ)
-    → HeaderAt context whole bytes h rest → length rest < length bytes
-header_strict context whole bytes h rest (first, text, values, split, fixed, fields, is) =
-    omega (arith, ap length split, row_room context (header_row_of first (num (take 4 text))) [] values text rest fields)
+pub header_strict : (options : DecodeOptions) (whole : ℕ) (bytes : List ℕ) (h : ProtectedHeader) (rest : List ℕ)
+    → HeaderAt options whole bytes h rest → length rest < length bytes
+header_strict options whole bytes h rest (first, text, values, split, fixed, fields, is) =
+    omega (arith, ap length split, row_room options (header_row_of first (num (take 4 text))) [] values text rest fields)

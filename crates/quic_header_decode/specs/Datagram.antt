@@ -13,16 +13,16 @@ pub record PlacedPacket : Type 0 where
 
 -- The bytes that begin at start are these packets, one after another up to their end; or these, and then bytes from
 -- which no packet can be cut, with their refusal.
-pub data ArePackets (context : DecodeOptions) : ℕ → List ℕ → List PlacedPacket → Option Refusal → Type 0 where
-  last : (start : ℕ) (bytes : List ℕ) (h : ProtectedHeader) (p : ℕ) → Cut context bytes h p (length bytes)
-      → ArePackets context start bytes (record { start = start; stop = start + length bytes; header = h } ∷ []) None
+pub data ArePackets (options : DecodeOptions) : ℕ → List ℕ → List PlacedPacket → Option Refusal → Type 0 where
+  last : (start : ℕ) (bytes : List ℕ) (h : ProtectedHeader) (p : ℕ) → Cut options bytes h p (length bytes)
+      → ArePackets options start bytes (record { start = start; stop = start + length bytes; header = h } ∷ []) None
   more : (start : ℕ) (bytes : List ℕ) (h : ProtectedHeader) (p q : ℕ) (others : List PlacedPacket)
       (refusal : Option Refusal)
-      → Cut context bytes h p q → q < length bytes
-      → ArePackets context (start + q) (drop q bytes) others refusal
-      → ArePackets context start bytes (record { start = start; stop = start + q; header = h } ∷ others) refusal
-  refused : (start : ℕ) (bytes : List ℕ) (e : Refusal) → Uncut context bytes e
-      → ArePackets context start bytes [] (Some e)
+      → Cut options bytes h p q → q < length bytes
+      → ArePackets options (start + q) (drop q bytes) others refusal
+      → ArePackets options start bytes (record { start = start; stop = start + q; header = h } ∷ others) refusal
+  refused : (start : ℕ) (bytes : List ℕ) (e : Refusal) → Uncut options bytes e
+      → ArePackets options start bytes [] (Some e)
 
 -- The same, step by step: the packet that was cut first, and then those of the rest.
 abbrev pub and_then : (ℕ → List ℕ → List PlacedPacket × Option Refusal) → ℕ → List ℕ
@@ -36,9 +36,9 @@ and_then others start bytes (Ok cut) =
 
 -- at most so many packets
 unfoldable pub packets_from : DecodeOptions → ℕ → ℕ → List ℕ → List PlacedPacket × Option Refusal
-packets_from context zero start bytes = ([], None)
-packets_from context (suc n) start bytes = and_then (packets_from context n) start bytes (cut_at context bytes)
+packets_from options zero start bytes = ([], None)
+packets_from options (suc n) start bytes = and_then (packets_from options n) start bytes (cut_at options bytes)
 
 -- the packets of a datagram, and the refusal of what is left, if anything is refused
 unfoldable pub packets_in : DecodeOptions → List ℕ → List PlacedPacket × Option Refusal
-packets_in context bytes = packets_from context (suc (length bytes)) 0 bytes
+packets_in options bytes = packets_from options (suc (length bytes)) 0 bytes

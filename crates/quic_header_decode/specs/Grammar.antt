@@ -19,7 +19,7 @@ is_long first = nat_le 0x80 first
 
 -- the fixed bit is set (sections 17.2 and 17.3), or may be clear (RFC 9287)
 abbrev pub is_fixed : DecodeOptions → ℕ → Bool
-is_fixed context first = context.grease || has_bit 0x40 first
+is_fixed options first = options.grease || has_bit 0x40 first
 
 -- ---- rows of fields
 
@@ -73,17 +73,17 @@ IsVarint values bytes = (n : ℕ) × (values ≡ Number n ∷ []) × Encodes n b
 -- After fields with the values before, and in front of rest, the bytes are a field of this kind, with these values.
 -- The value of a token is how many bytes follow it, which gives its place.
 abbrev pub IsHeaderField : DecodeOptions → HeaderField → List HeaderValue → List HeaderValue → List ℕ → List ℕ → Type 0
-IsHeaderField context Version before values bytes rest = (n : ℕ) × (values ≡ Number n ∷ []) × IsNumber 4 n bytes
-IsHeaderField context DestinationId before values bytes rest = IsId values bytes
-IsHeaderField context SourceId before values bytes rest = IsId values bytes
-IsHeaderField context (Supported version) before values bytes rest =
-    (values ≡ []) × (bytes ≡ []) × Contains context.versions version
-IsHeaderField context TokenLength before values bytes rest = IsVarint values bytes
-IsHeaderField context Token before values bytes rest =
+IsHeaderField options Version before values bytes rest = (n : ℕ) × (values ≡ Number n ∷ []) × IsNumber 4 n bytes
+IsHeaderField options DestinationId before values bytes rest = IsId values bytes
+IsHeaderField options SourceId before values bytes rest = IsId values bytes
+IsHeaderField options (Supported version) before values bytes rest =
+    (values ≡ []) × (bytes ≡ []) × Contains options.versions version
+IsHeaderField options TokenLength before values bytes rest = IsVarint values bytes
+IsHeaderField options Token before values bytes rest =
     (values ≡ Number (length rest) ∷ []) × (length bytes ≡ token_length_of before)
-IsHeaderField context Length before values bytes rest = IsVarint values bytes
-IsHeaderField context ShortId before values bytes rest =
-    (id : List ℕ) × (values ≡ Bytes id ∷ []) × (context.parsed (bytes ++ rest) ≡ Ok (id, length bytes))
+IsHeaderField options Length before values bytes rest = IsVarint values bytes
+IsHeaderField options ShortId before values bytes rest =
+    (id : List ℕ) × (values ≡ Bytes id ∷ []) × (options.parsed (bytes ++ rest) ≡ Ok (id, length bytes))
 
 -- The error where the bytes don't begin with such a field.
 abbrev pub refusal_at : HeaderField → List HeaderValue → Refusal
@@ -95,38 +95,38 @@ refusal_at field before = Invalid (codes "unexpected end of packet")
 
 -- Of a short header's id it is what the parser says.
 abbrev pub IsRefusal : DecodeOptions → HeaderField → List HeaderValue → List ℕ → Refusal → Type 0
-IsRefusal context ShortId before bytes e = context.parsed bytes ≡ Err e
-IsRefusal context field before bytes e = e ≡ refusal_at field before
+IsRefusal options ShortId before bytes e = options.parsed bytes ≡ Err e
+IsRefusal options field before bytes e = e ≡ refusal_at field before
 
 -- ---- which bytes are a row, and why others aren't
 
 -- The bytes are such a field, and then rest.
 abbrev pub BeginsWithField : DecodeOptions → HeaderField → List HeaderValue → List HeaderValue → List ℕ → List ℕ
     → Type 0
-BeginsWithField context field before values bytes rest =
-    (front : List ℕ) × (bytes ≡ front ++ rest) × IsHeaderField context field before values front rest
+BeginsWithField options field before values bytes rest =
+    (front : List ℕ) × (bytes ≡ front ++ rest) × IsHeaderField options field before values front rest
 
 -- The bytes are the fields of a row, and then rest; the values grow from before to after.
 abbrev pub AreHeaderFields : DecodeOptions → List HeaderField → List HeaderValue → List HeaderValue → List ℕ → List ℕ
     → Type 0
-AreHeaderFields context [] before after bytes rest = (after ≡ before) × (bytes ≡ rest)
-AreHeaderFields context (field ∷ fields) before after bytes rest =
-    (values : List HeaderValue) × (left : List ℕ) × BeginsWithField context field before values bytes left
-    × AreHeaderFields context fields (before ++ values) after left rest
+AreHeaderFields options [] before after bytes rest = (after ≡ before) × (bytes ≡ rest)
+AreHeaderFields options (field ∷ fields) before after bytes rest =
+    (values : List HeaderValue) × (left : List ℕ) × BeginsWithField options field before values bytes left
+    × AreHeaderFields options fields (before ++ values) after left rest
 
 -- The bytes do not begin with such a field.
-pub record StopsAtField (context : DecodeOptions) (field : HeaderField) (before : List HeaderValue) (bytes : List ℕ)
+pub record StopsAtField (options : DecodeOptions) (field : HeaderField) (before : List HeaderValue) (bytes : List ℕ)
     (e : Refusal) : Type 0 where
-  pub none : (values : List HeaderValue) (rest : List ℕ) → BeginsWithField context field before values bytes rest → ⊥
-  pub why : IsRefusal context field before bytes e
+  pub none : (values : List HeaderValue) (rest : List ℕ) → BeginsWithField options field before values bytes rest → ⊥
+  pub why : IsRefusal options field before bytes e
 
 -- The first fields of a row are there, and the next one is not.
 abbrev pub StopsWithinRow : DecodeOptions → List HeaderField → List HeaderValue → List ℕ → Refusal → Type 0
-StopsWithinRow context [] before bytes e = ⊥
-StopsWithinRow context (field ∷ fields) before bytes e =
-    StopsAtField context field before bytes e
-    ⊎ ((values : List HeaderValue) × (left : List ℕ) × BeginsWithField context field before values bytes left
-    × StopsWithinRow context fields (before ++ values) left e)
+StopsWithinRow options [] before bytes e = ⊥
+StopsWithinRow options (field ∷ fields) before bytes e =
+    StopsAtField options field before bytes e
+    ⊎ ((values : List HeaderValue) × (left : List ℕ) × BeginsWithField options field before values bytes left
+    × StopsWithinRow options fields (before ++ values) left e)
 
 -- ---- headers
 
@@ -147,44 +147,44 @@ IsHeader datagram_len first values (protected.Initial h) =
 
 -- The bytes begin with this header, and rest follows it.
 abbrev pub HeaderAt : DecodeOptions → ℕ → List ℕ → ProtectedHeader → List ℕ → Type 0
-HeaderAt context datagram_len bytes h rest =
+HeaderAt options datagram_len bytes h rest =
     (first : ℕ) × (text : List ℕ) × (values : List HeaderValue) × (bytes ≡ first ∷ text)
-    × (is_fixed context first ≡ true)
-    × AreHeaderFields context (header_row_of first (num (take 4 text))) [] values text rest
+    × (is_fixed options first ≡ true)
+    × AreHeaderFields options (header_row_of first (num (take 4 text))) [] values text rest
     × IsHeader datagram_len first values h
 
 -- The bytes begin with no header, and this is the refusal: of the first byte, or of the first field that is not there.
 abbrev pub Refused : DecodeOptions → List ℕ → Refusal → Type 0
-Refused context [] e = e ≡ Invalid (codes "unexpected end of packet")
-Refused context (first ∷ text) e =
-    ((is_fixed context first ≡ false) × (e ≡ Invalid (codes "fixed bit unset")))
-    ⊎ ((is_fixed context first ≡ true) × StopsWithinRow context (header_row_of first (num (take 4 text))) [] text e)
+Refused options [] e = e ≡ Invalid (codes "unexpected end of packet")
+Refused options (first ∷ text) e =
+    ((is_fixed options first ≡ false) × (e ≡ Invalid (codes "fixed bit unset")))
+    ⊎ ((is_fixed options first ≡ true) × StopsWithinRow options (header_row_of first (num (take 4 text))) [] text e)
 
 -- the bytes begin with this header, which these bytes follow, or are refused with this error
 abbrev pub HeaderAnswer : DecodeOptions → ℕ → List ℕ → Result (ProtectedHeader × List ℕ) Refusal → Type 0
-HeaderAnswer context datagram_len bytes (Ok found) = HeaderAt context datagram_len bytes found.0 found.1
-HeaderAnswer context datagram_len bytes (Err e) = Refused context bytes e
+HeaderAnswer options datagram_len bytes (Ok found) = HeaderAt options datagram_len bytes found.0 found.1
+HeaderAnswer options datagram_len bytes (Err e) = Refused options bytes e
 
 -- a version whose headers are read further than their ids
 abbrev pub IsKnownVersion : DecodeOptions → ℕ → Type 0
-IsKnownVersion context version = (version ≢ 0) × Contains context.versions version
+IsKnownVersion options version = (version ≢ 0) × Contains options.versions version
 
 -- ---- packets
 
 -- a packet of q bytes begins the datagram, and its header ends at p
 abbrev pub Cut : DecodeOptions → List ℕ → ProtectedHeader → ℕ → ℕ → Type 0
-Cut context bytes h p q =
-    (rest : List ℕ) × HeaderAt context (length bytes) bytes h rest × (p + length rest ≡ length bytes)
+Cut options bytes h p q =
+    (rest : List ℕ) × HeaderAt options (length bytes) bytes h rest × (p + length rest ≡ length bytes)
     × MatchOption (len_in h) (q ≡ length bytes) (λ len. q ≡ p + len) × (q ≤ length bytes)
 
 -- No packet can be cut from the bytes, and this is the refusal: the header's, or that of a length beyond the end.
-pub data Uncut (context : DecodeOptions) (bytes : List ℕ) : Refusal → Type 0 where
-  no_header : (e : Refusal) → Refused context bytes e → Uncut context bytes e
-  past_end : (h : ProtectedHeader) (rest : List ℕ) (len : ℕ) → HeaderAt context (length bytes) bytes h rest
+pub data Uncut (options : DecodeOptions) (bytes : List ℕ) : Refusal → Type 0 where
+  no_header : (e : Refusal) → Refused options bytes e → Uncut options bytes e
+  past_end : (h : ProtectedHeader) (rest : List ℕ) (len : ℕ) → HeaderAt options (length bytes) bytes h rest
       → len_in h ≡ Some len → length rest < len
-      → Uncut context bytes (Invalid (codes "packet too short to contain payload length"))
+      → Uncut options bytes (Invalid (codes "packet too short to contain payload length"))
 
 -- a header, where it ends and where its packet ends, or a refusal, is what the bytes begin with
 abbrev pub CutAnswer : DecodeOptions → List ℕ → Result (ProtectedHeader × ℕ × ℕ) Refusal → Type 0
-CutAnswer context bytes (Ok cut) = Cut context bytes cut.0 cut.1 cut.2
-CutAnswer context bytes (Err e) = Uncut context bytes e
+CutAnswer options bytes (Ok cut) = Cut options bytes cut.0 cut.1 cut.2
+CutAnswer options bytes (Err e) = Uncut options bytes e

@@ -17,7 +17,7 @@ use Rattle.quic_header_decode.specs.declared.protected.ProtectedHeader.{Protecte
 use Rattle.quic_header_decode.specs.declared.protected.ProtectedHeader.TheVariants as protected
 use Rattle.quic_header_decode.specs.Grammar.{is_long, HeaderAt, Refused}
 use Rattle.quic_header_decode.specs.Parsers.{fixed_parsed}
-use Rattle.quic_header_decode.specs.Reading.{DecodeOptions}
+use Rattle.quic_header_decode.specs.Reading.{DecodeOptions, read_by}
 use Rattle.quic_header_decode.specs.Refusal.{Refusal, Unsupported, Invalid, NoMemory}
 
 -- the type of a kind that has one
@@ -131,21 +131,21 @@ AnyVersion bytes version dst src rest =
 
 -- They do, and the version isn't known.
 abbrev pub IsUnknownVersion : DecodeOptions → List ℕ → ℕ → List ℕ → List ℕ → Type 0
-IsUnknownVersion context bytes version dst src =
-    (rest : List ℕ) × AnyVersion bytes version dst src rest × (version ≢ 0) × (Contains context.versions version → ⊥)
+IsUnknownVersion options bytes version dst src =
+    (rest : List ℕ) × AnyVersion bytes version dst src rest × (version ≢ 0) × (Contains options.versions version → ⊥)
 
 -- what headers are read by where the fixed bit isn't looked at: the ids of short headers have so many bytes
 abbrev pub any_fixed : ℕ → List ℕ → DecodeOptions
-any_fixed id_len versions = record { parsed = fixed_parsed id_len; versions = versions; grease = true }
+any_fixed id_len versions = read_by (fixed_parsed id_len) versions true
 
 -- The bytes begin with this header and go on with these bytes, or are refused so. A long header of an unknown version
 -- is given with its ids even where these are longer than those of the known versions may be.
 abbrev pub ReadAnswer : DecodeOptions → List ℕ → Result (ProtectedHeader × List ℕ) Refusal → Type 0
-ReadAnswer context bytes (Ok found) = HeaderAt context (length bytes) bytes found.0 found.1
-ReadAnswer context bytes (Err (Unsupported src dst version)) = IsUnknownVersion context bytes version dst src
-ReadAnswer context bytes (Err (Invalid text)) =
-    Refused context bytes (Invalid text)
-    × ((version : ℕ) (dst src : List ℕ) → IsUnknownVersion context bytes version dst src → ⊥)
-ReadAnswer context bytes (Err NoMemory) =
-    Refused context bytes NoMemory × ((version : ℕ) (dst src : List ℕ) → IsUnknownVersion context bytes version dst src
+ReadAnswer options bytes (Ok found) = HeaderAt options (length bytes) bytes found.0 found.1
+ReadAnswer options bytes (Err (Unsupported src dst version)) = IsUnknownVersion options bytes version dst src
+ReadAnswer options bytes (Err (Invalid text)) =
+    Refused options bytes (Invalid text)
+    × ((version : ℕ) (dst src : List ℕ) → IsUnknownVersion options bytes version dst src → ⊥)
+ReadAnswer options bytes (Err NoMemory) =
+    Refused options bytes NoMemory × ((version : ℕ) (dst src : List ℕ) → IsUnknownVersion options bytes version dst src
     → ⊥)

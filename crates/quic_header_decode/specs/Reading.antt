@@ -20,9 +20,12 @@ pub record DecodeOptions : Type 0 where
   pub versions : List ℕ
   pub grease : Bool
 
+abbrev pub read_by : (List ℕ → Result (List ℕ × ℕ) Refusal) → List ℕ → Bool → DecodeOptions
+read_by parsed versions grease = record { parsed = parsed; versions = versions; grease = grease }
+
 -- the ids of short headers are among the bytes that are there
 abbrev pub TakesWithin : DecodeOptions → Type 0
-TakesWithin context = (text id : List ℕ) (count : ℕ) → context.parsed text ≡ Ok (id, count) → count ≤ length text
+TakesWithin options = (text id : List ℕ) (count : ℕ) → options.parsed text ≡ Ok (id, count) → count ≤ length text
 
 abbrev pub at_end : Refusal
 at_end = Invalid (codes "unexpected end of packet")
@@ -74,12 +77,12 @@ wide_at versions datagram_len first bytes = do
       else typed_at (long_type version.0 first) datagram_len dst.0 src.0 version.0 src.1))
 
 unfoldable pub header_at : DecodeOptions → ℕ → List ℕ → Result (ProtectedHeader × List ℕ) Refusal
-header_at context datagram_len bytes = do
+header_at options datagram_len bytes = do
   first ← ok_or (byte_at bytes) at_end
-  if not context.grease && nat_eq (first.0 / 64 % 2) 0 then Err (Invalid (codes "fixed bit unset"))
+  if not options.grease && nat_eq (first.0 / 64 % 2) 0 then Err (Invalid (codes "fixed bit unset"))
       else (if nat_lt first.0 128
-      then (context.parsed first.1 >>= λ id. Ok (protected.Short (nat_eq (first.0 / 32 % 2) 1) id.0, drop id.1 first.1))
-      else long_at context.versions datagram_len first.0 first.1)
+      then (options.parsed first.1 >>= λ id. Ok (protected.Short (nat_eq (first.0 / 32 % 2) 1) id.0, drop id.1 first.1))
+      else long_at options.versions datagram_len first.0 first.1)
 
 -- a header whose fixed bit isn't checked, with ids of so many bytes in short ones, and of any length in long ones
 unfoldable pub wide_header_at : ℕ → List ℕ → ℕ → List ℕ → Result (ProtectedHeader × List ℕ) Refusal
@@ -97,12 +100,17 @@ len_in _ = None
 
 -- a header, where it ends, and where its packet ends
 unfoldable pub cut_at : DecodeOptions → List ℕ → Result (ProtectedHeader × ℕ × ℕ) Refusal
-cut_at context bytes = do
-  read ← header_at context (length bytes) bytes
+cut_at options bytes = do
+  read ← header_at options (length bytes) bytes
   let len = unwrap_or (len_in read.0) (length read.1) in
       let place = length bytes - length read.1 in
       if nat_lt (length read.1) len then Err (Invalid (codes "packet too short to contain payload length"))
       else Ok (read.0, place, place + len)
+
+-- the bytes that are left, if any are
+abbrev pub left_of : Option Filled → List ℕ
+left_of None = []
+left_of (Some left) = left.items
 
 -- what follows a packet, if anything does
 abbrev pub IsRest : Option Filled → List ℕ → Type 0

@@ -22,8 +22,3 @@ RefusesHeader error.OutOfMemory read = Unit {0}
 abbrev pub GivesRead : {X Y : Type 0} → (X → Y) → Result X PacketDecodeError → Result Y Refusal → Type 0
 GivesRead view (Ok x) read = read ≡ Ok (view x)
 GivesRead view (Err e) read = RefusesHeader e read
-
--- Some answer is right, and each right answer was given.
-pub record Answers {Y : Type 0} (IsRight IsGiven : Result Y Refusal → Type 0) : Type 0 where
-  pub some : (answer : Result Y Refusal) × IsRight answer × IsGiven answer
-  pub each : (answer : Result Y Refusal) → IsRight answer → IsGiven answer

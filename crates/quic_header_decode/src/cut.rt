@@ -1,9 +1,9 @@
 //! The cutting of datagrams into packets (RFC 9000, section 12.2).
-ghost use Rattle.std.specs.Prelude.{◌≡◌, ℕ, ◌<◌, ◌≤◌, length, take, drop, IsTrue, IfOk, IsErrOf, IfSome, IsNone, MatchResult, ◌⊎◌, ◌↔◌};
+ghost use Rattle.std.specs.Prelude.{◌≡◌, ◌<◌, ◌≤◌, length, take, drop, IsTrue, IfErr, IfOk, IsErrOf, IfSome, IsNone, MatchResult, ◌⊎◌, ◌↔◌};
 ghost use Rattle.quic_header_decode.specs.Queries.{dst_of, space_of, IsShort, IsInitial, IsZeroRtt};
-ghost use Rattle.quic_header_decode.specs.Refusal.{GivesRead, Answers};
-ghost use Rattle.quic_header_decode.specs.Grammar.{CutAnswer, Cut};
-ghost use Rattle.quic_header_decode.specs.Reading.{cut_at, IsRest};
+ghost use Rattle.quic_header_decode.specs.Packet.{CutsFirst, IsUncut};
+ghost use Rattle.quic_header_decode.specs.Reading.{cut_at, left_of, read_by, IsRest};
+ghost use Rattle.quic_header_decode.specs.Refusal.{GivesRead};
 
 use crate::decode_error::PacketDecodeError;
 use crate::parser::ConnectionIdParser;
@@ -49,16 +49,12 @@ impl PartialDecode {
         versions: &[u32],
         grease: bool,
     ) -> Result<(Self, Option<BytesMut>), PacketDecodeError>
-        ensures answer { Answers (CutAnswer
-            (record { parsed = P.parsed parser.now; versions = versions.now; grease = grease }) bytes.items)
-            (λ answer. GivesRead (λ x. (x.0.head, x.0.header_end, length x.0.bytes)) result answer) }
-        ensures packet { IfOk result (λ x. x.0.bytes ≡ take (length x.0.bytes) bytes.items) }
-        ensures rest { IfOk result (λ x. IsRest x.1 (drop (length x.0.bytes) bytes.items)) }
+        ensures cut { IfOk result (λ x. CutsFirst (read_by (P.parsed parser.now) versions.now grease) bytes.items
+            x.0 (left_of x.1)) }
+        ensures rest { IfOk result (λ x. IfSome x.1 (λ rest. 0 < length rest.items)) }
         ensures shorter { IfOk result (λ x. IfSome x.1 (λ rest. length rest.items < length bytes.items)) }
-        ensures memory { IsErrOf result PacketDecodeError.OutOfMemory → IsTrue (P.takes_memory parser.now)
-            ⊎ ((h : ProtectedHeader) × (p : ℕ) × (q : ℕ)
-            × Cut (record { parsed = P.parsed parser.now; versions = versions.now; grease = grease }) bytes.items h p q
-            × (q < length bytes.items)) }
+        ensures refused { IfErr result (λ e. IsUncut (read_by (P.parsed parser.now) versions.now grease)
+            (P.takes_memory parser.now) bytes.items e) }
     {
         are_bytes(bytes.as_slice());
         Self::cut(bytes, parser, versions, grease)
@@ -73,12 +69,11 @@ impl PartialDecode {
         grease: bool,
     ) -> Result<(Self, Option<BytesMut>), PacketDecodeError>
         ensures exact { GivesRead (λ x. (x.0.head, x.0.header_end, length x.0.bytes)) result
-            (cut_at (record { parsed = P.parsed parser.now; versions = versions.now; grease = grease }) bytes.items) }
+            (cut_at (read_by (P.parsed parser.now) versions.now grease) bytes.items) }
         ensures packet { IfOk result (λ x. x.0.bytes ≡ take (length x.0.bytes) bytes.items) }
         ensures rest { IfOk result (λ x. IsRest x.1 (drop (length x.0.bytes) bytes.items)) }
         ensures memory { IsErrOf result PacketDecodeError.OutOfMemory → IsTrue (P.takes_memory parser.now)
-            ⊎ MatchResult (cut_at (record
-            { parsed = P.parsed parser.now; versions = versions.now; grease = grease }) bytes.items)
+            ⊎ MatchResult (cut_at (read_by (P.parsed parser.now) versions.now grease) bytes.items)
             (λ x. x.2 < length bytes.items) (λ _. ⊥) }
     {
         let mut buf = Cursor::new(bytes);

@@ -19,17 +19,17 @@ use quic_header_encode::long_type::LongType;
 /// Bytes begin with one header or are refused with one error, and the same holds of the packet that is cut from them;
 /// reading finds that answer, if the parser of ids takes no more bytes than there are.
 pub fn one_answer()
-    ensures head { (context : DecodeOptions) (whole : ℕ) (bytes : List ℕ) (one other : Result (ProtectedHeader
+    ensures head { (options : DecodeOptions) (whole : ℕ) (bytes : List ℕ) (one other : Result (ProtectedHeader
         × List ℕ) Refusal)
-        → AreBytes bytes → HeaderAnswer context whole bytes one → HeaderAnswer context whole bytes other → one ≡ other }
-    ensures cut { (context : DecodeOptions) (bytes : List ℕ) (one other : Result (ProtectedHeader × ℕ × ℕ) Refusal)
-        → AreBytes bytes → CutAnswer context bytes one → CutAnswer context bytes other → one ≡ other }
-    ensures header_found { (context : DecodeOptions) (whole : ℕ) (bytes : List ℕ) → AreBytes bytes
+        → AreBytes bytes → HeaderAnswer options whole bytes one → HeaderAnswer options whole bytes other → one ≡ other }
+    ensures cut { (options : DecodeOptions) (bytes : List ℕ) (one other : Result (ProtectedHeader × ℕ × ℕ) Refusal)
+        → AreBytes bytes → CutAnswer options bytes one → CutAnswer options bytes other → one ≡ other }
+    ensures header_found { (options : DecodeOptions) (whole : ℕ) (bytes : List ℕ) → AreBytes bytes
         → length bytes ≤ whole
-        → TakesWithin context
-        → HeaderAnswer context whole bytes (header_at context whole bytes) }
-    ensures cut_found { (context : DecodeOptions) (bytes : List ℕ) → AreBytes bytes → TakesWithin context
-        → CutAnswer context bytes (cut_at context bytes) }
+        → TakesWithin options
+        → HeaderAnswer options whole bytes (header_at options whole bytes) }
+    ensures cut_found { (options : DecodeOptions) (bytes : List ℕ) → AreBytes bytes → TakesWithin options
+        → CutAnswer options bytes (cut_at options bytes) }
 {}
 
 /// Bytes begin with one header, or with the ids of one unknown version, or are refused with one error, if all ids of
@@ -43,52 +43,52 @@ pub fn one_reading()
 
 /// There is one way to cut a datagram into packets, up to its end or to one error, and reading finds it.
 pub fn one_row_of_packets()
-    ensures one { (context : DecodeOptions) (bytes : List ℕ) (some others : List PlacedPacket)
+    ensures one { (options : DecodeOptions) (bytes : List ℕ) (some others : List PlacedPacket)
         (refusal other : Option Refusal)
-        → AreBytes bytes → ArePackets context 0 bytes some refusal → ArePackets context 0 bytes others other
+        → AreBytes bytes → ArePackets options 0 bytes some refusal → ArePackets options 0 bytes others other
         → (some ≡ others) × (refusal ≡ other) }
-    ensures found { (context : DecodeOptions) (bytes : List ℕ) → AreBytes bytes → TakesWithin context
-        → ArePackets context 0 bytes (packets_in context bytes).0 (packets_in context bytes).1 }
+    ensures found { (options : DecodeOptions) (bytes : List ℕ) → AreBytes bytes → TakesWithin options
+        → ArePackets options 0 bytes (packets_in options bytes).0 (packets_in options bytes).1 }
 {}
 
 /// Where a packet ends, and what doesn't depend on the bytes after it.
 pub fn ends()
     // A packet has at least a byte, so what follows it is shorter than the datagram.
-    ensures some { (context : DecodeOptions) (bytes : List ℕ) (h : ProtectedHeader) (p q : ℕ)
-        → Cut context bytes h p q → 0 < q }
+    ensures some { (options : DecodeOptions) (bytes : List ℕ) (h : ProtectedHeader) (p q : ℕ)
+        → Cut options bytes h p q → 0 < q }
     // A packet whose header has a length has the same header and the same end, whatever follows it.
-    ensures alone { (context : DecodeOptions) (bytes other : List ℕ) (h : ProtectedHeader) (p q len : ℕ)
-        → Cut context bytes h p q → len_in h ≡ Some len → Cut context (take q bytes ++ other) h p q }
+    ensures alone { (options : DecodeOptions) (bytes other : List ℕ) (h : ProtectedHeader) (p q len : ℕ)
+        → Cut options bytes h p q → len_in h ≡ Some len → Cut options (take q bytes ++ other) h p q }
     // A long header that is refused for its fixed bit or for its version is refused so whatever follows.
-    ensures fixed { (context : DecodeOptions) (bytes other : List ℕ) → 128 ≤ slice_index bytes 0
-        → Refused context bytes (Invalid (codes "fixed bit unset"))
-        → Refused context (bytes ++ other) (Invalid (codes "fixed bit unset")) }
-    ensures version { (context : DecodeOptions) (bytes other src dst : List ℕ) (version : ℕ) → 128 ≤ slice_index bytes 0
-        → Refused context bytes (Unsupported src dst version)
-        → Refused context (bytes ++ other) (Unsupported src dst version) }
+    ensures fixed { (options : DecodeOptions) (bytes other : List ℕ) → 128 ≤ slice_index bytes 0
+        → Refused options bytes (Invalid (codes "fixed bit unset"))
+        → Refused options (bytes ++ other) (Invalid (codes "fixed bit unset")) }
+    ensures version { (options : DecodeOptions) (bytes other src dst : List ℕ) (version : ℕ) → 128 ≤ slice_index bytes 0
+        → Refused options bytes (Unsupported src dst version)
+        → Refused options (bytes ++ other) (Unsupported src dst version) }
 {}
 
 /// A header that was read as places begins a packet that ends where `packet_end` says, or one that is cut off.
 pub fn places_cut()
-    ensures whole { (context : DecodeOptions) (bytes : List ℕ) (x : HeaderPlaces) (q : ℕ)
-        → HeaderAt context (length bytes) bytes (header_in bytes x) (drop x.header_end bytes)
+    ensures whole { (options : DecodeOptions) (bytes : List ℕ) (x : HeaderPlaces) (q : ℕ)
+        → HeaderAt options (length bytes) bytes (header_in bytes x) (drop x.header_end bytes)
         → x.header_end ≤ length bytes
-        → ends_at x (length bytes) ≡ Some q → Cut context bytes (header_in bytes x) x.header_end q }
-    ensures cut_off { (context : DecodeOptions) (bytes : List ℕ) (x : HeaderPlaces)
-        → HeaderAt context (length bytes) bytes (header_in bytes x) (drop x.header_end bytes)
+        → ends_at x (length bytes) ≡ Some q → Cut options bytes (header_in bytes x) x.header_end q }
+    ensures cut_off { (options : DecodeOptions) (bytes : List ℕ) (x : HeaderPlaces)
+        → HeaderAt options (length bytes) bytes (header_in bytes x) (drop x.header_end bytes)
         → x.header_end ≤ length bytes
         → ends_at x (length bytes) ≡ None
-        → Uncut context bytes (Invalid (codes "packet too short to contain payload length")) }
+        → Uncut options bytes (Invalid (codes "packet too short to contain payload length")) }
 {}
 
 /// Headers are read back as they are written, before protection is put on, whatever follows them.
 pub fn written()
     // The length may be in any encoding, and the number isn't read.
-    ensures initial { (context : DecodeOptions) (whole start n : ℕ) (h : InitialHeader) (len rest : List ℕ)
-        → h.version < 2 ^ 32 → IsKnownVersion context h.version → length h.dst_cid ≤ 20 → length h.src_cid ≤ 20
+    ensures initial { (options : DecodeOptions) (whole start n : ℕ) (h : InitialHeader) (len rest : List ℕ)
+        → h.version < 2 ^ 32 → IsKnownVersion options h.version → length h.dst_cid ≤ 20 → length h.src_cid ≤ 20
         → length h.token < 2 ^ 62 → Encodes n len
         → start + length h.token + length (len ++ (number_bytes h.number ++ rest)) ≡ whole
-        → HeaderAt context whole (header_with len (Header.Initial h) ++ rest)
+        → HeaderAt options whole (header_with len (Header.Initial h) ++ rest)
         (ProtectedHeader.Initial (record {
           dst_cid = h.dst_cid;
           src_cid = h.src_cid;
@@ -98,24 +98,24 @@ pub fn written()
           version = h.version;
         }))
         (number_bytes h.number ++ rest) }
-    ensures long { (context : DecodeOptions) (whole n version : ℕ) (ty : LongType) (dst src len rest : List ℕ)
+    ensures long { (options : DecodeOptions) (whole n version : ℕ) (ty : LongType) (dst src len rest : List ℕ)
         (number : PacketNumber)
-        → version < 2 ^ 32 → IsKnownVersion context version → length dst ≤ 20 → length src ≤ 20 → Encodes n len
-        → HeaderAt context whole (header_with len (Header.Long ty dst src number version) ++ rest)
+        → version < 2 ^ 32 → IsKnownVersion options version → length dst ≤ 20 → length src ≤ 20 → Encodes n len
+        → HeaderAt options whole (header_with len (Header.Long ty dst src number version) ++ rest)
         (ProtectedHeader.Long ty dst src n version) (number_bytes number ++ rest) }
-    ensures retry { (context : DecodeOptions) (whole version : ℕ) (dst src rest : List ℕ) → version < 2 ^ 32
-        → IsKnownVersion context version → length dst ≤ 20 → length src ≤ 20
-        → HeaderAt context whole (header_bytes (Header.Retry dst src version) ++ rest)
+    ensures retry { (options : DecodeOptions) (whole version : ℕ) (dst src rest : List ℕ) → version < 2 ^ 32
+        → IsKnownVersion options version → length dst ≤ 20 → length src ≤ 20
+        → HeaderAt options whole (header_bytes (Header.Retry dst src version) ++ rest)
         (ProtectedHeader.Retry dst src version) rest }
-    ensures short { (context : DecodeOptions) (whole : ℕ) (spin key_phase : Bool) (dst rest : List ℕ)
+    ensures short { (options : DecodeOptions) (whole : ℕ) (spin key_phase : Bool) (dst rest : List ℕ)
         (number : PacketNumber)
-        → context.parsed (dst ++ (number_bytes number ++ rest)) ≡ Ok (dst, length dst)
-        → HeaderAt context whole (header_bytes (Header.Short spin key_phase dst number) ++ rest)
+        → options.parsed (dst ++ (number_bytes number ++ rest)) ≡ Ok (dst, length dst)
+        → HeaderAt options whole (header_bytes (Header.Short spin key_phase dst number) ++ rest)
         (ProtectedHeader.Short spin dst) (number_bytes number ++ rest) }
     // Of the first byte, only the bits below the highest are free.
-    ensures negotiation { (context : DecodeOptions) (whole random : ℕ) (dst src rest : List ℕ) → random < 128
-        → IsTrue (is_fixed context (128 + random)) → length dst ≤ 20 → length src ≤ 20
-        → HeaderAt context whole (header_bytes (Header.VersionNegotiate random src dst) ++ rest)
+    ensures negotiation { (options : DecodeOptions) (whole random : ℕ) (dst src rest : List ℕ) → random < 128
+        → IsTrue (is_fixed options (128 + random)) → length dst ≤ 20 → length src ≤ 20
+        → HeaderAt options whole (header_bytes (Header.VersionNegotiate random src dst) ++ rest)
         (ProtectedHeader.VersionNegotiate random dst src) rest }
 {}
 
@@ -123,8 +123,8 @@ pub fn written()
 pub fn examples()
     // The client's first Initial packet (RFC 9001, section A.2): ids of eight bytes and of none, no token, and 1182
     // bytes after the header.
-    ensures initial { (context : DecodeOptions) (rest : List ℕ) → Contains context.versions 1
-        → HeaderAt context (18 + length rest)
+    ensures initial { (options : DecodeOptions) (rest : List ℕ) → Contains options.versions 1
+        → HeaderAt options (18 + length rest)
         (0xc0 ∷ 0x00 ∷ 0x00 ∷ 0x00 ∷ 0x01 ∷ 0x08 ∷ 0x83 ∷ 0x94 ∷ 0xc8 ∷ 0xf0 ∷ 0x3e ∷ 0x51 ∷ 0x57 ∷ 0x08 ∷ 0x00 ∷ 0x00
         ∷ 0x44 ∷ 0x9e ∷ rest)
         (ProtectedHeader.Initial (record {
@@ -136,7 +136,7 @@ pub fn examples()
           version = 1;
         })) rest }
     // An Initial packet that ends within its token of five bytes.
-    ensures no_token { (context : DecodeOptions) → Contains context.versions 1
-        → Refused context (0xc0 ∷ 0x00 ∷ 0x00 ∷ 0x00 ∷ 0x01 ∷ 0x00 ∷ 0x00 ∷ 0x05 ∷ 0xaa ∷ [])
+    ensures no_token { (options : DecodeOptions) → Contains options.versions 1
+        → Refused options (0xc0 ∷ 0x00 ∷ 0x00 ∷ 0x00 ∷ 0x01 ∷ 0x00 ∷ 0x00 ∷ 0x05 ∷ 0xaa ∷ [])
         (Invalid (codes "token out of bounds")) }
 {}

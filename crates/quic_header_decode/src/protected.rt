@@ -1,9 +1,9 @@
 //! Headers of packets, before their protection is taken off (RFC 9000, section 17).
-ghost use Rattle.std.specs.Prelude.{◌≡◌, ◌<◌, ◌≤◌, length, IsTrue, Err, IfOk, IsErrOf, ◌≢◌, drop};
-ghost use Rattle.quic_header_decode.specs.Refusal.{GivesRead, Answers};
-ghost use Rattle.quic_header_decode.specs.Grammar.{HeaderAnswer};
+ghost use Rattle.std.specs.Prelude.{◌≡◌, ◌<◌, ◌≤◌, length, IsTrue, Err, IfErr, IfOk, IsErrOf, ◌≢◌, drop};
+ghost use Rattle.quic_header_decode.specs.Refusal.{refusal_of, GivesRead};
+ghost use Rattle.quic_header_decode.specs.Grammar.{HeaderAt, Refused};
 ghost use Rattle.quic_header_decode.specs.Queries.{dst_of};
-ghost use Rattle.quic_header_decode.specs.Reading.{header_at, long_at, typed_at, len_in, IsPlaced};
+ghost use Rattle.quic_header_decode.specs.Reading.{header_at, long_at, read_by, typed_at, len_in, IsPlaced};
 
 use crate::decode_error::PacketDecodeError;
 use crate::fields::{pass, read_id, read_var, read_word, remaining};
@@ -92,10 +92,10 @@ impl ProtectedHeader {
         grease: bool,
     ) -> Result<Self, PacketDecodeError>
         ensures bytes { buf.new.bytes ≡ buf.old.bytes }
-        ensures answer { Answers (HeaderAnswer
-            (record { parsed = P.parsed parser.now; versions = versions.now; grease = grease })
-            (length buf.old.bytes.items) (unread buf.old))
-            (λ answer. GivesRead (λ h. (h, unread buf.new)) result answer) }
+        ensures found { IfOk result (λ h. HeaderAt (read_by (P.parsed parser.now) versions.now grease)
+            (length buf.old.bytes.items) (unread buf.old) h (unread buf.new)) }
+        ensures refused { IfErr result (λ e. e ≢ PacketDecodeError.OutOfMemory
+            → Refused (read_by (P.parsed parser.now) versions.now grease) (unread buf.old) (refusal_of e)) }
         ensures memory { IsErrOf result PacketDecodeError.OutOfMemory → IsTrue (P.takes_memory parser.now) }
         ensures places { IfOk result (λ h. IsPlaced h buf.new.position) }
     {
@@ -115,7 +115,7 @@ impl ProtectedHeader {
     ) -> Result<Self, PacketDecodeError>
         ensures bytes { buf.new.bytes ≡ buf.old.bytes }
         ensures exact { GivesRead (λ h. (h, unread buf.new)) result
-            (header_at (record { parsed = P.parsed parser.now; versions = versions.now; grease = grease })
+            (header_at (read_by (P.parsed parser.now) versions.now grease)
             (length buf.old.bytes.items) (unread buf.old)) }
         ensures memory { IsErrOf result PacketDecodeError.OutOfMemory → IsTrue (P.takes_memory parser.now) }
         ensures places { IfOk result (λ h. IsPlaced h buf.new.position) }

@@ -1,5 +1,5 @@
 -- What was sealed is opened.
-use Rattle.std.specs.Prelude.{◌≡◌, ℕ, ◌+◌, ◌-◌, ◌<◌, ◌^◌, ◌⊎◌, true, IsTrue, List, ◌++◌, length, take, drop, Option, Some, None, MatchOption, Result, Ok, Err, IfSome}
+use Rattle.std.specs.Prelude.{◌≡◌, ℕ, ◌+◌, ◌-◌, ◌<◌, ◌^◌, true, List, ◌++◌, length, Option, Some, None, MatchOption, Result, Ok, Err, IfSome}
 use Rattle.std.proofs.Common.{sym, ap, ◌∙◌, arith, refl, subst, inl, inr, length-append}
 use Rattle.quic_base.specs.declared.ids.SpaceId.{SpaceId}
 use Rattle.quic_base.proofs.PublicLaws as law
@@ -12,10 +12,9 @@ use Rattle.quic_packets.specs.declared.opening.Opened.{Opened}
 use Rattle.quic_packets.specs.declared.opening.OpenError.{OpenError}
 use Rattle.quic_packets.specs.declared.opening.OpenError.TheVariants as error
 use Rattle.quic_header_decode.specs.declared.decode_error.PacketDecodeError.{PacketDecodeError}
-use Rattle.quic_header_decode.specs.declared.decode_error.PacketDecodeError.TheVariants as decode
-use Rattle.quic_header_decode.specs.Refusal.{Refusal, RefusesHeader, refusal_of}
-use Rattle.quic_header_decode.specs.Grammar.{Cut, CutAnswer, Uncut}
-use Rattle.quic_header_decode.specs.Reading.{DecodeOptions, IsRest}
+use Rattle.quic_header_decode.specs.Refusal.{Refusal, refusal_of}
+use Rattle.quic_header_decode.specs.Grammar.{Cut, Uncut}
+use Rattle.quic_header_decode.specs.Reading.{DecodeOptions, IsRest, left_of}
 use Rattle.quic_header_decode.specs.Headers.{IsOpenedBy}
 use Rattle.quic_header_decode.specs.Packet.{CutPacket}
 use Rattle.quic_header_decode.specs.Queries.{space_of}
@@ -26,7 +25,6 @@ use Rattle.quic_packets.specs.Sealing.{PacketContents, Sealed, plain_packet, sea
 use Rattle.quic_packets.specs.Opening.{
   PacketAnswer,
   BeginsSealed,
-  CutsFirst,
   ExpandsIn,
   IsDecode,
   IsReadBack,
@@ -52,8 +50,9 @@ use Rattle.quic_packets.proofs.Sealings.{header_length}
 use Rattle.quic_packets.proofs.Parts.{expands_same}
 use Rattle.quic_packets.proofs.Opened.{Lawful, front_bytes, cut_same}
 use Rattle.quic_packets.proofs.SealedFound.{Found, sealed_found, read_numbered}
-use Rattle.quic_packets.proofs.Uncuts.{uncut_refused, cuts_first, memory_refused}
-use Rattle.quic_header_decode.proofs.CutAnswers.{cut_positive, cut_again, uncut_again}
+use Rattle.quic_packets.proofs.Uncuts.{memory_refused}
+use Rattle.quic_header_decode.proofs.CutAnswers.{cut_positive, cut_again, is_rest, is_uncut, uncut_again}
+use Rattle.quic_header_decode.specs.Packet.{CutsFirst, IsUncut}
 
 -- ---- records of the same parts
 
@@ -336,9 +335,10 @@ uncut_back opening bytes contents rest laws fits begins r uncut =
 pub first_refuses : (opening : Opening) (bytes : List ℕ) (contents : PacketContents) (rest : List ℕ)
     → IsLawful (opening.keys (space_in contents.header)) → AreBytes bytes
     → BeginsSealed opening bytes contents rest → (e : OpenError) → Refuses opening bytes e → e ≡ error.OutOfMemory
-first_refuses opening bytes contents rest laws fits begins (error.Decode f) (inl uncut) =
-    absurd (uncut_back opening bytes contents rest laws fits begins (refusal_of f) uncut)
-first_refuses opening bytes contents rest laws fits begins error.Unsealed (inl uncut) = absurd uncut
+first_refuses opening bytes contents rest laws fits begins (error.Decode f) (inl (e, uncut, same)) =
+    absurd (uncut_back opening bytes contents rest laws fits begins (refusal_of e)
+    (is_uncut opening.options opening.takes_memory bytes e uncut same.1))
+first_refuses opening bytes contents rest laws fits begins error.Unsealed (inl (e, uncut, same)) = absurd same
 first_refuses opening bytes contents rest laws fits begins error.OutOfMemory (inl uncut) = refl
 first_refuses opening bytes contents rest laws fits begins e (inr refuses) =
     let given = given_in opening bytes contents rest laws begins in
@@ -390,53 +390,40 @@ refused_first opening bytes e laws fits refuses = record {
 -- no packet is cut
 pub answers_uncut : {opening : Opening} {bytes : List ℕ} {f : OpenError}
     → ((space : SpaceId) → IsLawful (opening.keys space)) → AreBytes bytes
-    → (e : PacketDecodeError) → IsDecode e f
-    → ((a : Result (ProtectedHeader × ℕ × ℕ) Refusal) × CutAnswer opening.options bytes a × RefusesHeader e a)
-    → (e ≡ decode.OutOfMemory → IsTrue opening.takes_memory ⊎ ((h : ProtectedHeader) × (p : ℕ) × (q : ℕ)
-    × Cut opening.options bytes h p q × (q < length bytes)))
+    → (e : PacketDecodeError) → IsUncut opening.options opening.takes_memory bytes e → IsDecode e f
     → PacketAnswer opening bytes (Err f)
-answers_uncut {opening} {bytes} {f} laws fits e same answer memory =
-    refused_first opening bytes f laws fits (uncut_refused opening bytes e f same answer memory)
+answers_uncut {opening} {bytes} {f} laws fits e uncut same =
+    refused_first opening bytes f laws fits (inl (e, uncut, same))
 
--- a packet is cut
-abbrev pub IsCutBy : DecodeOptions → List ℕ → CutPacket → Type 0
-IsCutBy options bytes packet =
-    ((a : Result (ProtectedHeader × ℕ × ℕ) Refusal) × CutAnswer options bytes a
-    × (a ≡ Ok (packet.head, packet.header_end, length packet.bytes)))
-    × (packet.bytes ≡ take (length packet.bytes) bytes)
-
--- and there is no room for it
-pub answers_no_room : {opening : Opening} {bytes : List ℕ} → ((space : SpaceId) → IsLawful (opening.keys space))
+-- a packet is cut, and there is no room for it
+pub answers_no_room : {opening : Opening} {bytes rest : List ℕ} → ((space : SpaceId) → IsLawful (opening.keys space))
     → AreBytes bytes
-    → (packet : CutPacket) → IsCutBy opening.options bytes packet → PacketAnswer opening bytes (Err error.OutOfMemory)
-answers_no_room {opening} {bytes} laws fits packet is =
-    refused_first opening bytes error.OutOfMemory laws fits (memory_refused opening bytes packet
-    (drop (length packet.bytes) bytes) (cuts_first opening.options bytes packet is.0 is.1))
+    → (packet : CutPacket) → CutsFirst opening.options bytes packet rest
+    → PacketAnswer opening bytes (Err error.OutOfMemory)
+answers_no_room {opening} {bytes} {rest} laws fits packet first =
+    refused_first opening bytes error.OutOfMemory laws fits (memory_refused opening bytes packet rest first)
 
 -- and refused
-pub answers_refused : {opening : Opening} {bytes : List ℕ} {e : OpenError}
+pub answers_refused : {opening : Opening} {bytes rest : List ℕ} {e : OpenError}
     → ((space : SpaceId) → IsLawful (opening.keys space)) → AreBytes bytes
-    → (packet : CutPacket) → IsCutBy opening.options bytes packet → RefusesPacket opening.keys opening.expected packet e
+    → (packet : CutPacket) → CutsFirst opening.options bytes packet rest
+    → RefusesPacket opening.keys opening.expected packet e
     → PacketAnswer opening bytes (Err e)
-answers_refused {opening} {bytes} {e} laws fits packet is refuses =
-    refused_first opening bytes e laws fits (inr (
-      packet,
-      drop (length packet.bytes) bytes,
-      cuts_first opening.options bytes packet is.0 is.1,
-      refuses,
-    ))
+answers_refused {opening} {bytes} {rest} {e} laws fits packet first refuses =
+    refused_first opening bytes e laws fits (inr (packet, rest, first, refuses))
 
 -- and opened
-pub answers_opened : {opening : Opening} {bytes : List ℕ} {opened : Opened} {left : Option Filled}
+pub answers_opened : {opening : Opening} {bytes : List ℕ} {opened : Opened}
     → ((space : SpaceId) → IsLawful (opening.keys space))
-    → (packet : CutPacket) → IsCutBy opening.options bytes packet → IsRest left (drop (length packet.bytes) bytes)
+    → (packet : CutPacket) (left : Option Filled) → CutsFirst opening.options bytes packet (left_of left)
+    → IfSome left (λ rest. 0 < length rest.items)
     → OpensPacket opening.keys opening.expected packet (packet_of opened)
     → PacketAnswer opening bytes (Ok (opened, left))
-answers_opened {opening} {bytes} {opened} {left} laws packet is rest opens =
+answers_opened {opening} {bytes} {opened} laws packet left first some opens =
     opened_first opening bytes opened left laws (record {
-      rest = drop (length packet.bytes) bytes;
-      opens = record { packet = packet; first = cuts_first opening.options bytes packet is.0 is.1; opens = opens };
-      left_is = rest;
+      rest = left_of left;
+      opens = record { packet = packet; first = first; opens = opens };
+      left_is = is_rest left some refl;
     })
 
 -- what was sealed can be opened

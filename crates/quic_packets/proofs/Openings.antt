@@ -3,6 +3,7 @@ use Rattle.std.specs.Prelude.{ℕ, Bool, List}
 use Rattle.quic_crypto.specs.declared.crypto.HeaderKey as header_key
 use Rattle.quic_crypto.specs.declared.crypto.PacketKey as packet_key
 use Rattle.quic_header_decode.specs.declared.parser.ConnectionIdParser as id_parser
+use Rattle.quic_header_decode.specs.Reading.{read_by}
 use Rattle.quic_packets.specs.declared.keys.Expected.{Expected}
 use Rattle.quic_packets.specs.declared.keys.SpaceKeys.{SpaceKeys}
 use Rattle.quic_packets.specs.Opening.{Opening}
@@ -19,7 +20,7 @@ opening_of h p c keys parser versions grease expected = record {
     sealed = p.sealed (keys_in keys space).packet;
     opened = p.opened (keys_in keys space).packet;
   };
-  options = record { parsed = c.parsed parser; versions = versions; grease = grease };
+  options = read_by (c.parsed parser) versions grease;
   takes_memory = c.takes_memory parser;
   expected = expected_in expected;
 }

@@ -38,9 +38,9 @@ use Rattle.quic_packets.proofs.Parts.{length_encoded}
 use Rattle.quic_packets.proofs.Opened.{Lawful, Shape, shape, front_bytes, number_known, number_there}
 
 -- what there is to know of a sealed packet before its payload is opened
-pub record Found (seal : KeyPair) (key : KeyPair) (context : DecodeOptions) (h : Header) (n : ℕ)
+pub record Found (seal : KeyPair) (key : KeyPair) (options : DecodeOptions) (h : Header) (n : ℕ)
     (payload packet rest : List ℕ) : Type 0 where
-  pub cut : (found : ProtectedHeader) × Cut context (packet ++ rest) found (header_size h - size_in h) (length packet)
+  pub cut : (found : ProtectedHeader) × Cut options (packet ++ rest) found (header_size h - size_in h) (length packet)
       × (space_of found ≡ Some (space_in h))
       × ((got : Header) (end : ℕ) → IsOpenedBy true found (header_size h - size_in h) got (plain_of seal h n payload)
       end → (got ≡ h) × (end ≡ header_size h))
@@ -151,11 +151,11 @@ joined front len behind rest = append_assoc (front ++ len) behind rest ∙ appen
 -- ---- 0-RTT and Handshake
 
 long_sealed : (seal : KeyPair) (key : KeyPair) → Lawful seal key
-    → (context : DecodeOptions) (ty : LongType) (dst src : List ℕ) (number : PacketNumber) (version n : ℕ) (payload packet rest : List ℕ)
+    → (options : DecodeOptions) (ty : LongType) (dst src : List ℕ) (number : PacketNumber) (version n : ℕ) (payload packet rest : List ℕ)
     → SealedOf seal (header.Long ty dst src number version) n payload packet
-    → IsReadBack context (header.Long ty dst src number version) rest
-    → Found seal key context (header.Long ty dst src number version) n payload packet rest
-long_sealed seal key laws context ty dst src number version n payload packet rest sealed read =
+    → IsReadBack options (header.Long ty dst src number version) rest
+    → Found seal key options (header.Long ty dst src number version) n payload packet rest
+long_sealed seal key laws options ty dst src number version n payload packet rest sealed read =
     let h : Header = header.Long ty dst src number version in
     let size : ℕ = number_size number in
     let bounds = size_bounds number in
@@ -176,9 +176,9 @@ long_sealed seal key laws context ty dst src number version n payload packet res
     let behind : List ℕ = drop at packet in
     let whole : packet ++ rest ≡ (b ∷ tail) ++ (len ++ (behind ++ rest)) =
     ap (λ (xs : List ℕ). xs ++ rest) it.text ∙ joined (b ∷ tail) len behind rest in
-    let start : LongStart context (packet ++ rest) b version dst src (len ++ (behind ++ rest)) = record {
+    let start : LongStart options (packet ++ rest) b version dst src (len ++ (behind ++ rest)) = record {
       long = byte.long;
-      fixed = fixed_set context b byte.fixed;
+      fixed = fixed_set options b byte.fixed;
       range = read.0;
       dst_len = read.2;
       src_len = read.3;
@@ -193,7 +193,7 @@ long_sealed seal key laws context ty dst src number version n payload packet res
         protected.Long ty dst src count version,
         (
           behind ++ rest,
-          long_header context (length (packet ++ rest)) (packet ++ rest) b version dst src len (behind ++ rest) ty count
+          long_header options (length (packet ++ rest)) (packet ++ rest) b version dst src len (behind ++ rest) ty count
               start read.1 byte.is (length_encoded count (sealed.short refl)),
           omega (arith, length-append behind rest, length-append packet rest),
           omega arith,
@@ -226,10 +226,10 @@ long_sealed seal key laws context ty dst src number version n payload packet res
 -- ---- Initial
 
 initial_sealed : (seal : KeyPair) (key : KeyPair) → Lawful seal key
-    → (context : DecodeOptions) (i : InitialHeader) (n : ℕ) (payload packet rest : List ℕ)
-    → SealedOf seal (header.Initial i) n payload packet → IsReadBack context (header.Initial i) rest
-    → Found seal key context (header.Initial i) n payload packet rest
-initial_sealed seal key laws context i n payload packet rest sealed read =
+    → (options : DecodeOptions) (i : InitialHeader) (n : ℕ) (payload packet rest : List ℕ)
+    → SealedOf seal (header.Initial i) n payload packet → IsReadBack options (header.Initial i) rest
+    → Found seal key options (header.Initial i) n payload packet rest
+initial_sealed seal key laws options i n payload packet rest sealed read =
     let h : Header = header.Initial i in
     let version : ℕ = i.version in
     let token : List ℕ = i.token in
@@ -258,9 +258,9 @@ initial_sealed seal key laws context i n payload packet rest sealed read =
     ap (λ (xs : List ℕ). xs ++ rest) it.text ∙ joined (b ∷ front) len behind rest
     ∙ append_assoc (b ∷ tail) (var ++ token) after
     ∙ ap (λ (xs : List ℕ). (b ∷ tail) ++ xs) (append_assoc var token after) in
-    let start : LongStart context (packet ++ rest) b version i.dst_cid i.src_cid (var ++ (token ++ after)) = record {
+    let start : LongStart options (packet ++ rest) b version i.dst_cid i.src_cid (var ++ (token ++ after)) = record {
       long = byte.long;
-      fixed = fixed_set context b byte.fixed;
+      fixed = fixed_set options b byte.fixed;
       range = read.0;
       dst_len = read.2;
       src_len = read.3;
@@ -294,7 +294,7 @@ initial_sealed seal key laws context i n payload packet rest sealed read =
         protected.Initial found,
         (
           behind ++ rest,
-          initial_header context (length (packet ++ rest)) (packet ++ rest) b var token len (behind ++ rest) found start read.1 byte.is
+          initial_header options (length (packet ++ rest)) (packet ++ rest) b var token len (behind ++ rest) found start read.1 byte.is
               (law.shortest_encodes (length token) sealed.writable.0) (length_encoded count (sealed.short refl))
               (omega (
                 arith,
@@ -398,11 +398,11 @@ short_byte false false size b low up h =
     }
 
 short_sealed : (seal : KeyPair) (key : KeyPair) → Lawful seal key
-    → (context : DecodeOptions) (spin key_phase : Bool) (dst : List ℕ) (number : PacketNumber) (n : ℕ) (payload packet rest : List ℕ)
+    → (options : DecodeOptions) (spin key_phase : Bool) (dst : List ℕ) (number : PacketNumber) (n : ℕ) (payload packet rest : List ℕ)
     → SealedOf seal (header.Short spin key_phase dst number) n payload packet
-    → IsReadBack context (header.Short spin key_phase dst number) rest
-    → Found seal key context (header.Short spin key_phase dst number) n payload packet rest
-short_sealed seal key laws context spin key_phase dst number n payload packet rest sealed read =
+    → IsReadBack options (header.Short spin key_phase dst number) rest
+    → Found seal key options (header.Short spin key_phase dst number) n payload packet rest
+short_sealed seal key laws options spin key_phase dst number n payload packet rest sealed read =
     let h : Header = header.Short spin key_phase dst number in
     let size : ℕ = number_size number in
     let bounds = size_bounds number in
@@ -430,8 +430,8 @@ short_sealed seal key laws context spin key_phase dst number n payload packet re
         protected.Short spin dst,
         (
           behind ++ rest,
-          short_header context (length (packet ++ rest)) (packet ++ rest) b spin dst dst (behind ++ rest) byte.short
-              (fixed_set context b byte.fixed) whole (read.1 (behind ++ rest)) byte.spin_bit,
+          short_header options (length (packet ++ rest)) (packet ++ rest) b spin dst dst (behind ++ rest) byte.short
+              (fixed_set options b byte.fixed) whole (read.1 (behind ++ rest)) byte.spin_bit,
           omega (arith, length-append behind rest, length-append packet rest),
           ends,
           omega arith,
@@ -461,22 +461,22 @@ short_sealed seal key laws context spin key_phase dst number n payload packet re
     }
 
 pub sealed_found : (seal : KeyPair) (key : KeyPair) → Lawful seal key
-    → (context : DecodeOptions) (h : Header) (n : ℕ) (payload packet rest : List ℕ)
-    → SealedOf seal h n payload packet → IsReadBack context h rest → Found seal key context h n payload packet rest
-sealed_found seal key laws context (header.Initial i) n payload packet rest sealed read =
-    initial_sealed seal key laws context i n payload packet rest sealed read
-sealed_found seal key laws context (header.Long ty dst src number version) n payload packet rest sealed read =
-    long_sealed seal key laws context ty dst src number version n payload packet rest sealed read
-sealed_found seal key laws context (header.Retry dst src version) n payload packet rest sealed read = absurd read
-sealed_found seal key laws context (header.Short spin key_phase dst number) n payload packet rest sealed read =
-    short_sealed seal key laws context spin key_phase dst number n payload packet rest sealed read
-sealed_found seal key laws context (header.VersionNegotiate random src dst) n payload packet rest sealed read =
+    → (options : DecodeOptions) (h : Header) (n : ℕ) (payload packet rest : List ℕ)
+    → SealedOf seal h n payload packet → IsReadBack options h rest → Found seal key options h n payload packet rest
+sealed_found seal key laws options (header.Initial i) n payload packet rest sealed read =
+    initial_sealed seal key laws options i n payload packet rest sealed read
+sealed_found seal key laws options (header.Long ty dst src number version) n payload packet rest sealed read =
+    long_sealed seal key laws options ty dst src number version n payload packet rest sealed read
+sealed_found seal key laws options (header.Retry dst src version) n payload packet rest sealed read = absurd read
+sealed_found seal key laws options (header.Short spin key_phase dst number) n payload packet rest sealed read =
+    short_sealed seal key laws options spin key_phase dst number n payload packet rest sealed read
+sealed_found seal key laws options (header.VersionNegotiate random src dst) n payload packet rest sealed read =
     absurd read
 
-pub read_numbered : (context : DecodeOptions) (h : Header) (rest : List ℕ) → IsReadBack context h rest
+pub read_numbered : (options : DecodeOptions) (h : Header) (rest : List ℕ) → IsReadBack options h rest
     → IsTrue (has_number h)
-read_numbered context (header.Initial i) rest read = refl
-read_numbered context (header.Long ty dst src number version) rest read = refl
-read_numbered context (header.Retry dst src version) rest read = absurd read
-read_numbered context (header.Short spin key_phase dst number) rest read = refl
-read_numbered context (header.VersionNegotiate random src dst) rest read = absurd read
+read_numbered options (header.Initial i) rest read = refl
+read_numbered options (header.Long ty dst src number version) rest read = refl
+read_numbered options (header.Retry dst src version) rest read = absurd read
+read_numbered options (header.Short spin key_phase dst number) rest read = refl
+read_numbered options (header.VersionNegotiate random src dst) rest read = absurd read

@@ -1,14 +1,14 @@
 -- Opening packets: the first one of a datagram, the next one, and all of them.
-use Rattle.std.specs.Prelude.{◌≡◌, ◌≢◌, ℕ, ◌+◌, ◌<◌, ◌≤◌, ◌⊎◌, Bool, true, IsTrue, List, [], ◌∷◌, ◌++◌, length, map, Option, Some, None, ◌^◌, Result, Ok, Err, IfOk, IfErr, IfSome, MatchOption, MatchResult}
+use Rattle.std.specs.Prelude.{◌≡◌, ◌≢◌, ℕ, ◌+◌, ◌<◌, ◌≤◌, ◌⊎◌, Bool, true, List, [], ◌∷◌, ◌++◌, length, map, Option, Some, None, ◌^◌, Result, Ok, Err, IfOk, IfErr, IfSome, MatchOption, MatchResult}
 use Rattle.bytes.specs.Filled.{Filled}
 use Rattle.quic_base.specs.declared.ids.SpaceId.{SpaceId}
 use Rattle.quic_crypto.specs.Keys.{HasSample}
 use Rattle.quic_crypto.specs.PacketNumbers.{low_part, window_of, Expands}
 use Rattle.quic_header_decode.specs.declared.decode_error.PacketDecodeError.{PacketDecodeError}
 use Rattle.quic_header_decode.specs.Finish.{sample_refusal}
-use Rattle.quic_header_decode.specs.Grammar.{Cut, Uncut, IsKnownVersion}
+use Rattle.quic_header_decode.specs.Grammar.{IsKnownVersion}
 use Rattle.quic_header_decode.specs.Headers.{IsOpenedBy, without_number}
-use Rattle.quic_header_decode.specs.Packet.{CutPacket}
+use Rattle.quic_header_decode.specs.Packet.{CutPacket, CutsFirst, IsUncut}
 use Rattle.quic_header_decode.specs.Queries.{space_of}
 use Rattle.quic_header_decode.specs.Reading.{DecodeOptions, IsRest}
 use Rattle.quic_header_decode.specs.Refusal.{refusal_of, NoMemory}
@@ -52,11 +52,6 @@ abbrev pub packet_of : Opened → OpenedPacket
 packet_of x = record { header = x.header; header_bytes = x.header_data; number = x.number; payload = x.payload.items }
 
 -- ---- a packet that was cut
-
--- the bytes begin with this packet, and rest follows it
-pub record CutsFirst (options : DecodeOptions) (bytes : List ℕ) (packet : CutPacket) (rest : List ℕ) : Type 0 where
-  pub cut : Cut options bytes packet.head packet.header_end (length packet.bytes)
-  pub text : bytes ≡ packet.bytes ++ rest
 
 -- the whole number for the truncated one in a header
 abbrev pub ExpandsIn : Header → ℕ → ℕ → Type 0
@@ -121,12 +116,6 @@ IsDecode e (error.Decode f) = (refusal_of f ≡ refusal_of e) × (refusal_of e �
 IsDecode e error.Unsealed = ⊥
 IsDecode e error.OutOfMemory = refusal_of e ≡ NoMemory
 
--- no packet was cut
-abbrev pub IsUncut : Opening → List ℕ → OpenError → Type 0
-IsUncut opening bytes (error.Decode e) = Uncut opening.options bytes (refusal_of e)
-IsUncut opening bytes error.Unsealed = ⊥
-IsUncut opening bytes error.OutOfMemory = IsTrue opening.takes_memory
-
 -- ---- any bytes
 
 -- the first packet is opened, and rest follows it
@@ -135,9 +124,10 @@ pub record Opens (opening : Opening) (bytes : List ℕ) (opened : OpenedPacket) 
   pub first : CutsFirst opening.options bytes packet rest
   pub opens : OpensPacket opening.keys opening.expected packet opened
 
--- why the first packet is not opened: none can be cut, or it is not opened
+-- why the first packet is not opened: none is cut, for the same error, or it is not opened
 abbrev pub Refuses : Opening → List ℕ → OpenError → Type 0
-Refuses opening bytes e = IsUncut opening bytes e
+Refuses opening bytes e =
+    ((cut : PacketDecodeError) × IsUncut opening.options opening.takes_memory bytes cut × IsDecode cut e)
     ⊎ ((packet : CutPacket) × (rest : List ℕ) × CutsFirst opening.options bytes packet rest
     × RefusesPacket opening.keys opening.expected packet e)
 

@@ -1,6 +1,7 @@
 //! A header key and a packet key as one value, for contracts.
 ghost use Rattle.std.specs.Prelude.{ℕ, Bool, List};
 ghost use Rattle.quic_base.specs.declared.ids.SpaceId.{SpaceId};
+ghost use Rattle.quic_header_decode.specs.Reading.{read_by};
 ghost use Rattle.quic_packets.specs.declared.keys.Expected.{Expected};
 ghost use Rattle.quic_packets.specs.Opening.{Opening};
 ghost use Rattle.quic_packets.specs.Pairs.{KeyPair, expected_in, keys_in};
@@ -47,7 +48,7 @@ impl<H: HeaderKey, P: PacketKey> PairsOfKeys for SpaceKeys<H, P> {
 impl<C: ConnectionIdParser, H: HeaderKey, P: PacketKey> OpeningKeys<C> for SpaceKeys<H, P> {
     ghost opening = { λ keys parser versions grease expected. record {
       keys = ⟦<SpaceKeys<H, P> as PairsOfKeys>⟧.pairs keys;
-      options = record { parsed = C.parsed parser; versions = versions; grease = grease };
+      options = read_by (C.parsed parser) versions grease;
       takes_memory = C.takes_memory parser;
       expected = expected_in expected;
     } };

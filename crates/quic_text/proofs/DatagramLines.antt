@@ -42,19 +42,6 @@ version_written r old new text digits_shown n stored written =
     let eight : digits_shown ≡ Some (eight_digits n) = stored ∙ ap (λ (ds : List ℕ). Some ds) (eight_written n) in
     when_ok r (λ h. subst (λ (o : Option (List ℕ)). AppendsText old new (Some text ++? o)) eight h) written
 
--- what a call answers that cuts a packet
-pub cut_given : (context : DecodeOptions) (bytes : List ℕ) (h : ProtectedHeader) (p q : ℕ)
-    → ((answer : Result (ProtectedHeader × ℕ × ℕ) Refusal) × CutAnswer context bytes answer × (answer ≡ Ok (h, p, q)))
-    → Cut context bytes h p q
-cut_given context bytes h p q a = subst (CutAnswer context bytes) a.2 a.1
-
-pub refusal_given : (context : DecodeOptions) (bytes : List ℕ) (e : PacketDecodeError) → refusal_of e ≢ NoMemory
-    → ((answer : Result (ProtectedHeader × ℕ × ℕ) Refusal) × CutAnswer context bytes answer × RefusesHeader e answer)
-    → Uncut context bytes (refusal_of e)
-refusal_given context bytes (error.UnsupportedVersion src dst version) some a = subst (CutAnswer context bytes) a.2 a.1
-refusal_given context bytes (error.InvalidHeader text) some a = subst (CutAnswer context bytes) a.2 a.1
-refusal_given context bytes error.OutOfMemory some a = absurd (some refl)
-
 -- the lines of packets, and those of a datagram's reading
 abbrev pub lines : List PlacedPacket → Option Refusal → List ℕ
 lines ps refusal = flat_map line_bytes (row_lines ps refusal)

@@ -7,7 +7,7 @@ use Rattle.quic_header_encode.specs.declared.long_type.LongType.{LongType}
 use Rattle.quic_header_encode.specs.declared.long_type.LongType.TheVariants.{Handshake, ZeroRtt}
 use Rattle.quic_header_decode.specs.Datagram.{PlacedPacket, packets_in}
 use Rattle.quic_header_decode.specs.Parsers.{fixed_parsed}
-use Rattle.quic_header_decode.specs.Reading.{DecodeOptions}
+use Rattle.quic_header_decode.specs.Reading.{read_by, DecodeOptions}
 use Rattle.quic_header_decode.specs.Refusal.{Refusal, Invalid, Unsupported, NoMemory}
 use Rattle.quic_header_decode.specs.declared.protected.ProtectedHeader.{ProtectedHeader}
 use Rattle.quic_header_decode.specs.declared.protected.ProtectedHeader.TheVariants as protected
@@ -16,7 +16,7 @@ use Rattle.quic_text.specs.Printed.{Printed, Plain, Error}
 -- how datagrams are read: ids of short headers have that many bytes, the versions are the usual ones, and the fixed bit
 -- is asked for
 abbrev pub with_ids_of : ℕ → DecodeOptions
-with_ids_of len = record { parsed = fixed_parsed len; versions = DEFAULT_SUPPORTED_VERSIONS.now; grease = false }
+with_ids_of len = read_by (fixed_parsed len) DEFAULT_SUPPORTED_VERSIONS.now false
 
 -- an id in hexadecimal, and an empty one as a dash
 abbrev pub id_or_dash : List ℕ → List ℕ

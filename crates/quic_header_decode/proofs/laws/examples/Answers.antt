@@ -13,14 +13,14 @@ one_zero e = omega (arith, e)
 
 pub returns-clause-initial : goal.returns-clause-initial
 unfolding shortest_varint bytes_of
-returns-clause-initial c = λ context rest known.
+returns-clause-initial c = λ options rest known.
     let dst : List ℕ = 0x83 ∷ 0x94 ∷ 0xc8 ∷ 0xf0 ∷ 0x3e ∷ 0x51 ∷ 0x57 ∷ 0x08 ∷ [] in
-    initial_header context (18 + length rest) (0xc0 ∷ 0x00 ∷ 0x00 ∷ 0x00 ∷ 0x01 ∷ 0x08
+    initial_header options (18 + length rest) (0xc0 ∷ 0x00 ∷ 0x00 ∷ 0x00 ∷ 0x01 ∷ 0x08
     ∷ (dst ++ (0x00 ∷ 0x00 ∷ 0x44 ∷ 0x9e ∷ rest))) 0xc0 (0x00 ∷ []) [] (0x44 ∷ 0x9e ∷ []) rest
     (record { dst_cid = dst; src_cid = []; token_pos = record { start = 16; end = 16 }; len = 1182; version = 1 })
     (record {
       long = omega arith;
-      fixed = fixed_set context 0xc0 refl;
+      fixed = fixed_set options 0xc0 refl;
       range = omega arith;
       dst_len = omega arith;
       src_len = omega arith;
@@ -30,8 +30,8 @@ returns-clause-initial c = λ context rest known.
 
 pub returns-clause-no_token : goal.returns-clause-no_token
 unfolding shortest_varint bytes_of
-returns-clause-no_token c = λ context known. inr (
-  fixed_set context 0xc0 refl,
+returns-clause-no_token c = λ options known. inr (
+  fixed_set options 0xc0 refl,
   inr (
     Number 1 ∷ [],
     0x00 ∷ 0x00 ∷ 0x05 ∷ 0xaa ∷ [],

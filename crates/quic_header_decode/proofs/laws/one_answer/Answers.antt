@@ -5,15 +5,15 @@ use Rattle.quic_header_decode.proofs.laws.one_answer.Goals as goal
 
 pub returns-clause-head : goal.returns-clause-head
 returns-clause-head c =
-    λ context whole bytes one other fits a b. sym (header_sole context whole bytes one fits a)
-    ∙ header_sole context whole bytes other fits b
+    λ options whole bytes one other fits a b. sym (header_sole options whole bytes one fits a)
+    ∙ header_sole options whole bytes other fits b
 
 pub returns-clause-cut : goal.returns-clause-cut
 returns-clause-cut c =
-    λ context bytes one other fits a b. sym (cut_sole context bytes one fits a) ∙ cut_sole context bytes other fits b
+    λ options bytes one other fits a b. sym (cut_sole options bytes one fits a) ∙ cut_sole options bytes other fits b
 
 pub returns-clause-header_found : goal.returns-clause-header_found
-returns-clause-header_found c = λ context whole bytes fits room takes. header_answer context whole bytes fits room takes
+returns-clause-header_found c = λ options whole bytes fits room takes. header_answer options whole bytes fits room takes
 
 pub returns-clause-cut_found : goal.returns-clause-cut_found
-returns-clause-cut_found c = λ context bytes fits takes. cut_answer context bytes fits takes
+returns-clause-cut_found c = λ options bytes fits takes. cut_answer options bytes fits takes

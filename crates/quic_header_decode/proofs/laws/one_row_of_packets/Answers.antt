@@ -5,8 +5,8 @@ use Rattle.quic_header_decode.proofs.Datagrams.{packets_again, packets_found}
 use Rattle.quic_header_decode.proofs.laws.one_row_of_packets.Goals as goal
 
 pub returns-clause-one : goal.returns-clause-one
-returns-clause-one c = λ context bytes some others refusal other fits a b.
-    pair_parts (sym (packets_again context bytes some refusal fits a) ∙ packets_again context bytes others other fits b)
+returns-clause-one c = λ options bytes some others refusal other fits a b.
+    pair_parts (sym (packets_again options bytes some refusal fits a) ∙ packets_again options bytes others other fits b)
 
 pub returns-clause-found : goal.returns-clause-found
-returns-clause-found c = λ context bytes fits takes. packets_found context bytes fits takes
+returns-clause-found c = λ options bytes fits takes. packets_found options bytes fits takes

@@ -68,7 +68,7 @@ apart front len number rest =
     append_assoc front (len ++ number) rest ∙ ap (λ (xs : List ℕ). front ++ xs) (append_assoc len number rest)
 
 pub returns-clause-initial : goal.returns-clause-initial
-returns-clause-initial c = λ context whole start n h len rest range known dst_len src_len token_fits encoded place.
+returns-clause-initial c = λ options whole start n h len rest range known dst_len src_len token_fits encoded place.
     let size : ℕ = number_size h.number in
     let bounds = size_bounds h.number in
     let first : ℕ = long_first h.version kind.Initial size in
@@ -81,7 +81,7 @@ returns-clause-initial c = λ context whole start n h len rest range known dst_l
     apart (front ++ (count ++ h.token)) len (number_bytes h.number) rest
     ∙ append_assoc front (count ++ h.token) (len ++ behind)
     ∙ ap (λ (xs : List ℕ). front ++ xs) (append_assoc count h.token (len ++ behind)) in
-    initial_header context whole (((front ++ (count ++ h.token)) ++ (len ++ number_bytes h.number)) ++ rest) first count h.token len behind
+    initial_header options whole (((front ++ (count ++ h.token)) ++ (len ++ number_bytes h.number)) ++ rest) first count h.token len behind
     (record {
       dst_cid = h.dst_cid;
       src_cid = h.src_cid;
@@ -92,7 +92,7 @@ returns-clause-initial c = λ context whole start n h len rest range known dst_l
     })
     (record {
       long = byte.long;
-      fixed = fixed_set context first byte.fixed;
+      fixed = fixed_set options first byte.fixed;
       range = range;
       dst_len = dst_len;
       src_len = src_len;
@@ -101,16 +101,16 @@ returns-clause-initial c = λ context whole start n h len rest range known dst_l
     known byte.is (law.shortest_encodes (length h.token) token_fits) encoded place refl
 
 pub returns-clause-long : goal.returns-clause-long
-returns-clause-long c = λ context whole n version ty dst src len rest number range known dst_len src_len encoded.
+returns-clause-long c = λ options whole n version ty dst src len rest number range known dst_len src_len encoded.
     let size : ℕ = number_size number in
     let bounds = size_bounds number in
     let first : ℕ = long_first version (kind.Standard ty) size in
     let byte = long_byte version first (size - 1) (kind.Standard ty) (omega (arith, bounds.0, bounds.1)) refl in
     let front : List ℕ = long_front first version dst src in
-    long_header context whole ((front ++ (len ++ number_bytes number)) ++ rest) first version dst src len (number_bytes number ++ rest) ty n
+    long_header options whole ((front ++ (len ++ number_bytes number)) ++ rest) first version dst src len (number_bytes number ++ rest) ty n
     (record {
       long = byte.long;
-      fixed = fixed_set context first byte.fixed;
+      fixed = fixed_set options first byte.fixed;
       range = range;
       dst_len = dst_len;
       src_len = src_len;
@@ -119,13 +119,13 @@ returns-clause-long c = λ context whole n version ty dst src len rest number ra
     known byte.is encoded
 
 pub returns-clause-retry : goal.returns-clause-retry
-returns-clause-retry c = λ context whole version dst src rest range known dst_len src_len.
+returns-clause-retry c = λ options whole version dst src rest range known dst_len src_len.
     let first : ℕ = first_byte version kind.Retry in
     let byte = long_byte version first 0 kind.Retry (omega arith) (omega arith) in
-    retry_header context whole (long_front first version dst src ++ rest) first version dst src rest
+    retry_header options whole (long_front first version dst src ++ rest) first version dst src rest
     (record {
       long = byte.long;
-      fixed = fixed_set context first byte.fixed;
+      fixed = fixed_set options first byte.fixed;
       range = range;
       dst_len = dst_len;
       src_len = src_len;
@@ -133,8 +133,8 @@ returns-clause-retry c = λ context whole version dst src rest range known dst_l
     }) known byte.is
 
 pub returns-clause-negotiation : goal.returns-clause-negotiation
-returns-clause-negotiation c = λ context whole random dst src rest free fixed dst_len src_len.
-    negotiation_header context whole (long_front (bit_or 128 random) 0 dst src ++ rest) random dst src rest
+returns-clause-negotiation c = λ options whole random dst src rest free fixed dst_len src_len.
+    negotiation_header options whole (long_front (bit_or 128 random) 0 dst src ++ rest) random dst src rest
     (record {
       long = omega arith;
       fixed = fixed;
@@ -171,11 +171,11 @@ short_byte false false low small =
     record { short = omega arith; fixed = omega arith; spins = is_none (short_first false false low / 32 % 2) (omega arith) }
 
 pub returns-clause-short : goal.returns-clause-short
-returns-clause-short c = λ context whole spin key_phase dst rest number parsed.
+returns-clause-short c = λ options whole spin key_phase dst rest number parsed.
     let bounds = size_bounds number in
     let low : ℕ = number_size number - 1 in
     let first : ℕ = short_first spin key_phase low in
     let byte = short_byte spin key_phase low (omega (arith, bounds.0, bounds.1)) in
-    short_header context whole (((first ∷ dst) ++ number_bytes number) ++ rest) first spin dst dst
-    (number_bytes number ++ rest) byte.short (fixed_set context first byte.fixed)
+    short_header options whole (((first ∷ dst) ++ number_bytes number) ++ rest) first spin dst dst
+    (number_bytes number ++ rest) byte.short (fixed_set options first byte.fixed)
     (append_assoc (first ∷ dst) (number_bytes number) rest) parsed byte.spins

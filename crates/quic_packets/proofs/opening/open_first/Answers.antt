@@ -1,8 +1,7 @@
 -- What is opened of the first packet, and why it is not; what was sealed by the keys comes back, by their laws.
-use Rattle.std.proofs.Common.{◌≡◌, subst, ℕ, Bool, List}
+use Rattle.std.proofs.Common.{subst, ℕ, Bool, List}
 use Rattle.quic_base.specs.Number.{AreBytes}
 use Rattle.quic_base.specs.declared.ids.SpaceId.{SpaceId}
-use Rattle.quic_header_decode.specs.declared.decode_error.PacketDecodeError.TheVariants as error
 use Rattle.quic_packets.specs.declared.keys.Expected.{Expected}
 use Rattle.quic_packets.specs.declared.keys.SpaceKeys.{SpaceKeys}
 use Rattle.quic_packets.specs.Opening.{Opening}
@@ -31,15 +30,15 @@ returns-in-Err-clause-first g c =
     let a = c.args in
     answers_uncut {opening = opening_in g a.keys.now a.parser.now a.versions.now a.grease a.expected.now}
     (lawful g a.keys.now a.parser.now a.versions.now a.grease a.expected.now)
-    (subst AreBytes c.as_slice.ensures c.are_bytes.ensures) c.in-Err.e c.decode_error.ensures c.in-Err.ensures.answer.some
-    (λ (same : c.in-Err.e ≡ error.OutOfMemory). c.in-Err.ensures.memory cc)
+    (subst AreBytes c.as_slice.ensures c.are_bytes.ensures) c.in-Err.e c.in-Err.ensures.refused
+    c.decode_error.ensures
 
 pub returns-then-not-room-clause-first : goal.returns-then-not-room-clause-first
 returns-then-not-room-clause-first g c =
     let a = c.args in
     answers_no_room {opening = opening_in g a.keys.now a.parser.now a.versions.now a.grease a.expected.now}
     (lawful g a.keys.now a.parser.now a.versions.now a.grease a.expected.now)
-    (subst AreBytes c.as_slice.ensures c.are_bytes.ensures) c.in-Ok.parts.0 (c.in-Ok.ensures.answer.some, c.in-Ok.ensures.packet)
+    (subst AreBytes c.as_slice.ensures c.are_bytes.ensures) c.in-Ok.parts.0 c.in-Ok.ensures.cut
 
 pub returns-in-Err-open_part-clause-first : goal.returns-in-Err-open_part-clause-first
 returns-in-Err-open_part-clause-first g c =
@@ -47,11 +46,11 @@ returns-in-Err-open_part-clause-first g c =
     answers_refused {opening = opening_in g a.keys.now a.parser.now a.versions.now a.grease a.expected.now}
     (lawful g a.keys.now a.parser.now a.versions.now a.grease a.expected.now)
     (subst AreBytes c.as_slice.ensures c.are_bytes.ensures) c.in-Ok.parts.0
-    (c.in-Ok.ensures.answer.some, c.in-Ok.ensures.packet) c.in-Err-open_part.ensures.refused
+    c.in-Ok.ensures.cut c.in-Err-open_part.ensures.refused
 
 pub returns-in-Ok-open_part-clause-first : goal.returns-in-Ok-open_part-clause-first
 returns-in-Ok-open_part-clause-first g c =
     let a = c.args in
     answers_opened {opening = opening_in g a.keys.now a.parser.now a.versions.now a.grease a.expected.now}
     (lawful g a.keys.now a.parser.now a.versions.now a.grease a.expected.now)
-    c.in-Ok.parts.0 (c.in-Ok.ensures.answer.some, c.in-Ok.ensures.packet) c.in-Ok.ensures.rest c.in-Ok-open_part.ensures.opened
+    c.in-Ok.parts.0 c.in-Ok.parts.1 c.in-Ok.ensures.cut c.in-Ok.ensures.rest c.in-Ok-open_part.ensures.opened

@@ -7,11 +7,12 @@ use Rattle.quic_text.specs.Printed.{line_bytes}
 use Rattle.quic_base.specs.Number.{AreBytes}
 use Rattle.quic_header_decode.specs.Grammar.{Cut, Uncut}
 use Rattle.quic_header_decode.specs.Refusal.{refusal_of}
+use Rattle.quic_header_decode.proofs.CutAnswers.{cut_rest, is_rest, is_uncut}
 use Rattle.quic_text.specs.IdLens.{count}
 use Rattle.quic_text.specs.DatagramText.{with_ids_of, datagram_lines}
 use Rattle.quic_text.specs.Whole.{AppendsAllBut}
 use Rattle.quic_text.proofs.PassingLemmas.{nothing_passed, on_err}
-use Rattle.quic_text.proofs.DatagramLines.{Waits, LeadsClean, rest_fits, waits_less, waits_begun, waits_broken, text_first, clean_first, cut_given, refusal_given, text_more, clean_more, text_last, clean_last, text_refused, clean_refused}
+use Rattle.quic_text.proofs.DatagramLines.{Waits, LeadsClean, rest_fits, waits_less, waits_begun, waits_broken, text_first, clean_first, text_more, clean_more, text_last, clean_last, text_refused, clean_refused}
 use Rattle.quic_text.proofs.print.datagram.print_datagram.Goals as goal
 
 pub loop-left-init : goal.loop-left-init
@@ -57,8 +58,8 @@ returns-in-None g c =
     let q : ℕ = length c.in-Ok.packet.bytes in
     let left : List ℕ = c.loop-left.left.items in
     let cut : Cut (with_ids_of c.new-parser.result.expected_len) left c.in-Ok.packet.head c.in-Ok.packet.header_end q =
-    cut_given (with_ids_of c.new-parser.result.expected_len) left _ _ q c.in-Ok.ensures.answer.some in
-    let none : drop q left ≡ [] = rw c.in-None.is at c.in-Ok.ensures.rest in
+    c.in-Ok.ensures.cut.cut in
+    let none : drop q left ≡ [] = sym (rw c.in-None.is at cut_rest c.in-Ok.ensures.cut) in
     let waits = text_last (with_ids_of c.new-parser.result.expected_len) c.loop-left.start
     (c.loop-left.start + c.len.result) q c.in-Ok.packet.header_end left (string_bytes c.pass_on_pieces.new.text)
     (string_bytes c.print_packet.new.text)
@@ -80,10 +81,10 @@ loop-left-preserved g c =
     let q : ℕ = length c.in-Ok.packet.bytes in
     let left : List ℕ = c.loop-left.left.items in
     let cut : Cut (with_ids_of c.new-parser.result.expected_len) left c.in-Ok.packet.head c.in-Ok.packet.header_end q =
-    cut_given (with_ids_of c.new-parser.result.expected_len) left _ _ q c.in-Ok.ensures.answer.some in
+    c.in-Ok.ensures.cut.cut in
     let stop : ℕ = c.loop-left.start + c.len.result in
     let rest : (c.in-Some.rest.items ≡ drop q left) × (0 < length (drop q left)) =
-    rw c.in-Some.is at c.in-Ok.ensures.rest in
+    rw c.in-Some.is at is_rest _ c.in-Ok.ensures.rest (cut_rest c.in-Ok.ensures.cut) in
     let lt : q < length left = omega (arith, rest.1, length-drop q left) in
     let at : stop ≡ c.loop-left.start + q = ap (λ (n : ℕ). c.loop-left.start + n) c.len.ensures in
     record {
@@ -117,7 +118,7 @@ pub returns-in-Err : goal.returns-in-Err
 returns-in-Err g c =
     let left : List ℕ = c.loop-left.left.items in
     let uncut : Uncut (with_ids_of c.new-parser.result.expected_len) left (refusal_of c.in-Err.error) =
-    refusal_given _ left c.in-Err.error c.in_ok-print_refusal-in-Err.ensures.memory c.in-Err.ensures.answer.some in
+    is_uncut _ _ left c.in-Err.error c.in-Err.ensures.refused c.in_ok-print_refusal-in-Err.ensures.memory in
     let waits = text_refused (with_ids_of c.new-parser.result.expected_len) c.loop-left.start left
     (string_bytes c.pass_on_pieces.new.text) (string_bytes c.print_refusal.new.text)
     (λ waits. AppendsAllBut (g.W.Sink.taken c.args.sink.now) (g.W.Sink.taken c.pass_on_pieces.new.sink) waits

@@ -1,7 +1,7 @@
 mod Again
+mod Cuts
 mod Numbered
 mod Opened
-mod Parsers
 mod Shortest
 mod Walks
 mod Written

@@ -10,6 +10,7 @@ ghost use Rattle.quic_frames.specs.Meaning.{meaning_of};
 ghost use Rattle.quic_frames.specs.Written.{IsPayload};
 ghost use Rattle.quic_header_decode.specs.Grammar.{CutAnswer};
 ghost use Rattle.quic_header_decode.specs.Headers.{without_number};
+ghost use Rattle.quic_header_decode.specs.Reading.{read_by};
 ghost use Rattle.quic_header_decode.specs.Refusal.{GivesRead};
 ghost use Rattle.quic_header_encode.specs.Queries.{space_in};
 ghost use Rattle.quic_header_encode.specs.Writing.{header_bytes};
@@ -88,8 +89,7 @@ pub fn cut_first<P: ConnectionIdParser>(
     versions: &[u32],
     grease: bool,
 ) -> Result<(PartialDecode, Option<BytesMut>), PacketDecodeError>
-    ensures one { ReturnsOne (CutAnswer
-        (record { parsed = P.parsed parser.now; versions = versions.now; grease = grease }) datagram.items)
+    ensures one { ReturnsOne (CutAnswer (read_by (P.parsed parser.now) versions.now grease) datagram.items)
         (GivesRead (λ x. (x.0.head, x.0.header_end, length x.0.bytes)) result) }
 {
     every_datagram();
@@ -211,7 +211,7 @@ pub fn cut_plain<P: ConnectionIdParser>(
     grease: bool,
 ) -> Result<PartialDecode, PacketDecodeError>
     ensures { IfOk result (λ x. (header : Header) (rest : List ℕ) → datagram.items ≡ header_bytes header ++ rest
-        → IsPlainInRange (record { parsed = P.parsed parser.now; versions = versions.now; grease = grease }) header
+        → IsPlainInRange (read_by (P.parsed parser.now) versions.now grease) header
         → without_number x.head header) }
 {
     headers_again();

@@ -1,13 +1,8 @@
-use Rattle.quic_header_decode.specs.Reading.{DecodeOptions}
+use Rattle.quic_header_decode.specs.Reading.{read_by}
 use Rattle.quic_wire.proofs.Written.{plain_cut}
 use Rattle.quic_wire.proofs.calls.cut_plain.Goals as goal
 
 pub returns-in-Ok : goal.returns-in-Ok
 returns-in-Ok g c =
-    let options : DecodeOptions =
-    record {
-      parsed = g.P.ConnectionIdParser.parsed c.args.parser.now;
-      versions = c.args.versions.now;
-      grease = c.args.grease;
-    } in
+    let options = read_by (g.P.ConnectionIdParser.parsed c.args.parser.now) c.args.versions.now c.args.grease in
     plain_cut options c.args.datagram.items c.in-Ok.packet (c.headers_again.ensures.plain options) c.in-Ok.ensures.one

@@ -1,0 +1,123 @@
+"""What is reported of bytes that can't be read, and the laws of crates/quic_wire/src/laws.rt, with the definitions that
+they state."""
+import os
+import re
+
+from format.definitions import TOP, clauses, columns, fail, fields_of, matched, source, stated
+
+ONE = "quic_base/specs/One"
+PAYLOAD = "quic_frame_fields/specs/Payload"
+READING = "quic_frame_fields/specs/Reading"
+FIELD = "quic_frame_fields/specs/Field"
+WRITTEN = "quic_frames/specs/Written"
+GRAMMAR = "quic_header_decode/specs/Grammar"
+MEANING = "quic_params/specs/Meaning"
+LEAST = "quic_canon/specs/Least"
+SAME = "quic_canon/specs/Same"
+LAWS = "crates/quic_wire/src/laws.rt"
+
+# What is reported where no frame begins, in the order of IsNoFrame.
+NO_FRAME = ("(LacksType bytes × (type ≡ before) × (reason ≡ <none>)) ⊎ ((t : ℕ) × HasLongType strict bytes t × (type"
+            " ≡ Some t) × (reason ≡ <long>)) ⊎ ((t : ℕ) × HasUnknownType strict bytes t × (type ≡ Some t) × (reason ≡"
+            " <unknown>)) ⊎ ((t : ℕ) × HasBrokenField strict bytes t reason × (type ≡ Some t))")
+# What a law says, beside the statement that it must have.
+SENTENCES = {
+    "every_payload": ("ExactlyOne (IsReadingOf strict bytes)", "a payload has exactly one reading (`Reading`)"),
+    "every_datagram": ("ExactlyOne (CutAnswer options bytes)", (
+        "a datagram has exactly one answer: its first packet (`Cut`), or an error (`Uncut`)")),
+    "every_list": ("ExactlyOne (IsReadAnswer side bytes)", (
+        "a list of transport parameters has exactly one answer for a side: a record (`IsMeant`, `IsValid`), or an"
+        " error (`IsBadList`)")),
+    "one_shortest": ("ExactlyOne (λ least. IsLeast least payload)", (
+        "a payload without an error has exactly one shortest payload of the same frames (`IsLeast`), and no other"
+        " payload has one")),
+    "frames_again": ("IsShortestOf frames payload", "the shortest payload of some frames is read as these frames"),
+    "headers_again": ("HeaderAt options", "a written header is read as itself"),
+    "packets_again": ("BeginsSealed opening bytes contents rest", (
+        "a packet that was sealed with lawful keys is opened to what was sealed")),
+    "parameters_again": ("IsReadAnswer side (written params) (Ok (plain params))", (
+        "written parameters are read as they were, in any order, without grease")),
+    "lasting": ("IsReadingOf strict (bytes ++ more) (followed_by found rest)", (
+        "bytes that follow change no frame except one without a length, and no error except an unexpected end")),
+}
+
+
+def text_of(reason):
+    """The text of a reason."""
+    return matched('codes "<text..>"', clauses(READING, "reason_text").get(reason, ""))["text"]
+
+
+def payload_errors():
+    """What is reported where a payload can't be read on."""
+    reasons = stated(PAYLOAD, "IsNoFrame", "strict before bytes type reason", NO_FRAME)
+    stated(FIELD, "reason_of", "Ordered bytes", "Malformed")
+    yield from ["## What is reported", "", "### Payloads (12.4)", ""]
+    yield from columns([
+        ["The next type", "Type in the error", "Reason"],
+        ["is cut off", "the last one before, if any", text_of(reasons["none"])],
+        ["is in a longer encoding, if strict", "that type", text_of(reasons["long"])],
+        ["has no row", "that type", text_of(reasons["unknown"])],
+        ["has a field that is cut off", "that type", text_of("UnexpectedEnd")],
+        ["has a field that is out of range", "that type", text_of("Malformed")],
+    ])
+    yield (
+        f"`IsNoFrame`, crates/{PAYLOAD}.antt. A field is out of range (`IsReason`, crates/{FIELD}.antt) if a number of"
+        " an ACK would make a bound negative, an id has no byte or more than 20, or Retire Prior To is above Sequence"
+        " Number.")
+
+
+def header_errors():
+    """The error of each field of a header."""
+    rows = [["What can't be read", "Error"], ["the first byte, if the fixed bit is clear", '"fixed bit unset"']]
+    for left, right in clauses(GRAMMAR, "refusal_at").items():
+        field = left.rsplit(" before", 1)[0] if left.endswith(" before") else left.split(") ")[0] + ")"
+        found = matched('Invalid (codes "<text..>")', right)
+        name = "any other field" if field == "field" else field.strip("()").split()[0]
+        rows.append([name, f'"{found["text"]}"' if found else right.split()[0]])
+    yield from ["", "### Headers (17)", ""]
+    yield from columns(rows)
+    yield (
+        f"In the order of the fields (`Refused`, `refusal_at`, crates/{GRAMMAR}.antt); of a short header's id it is the"
+        " error of the parser of ids. A length beyond the datagram comes last (`Uncut`).")
+
+
+def law_of(name):
+    """The text of a law, from its name to its body, in one line."""
+    with open(os.path.join(TOP, LAWS), encoding="utf-8") as it:
+        found = re.search(rf"\npub fn {name}\(\)\n((?: .*\n)+)\{{", it.read())
+    return " ".join(re.sub(r" *//[^\n]*", "", found[1]).split()) if found else fail(f"{name} in {LAWS}", "(nothing)")
+
+
+def laws():
+    """Each law, and what its words mean."""
+    with open(os.path.join(TOP, LAWS), encoding="utf-8") as it:
+        names = re.findall(r"\npub fn (\w+)", it.read())
+    if names != list(SENTENCES):
+        fail(f"the laws in {LAWS}", " ".join(names))
+    yield from ["", "## Laws", ""]
+    for name, (statement, sentence) in SENTENCES.items():
+        if statement not in law_of(name):
+            fail(f"{name} in {LAWS}", law_of(name))
+        yield f"- `{name}`: {sentence}."
+    if fields_of(ONE, "ExactlyOne") != {"it": "A", "is": "Is it", "only": "(other : A) → Is other → other ≡ it"}:
+        fail(f"ExactlyOne in crates/{ONE}.antt", source(ONE))
+    stated(PAYLOAD, "IsReadingAfter", "strict before bytes (Complete found)", "AreFrames strict found bytes")
+    stated(PAYLOAD, "IsReadingAfter", "strict before bytes (FailsAfter found type reason)", (
+        "IsBroken strict before found bytes type reason"))
+    stated(LEAST, "IsLeast", "no_other", "(other : List ℕ) → IsSame other payload → AreOrExceed other least")
+    stated(SAME, "IsSameValue", "(Ranges some) (Ranges others)", "(n : ℕ) → is_in some n ≡ is_in others n")
+    stated(MEANING, "IsReadAnswer", "side bytes (Ok params)", "IsMeant params bytes × IsValid side params")
+    yield ""
+    yield (
+        f"All of them in {LAWS}, for all bytes. `ExactlyOne` (crates/{ONE}.antt): there is such a value, and every"
+        f" other such value equals it. A `Reading` (crates/{PAYLOAD}.antt) is `Complete`, the payload's frames"
+        " (`AreFrames`), or `FailsAfter`, the frames before something that is no frame, and what is reported of that"
+        f" (`IsBroken`). `IsLeast` (crates/{LEAST}.antt): each other payload of the same frames is longer; frames are"
+        f" the same if their values are equal, ranges if they have the same numbers (`IsSame`, crates/{SAME}.antt).")
+
+
+def page():
+    """What is reported, and the laws."""
+    yield from payload_errors()
+    yield from header_errors()
+    yield from laws()

@@ -1,17 +1,10 @@
 //! Laws of numbers and ids, which no single call states. The functions do nothing at run time.
-ghost use Rattle.std.specs.Prelude.{◌≡◌, ◌<◌, ◌≤◌, ◌^◌, ◌/◌, ◌++◌, ◌↔◌, List, ℕ, None, Some, length, IsTrue};
+ghost use Rattle.std.specs.Prelude.{◌≡◌, ◌<◌, ◌≤◌, ◌^◌, ◌/◌, ◌++◌, ◌↔◌, List, ℕ, length, IsTrue};
 ghost use Rattle.std.specs.Cmp.{IsTotalOrder};
 ghost use Rattle.std.specs.Cmp.Lexicographic.{slice_cmp};
 ghost use Rattle.std.specs.Ordering.{nat_cmp};
 ghost use Rattle.std.specs.declared.cmp.Ordering.TheVariants.{Less, Equal};
-ghost use Rattle.std.specs.Net.Addr.{ipv4_octets, ipv6_octets};
-ghost use Rattle.std.specs.declared.net.ipv4_addr.Ipv4Addr.{Ipv4Addr};
-ghost use Rattle.std.specs.declared.net.ipv6_addr.Ipv6Addr.{Ipv6Addr};
-ghost use Rattle.quic_base.specs.Codec.{Takes, NoFront, IsPrefixFree};
-ghost use Rattle.quic_base.specs.ConnectionId.{IsLongId};
 ghost use Rattle.quic_base.specs.Ids.{stream_number, initiator_of, dir_of};
-ghost use Rattle.quic_base.specs.Number.{AreBytes, IsNumber, IsOctets};
-ghost use Rattle.quic_base.specs.Reading.{number_at};
 ghost use Rattle.quic_base.specs.Varint.{Encodes, shortest_varint, size};
 ghost use Rattle.quic_base.specs.declared.ids.Dir.{Dir};
 ghost use Rattle.quic_base.specs.declared.ids.Side.{Side};
@@ -33,24 +26,6 @@ pub fn encodings()
     ensures alone { (v : ℕ) (b : List ℕ) → Encodes v b → length b ≡ length (shortest_varint v) → b ≡ shortest_varint v }
     // What can be encoded is below 2^62.
     ensures bound { (v : ℕ) (b : List ℕ) → Encodes v b → v < 2 ^ 62 }
-{}
-
-/// Reading as a function, which the crates above compute with, agrees with the encodings.
-pub fn readings()
-    ensures taken { (bytes rest : List ℕ) (n : ℕ) → AreBytes bytes
-        → number_at bytes ≡ Some (n, rest) → Takes (Encodes n) bytes rest }
-    ensures again { (n : ℕ) (front rest : List ℕ) → Encodes n front
-        → number_at (front ++ rest) ≡ Some (n, rest) }
-    ensures none { (bytes : List ℕ) → number_at bytes ≡ None → (v : ℕ) → NoFront (Encodes v) bytes }
-{}
-
-/// Of numbers of fixed size, addresses, and ids after their length no encoding is a prefix of another, and none encodes
-/// two values.
-pub fn fixed_encodings()
-    ensures numbers { (k : ℕ) → IsPrefixFree (IsNumber k) }
-    ensures ipv4 { IsPrefixFree (λ (a : Ipv4Addr). IsOctets 4 (ipv4_octets a)) }
-    ensures ipv6 { IsPrefixFree (λ (a : Ipv6Addr). IsOctets 16 (ipv6_octets a)) }
-    ensures long_ids { IsPrefixFree IsLongId }
 {}
 
 /// The number of a stream and its three parts (RFC 9000, section 2.1).

@@ -5,6 +5,7 @@ pub mod acks;
 pub mod client;
 pub mod frames;
 pub mod headers;
+pub mod ids;
 pub mod lists;
 pub mod params;
 pub mod payloads;

@@ -1,16 +1,17 @@
 //! Lists of transport parameters, and parameters that are remembered: what callers learn from the contracts and the
 //! laws.
-ghost use Rattle.std.specs.Prelude.{◌≡◌, IfSome, OnOk, Ok, List, ◌∷◌};
+ghost use Rattle.std.specs.Prelude.{◌≡◌, IfSome, OnOk, Ok, List, ◌∷◌, slice_get};
 ghost use Rattle.quic_params.specs.Entry.{Entry};
 ghost use Rattle.quic_params.specs.Further.{IsRecordOf};
 ghost use Rattle.quic_params.specs.Meaning.{IsReadAnswer};
 ghost use Rattle.quic_params.specs.Resumption.{Resumes};
+ghost use Rattle.quic_params.specs.Table.{ids};
 ghost use Rattle.quic_params.specs.declared.record.TransportParameters.{TransportParameters};
 
 use quic_base::ids::Side;
 use quic_frames::transport_error::Error;
 use quic_params::laws;
-use quic_params::transport_parameters::{TransportParameters, split_entry};
+use quic_params::transport_parameters::{TransportParameterId, TransportParameters, split_entry};
 
 /// The number of the first entry of a list that a side accepts, of a known parameter or another: `None` if the side
 /// refuses the list, or it has no entry. What the record has came from that entry and the ones after it.
@@ -48,4 +49,12 @@ pub fn keeps_itself(params: &TransportParameters) {
         Ok(()) => {}
         Err(_) => unreachable!(),
     }
+}
+
+/// The parameter that is written at a place, counted from 0; `None` past the last one.
+pub fn written_at(place: usize) -> Option<TransportParameterId>
+    ensures { result ≡ slice_get ids place }
+{
+    laws::supported();
+    TransportParameterId::SUPPORTED.get(place).copied()
 }

@@ -1,8 +1,9 @@
 //! Sets of packet numbers.
-ghost use Rattle.std.specs.Prelude.{◌≡◌, OnErr, OnOk};
-ghost use Rattle.quic_ranges.specs.Runs.{IsRunsOf, in_union};
+ghost use Rattle.std.specs.Prelude.{◌≡◌, ◌<◌, ℕ, true, false, MatchOption, OnErr, OnOk};
+ghost use Rattle.quic_ranges.specs.Runs.{IsRunsOf, in_union, member};
 
 use quic_base::coding::NoRoom;
+use quic_ranges::laws;
 use quic_ranges::range_set::RangeSet;
 use std::ops::Range;
 
@@ -13,4 +14,13 @@ pub fn unite(set: &mut RangeSet, range: Range<u64>) -> Result<(), NoRoom>
 {
     let _ = set.replace(range)?;
     Ok(())
+}
+
+/// The lowest number of a set; `None` exactly if the set is empty.
+pub fn lowest(set: &RangeSet) -> Option<u64>
+    ensures { MatchOption result ((n : ℕ) → member set.now n ≡ false) (λ n. (member set.now n ≡ true)
+        × ((other : ℕ) → other < n → member set.now other ≡ false)) }
+{
+    laws::elements();
+    set.elts().next()
 }

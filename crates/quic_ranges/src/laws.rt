@@ -1,9 +1,9 @@
 //! Laws of lists of runs, which no single call states. The functions do nothing at run time.
-ghost use Rattle.std.specs.Prelude.{◌≡◌, ◌+◌, ◌<◌, ◌&&◌, ◌||◌, Bool, List, ℕ, false, length, nat_eq, not, slice_index_or};
+ghost use Rattle.std.specs.Prelude.{◌≡◌, ◌+◌, ◌<◌, List, ℕ, false, length, nat_eq, slice_index_or};
 ghost use Rattle.std.specs.List.{list_any};
 ghost use Rattle.std.specs.declared.ops.Range.{Range};
 ghost use Rattle.quic_ranges.specs.Numbers.{numbers_of, AscendFrom};
-ghost use Rattle.quic_ranges.specs.Runs.{IsMaximalRuns, IsRunsOf, in_subtraction, in_sum, member};
+ghost use Rattle.quic_ranges.specs.Runs.{IsMaximalRuns, member};
 
 /// A set has one list of maximal runs, so two sets are equal exactly if their lists are. The runs
 /// are nonempty, ascend and never touch, and none can be longer.
@@ -18,15 +18,6 @@ pub fn runs()
         → y + 1 ≡ (slice_index_or rs i d).start → member rs y ≡ false }
     ensures maximal_behind { (rs : List (Range ℕ)) (i : ℕ) (d : Range ℕ) → IsMaximalRuns rs
         → i < length rs → member rs (slice_index_or rs i d).end ≡ false }
-{}
-
-/// After `add` and `subtract` a set is the union and the difference of both sets, whichever functions decide what is in
-/// them.
-pub fn sums_and_differences()
-    ensures union { (p q : ℕ → Bool) (rs ss ts : List (Range ℕ)) → IsRunsOf p rs → IsRunsOf q ss
-        → IsRunsOf (in_sum rs ss) ts → IsRunsOf (λ y. p y || q y) ts }
-    ensures difference { (p q : ℕ → Bool) (rs ss ts : List (Range ℕ)) → IsRunsOf p rs → IsRunsOf q ss
-        → IsRunsOf (in_subtraction rs ss) ts → IsRunsOf (λ y. p y && not (q y)) ts }
 {}
 
 /// `elts` gives the numbers of the set, each once, ascending.

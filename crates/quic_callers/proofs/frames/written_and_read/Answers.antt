@@ -22,7 +22,7 @@ unreachable-requires-in-None c =
     content_is c.encode.result c.in_ok-encode.field-0 _ _ _ (shortest_frame true m) c.deref.ensures.value
     c.encode.ensures.ok c.in_ok-encode.was c.requires.empty in
     let one =
-    one_left (as_written true m) (shortest_frame true m) _ c.in-Ok.frames encoded content c.in-Ok.ensures.frames in
+    one_left (as_written true m) (shortest_frame true m) _ c.in-Ok.frames encoded content c.in-Ok.ensures.first in
     let first = gives_it (as_written true m) c.in-Ok.frames c.next.new.self c.next.result one c.next.ensures.steps in
     let given = first.1 in
     cc
@@ -35,7 +35,7 @@ unreachable-requires-in-Some-Err c =
     content_is c.encode.result c.in_ok-encode.field-0 _ _ _ (shortest_frame true m) c.deref.ensures.value
     c.encode.ensures.ok c.in_ok-encode.was c.requires.empty in
     let one =
-    one_left (as_written true m) (shortest_frame true m) _ c.in-Ok.frames encoded content c.in-Ok.ensures.frames in
+    one_left (as_written true m) (shortest_frame true m) _ c.in-Ok.frames encoded content c.in-Ok.ensures.first in
     let first = gives_it (as_written true m) c.in-Ok.frames c.next.new.self c.next.result one c.next.ensures.steps in
     let given = first.1 in
     cc
@@ -48,7 +48,7 @@ returns c =
     content_is c.encode.result c.in_ok-encode.field-0 _ _ _ (shortest_frame true m) c.deref.ensures.value
     c.encode.ensures.ok c.in_ok-encode.was c.requires.empty in
     let one =
-    one_left (as_written true m) (shortest_frame true m) _ c.in-Ok.frames encoded content c.in-Ok.ensures.frames in
+    one_left (as_written true m) (shortest_frame true m) _ c.in-Ok.frames encoded content c.in-Ok.ensures.first in
     let first = gives_it (as_written true m) c.in-Ok.frames c.next.new.self c.next.result one c.next.ensures.steps in
     let given = first.1 in
     let same : c.in-Some-Ok.read ≡ first.0 = cc in

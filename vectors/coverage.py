@@ -134,7 +134,7 @@ def main():
     if len(sys.argv) > 2:
         print("usage: coverage.py [RFCS]", file=sys.stderr)
         return 2
-    every, tests = list(lines()), [test for _, test in run.tests()]
+    every, tests = list(lines()), [entry.test for entry in run.tests()]
     faults = list(faults_of_tests(every, tests))
     if len(sys.argv) == 2:
         faults += faults_of_texts(pathlib.Path(sys.argv[1]), every, tests)

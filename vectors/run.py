@@ -1,5 +1,5 @@
 #!/usr/bin/env python3
-"""Runs the tests of json/ through decoders and encoders, and prints each failure and a table of sections.
+"""Runs the tests of json/ through decoders and encoders, and prints each failure and a table of groups.
 
 run.py [-v] [--only PATTERN] [--as NAME] STACK COMMAND.. [-- STACK COMMAND..]
 
@@ -26,10 +26,12 @@ import pathlib
 import subprocess
 import sys
 from collections import Counter
+from typing import NamedTuple
 
 HERE = pathlib.Path(__file__).parent
 DEFAULTS = json.loads((HERE / "defaults.json").read_text(encoding="utf-8"))  # of transport parameters
 SECONDS = 120  # for a driver, without an answer to all lines
+MOST_IN_VAIN = 5  # starts of a driver
 FAILURES = ("fail", "code", "crash")
 # What a cell of the table has: the letter before a count, by the kind of result.
 LETTERS = {"pass": "", "code": "c", "fail": "F", "crash": "X", "as RFC": "r", "otherwise": "o", "skip": "s"}
@@ -38,13 +40,33 @@ LEGEND = (
 )
 
 
+class Entry(NamedTuple):
+    """A test, with the format of its file, and its file and group as the table has them."""
+
+    form: str
+    group: str
+    test: dict
+
+
 def tests(folder=HERE / "json"):
-    """Each test, with the format of its file."""
     for path in sorted(folder.glob("*.json")):
         file = json.loads(path.read_text(encoding="utf-8"))
         for group in file["testGroups"]:
             for test in group["tests"]:
-                yield file["format"], test
+                yield Entry(file["format"], f"{file['title']}: {group['title']}", test)
+
+
+def writers(every):
+    """Of each payload that is read a test of writers: the shortest payload of its frames, made of it and of itself."""
+    for _, group, test in every:
+        if "shortest" not in test:
+            continue
+        rejected = [answer for answer in test["answers"] if answer["result"] == "invalid"]
+        written = {"by": test["answers"][-1 if rejected else 0]["by"], "result": "valid", "read": test["shortest"]}
+        about = {"comment": "The shortest payload of these frames.", "rfc": test["rfc"], "result": test["result"]}
+        for mark, text in (("", test["input"]), ("-again", test["shortest"])):
+            more = {"id": f"{test['id']}.shortest{mark}", "input": text, "answers": [written] + rejected}
+            yield Entry("shortest", f"{group.split(':')[0]}: shortest payloads", about | more)
 
 
 def line(form, test):
@@ -53,10 +75,15 @@ def line(form, test):
     return f"{test.get('call', form)} {context or '-'} {test['input'] or '-'}\n"
 
 
+class DriverEnded(Exception):
+    """A driver ends each time without an answer."""
+
+
 def answers(command, lines):
     """What a driver answers to each line."""
-    out = []
+    out, starts_in_vain = [], 0
     while len(out) < len(lines):
+        had = len(out)
         text = "".join(lines[len(out) :])
         try:
             done = subprocess.run(command, input=text, capture_output=True, text=True, timeout=SECONDS)
@@ -64,6 +91,9 @@ def answers(command, lines):
         except subprocess.TimeoutExpired as late:
             told, why = (late.stdout or b"").decode(), f"no answer within {SECONDS} s"
         out += told.split("\n")[:-1]
+        starts_in_vain = starts_in_vain + 1 if len(out) == had else 0
+        if starts_in_vain == MOST_IN_VAIN:
+            raise DriverEnded(f"run.py: {' '.join(command)}: no answer to {MOST_IN_VAIN} lines in a row: {why}")
         if len(out) < len(lines):
             out.append(f"crash {why[:100]}")
     return out[: len(lines)]
@@ -101,7 +131,7 @@ def difference(want, got):
     want, got = merged(want), merged(got)
     for wanted, item in zip(want, got):
         for name, value in item.items():
-            is_open = name == "count" and "count" not in wanted
+            is_open = name == "count" and wanted["type"] == "PADDING" and "count" not in wanted
             if value is not None and wanted.get(name) != value and not is_open:
                 return f"{wanted['type']} {name}: {value}, not {wanted.get(name)}"
     return None if len(want) == len(got) else f"{len(got)} items, not {len(want)}"
@@ -166,7 +196,7 @@ def told(stack, form, test, kind, why, answer, is_whole):
 
 
 def table(stacks, counts):
-    """The table, sections by stacks."""
+    """The table, groups of tests by stacks."""
     keys = list(dict.fromkeys(key for count in counts for key in count))
     key_width = max(map(len, keys), default=0)
 
@@ -181,14 +211,14 @@ def table(stacks, counts):
 
 
 def run(stacks, every, name, is_verbose):
-    """Runs the tests through each stack; returns of each its counts by section."""
+    """Runs the tests through each stack; returns of each its counts by group."""
     counts = []
     for stack, command in stacks:
         count = {}
-        said = answers(command, [line(form, test) for form, test in every])
-        for (form, test), answer in zip(every, said):
+        said = answers(command, [line(form, test) for form, _, test in every])
+        for (form, group, test), answer in zip(every, said):
             kind, why = judge(test, answer, name)
-            count.setdefault(f"{test['rfc']}, {form}", Counter())[kind] += 1
+            count.setdefault(group, Counter())[kind] += 1
             if is_verbose or kind in FAILURES:
                 print(told(stack, form, test, kind, why, answer, kind in FAILURES))
         counts.append(count)
@@ -214,11 +244,17 @@ def main():
     parser.add_argument("stacks", nargs=argparse.REMAINDER)
     words = parser.parse_args()
     stacks = stacks_of(words.stacks)
-    every = [(form, test) for form, test in tests() if fnmatch.fnmatchcase(test["id"], words.only)]
+    every = list(tests())
+    every += list(writers(every))
+    every = [entry for entry in every if fnmatch.fnmatchcase(entry.test["id"], words.only)]
     if not stacks or not every:
         print(__doc__ if every else f"run.py: no test is called {words.only}", file=sys.stderr)
         return 2
-    counts = run(stacks, every, words.name, words.v)
+    try:
+        counts = run(stacks, every, words.name, words.v)
+    except (DriverEnded, OSError) as fault:
+        print(fault, file=sys.stderr)
+        return 2
     print("\n".join(["", *table([stack for stack, _ in stacks], counts), "", LEGEND]))
     totals = sum((sum(count.values(), Counter()) for count in counts), Counter())
     return 1 if any(totals[kind] for kind in FAILURES) else 0

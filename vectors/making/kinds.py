@@ -91,8 +91,9 @@ def case_of(form, row):
 
 
 def has_shortest(form, case, read):
-    """Whether a payload has its shortest form in its test: of PADDING in longer types readers count differently."""
-    if form != "payload" or not read or case.context.get("packet"):
+    """Whether a test has the shortest form of its payload: not where it matters who sent it in which packet, nor for
+    PADDING in longer types, which readers count differently."""
+    if form != "payload" or not read or "packet" in case.context or case.context.get("side") == "server":
         return False
     return read[0]["type"] != "PADDING" or "count" in read[0]
 

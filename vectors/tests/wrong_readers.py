@@ -10,6 +10,7 @@ import copy
 import pathlib
 import signal
 import sys
+from collections import Counter
 from typing import NamedTuple
 
 HERE = pathlib.Path(__file__).parent
@@ -68,6 +69,7 @@ def changes_of(node):
 def changes(tree):
     """All changes of a program."""
     nodes = {id(node): number for number, node in enumerate(ast.walk(tree))}
+    seen = Counter()
     for top in tree.body:
         if isinstance(top, (ast.FunctionDef, ast.ClassDef)):
             owner = top.name
@@ -78,6 +80,8 @@ def changes(tree):
         for node in ast.walk(top) if owner not in NOT_CHANGED else ():
             for number, make in enumerate(changes_of(node)):
                 text = f"{owner}: {ast.unparse(node).splitlines()[0][:70]} #{number}"
+                seen[text] += 1
+                text += f" ({seen[text]})" if seen[text] > 1 else ""
                 yield Change(owner, nodes[id(node)], text, make)
 
 

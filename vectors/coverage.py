@@ -19,15 +19,16 @@ HERE = pathlib.Path(__file__).parent
 SCOPE = {
     "RFC 8999": r"5\.1|6",
     "RFC 9000": r"5\.1|7\.4|7\.4\.2|12\.2|12\.4|16|17(\..*)?|18(\..*)?|19(\..*)?|20(\..*)?",
-    "RFC 9001": r"5\.4\.[12]",
+    "RFC 9001": r"5\.4\.[12]|5\.5",
     "RFC 9221": r"4",
     "RFC 9287": r"3",
 }
 RULE = re.compile(r"\bMUST\b|cannot exceed|are invalid")
 HEADING = re.compile(r"^(?:Appendix )?([0-9A-Z]+(?:\.[0-9]+)*)\.  \S")
 PAGE = re.compile(r"\[Page \d+\]$|^RFC \d{4} +\S.*\d{4}$")
-EXAMPLES = re.compile(r"RFC 9001 A\.[2-5]")
-LEAST_EXAMPLE = 5  # bytes of an input, mask or sample that is worth a search
+EXAMPLES = re.compile(r"RFC 9001 A\.[1-5]")
+LEAST_EXAMPLE = 4  # bytes that are worth a search
+COPIED_CALLS = {"initial-keys", "keys", "mask", "packet-seal", "packet-open", "retry-tag"}
 
 
 class Line(NamedTuple):
@@ -104,17 +105,22 @@ def faults_of_document(document, every, texts):
                 yield f"{document} {section}: no line for: {one[:100]}"
 
 
+def copied(test):
+    """The bytes of a worked example that are in the RFC. It shortens PADDING at the end of a payload."""
+    context = test.get("context", {})
+    yield from (context[name] for name in ("mask", "sample", "secret", "hp", "header") if name in context)
+    if "fields" in test or test.get("call") in COPIED_CALLS:
+        yield test["input"]
+        yield from test["answers"][0]["read"].split() if "call" in test else ()
+
+
 def faults_of_examples(tests, texts):
-    """Inputs, masks and samples of worked examples that aren't in the RFC."""
-    digits = {section: re.sub(r"\s+", "", text) for section, text in texts.items()}
-    for test in (test for test in tests if EXAMPLES.fullmatch(test["rfc"]) and "fields" in test):
-        section = digits[test["rfc"].split()[-1]]
-        if len(test["input"]) >= 2 * LEAST_EXAMPLE and test["input"] not in section:
-            yield f"{test['id']}: its bytes aren't in {test['rfc']}"
-    for test in (test for test in tests if EXAMPLES.fullmatch(test["rfc"]) and "mask" in test.get("context", {})):
-        for name in ("mask", "sample"):
-            if test["context"][name] not in digits[test["rfc"].split()[-1]]:
-                yield f"{test['id']}: its {name} isn't in {test['rfc']}"
+    """Bytes of worked examples that aren't in the RFC."""
+    digits = "".join(re.sub(r"\s+", "", text) for section, text in texts.items() if section.startswith("A."))
+    for test in (test for test in tests if EXAMPLES.fullmatch(test["rfc"])):
+        for text in copied(test):
+            if len(text) >= 2 * LEAST_EXAMPLE and text.rstrip("0") not in digits:
+                yield f"{test['id']}: not in the appendix of RFC 9001: {text[:60]}"
 
 
 def faults_of_texts(folder, every, tests):

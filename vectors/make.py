@@ -24,6 +24,7 @@ FILES = {
     "shortest": ("shortest", kinds.shortest_payloads),
     "protection": ("protection", kinds.protection),
     "headers": ("header", kinds.headers),
+    "ciphers": ("cipher", kinds.ciphers),
 }
 
 

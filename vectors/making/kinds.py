@@ -193,3 +193,14 @@ def protection(_form, table):
         yield row.group, rows.with_answers(off | {"id": f"{row.id}.off"}, [rows.valid(row.rfc, answer)])
         on |= {"id": f"{row.id}.on", "comment": f"Applied: {row.sentence}"}
         yield row.group, rows.with_answers(on, [rows.valid(row.rfc, packet)])
+
+
+def ciphers(_form, table):
+    """A call with its context and input, and its answer or DROP."""
+    for row in rows.rows(table):
+        words, given, answer = row.columns
+        call, *context = words.split()
+        context = dict(word.split("=") for word in context)
+        allowed = rows.invalid(row.rfc, [answer]) if answer in rows.CODES else rows.valid(row.rfc, answer)
+        test = row.test(call=call, context=context, input=given.replace("-", ""))
+        yield row.group, rows.with_answers(test, [allowed])

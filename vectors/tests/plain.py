@@ -5,6 +5,8 @@ It decides each choice as the RFC does. wrong_readers.py changes it in one place
 import json
 import sys
 
+import ciphers
+
 FEE, PV, TPE = "FRAME_ENCODING_ERROR", "PROTOCOL_VIOLATION", "TRANSPORT_PARAMETER_ERROR"
 DROP = "DROP"
 
@@ -505,6 +507,13 @@ def read_varint(given):
     return f"{data.integer()} {data.at}"
 
 
+def cipher(form, context, data):
+    try:
+        return ciphers.call(form, context, data)
+    except ciphers.NotAuthentic as fault:
+        raise Rejected(DROP) from fault
+
+
 def call(form, context, text):
     """What a single call gives."""
     data = b"" if form == "varint-write" else bytes.fromhex(text)
@@ -513,6 +522,8 @@ def call(form, context, text):
         return str(expand(int(context["written"]), int(context["bits"]), largest))
     if form == "number-length":
         return str(number_length(int(context["number"]), int(context["acked"].replace("-", "0"))))
+    if form in ciphers.CALLS:
+        return cipher(form, context, data)
     calls = {
         "params": lambda: read_parameters(data, context),
         "shortest": lambda: shortest(data, context),

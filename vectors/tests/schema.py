@@ -53,7 +53,9 @@ def faults(value, schema, where):
 
 def main():
     files = sorted((TOP / "json").glob("*.json"))
-    found = [fault for path in files for fault in faults(json.loads(path.read_text(encoding="utf-8")), SCHEMA, path.stem)]
+    found = []
+    for path in files:
+        found += faults(json.loads(path.read_text(encoding="utf-8")), SCHEMA, path.stem)
     print("\n".join(found), end="\n" if found else "")
     print(f"schema.py: {len(files)} files, {len(found)} faults")
     return 1 if found else 0

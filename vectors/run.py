@@ -165,7 +165,7 @@ def parsed(answer):
     if verdict == "invalid":
         code, _, rest = rest.partition(" ")
     elif verdict != "valid":
-        raise ValueError(f"not an answer: {answer[:100]}")
+        raise ValueError("no answer")
     return verdict, code or None, json.loads(rest) if rest.strip() else None
 
 
@@ -197,7 +197,8 @@ def told(stack, form, test, kind, why, answer, is_whole):
 
 def table(stacks, counts):
     """The table, groups of tests by stacks."""
-    keys = list(dict.fromkeys(key for count in counts for key in count))
+    groups = dict.fromkeys(key for count in counts for key in count)
+    keys = [key for key in groups if any(set(count.get(key, ())) - {"skip"} for count in counts)]
     key_width = max(map(len, keys), default=0)
 
     def cell(count):
@@ -208,6 +209,8 @@ def table(stacks, counts):
     widths = [max(len(stack), *(len(row[1][i]) for row in rows)) for i, stack in enumerate(stacks)]
     for key, cells in [("", stacks), *rows]:
         yield f"{key:{key_width}}  " + "  ".join(f"{one:{width}}" for one, width in zip(cells, widths)).rstrip()
+    if len(keys) < len(groups):
+        yield f"and {len(groups) - len(keys)} groups that are skipped"
 
 
 def run(stacks, every, name, is_verbose):

@@ -1,5 +1,6 @@
 #!/usr/bin/env python3
-"""Whether the files of json/ fit their schema, by the words of JSON Schema that schema.json uses."""
+"""Whether the files of json/ fit their schema, by the words of JSON Schema that schema.json uses, and whether README.md
+says how many tests they have."""
 import json
 import pathlib
 import re
@@ -51,11 +52,24 @@ def faults(value, schema, where):
         yield from faults_of_array(value, schema, where)
 
 
+def faults_of_counts(counts):
+    """What README.md says otherwise of how many tests there are."""
+    text = (TOP / "README.md").read_text(encoding="utf-8")
+    told = {name: int(count) for name, count in re.findall(r"^\| `(\w+)\.json` \| (\d+) \|", text, re.M)}
+    if told != counts:
+        yield f"README.md: {dict(told.items() - counts.items())}, not {dict(counts.items() - told.items())}"
+    if f"\n{sum(counts.values())} tests " not in text:
+        yield f"README.md doesn't begin with {sum(counts.values())} tests"
+
+
 def main():
     files = sorted((TOP / "json").glob("*.json"))
-    found = []
+    found, counts = [], {}
     for path in files:
-        found += faults(json.loads(path.read_text(encoding="utf-8")), SCHEMA, path.stem)
+        file = json.loads(path.read_text(encoding="utf-8"))
+        counts[path.stem] = file["numberOfTests"]
+        found += faults(file, SCHEMA, path.stem)
+    found += faults_of_counts(counts)
     print("\n".join(found), end="\n" if found else "")
     print(f"schema.py: {len(files)} files, {len(found)} faults")
     return 1 if found else 0

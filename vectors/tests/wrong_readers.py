@@ -1,5 +1,5 @@
 #!/usr/bin/env python3
-"""Whether the tests notice wrong readers: plain.py is changed in one place at a time, an operator, a number, a
+"""Whether the tests notice wrong readers: the plain reader is changed in one place at a time, an operator, a number, a
 condition or an exception, and a test must fail each time.
 
 wrong_readers.py [-v]
@@ -10,6 +10,7 @@ import copy
 import pathlib
 import signal
 import sys
+import types
 from collections import Counter
 from typing import NamedTuple
 
@@ -18,8 +19,8 @@ sys.path.insert(0, str(HERE.parent))
 import run  # noqa: E402
 
 SECONDS = 5  # for a changed reader; an endless loop is noticed
-# What only calls and prints.
-NOT_CHANGED = {"told", "answer", "call", "cipher"}
+# Its modules, each after those that it imports; the last answers lines, and isn't changed.
+MODULES = ["reader.input", "reader.frames", "reader.packets", "reader.parameters", "plain"]
 COMPARISONS = {
     ast.Lt: ast.LtE, ast.LtE: ast.Lt, ast.Gt: ast.GtE, ast.GtE: ast.Gt, ast.Eq: ast.NotEq, ast.NotEq: ast.Eq,
     ast.In: ast.NotIn, ast.NotIn: ast.In,
@@ -31,9 +32,9 @@ OPERATORS = {
 
 
 class Change(NamedTuple):
-    """A node, by its number among those of the program, and what becomes of it."""
+    """A node, by its number among those of a module, and what becomes of it."""
 
-    owner: str
+    module: str
     node: int
     text: str
     make: object
@@ -66,8 +67,8 @@ def changes_of(node):
     return []
 
 
-def changes(tree):
-    """All changes of a program."""
+def changes(module, tree):
+    """All changes of a module."""
     nodes = {id(node): number for number, node in enumerate(ast.walk(tree))}
     seen = Counter()
     for top in tree.body:
@@ -77,25 +78,27 @@ def changes(tree):
             owner = ast.unparse(top.targets[0])
         else:
             continue
-        for node in ast.walk(top) if owner not in NOT_CHANGED else ():
+        for node in ast.walk(top):
             for number, make in enumerate(changes_of(node)):
                 text = f"{owner}: {ast.unparse(node).splitlines()[0][:70]} #{number}"
                 seen[text] += 1
                 text += f" ({seen[text]})" if seen[text] > 1 else ""
-                yield Change(owner, nodes[id(node)], text, make)
+                yield Change(module, nodes[id(node)], text, make)
 
 
-def changed(tree, change):
-    """The program after a change, ready to run."""
-    other = copy.deepcopy(tree)
+def changed(trees, change):
+    """What answers lines after a change."""
+    other = copy.deepcopy(trees[change.module])
     change.make(next(node for number, node in enumerate(ast.walk(other)) if number == change.node))
-    module = {"__name__": "plain"}
-    exec(compile(ast.fix_missing_locations(other), "plain.py", "exec"), module)
-    return module["answer"]
+    for name in MODULES:
+        tree = ast.fix_missing_locations(other) if name == change.module else trees[name]
+        module = sys.modules[name] = types.ModuleType(name)
+        exec(compile(tree, name, "exec"), module.__dict__)
+    return module.answer
 
 
 def rfc_of(test):
-    """The document that gives the answer of plain.py: of those who depart from it none does."""
+    """The document whose answer the plain reader gives; no answer of those that depart from it is allowed."""
     return next(one["by"] for one in test["answers"] if one["by"].startswith(("RFC", "ACK")))
 
 
@@ -110,11 +113,11 @@ def is_noticed(answer, entries):
     return False
 
 
-def is_seen(tree, change, entries):
+def is_seen(trees, change, entries):
     """Whether a change is noticed within its time."""
     signal.setitimer(signal.ITIMER_REAL, SECONDS)
     try:
-        return is_noticed(changed(tree, change), entries)
+        return is_noticed(changed(trees, change), entries)
     except Exception:  # noqa: BLE001, too slow, or no program any more
         return True
     finally:
@@ -127,13 +130,14 @@ def stop(*_):
 
 def main():
     signal.signal(signal.SIGALRM, stop)
-    tree = ast.parse((HERE / "plain.py").read_text(encoding="utf-8"))
+    files = {name: HERE / f"{name.replace('.', '/')}.py" for name in MODULES}
+    trees = {name: ast.parse(path.read_text(encoding="utf-8")) for name, path in files.items()}
     every = [entry for entry in run.tests() if entry.form != "cipher"]
     entries = [(run.line(form, test), test) for form, _, test in every + list(run.writers(every))]
     listed = (HERE / "unseen.txt").read_text(encoding="utf-8").splitlines()
     known = {line.split(" | ")[0] for line in listed if not line.startswith("#")}
-    all_changes = list(changes(tree))
-    unseen = [change.text for change in all_changes if not is_seen(tree, change, entries)]
+    all_changes = [change for name in MODULES[:-1] for change in changes(name, trees[name])]
+    unseen = [change.text for change in all_changes if not is_seen(trees, change, entries)]
     new = [text for text in unseen if text not in known]
     stale = sorted(known.difference(unseen))
     for text in unseen if "-v" in sys.argv else new:

@@ -104,14 +104,41 @@ static quic_wire_header_fields header_fields(const line *in) {
   return fields;
 }
 
+/* A version negotiation, all of it. */
+static void answer_negotiation_write(const line *in, const uint8_t *dcid,
+                                     size_t dcidlen, const uint8_t *scid,
+                                     size_t scidlen) {
+  const char *at = item(in, "supported");
+  uint32_t versions[8];
+  uint8_t out[4096];
+  size_t count = 0, len;
+  for (; at && count < 8; at = *at == '+' ? at + 1 : NULL)
+    versions[count++] = (uint32_t)strtoul(at, (char **)&at, 16);
+  if (quic_wire_negotiation_write((uint8_t)strtoul(item(in, "unused"), NULL, 16),
+                                  dcid, dcidlen, scid, scidlen, versions, count,
+                                  out, sizeof out, &len)) {
+    puts("invalid");
+    return;
+  }
+  printf("valid \"");
+  print_hex(stdout, out, len);
+  puts("\"");
+}
+
 static void answer_header_write(const line *in) {
   uint8_t dcid[ID_LEN], scid[ID_LEN], token[ID_LEN], out[4096];
-  quic_wire_header_fields fields = header_fields(in);
+  quic_wire_header_fields fields;
   size_t dcidlen = unhex(item(in, "dcid"), dcid, ID_LEN);
   size_t scidlen = unhex(item(in, "scid"), scid, ID_LEN);
   size_t tokenlen = unhex(item(in, "token"), token, ID_LEN);
-  int64_t end = quic_wire_header_write(&fields, dcid, dcidlen, scid, scidlen, token,
-                                       tokenlen, out, sizeof out);
+  int64_t end;
+  if (!strncmp(item(in, "kind"), "vn", 2)) {
+    answer_negotiation_write(in, dcid, dcidlen, scid, scidlen);
+    return;
+  }
+  fields = header_fields(in);
+  end = quic_wire_header_write(&fields, dcid, dcidlen, scid, scidlen, token,
+                               tokenlen, out, sizeof out);
   if (end >= 0 && item(in, "length")) {
     size_t place = (size_t)end - fields.numberlen;
     size_t len = place + (size_t)number(in, "length", 0);

@@ -1,6 +1,6 @@
 //! Answers the lines of test vectors that need a single call of the crate quic-wire; all others are `skip`.
 use quic_wire::canonical::canonical;
-use quic_wire::packet::{Header, LongType, PacketNumber, PacketPlace};
+use quic_wire::packet::{Header, LongType, PacketNumber, PacketPlace, VersionNegotiation};
 use quic_wire::varint;
 use std::collections::HashMap;
 use std::io::{self, BufRead, Write};
@@ -105,9 +105,21 @@ fn protect(packet: &mut [u8], context: &Context<'_>) -> Option<String> {
     Some(hex(packet))
 }
 
+fn write_negotiation(context: &Context<'_>, dst_cid: &[u8], src_cid: &[u8]) -> Option<String> {
+    let random = u8::from_str_radix(context.text("unused")?, 16).ok()?;
+    let supported = context.text("supported")?.split('+');
+    let versions = supported.map(|version| u32::from_str_radix(version, 16).ok()).collect::<Option<Vec<_>>>()?;
+    let mut out = Vec::new();
+    VersionNegotiation { random, dst_cid, src_cid, versions: &versions }.encode(&mut out).ok()?;
+    Some(hex(&out))
+}
+
 fn write_header(context: &Context<'_>) -> Option<String> {
     let (dcid, scid, token) = (context.bytes("dcid")?, context.bytes("scid")?, context.bytes("token")?);
     let (dst_cid, src_cid, token) = (&dcid[..], &scid[..], &token[..]);
+    if context.text("kind") == Some("vn") {
+        return write_negotiation(context, dst_cid, src_cid);
+    }
     let version = u32::from_str_radix(context.text("version").unwrap_or("0"), 16).ok()?;
     let len = context.number("number_length").unwrap_or(0) as usize;
     let number = PacketNumber { number: context.number("number").unwrap_or(0), len };

@@ -1,5 +1,6 @@
 //! Answers the lines of test vectors that need a single call of the crate quic-wire; all others are `skip`.
 use quic_wire::canonical::canonical;
+use quic_wire::frame::Iter;
 use quic_wire::packet::{Header, LongType, PacketNumber, PacketPlace, VersionNegotiation};
 use quic_wire::varint;
 use std::collections::HashMap;
@@ -105,6 +106,15 @@ fn protect(packet: &mut [u8], context: &Context<'_>) -> Option<String> {
     Some(hex(packet))
 }
 
+/// Whether a payload is read without the ACK frequency extension; the program `quic-wire` always has it.
+fn read_basic(payload: &[u8]) -> String {
+    match Iter::new(payload).map(|frames| frames.without_ack_frequency().all(|frame| frame.is_ok())) {
+        Err(_) => "invalid PROTOCOL_VIOLATION".into(),
+        Ok(false) => "invalid FRAME_ENCODING_ERROR".into(),
+        Ok(true) => "valid".into(),
+    }
+}
+
 fn write_negotiation(context: &Context<'_>, dst_cid: &[u8], src_cid: &[u8]) -> Option<String> {
     let random = u8::from_str_radix(context.text("unused")?, 16).ok()?;
     let supported = context.text("supported")?.split('+');
@@ -153,6 +163,7 @@ fn answer(line: &str) -> Option<String> {
         "shortest" => shortest(&bytes),
         "protect" => protect(&mut bytes, &context),
         "header-write" => write_header(&context),
+        "payload" if context.text("without").is_some() => return Some(read_basic(&bytes)),
         "unprotect" => match unprotect(&mut bytes, &context) {
             Ok(found) => Some(found),
             Err(code) => return Some(format!("invalid {code}")),

@@ -3,10 +3,11 @@
 
 coverage.py [RFCS]
 
-RFCS is a folder of rfcNNNN.txt. With it, each quotation of coverage.txt must be in the text of its section, each
-sentence with MUST in the sections of SCOPE must have a line, and the bytes of the worked examples must be in the RFC. A
-document whose text isn't in the folder is named and skipped."""
+RFCS is a folder of rfcNNNN.txt or rfcNNNN.txt.gz. With it, each quotation of coverage.txt must be in the text of its
+section, each sentence with MUST in the sections of SCOPE must have a line, and the bytes of the worked examples must be
+in the RFC. A document whose text isn't in the folder is named and skipped."""
 import fnmatch
+import gzip
 import pathlib
 import re
 import sys
@@ -71,10 +72,20 @@ def normal(text):
     return re.sub(r"\s+", " ", text).lower()
 
 
-def sections(path):
+def text_in(folder, document):
+    """The text of an RFC, or None if the folder lacks it."""
+    path = folder / f"rfc{document.split()[-1]}.txt"
+    packed = path.with_name(path.name + ".gz")
+    if not document.startswith("RFC ") or not path.exists() and not packed.exists():
+        return None
+    whole = path.read_bytes() if path.exists() else gzip.decompress(packed.read_bytes())
+    return whole.decode("utf-8", errors="replace")
+
+
+def sections(whole):
     """The text of each section, without page breaks."""
     section, texts = None, {}
-    for text in path.read_text(encoding="utf-8", errors="replace").replace("\f", "").split("\n"):
+    for text in whole.replace("\f", "").replace("\r", "").split("\n"):
         if found := HEADING.match(text):
             section = found[1]
         elif section and not PAGE.search(text):
@@ -126,11 +137,11 @@ def faults_of_examples(tests, texts):
 def faults_of_texts(folder, every, tests):
     """What differs from the texts that are in a folder; what is skipped is printed."""
     for document in dict.fromkeys(line.document for line in every):
-        path = folder / f"rfc{document.split()[-1]}.txt"
-        if not document.startswith("RFC ") or not path.exists():
+        whole = text_in(folder, document)
+        if whole is None:
             print(f"coverage.py: {document} is skipped: its text isn't in {folder}")
             continue
-        texts = sections(path)
+        texts = sections(whole)
         yield from faults_of_document(document, every, texts)
         if document == "RFC 9001":
             yield from faults_of_examples(tests, texts)

@@ -8,6 +8,7 @@
 #define ID_LEN 255
 #define MASK_LEN 5
 #define SAMPLE_LEN 16
+#define GAPS 16 /* of an ACK, at most */
 
 static void answer_varint_read(const line *in) {
   uint64_t value;
@@ -154,16 +155,60 @@ static void answer_header_write(const line *in) {
   puts("\"");
 }
 
-/* The shortest payload. */
+/* Writes a frame that was read in its shortest form; an ACK by its gaps, and
+ * PADDING as often as it is there. */
+static int write_frame(const line *in, const quic_wire_frame *frame,
+                       uint8_t *out, size_t room, size_t *len) {
+  quic_wire_frame ack;
+  quic_wire_gap gaps[GAPS];
+  if (frame->kind == QUIC_WIRE_PADDING) {
+    *len = quic_wire_padding_count(in->bytes, in->len, frame);
+    memset(out, 0, *len);
+    return QUIC_WIRE_OK;
+  }
+  if (frame->kind != QUIC_WIRE_ACK)
+    return quic_wire_frame_write(frame, in->bytes, in->len,
+                                 frame->end == in->len, out, room, len);
+  if (quic_wire_frame_read(in->bytes + frame->begin, in->len - frame->begin, 0,
+                           &ack, gaps, GAPS) < 0)
+    return QUIC_WIRE_ERR_MALFORMED;
+  return quic_wire_ack_gaps_write(&ack, gaps, ack.data, out, room, len);
+}
+
+/* The frames of a payload, written one after the other.  Returns how many bytes
+ * that makes, or 0. */
+static size_t write_frames(const line *in, uint8_t *out) {
+  quic_wire_frames frames;
+  quic_wire_frame frame;
+  size_t end = 0, len;
+  int answer = quic_wire_frames_init(&frames, in->bytes, in->len);
+  while (answer >= 0 && (answer = quic_wire_frames_next(&frames, in->bytes, in->len,
+                                                        &frame)) == QUIC_WIRE_ITEM) {
+    if (write_frame(in, &frame, out + end, in->len - end, &len))
+      return 0;
+    end += len;
+  }
+  return answer == QUIC_WIRE_OK ? end : 0;
+}
+
+/* The shortest payload, as a whole; written frame by frame it must be the
+ * same. */
 static void answer_shortest(const line *in) {
   quic_wire_canon canon;
-  uint8_t *out = malloc(in->len + 1);
-  if (out && quic_wire_canonical(in->bytes, in->len, out, in->len, &canon) == QUIC_WIRE_OK) {
+  uint8_t *out = malloc(2 * in->len + 1);
+  size_t len;
+  if (!out)
+    exit(3);
+  len = write_frames(in, out + in->len);
+  if (quic_wire_canonical(in->bytes, in->len, out, in->len, &canon) != QUIC_WIRE_OK)
+    puts(len ? "valid \"frames that have no shortest payload\"" : "invalid");
+  else if (len != canon.len || memcmp(out, out + in->len, len))
+    puts("valid \"another payload frame by frame\"");
+  else {
     printf("valid \"");
-    print_hex(stdout, out, canon.len);
+    print_hex(stdout, out, len);
     puts("\"");
-  } else
-    puts("invalid");
+  }
   free(out);
 }
 

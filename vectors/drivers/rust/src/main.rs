@@ -69,10 +69,15 @@ fn number_length(context: &Context<'_>) -> Option<String> {
     PacketNumber::new(context.number("number")?, acked).map(|number| number.len.to_string())
 }
 
+/// The shortest payload, as a whole; written frame by frame it must be the same.
 fn shortest(payload: &[u8]) -> Option<String> {
-    let mut out = Vec::new();
+    let (mut out, mut by_frames) = (Vec::new(), Vec::new());
     canonical(payload, &mut out).ok()?;
-    Some(hex(&out))
+    let mut frames = Iter::new(payload).ok()?;
+    while let Some(frame) = frames.next() {
+        frame.ok()?.encode(frames.offset() == payload.len(), &mut by_frames).ok()?;
+    }
+    Some(if by_frames == out { hex(&out) } else { format!("{} frame by frame {}", hex(&out), hex(&by_frames)) })
 }
 
 fn mask(context: &Context<'_>) -> Option<[u8; 5]> {

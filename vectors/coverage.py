@@ -5,7 +5,7 @@ coverage.py [RFCS]
 
 RFCS is a folder of rfcNNNN.txt or rfcNNNN.txt.gz. With it, each quotation of coverage.txt must be in the text of its
 section, each sentence with MUST in the sections of SCOPE must have a line, and the bytes of the worked examples must be
-in the RFC. A document whose text isn't in the folder is named and skipped."""
+in the RFC, and so must the section of each test. A document whose text isn't in the folder is named and skipped."""
 import fnmatch
 import gzip
 import pathlib
@@ -134,6 +134,14 @@ def faults_of_examples(tests, texts):
                 yield f"{test['id']}: not in the appendix of RFC 9001: {text[:60]}"
 
 
+def faults_of_sections(document, tests, texts):
+    """Tests of a section that the document hasn't."""
+    for test in tests:
+        cited, section = test["rfc"].rsplit(" ", 1)
+        if cited == document and section not in texts:
+            yield f"{test['id']}: no section {section} in {document}"
+
+
 def faults_of_texts(folder, every, tests):
     """What differs from the texts that are in a folder; what is skipped is printed."""
     for document in dict.fromkeys(line.document for line in every):
@@ -143,6 +151,7 @@ def faults_of_texts(folder, every, tests):
             continue
         texts = sections(whole)
         yield from faults_of_document(document, every, texts)
+        yield from faults_of_sections(document, tests, texts)
         if document == "RFC 9001":
             yield from faults_of_examples(tests, texts)
 

@@ -33,6 +33,10 @@ DEFAULTS = json.loads((HERE / "defaults.json").read_text(encoding="utf-8"))  # o
 SECONDS = 120  # for a driver, without an answer to all lines
 MOST_IN_VAIN = 5  # starts of a driver
 FAILURES = ("fail", "code", "crash")
+# Transport parameters of whose lists the meaning is compared: integers with their defaults, and others by their bytes.
+INTEGER_DEFAULTS = {0x01: 0, 0x03: 65527, **dict.fromkeys(range(0x04, 0x0A), 0), 0x0A: 3, 0x0B: 25, 0x0E: 2, 0x20: 0}
+MIN_ACK_DELAY = 0xFF04DE1B
+OTHER_PARAMETERS = {0x00, 0x02, 0x0C, 0x0D, 0x0F, 0x10, 0x2AB2}
 # What a cell of the table has: the letter before a count, by the kind of result.
 LETTERS = {"pass": "", "code": "c", "fail": "F", "crash": "X", "as RFC": "r", "otherwise": "o", "skip": "s"}
 LEGEND = (
@@ -56,7 +60,16 @@ def tests(folder=HERE / "json"):
                 yield Entry(file["format"], f"{file['title']}: {group['title']}", test)
 
 
-def writers(every):
+def list_writers(every):
+    """Of each list of transport parameters that is read a test of writers: read and written, it says the same."""
+    for form, _, test in every:
+        if form == "params" and test["result"] == "valid":
+            answer = {"by": test["rfc"], "result": "valid", "list": test["input"]}
+            more = {"id": f"{test['id']}.written", "comment": "The list, read and written again.", "answers": [answer]}
+            yield Entry("params-write", "params: written lists", test | more)
+
+
+def payload_writers(every):
     """Of each payload that is read a test of writers: the shortest payload of its frames, made of it and of itself."""
     for _, group, test in every:
         if "shortest" not in test:
@@ -67,6 +80,11 @@ def writers(every):
         for mark, text in (("", test["input"]), ("-again", test["shortest"])):
             more = {"id": f"{test['id']}.shortest{mark}", "input": text, "answers": [written] + rejected}
             yield Entry("shortest", f"{group.split(':')[0]}: shortest payloads", about | more)
+
+
+def writers(every):
+    """The tests of writers that the tests of readers stand for."""
+    return [*list_writers(every), *payload_writers(every)]
 
 
 def line(form, test):
@@ -122,6 +140,41 @@ def difference_of_parameters(want, got):
     return None
 
 
+def integer_at(data, at):
+    """An integer of variable length, and where it ends."""
+    end = at + (1 << (data[at] >> 6))
+    if end > len(data):
+        raise ValueError("an integer is cut off")
+    return int.from_bytes(data[at:end], "big") & ((1 << 8 * (end - at) - 2) - 1), end
+
+
+def meaning_of_list(text):
+    """What a list of transport parameters says: its parameters without those that have their defaults."""
+    data, at, out = bytes.fromhex(text), 0, {}
+    while at < len(data):
+        ident, at = integer_at(data, at)
+        size, at = integer_at(data, at)
+        value, at = data[at : at + size], at + size
+        if ident in out or at > len(data):
+            raise ValueError(f"parameter {ident:#x} is cut off or there twice")
+        if ident in INTEGER_DEFAULTS or ident == MIN_ACK_DELAY:
+            out[ident], end = integer_at(value, 0)
+            if end < size:
+                raise ValueError(f"parameter {ident:#x} has more bytes than its integer")
+        elif ident in OTHER_PARAMETERS:
+            out[ident] = value.hex()
+    return {ident: value for ident, value in out.items() if INTEGER_DEFAULTS.get(ident) != value}
+
+
+def difference_of_lists(want, got):
+    """Where a list that was written says otherwise than the one that was read, or None."""
+    want, got = meaning_of_list(want), meaning_of_list(got)
+    for ident in want.keys() | got.keys():
+        if want.get(ident) != got.get(ident):
+            return f"parameter {ident:#x}: {got.get(ident)}, not {want.get(ident)}"
+    return None
+
+
 def difference(want, got):
     """Where a reading differs from the one that is wanted, or None."""
     if isinstance(want, dict) and isinstance(got, dict):
@@ -151,6 +204,8 @@ def unlike(test, allowed, verdict, code, read):
     codes = " or ".join(allowed.get("errors", []))
     if verdict != allowed["result"]:
         return f"{verdict} {code or ''}".strip() + f", not {allowed['result']} {codes}".rstrip()
+    if verdict == "valid" and "list" in allowed:
+        return difference_of_lists(allowed["list"], read)
     if verdict == "valid":
         return difference(allowed["read"], read) if read is not None and "read" in allowed else None
     if code not in (None, "?") and code not in allowed["errors"]:
@@ -178,7 +233,7 @@ def judge(test, answer, name=None):
     try:
         verdict, code, read = parsed(answer)
         found = [unlike(test, one, verdict, code, read) for one in allowed]
-    except (ValueError, TypeError, AttributeError, KeyError) as fault:
+    except (ValueError, TypeError, AttributeError, KeyError, IndexError) as fault:
         return "fail", f"{fault} in {answer[:100]}"
     if None in found:
         if len(test["answers"]) == 1:
@@ -248,7 +303,7 @@ def main():
     words = parser.parse_args()
     stacks = stacks_of(words.stacks)
     every = list(tests())
-    every += list(writers(every))
+    every += writers(every)
     every = [entry for entry in every if fnmatch.fnmatchcase(entry.test["id"], words.only)]
     if not stacks or not every:
         print(__doc__ if every else f"run.py: no test is called {words.only}", file=sys.stderr)

@@ -7,7 +7,7 @@ import ciphers
 from reader.frames import read_frames, shortest
 from reader.input import DROP, Input, Rejected, varint
 from reader.packets import expand, number_length, protect, read_datagram, unprotect, write_header
-from reader.parameters import read_parameters
+from reader.parameters import read_parameters, write_parameters
 
 
 def read_varint(given):
@@ -34,6 +34,7 @@ def call(form, context, text):
         return cipher(form, context, data)
     calls = {
         "params": lambda: read_parameters(data, context),
+        "params-write": lambda: write_parameters(read_parameters(data, context)),
         "shortest": lambda: shortest(data, context),
         "varint-read": lambda: read_varint(data),
         "varint-write": lambda: varint(int(text)).hex(),

@@ -133,7 +133,7 @@ def main():
     files = {name: HERE / f"{name.replace('.', '/')}.py" for name in MODULES}
     trees = {name: ast.parse(path.read_text(encoding="utf-8")) for name, path in files.items()}
     every = [entry for entry in run.tests() if entry.form != "cipher"]
-    entries = [(run.line(form, test), test) for form, _, test in every + list(run.writers(every))]
+    entries = [(run.line(form, test), test) for form, _, test in every + run.writers(every)]
     listed = (HERE / "unseen.txt").read_text(encoding="utf-8").splitlines()
     known = {line.split(" | ")[0] for line in listed if not line.startswith("#")}
     all_changes = [change for name in MODULES[:-1] for change in changes(name, trees[name])]

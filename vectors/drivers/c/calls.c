@@ -219,7 +219,8 @@ typedef struct call {
 
 void answer_call(const line *in) {
   static const call calls[] = {
-      {"params", answer_params},           {"shortest", answer_shortest},
+      {"params", answer_params},           {"params-write", answer_params_write},
+      {"shortest", answer_shortest},
       {"varint-read", answer_varint_read}, {"varint-write", answer_varint_write},
       {"number-expand", answer_number},    {"number-length", answer_number},
       {"unprotect", answer_unprotect},     {"protect", answer_protect},

@@ -34,6 +34,7 @@ void print_bytes(FILE *out, const char *name, const uint8_t *bytes, size_t len);
 void answer_payload(const line *in, FILE *items, char **read);
 void answer_datagram(const line *in, FILE *items, char **read);
 void answer_params(const line *in);
+void answer_params_write(const line *in);
 void answer_call(const line *in);
 
 #endif

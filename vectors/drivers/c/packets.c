@@ -138,6 +138,23 @@ static void print_params(FILE *out, const quic_wire_params *p) {
     print_number(out, "min_ack_delay", p->min_ack_delay);
 }
 
+/* The list that was read, written by the side that sent it. */
+void answer_params_write(const line *in) {
+  uint32_t reader = item(in, "from") ? QUIC_WIRE_SERVER : QUIC_WIRE_CLIENT;
+  uint32_t sender = item(in, "from") ? QUIC_WIRE_CLIENT : QUIC_WIRE_SERVER;
+  quic_wire_params params;
+  uint8_t out[1024];
+  size_t len;
+  if (quic_wire_params_read(reader, in->bytes, in->len, &params) != QUIC_WIRE_OK ||
+      quic_wire_params_write(sender, &params, out, sizeof out, &len) != QUIC_WIRE_OK) {
+    puts("invalid");
+    return;
+  }
+  printf("valid \"");
+  print_hex(stdout, out, len);
+  puts("\"");
+}
+
 void answer_params(const line *in) {
   uint32_t side = item(in, "from") ? QUIC_WIRE_SERVER : QUIC_WIRE_CLIENT;
   quic_wire_params params;

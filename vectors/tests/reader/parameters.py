@@ -1,6 +1,6 @@
 """Transport parameters (RFC 9000, section 18; RFC 9221; RFC 9287; the ACK frequency draft)."""
 
-from reader.input import MOST, MOST_STREAMS, TPE, Input, Rejected
+from reader.input import MOST, MOST_STREAMS, TPE, Input, Rejected, varint
 
 INTEGERS = {
     0x01: ("max_idle_timeout", 0, MOST),
@@ -57,6 +57,21 @@ def read_value(ident, value):
     if not is_good or value.left():
         raise Rejected(TPE)
     return out
+
+
+def write_parameters(out):
+    """The shortest list of what was read."""
+    values = {ident: varint(out[name]) for ident, (name, _, _) in INTEGERS.items() if name in out}
+    values |= {ident: out[name] or b"" for ident, (name, _, most) in BYTES.items() if name in out and most}
+    values |= {ident: b"" for ident, (name, _, most) in BYTES.items() if name in out and not most}
+    if "preferred_connection_id" in out:
+        cid = out["preferred_connection_id"]
+        values[0x0D] = b"".join(
+            (out["preferred_ipv4_address"], out["preferred_ipv4_port"].to_bytes(2, "big"))
+            + (out["preferred_ipv6_address"], out["preferred_ipv6_port"].to_bytes(2, "big"))
+            + (bytes([len(cid)]), cid, out["preferred_stateless_reset_token"])
+        )
+    return b"".join(varint(ident) + varint(len(value)) + value for ident, value in values.items()).hex()
 
 
 def check_together(out, is_client):

@@ -2,7 +2,8 @@
 use quic_wire::canonical::canonical;
 use quic_wire::frame::Iter;
 use quic_wire::packet::{Header, LongType, PacketNumber, PacketPlace, VersionNegotiation};
-use quic_wire::varint;
+use quic_wire::transport_parameters::TransportParameters;
+use quic_wire::{varint, Side};
 use std::collections::HashMap;
 use std::io::{self, BufRead, Write};
 
@@ -78,6 +79,15 @@ fn shortest(payload: &[u8]) -> Option<String> {
         frame.ok()?.encode(frames.offset() == payload.len(), &mut by_frames).ok()?;
     }
     Some(if by_frames == out { hex(&out) } else { format!("{} frame by frame {}", hex(&out), hex(&by_frames)) })
+}
+
+/// The list that was read, written by the side that sent it.
+fn rewrite_parameters(list: &[u8], context: &Context<'_>) -> Option<String> {
+    let (reader, sender) =
+        if context.text("from").is_some() { (Side::Server, Side::Client) } else { (Side::Client, Side::Server) };
+    let mut out = Vec::new();
+    TransportParameters::read(reader, list).ok()?.write(sender, &mut out).ok()?;
+    Some(hex(&out))
 }
 
 fn mask(context: &Context<'_>) -> Option<[u8; 5]> {
@@ -165,6 +175,7 @@ fn answer(line: &str) -> Option<String> {
         "varint-write" => write_varint(input),
         "number-expand" => expand(&context),
         "number-length" => number_length(&context),
+        "params-write" => rewrite_parameters(&bytes, &context),
         "shortest" => shortest(&bytes),
         "protect" => protect(&mut bytes, &context),
         "header-write" => write_header(&context),

@@ -1,0 +1,151 @@
+/* Frames as they are read. */
+#include <inttypes.h>
+#include <stdlib.h>
+
+#include "driver.h"
+
+typedef struct kind {
+  uint16_t kind;
+  const char *name;
+  const char *numbers[4]; /* the fields in quic_wire_frame.numbers */
+  const char *data;       /* the field of its data */
+} kind;
+
+static const kind kinds[] = {
+    {QUIC_WIRE_PADDING, "PADDING", {0}, NULL},
+    {QUIC_WIRE_PING, "PING", {0}, NULL},
+    {QUIC_WIRE_ACK, "ACK", {"largest_acknowledged", "ack_delay"}, NULL},
+    {QUIC_WIRE_RESET_STREAM, "RESET_STREAM",
+     {"stream_id", "application_protocol_error_code", "final_size"}, NULL},
+    {QUIC_WIRE_STOP_SENDING, "STOP_SENDING",
+     {"stream_id", "application_protocol_error_code"}, NULL},
+    {QUIC_WIRE_CRYPTO, "CRYPTO", {NULL, "offset"}, "crypto_data"},
+    {QUIC_WIRE_NEW_TOKEN, "NEW_TOKEN", {0}, "token"},
+    {QUIC_WIRE_STREAM, "STREAM", {"stream_id", "offset"}, "stream_data"},
+    {QUIC_WIRE_MAX_DATA, "MAX_DATA", {NULL, "maximum_data"}, NULL},
+    {QUIC_WIRE_MAX_STREAM_DATA, "MAX_STREAM_DATA",
+     {"stream_id", "maximum_stream_data"}, NULL},
+    {QUIC_WIRE_MAX_STREAMS_BIDI, "MAX_STREAMS", {NULL, "maximum_streams"}, NULL},
+    {QUIC_WIRE_MAX_STREAMS_UNI, "MAX_STREAMS", {NULL, "maximum_streams"}, NULL},
+    {QUIC_WIRE_DATA_BLOCKED, "DATA_BLOCKED", {NULL, "maximum_data"}, NULL},
+    {QUIC_WIRE_STREAM_DATA_BLOCKED, "STREAM_DATA_BLOCKED",
+     {"stream_id", "maximum_stream_data"}, NULL},
+    {QUIC_WIRE_STREAMS_BLOCKED_BIDI, "STREAMS_BLOCKED",
+     {NULL, "maximum_streams"}, NULL},
+    {QUIC_WIRE_STREAMS_BLOCKED_UNI, "STREAMS_BLOCKED",
+     {NULL, "maximum_streams"}, NULL},
+    {QUIC_WIRE_NEW_CONNECTION_ID, "NEW_CONNECTION_ID",
+     {"sequence_number", "retire_prior_to"}, "connection_id"},
+    {QUIC_WIRE_RETIRE_CONNECTION_ID, "RETIRE_CONNECTION_ID",
+     {"sequence_number"}, NULL},
+    {QUIC_WIRE_PATH_CHALLENGE, "PATH_CHALLENGE", {0}, NULL},
+    {QUIC_WIRE_PATH_RESPONSE, "PATH_RESPONSE", {0}, NULL},
+    {QUIC_WIRE_CONNECTION_CLOSE, "CONNECTION_CLOSE",
+     {"error_code", "frame_type"}, "reason_phrase"},
+    {QUIC_WIRE_APPLICATION_CLOSE, "CONNECTION_CLOSE", {"error_code"},
+     "reason_phrase"},
+    {QUIC_WIRE_HANDSHAKE_DONE, "HANDSHAKE_DONE", {0}, NULL},
+    {QUIC_WIRE_IMMEDIATE_ACK, "IMMEDIATE_ACK", {0}, NULL},
+    {QUIC_WIRE_DATAGRAM, "DATAGRAM", {0}, "datagram_data"},
+    {QUIC_WIRE_ACK_FREQUENCY, "ACK_FREQUENCY",
+     {"sequence_number", "ack_eliciting_threshold", "requested_max_ack_delay",
+      "reordering_threshold"}, NULL},
+};
+
+static void print_ranges(FILE *out, const line *in,
+                         const quic_wire_frame *frame) {
+  quic_wire_ack_ranges ranges;
+  quic_wire_range range;
+  const char *before = "";
+  fprintf(out, ",\"ranges\":[");
+  if (quic_wire_ack_ranges_init(&ranges, in->bytes, in->len, frame))
+    abort();
+  while (quic_wire_ack_ranges_next(&ranges, in->bytes, in->len, &range) ==
+         QUIC_WIRE_ITEM) {
+    fprintf(out, "%s[\"%" PRIu64 "\",\"%" PRIu64 "\"]", before, range.start,
+            range.end - 1);
+    before = ",";
+  }
+  putc(']', out);
+}
+
+/* The fields that one kind of frame alone has. */
+static void print_more(FILE *out, const line *in, const quic_wire_frame *frame) {
+  static const char *const directions[] = {"bidirectional", "unidirectional"};
+  switch (frame->kind) {
+  case QUIC_WIRE_PADDING:
+    print_number(out, "count", quic_wire_padding_count(in->bytes, in->len, frame));
+    break;
+  case QUIC_WIRE_ACK:
+    if (frame->flags & QUIC_WIRE_FLAG_ECN) {
+      print_number(out, "ect0_count", frame->ack.ect0);
+      print_number(out, "ect1_count", frame->ack.ect1);
+      print_number(out, "ecn_ce_count", frame->ack.ce);
+    }
+    print_ranges(out, in, frame);
+    break;
+  case QUIC_WIRE_STREAM:
+    print_number(out, "fin", frame->flags & QUIC_WIRE_FLAG_FIN);
+    break;
+  case QUIC_WIRE_MAX_STREAMS_BIDI:
+  case QUIC_WIRE_MAX_STREAMS_UNI:
+  case QUIC_WIRE_STREAMS_BLOCKED_BIDI:
+  case QUIC_WIRE_STREAMS_BLOCKED_UNI:
+    fprintf(out, ",\"direction\":\"%s\"", directions[frame->kind & 1]);
+    break;
+  case QUIC_WIRE_NEW_CONNECTION_ID:
+    print_bytes(out, "stateless_reset_token",
+                quic_wire_reset_token(in->bytes, in->len, frame), 16);
+    break;
+  case QUIC_WIRE_PATH_CHALLENGE:
+  case QUIC_WIRE_PATH_RESPONSE:
+    print_bytes(out, "data", quic_wire_path_data(in->bytes, in->len, frame), 8);
+    break;
+  case QUIC_WIRE_CONNECTION_CLOSE:
+    fprintf(out, ",\"layer\":\"transport\"");
+    break;
+  case QUIC_WIRE_APPLICATION_CLOSE:
+    fprintf(out, ",\"layer\":\"application\"");
+    break;
+  default: break;
+  }
+}
+
+static void print_frame(FILE *out, const line *in, const quic_wire_frame *frame) {
+  const kind *k = kinds;
+  size_t i;
+  while (k->kind != frame->kind)
+    k++;
+  fprintf(out, "%s{\"type\":\"%s\"", frame->begin ? "," : "", k->name);
+  for (i = 0; i < 4; i++)
+    if (k->numbers[i])
+      print_number(out, k->numbers[i], frame->numbers[i]);
+  if (k->data)
+    print_bytes(out, k->data, in->bytes + frame->data, frame->datalen);
+  print_more(out, in, frame);
+  putc('}', out);
+}
+
+void answer_payload(const line *in, FILE *items, char **read) {
+  int (*next)(quic_wire_frames *, const uint8_t *, size_t, quic_wire_frame *) =
+      item(in, "without") ? quic_wire_frames_next_basic : quic_wire_frames_next;
+  quic_wire_frames frames;
+  quic_wire_frame frame;
+  int answer = (item(in, "strict") ? quic_wire_frames_init_strict
+                                   : quic_wire_frames_init)(&frames, in->bytes, in->len);
+  if (answer == QUIC_WIRE_ERR_EMPTY) {
+    puts("invalid PROTOCOL_VIOLATION {\"at\":0,\"before\":[]}");
+    return;
+  }
+  while ((answer = next(&frames, in->bytes, in->len, &frame)) == QUIC_WIRE_ITEM)
+    print_frame(items, in, &frame);
+  fflush(items);
+  if (answer == QUIC_WIRE_OK)
+    printf("valid [%s]\n", *read);
+  else
+    printf("invalid %s {\"at\":%zu,\"before\":[%s]}\n",
+           quic_wire_error_reason(&frame) == QUIC_WIRE_REASON_LONG_TYPE
+               ? "PROTOCOL_VIOLATION"
+               : "FRAME_ENCODING_ERROR",
+           frames.offset, *read);
+}

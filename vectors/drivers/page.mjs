@@ -1,0 +1,187 @@
+// A driver of the test vectors by what the page of web/ reads: its items and their fields, and the module's calls.
+//
+// node --experimental-default-type=module --experimental-wasm-memory64 page.mjs MODULE
+import fs from "node:fs";
+import readline from "node:readline";
+
+import { Library } from "../../web/library.js";
+import { ACK, PADDING } from "../../web/names.js";
+import { readBytes } from "../../web/reading.js";
+
+const PACKETS = ["Initial", "0-RTT", "Handshake", "Retry", "1-RTT", "Version Negotiation"];
+const RETRY = 3;
+const VERSIONS = [1, 0x6b3343cf];
+const FIN = 1n;
+const SPIN = 0x20;
+const RESERVED = { long: 0x0c, short: 0x18 };
+// The page's names of fields that the tests name otherwise.
+const NAMES = {
+  request_max_ack_delay: "requested_max_ack_delay", destination_connection_id: "dcid", source_connection_id: "scid",
+  supported_version: "supported_versions",
+};
+// Fields that only say where others end.
+const LENGTHS = /^(type|first_byte|.*length|ack_range.*|first_ack_range|gap|packet_number_and_.*|retry_token_and_.*)$/;
+const PARAMETERS = {
+  original_dst_cid: "original_destination_connection_id", initial_src_cid: "initial_source_connection_id",
+  retry_src_cid: "retry_source_connection_id", preferred_v4: "preferred_ipv4_address",
+  preferred_v4_port: "preferred_ipv4_port", preferred_v6: "preferred_ipv6_address",
+  preferred_v6_port: "preferred_ipv6_port", preferred_cid: "preferred_connection_id",
+  preferred_token: "preferred_stateless_reset_token", stateless_reset_token: "stateless_reset_token",
+};
+// The bit of |present| for each field of the record that a list may lack.
+const PRESENT = {
+  stateless_reset_token: 0x001, max_datagram_frame_size: 0x004, preferred_v4: 0x008, preferred_v4_port: 0x008,
+  preferred_v6: 0x008, preferred_v6_port: 0x008, preferred_cid: 0x008, preferred_token: 0x008, original_dst_cid: 0x040,
+  initial_src_cid: 0x080, retry_src_cid: 0x100, min_ack_delay: 0x400,
+};
+const FLAGS = { disable_active_migration: 0x002, grease_quic_bit: 0x200 };
+
+const hex = (bytes) => Buffer.from(bytes).toString("hex");
+const valid = (read) => `valid ${JSON.stringify(read)}`;
+const invalid = (code, at, before) => `invalid ${code} ${JSON.stringify({ at, before })}`;
+
+// A field's name as the tests have it.
+function nameOf(field) {
+  const name = field.name.toLowerCase().replace(/[ -]/g, "_");
+  return NAMES[name] ?? name;
+}
+
+// The fields of an item, integers as decimal text and bytes as hexadecimal.
+function fieldsOf(item, bytes) {
+  const all = item.fields.map((field) => [nameOf(field), field]).filter(([name]) => !LENGTHS.test(name));
+  return Object.fromEntries(all.map(([name, { number, begin, end }]) => (
+    [name, number === undefined ? hex(bytes.subarray(begin, end)) : `${number}`])));
+}
+
+function frameOf(item, bytes) {
+  const [, name, side] = /^(.*?)(?:_(BIDI|UNI))?$/.exec(item.name);
+  if (item.kind === PADDING) {
+    return { type: name, count: `${item.end - item.begin}` };
+  }
+  const out = { type: name, ...fieldsOf(item, bytes) };
+  const type = item.fields[0].number;
+  if (item.kind === ACK) {
+    out.ranges = item.ranges.map(([low, high]) => [`${low}`, `${high}`]);
+  } else if (name === "STREAM") {
+    out.offset ??= "0";
+    out.fin = `${type & FIN}`;
+  } else if (side) {
+    out.direction = side === "UNI" ? "unidirectional" : "bidirectional";
+  } else if (name.endsWith("_CLOSE")) {
+    out.type = "CONNECTION_CLOSE";
+    out.layer = name === "APPLICATION_CLOSE" ? "application" : "transport";
+  }
+  return out;
+}
+
+// What was read of each whole item; the page must have found the same fields as the library.
+function itemsOf(reading, of) {
+  return Array.from({ length: reading.whole }, (_, index) => {
+    const item = reading.item(index);
+    if (!item.agrees) {
+      throw new Error(`item ${index}: the page's fields aren't the library's`);
+    }
+    return of(item);
+  });
+}
+
+function payload(library, bytes, context) {
+  if (context.without) {
+    return "skip"; // the page always knows the frames of the ACK frequency extension
+  }
+  const reading = readBytes(library, bytes, { mode: "frames", strict: context.strict === "1" });
+  const read = itemsOf(reading, (item) => frameOf(item, bytes));
+  return reading.error ? invalid(reading.error.code.split(" ")[0], reading.rest, read) : valid(read);
+}
+
+function packetOf(reading, item, bytes) {
+  const packet = reading.packet(item.index);
+  const fields = fieldsOf(item, bytes);
+  const out = { type: PACKETS[item.kind], dcid: "", ...fields, end: `${item.end}` };
+  if (item.kind === 4) {
+    out.spin = bytes[item.begin] & SPIN ? "1" : "0";
+  }
+  if (item.kind === 5) {
+    delete out.supported_versions; // one field for each version
+  }
+  if (item.kind === 4 || item.kind < RETRY) {
+    out.packet_number_at = `${packet.number}`;
+  }
+  return out;
+}
+
+function datagram(library, bytes, context) {
+  const versions = context.versions === "1" ? VERSIONS.slice(0, 1) : VERSIONS;
+  const idLength = Number(context.cid_len ?? 8);
+  const choices = { mode: "datagram", idLength, versions, grease: context.grease === "1" };
+  const reading = readBytes(library, bytes, choices);
+  const read = itemsOf(reading, (item) => packetOf(reading, item, bytes));
+  if (!reading.error) {
+    return valid(read);
+  }
+  // What has a version that isn't known is a packet all the same: its ids are read.
+  return reading.error.version === null ? invalid("DROP", reading.rest, read) : "valid";
+}
+
+function parameters(library, bytes, context) {
+  const reading = readBytes(library, bytes, { mode: "params", side: context.from === "client" ? "server" : "client" });
+  const { record } = reading;
+  if (!record) {
+    return "invalid TRANSPORT_PARAMETER_ERROR";
+  }
+  const out = {};
+  for (const [name, value] of Object.entries(record)) {
+    const isThere = !(name in PRESENT) || record.present & PRESENT[name];
+    if (!isThere || name === "present" || name === "reason" || name.endsWith("_cidlen")) continue;
+    const length = record[`${name}len`];
+    out[PARAMETERS[name] ?? name] = value instanceof Uint8Array ? hex(value.subarray(0, length)) : `${value}`;
+  }
+  for (const [name, bit] of Object.entries(FLAGS)) {
+    if (record.present & bit) out[name] = "1";
+  }
+  return valid(out);
+}
+
+function shortest(library, bytes) {
+  library.hold(bytes);
+  const { bytes: found } = library.canonical();
+  return found ? valid(hex(found)) : "invalid";
+}
+
+function unprotect(library, bytes, context) {
+  const place = Number(context.place);
+  library.hold(bytes);
+  const mask = Buffer.from(context.mask, "hex");
+  const packet = { begin: 0, end: bytes.length, number: place };
+  const opened = bytes.length < place + 20 ? null : library.unprotect(packet, mask);
+  if (!opened) {
+    return "invalid DROP";
+  }
+  const { first, numberLength } = opened;
+  if (first & (first & 0x80 ? RESERVED.long : RESERVED.short)) {
+    return "invalid PROTOCOL_VIOLATION";
+  }
+  const number = opened.number.toString(16).padStart(2 * numberLength, "0");
+  // The page shows the number as it is written.
+  return context.largest === "-" ? valid(`${hex([first])} ${number} ${opened.number}`) : "valid";
+}
+
+// The memory's growth in pages is a BigInt, which node 20 doesn't take yet.
+const { grow } = WebAssembly.Memory.prototype;
+WebAssembly.Memory.prototype.grow = function growBy(pages) {
+  try {
+    return grow.call(this, pages);
+  } catch {
+    return grow.call(this, Number(pages));
+  }
+};
+
+const CALLS = { payload, datagram, params: parameters, shortest, unprotect };
+
+const [library] = await Library.load(fs.readFileSync(process.argv[2]), 1);
+for await (const line of readline.createInterface({ input: process.stdin })) {
+  const [form, words, digits] = line.split(" ");
+  const context = words === "-" ? {} : Object.fromEntries(words.split(",").map((word) => word.split("=")));
+  const bytes = new Uint8Array(Buffer.from(digits === "-" ? "" : digits, "hex"));
+  process.stdout.write(`${CALLS[form] ? CALLS[form](library, bytes, context) : "skip"}\n`);
+}

@@ -1,0 +1,200 @@
+//! Answers the lines of test vectors that need a single call of the crate quic-wire; all others are `skip`.
+use quic_wire::canonical::canonical;
+use quic_wire::frame::Iter;
+use quic_wire::packet::{Header, LongType, PacketNumber, PacketPlace, VersionNegotiation};
+use quic_wire::transport_parameters::TransportParameters;
+use quic_wire::{varint, Side};
+use std::collections::HashMap;
+use std::io::{self, BufRead, Write};
+
+const SAMPLE: usize = 16;
+const RESERVED_LONG: u8 = 0x0c;
+const RESERVED_SHORT: u8 = 0x18;
+
+/// The words of a line's context; `-` stands for none.
+struct Context<'a>(HashMap<&'a str, &'a str>);
+
+impl<'a> Context<'a> {
+    fn new(words: &'a str) -> Self {
+        Self(words.split(',').filter_map(|word| word.split_once('=')).collect())
+    }
+
+    fn text(&self, name: &str) -> Option<&'a str> {
+        self.0.get(name).copied().filter(|text| *text != "-")
+    }
+
+    fn number(&self, name: &str) -> Option<u64> {
+        self.text(name)?.parse().ok()
+    }
+
+    fn bytes(&self, name: &str) -> Option<Vec<u8>> {
+        unhex(self.text(name).unwrap_or(""))
+    }
+
+    fn is_set(&self, name: &str) -> bool {
+        self.number(name) == Some(1)
+    }
+
+    /// The packet number that is expected next.
+    fn expected(&self) -> u64 {
+        self.number("largest").map_or(0, |largest| largest + 1)
+    }
+}
+
+fn unhex(digits: &str) -> Option<Vec<u8>> {
+    (0..digits.len()).step_by(2).map(|i| u8::from_str_radix(digits.get(i..i + 2)?, 16).ok()).collect()
+}
+
+fn hex(bytes: &[u8]) -> String {
+    bytes.iter().map(|byte| format!("{byte:02x}")).collect()
+}
+
+fn read_varint(bytes: &[u8]) -> Option<String> {
+    let (value, len) = varint::read(bytes)?;
+    Some(format!("{value} {len}"))
+}
+
+fn write_varint(number: &str) -> Option<String> {
+    let mut out = Vec::new();
+    varint::write(number.parse().ok()?, &mut out).ok()?;
+    Some(hex(&out))
+}
+
+fn expand(context: &Context<'_>) -> Option<String> {
+    let len = context.number("bits")? as usize / 8;
+    PacketNumber::expand(context.number("written")?, len, context.expected()).map(|number| number.to_string())
+}
+
+fn number_length(context: &Context<'_>) -> Option<String> {
+    let acked = context.number("acked").unwrap_or(0);
+    PacketNumber::new(context.number("number")?, acked).map(|number| number.len.to_string())
+}
+
+/// The shortest payload, as a whole; written frame by frame it must be the same.
+fn shortest(payload: &[u8]) -> Option<String> {
+    let (mut out, mut by_frames) = (Vec::new(), Vec::new());
+    canonical(payload, &mut out).ok()?;
+    let mut frames = Iter::new(payload).ok()?;
+    while let Some(frame) = frames.next() {
+        frame.ok()?.encode(frames.offset() == payload.len(), &mut by_frames).ok()?;
+    }
+    Some(if by_frames == out { hex(&out) } else { format!("{} frame by frame {}", hex(&out), hex(&by_frames)) })
+}
+
+/// The list that was read, written by the side that sent it.
+fn rewrite_parameters(list: &[u8], context: &Context<'_>) -> Option<String> {
+    let (reader, sender) =
+        if context.text("from").is_some() { (Side::Server, Side::Client) } else { (Side::Client, Side::Server) };
+    let mut out = Vec::new();
+    TransportParameters::read(reader, list).ok()?.write(sender, &mut out).ok()?;
+    Some(hex(&out))
+}
+
+fn mask(context: &Context<'_>) -> Option<[u8; 5]> {
+    context.bytes("mask")?.try_into().ok()
+}
+
+/// What is under the protection, or the code with which it is rejected.
+fn unprotect(packet: &mut [u8], context: &Context<'_>) -> Result<String, &'static str> {
+    let number = context.number("place").ok_or("?")? as usize;
+    let place = PacketPlace::new(0..packet.len(), number);
+    let sample = place.sample(packet, SAMPLE).map_err(|_| "DROP")?;
+    if context.bytes("sample").as_deref() != Some(sample) {
+        return Err("?");
+    }
+    let mask = mask(context).ok_or("?")?;
+    let opened = place.unprotect(packet, &mask, context.expected()).map_err(|_| "DROP")?;
+    let reserved = if packet[0] & 0x80 == 0 { RESERVED_SHORT } else { RESERVED_LONG };
+    if opened.reserved_bits_valid() != (packet[0] & reserved == 0) {
+        return Err("?");
+    }
+    if !opened.reserved_bits_valid() {
+        return Err("PROTOCOL_VIOLATION");
+    }
+    let written = &packet[number..opened.payload];
+    Ok(format!("{:02x} {} {}", opened.first, hex(written), opened.number))
+}
+
+fn protect(packet: &mut [u8], context: &Context<'_>) -> Option<String> {
+    let place = PacketPlace::new(0..packet.len(), context.number("place")? as usize);
+    place.protect(packet, &mask(context)?).ok()?;
+    Some(hex(packet))
+}
+
+/// Whether a payload is read without the ACK frequency extension; the program `quic-wire` always has it.
+fn read_basic(payload: &[u8]) -> String {
+    match Iter::new(payload).map(|frames| frames.without_ack_frequency().all(|frame| frame.is_ok())) {
+        Err(_) => "invalid PROTOCOL_VIOLATION".into(),
+        Ok(false) => "invalid FRAME_ENCODING_ERROR".into(),
+        Ok(true) => "valid".into(),
+    }
+}
+
+fn write_negotiation(context: &Context<'_>, dst_cid: &[u8], src_cid: &[u8]) -> Option<String> {
+    let random = u8::from_str_radix(context.text("unused")?, 16).ok()?;
+    let supported = context.text("supported")?.split('+');
+    let versions = supported.map(|version| u32::from_str_radix(version, 16).ok()).collect::<Option<Vec<_>>>()?;
+    let mut out = Vec::new();
+    VersionNegotiation { random, dst_cid, src_cid, versions: &versions }.encode(&mut out).ok()?;
+    Some(hex(&out))
+}
+
+fn write_header(context: &Context<'_>) -> Option<String> {
+    let (dcid, scid, token) = (context.bytes("dcid")?, context.bytes("scid")?, context.bytes("token")?);
+    let (dst_cid, src_cid, token) = (&dcid[..], &scid[..], &token[..]);
+    if context.text("kind") == Some("vn") {
+        return write_negotiation(context, dst_cid, src_cid);
+    }
+    let version = u32::from_str_radix(context.text("version").unwrap_or("0"), 16).ok()?;
+    let len = context.number("number_length").unwrap_or(0) as usize;
+    let number = PacketNumber { number: context.number("number").unwrap_or(0), len };
+    let header = match context.text("kind")? {
+        "initial" => Header::Initial { dst_cid, src_cid, token, number, version },
+        "0rtt" => Header::Long { ty: LongType::ZeroRtt, dst_cid, src_cid, number, version },
+        "handshake" => Header::Long { ty: LongType::Handshake, dst_cid, src_cid, number, version },
+        "retry" => Header::Retry { dst_cid, src_cid, version },
+        _ => Header::Short { spin: context.is_set("spin"), key_phase: context.is_set("key_phase"), dst_cid, number },
+    };
+    let mut out = Vec::new();
+    let written = header.encode_with(context.is_set("grease"), &mut out).ok()?;
+    let end = out.len();
+    if let Some(length) = context.number("length") {
+        out.resize(written.number + length as usize, 0);
+        written.set_len(&mut out).ok()?;
+    }
+    Some(hex(&out[..end]))
+}
+
+fn answer(line: &str) -> Option<String> {
+    let mut words = line.split(' ');
+    let (form, context, input) = (words.next()?, Context::new(words.next()?), words.next()?);
+    let input = if input == "-" { "" } else { input };
+    let mut bytes = if form == "varint-write" { Vec::new() } else { unhex(input)? };
+    let found = match form {
+        "varint-read" => read_varint(&bytes),
+        "varint-write" => write_varint(input),
+        "number-expand" => expand(&context),
+        "number-length" => number_length(&context),
+        "params-write" => rewrite_parameters(&bytes, &context),
+        "shortest" => shortest(&bytes),
+        "protect" => protect(&mut bytes, &context),
+        "header-write" => write_header(&context),
+        "payload" if context.text("without").is_some() => return Some(read_basic(&bytes)),
+        "unprotect" => match unprotect(&mut bytes, &context) {
+            Ok(found) => Some(found),
+            Err(code) => return Some(format!("invalid {code}")),
+        },
+        _ => return Some("skip".into()),
+    };
+    Some(found.map_or("invalid".into(), |text| format!("valid \"{text}\"")))
+}
+
+fn main() -> io::Result<()> {
+    let mut out = io::stdout().lock();
+    for line in io::stdin().lock().lines() {
+        let line = line?;
+        writeln!(out, "{}", answer(line.trim_end()).unwrap_or_else(|| format!("not a line: {line}")))?;
+        out.flush()?;
+    }
+    Ok(())
+}

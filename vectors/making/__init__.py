@@ -1,0 +1,1 @@
+"""Makes the tests of json/ from the tables."""

@@ -5,3 +5,4 @@ mod Again
 mod Counts
 mod HeadersBack
 mod Values
+mod Lowest

@@ -1,6 +1,5 @@
 //! Frames that are written and read again: what callers learn from the contracts of both.
-ghost use Rattle.std.specs.Prelude.{◌≡◌, ◌<◌, ◌≤◌, ◌^◌, ◌+◌, ◌++◌, true, ℕ, List, IfErr, IfOk, [], vec_len, vec_capacity};
-ghost use Rattle.quic_frame_fields.specs.Shortest.{shortest_frame};
+ghost use Rattle.std.specs.Prelude.{◌≡◌, ◌<◌, ◌^◌, true, ℕ, List, IfErr, IfOk, []};
 ghost use Rattle.quic_frame_fields.specs.Acks.{fault_of, ranges_left};
 ghost use Rattle.quic_frame_fields.specs.Field.{AreApart, AreBlocks};
 ghost use Rattle.quic_frame_fields.specs.Refusal.{AreNoBlocks};
@@ -8,7 +7,7 @@ ghost use Rattle.quic_frames.specs.InRange.{CanStand};
 ghost use Rattle.quic_frames.specs.Meaning.{meaning_of};
 
 use quic_base::coding::NoRoom;
-use quic_frames::frame::{Ack, AckError, AckIter, Frame, Iter, RETIRE_CONNECTION_ID_SIZE_BOUND};
+use quic_frames::frame::{Ack, AckError, AckIter, Frame, Iter};
 use quic_frames::laws;
 
 /// Writes a frame as a payload of its own and gives the frame that is read from it, which has the same meaning.
@@ -43,18 +42,4 @@ pub fn ranges_of_blocks(largest: u64, blocks: &[u8]) -> Result<AckIter<'_>, AckE
     laws::one_list_of_ranges();
     let ack = Ack::from_parts(largest, 0, blocks, None)?;
     Ok(ack.iter())
-}
-
-/// Appends a RETIRE_CONNECTION_ID, for which the caller has made as much room as one can take (RFC 9000, section 19.16).
-/// The sequence number must be below 2^62.
-pub fn write_retirement(sequence: u64, out: &mut Vec<u8>)
-    requires sequence { sequence < 2 ^ 62 }
-    requires room { vec_len out.old + RETIRE_CONNECTION_ID_SIZE_BOUND ≤ vec_capacity out.old }
-    ensures { out.new.items ≡ out.old.items ++ shortest_frame true (meaning_of (Frame.RetireConnectionId sequence)) }
-{
-    laws::retire_connection_id_is_bounded();
-    let frame = Frame::RetireConnectionId { sequence };
-    let Ok(()) = frame.encode(true, out) else {
-        unreachable!()
-    };
 }

@@ -1,6 +1,6 @@
 //! Lists of transport parameters, and parameters that are remembered: what callers learn from the contracts and the
 //! laws.
-ghost use Rattle.std.specs.Prelude.{◌≡◌, IfSome, OnOk, Ok, List, ◌∷◌, slice_get};
+ghost use Rattle.std.specs.Prelude.{◌≡◌, ◌<◌, IfSome, OnOk, Ok, Some, List, ◌∷◌, length, slice_get};
 ghost use Rattle.quic_params.specs.Entry.{Entry};
 ghost use Rattle.quic_params.specs.Further.{IsRecordOf};
 ghost use Rattle.quic_params.specs.Meaning.{IsReadAnswer};
@@ -51,10 +51,11 @@ pub fn keeps_itself(params: &TransportParameters) {
     }
 }
 
-/// The parameter that is written at a place, counted from 0; `None` past the last one.
-pub fn written_at(place: usize) -> Option<TransportParameterId>
-    ensures { result ≡ slice_get ids place }
+/// The parameter that is written at a place, counted from 0 and below 21.
+pub fn written_at(place: usize) -> TransportParameterId
+    requires { place < length ids }
+    ensures { slice_get ids place ≡ Some result }
 {
     laws::supported();
-    TransportParameterId::SUPPORTED.get(place).copied()
+    TransportParameterId::SUPPORTED[place]
 }

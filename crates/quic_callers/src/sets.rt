@@ -1,5 +1,5 @@
 //! Sets of packet numbers.
-ghost use Rattle.std.specs.Prelude.{◌≡◌, ◌<◌, ℕ, true, false, MatchOption, OnErr, OnOk};
+ghost use Rattle.std.specs.Prelude.{◌≡◌, ℕ, true, false, MatchOption, OnErr, OnOk};
 ghost use Rattle.quic_ranges.specs.Runs.{IsRunsOf, in_union, member};
 
 use quic_base::coding::NoRoom;
@@ -16,10 +16,9 @@ pub fn unite(set: &mut RangeSet, range: Range<u64>) -> Result<(), NoRoom>
     Ok(())
 }
 
-/// The lowest number of a set; `None` exactly if the set is empty.
-pub fn lowest(set: &RangeSet) -> Option<u64>
-    ensures { MatchOption result ((n : ℕ) → member set.now n ≡ false) (λ n. (member set.now n ≡ true)
-        × ((other : ℕ) → other < n → member set.now other ≡ false)) }
+/// The first number of a set; `None` exactly if the set is empty.
+pub fn first_number(set: &RangeSet) -> Option<u64>
+    ensures { MatchOption result ((n : ℕ) → member set.now n ≡ false) (λ n. member set.now n ≡ true) }
 {
     laws::elements();
     set.elts().next()

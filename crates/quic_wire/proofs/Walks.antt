@@ -102,11 +102,11 @@ pub lost : (front : List ℕ) (state : IterState) (i : InvalidFrame) (final : Bo
     → MatchBool final (i.reason.now ≢ codes "unexpected end") (i.reason.now ≡ codes "unexpected end") → IsTrue final
     → (more : List ℕ) (found : List TypedFrame) → AreBytes (front ++ more)
     → IsReadingOf false (front ++ more) (Complete found) → ⊥
-lost front state i final last w l tested yes more found fits complete =
+lost front state i final last w l tested sure more found fits complete =
     let broken = has_read_error false front w.0 state (invalid_of i) w.1 l in
     let cut : l.reason ≡ UnexpectedEnd = last false found w.0 front more l.type l.reason fits complete broken in
     let text : i.reason.now ≡ reason_text l.reason = ap (λ (x : Invalid). x.reason) l.says in
-    when_true _ _ final yes tested (text ∙ ap reason_text cut)
+    when_true _ _ final sure tested (text ∙ ap reason_text cut)
 
 reason_is_end : (reason : Fault) → reason_text reason ≡ codes "unexpected end" → reason ≡ UnexpectedEnd
 reason_is_end UnexpectedEnd e = refl
@@ -118,10 +118,10 @@ pub may_go_on : (front : List ℕ) (state : IterState) (i : InvalidFrame) (final
     → ExactlyOne (IsReadingOf false front) → IsUnderWay front state → LacksFrame state (invalid_of i)
     → MatchBool final (i.reason.now ≢ codes "unexpected end") (i.reason.now ≡ codes "unexpected end") → final ≡ false
     → (reading : Reading) → IsReadingOf false front reading → MayGoOn reading
-may_go_on front state i final one w l tested no reading is =
+may_go_on front state i final one w l tested unsure reading is =
     let broken = has_read_error false front w.0 state (invalid_of i) w.1 l in
     let text : reason_text l.reason ≡ i.reason.now = sym (ap (λ (x : Invalid). x.reason) l.says) in
-    let end = reason_is_end l.reason (text ∙ when_false _ _ final no tested) in
+    let end = reason_is_end l.reason (text ∙ when_false _ _ final unsure tested) in
     subst MayGoOn (one.only (FailsAfter w.0 l.type l.reason) broken ∙ sym (one.only reading is)) end
 
 pub may_follow : (front : List ℕ) (state : IterState) → ExactlyOne (IsReadingOf false front) → IsUnderWay front state

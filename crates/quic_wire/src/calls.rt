@@ -152,7 +152,10 @@ fn read_frames<'a>(
     ensures { IfOk result (λ read. map meaning_of read.items ≡ map meaning_of frames.now) }
 {
     frames_again();
-    let (read, error) = read_payload(alloc, payload)?;
+    let (read, error) = match read_payload(alloc, payload) {
+        Ok(parts) => parts,
+        Err(e) => return Err(e),
+    };
     match error {
         None => Ok(read),
         Some(_) => unreachable!(),

@@ -1,9 +1,18 @@
-use Rattle.std.proofs.Common.{Some, false, subst, sym}
+use Rattle.std.proofs.Common.{Some, false, subst, sym, ◌∙◌}
 use Rattle.std.specs.Prelude.{List}
 use Rattle.quic_frames.specs.Walk.{Advances}
 use Rattle.quic_frames.specs.declared.frame.Frame.{Frame}
-use Rattle.quic_wire.proofs.Walks.{HasCome, one_more, is_kept, returns_all, returns_error}
+use Rattle.quic_wire.proofs.Walks.{HasCome, nothing_yet, one_more, is_kept, returns_all, returns_error}
 use Rattle.quic_wire.proofs.calls.read_payload.Goals as goal
+
+pub loop-item-init : goal.loop-item-init
+loop-item-init c =
+    let begun = c.into_iter-item-iterator.ensures.into_iter_gives ∙ c.in-Ok.ensures.first in (
+      tt,
+      tt,
+      subst (λ (frames : List Frame). HasCome c.args.payload.now frames c.into_iter-item-iterator.result)
+          (sym c.new-frames.ensures.items) (nothing_yet c.args.payload.now c.into_iter-item-iterator.result begun),
+    )
 
 pub loop-item-preserved : goal.loop-item-preserved
 loop-item-preserved c =

@@ -4,5 +4,5 @@ use Rattle.quic_wire.proofs.laws.frames_again.Goals as goal
 
 pub returns : goal.returns
 returns c = λ strict frames payload some is.
-    read_again strict frames payload (c.one_reading.ensures.one false) c.one_least.ensures.strict is
+    read_again strict frames payload (c.one_reading.ensures.frames false) c.one_least.ensures.strict is
     (c.written_is_least.ensures frames payload some is)

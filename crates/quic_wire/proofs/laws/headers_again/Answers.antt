@@ -74,7 +74,7 @@ returns-clause-numbered c = of
           (
             number,
             subst (IsNumberIn number at) (sym same) (number_there number first (tail ++ len) payload at refl
-                (long_low version size (kind.Standard ty) bounds.0 bounds.1) valid),
+                (long_low version size (kind.Standard ty) bounds.0 bounds.1) valid.1),
             refl,
             refl,
           ),
@@ -154,7 +154,7 @@ returns-clause-numbered c = of
           (
             number,
             subst (IsNumberIn number at) (sym same)
-                (number_there number first dst payload at refl (short_low spin key_phase size bounds.0 bounds.1) valid),
+                (number_there number first dst payload at refl (short_low spin key_phase size bounds.0 bounds.1) valid.1),
             ap (λ (b : Bool). header.Short spin b dst number) (short_phase spin key_phase size bounds.0 bounds.1),
             refl,
           ),

@@ -1,8 +1,9 @@
-use Rattle.std.proofs.Common.{rules, map, refl, sym, ◌∙◌}
+use Rattle.std.proofs.Common.{arith, rules, map, length, refl, sym, ap, ◌∙◌}
 use Rattle.std.proofs.Math.Bool.{or-false}
 use Rattle.std.specs.List.{flat_map}
 use Rattle.std.specs.String.{string_bytes}
-use Rattle.quic_frames.specs.Walk.{left, Finds}
+use Rattle.quic_frames.specs.Walk.{left, Finds, Fails}
+use Rattle.quic_frames.proofs.Turns.{finds_left, fails_left, spent_left}
 use Rattle.quic_text.specs.Printed.{line_bytes}
 use Rattle.quic_text.specs.FrameText.{item_line}
 use Rattle.quic_text.proofs.FrameLines.{text_more, clean_more}
@@ -49,3 +50,24 @@ loop-item-preserved g c =
       start = c.offset-end.ensures.value;
       failed = c.in_ok-pass_on_pieces.ensures.failed ∙ or-false _ ∙ c.loop-item.invariant.failed;
     }
+
+pub loop-item-smaller : goal.loop-item-smaller
+loop-item-smaller g c =
+    let old = c.loop-item.frames in
+    let new = c.next.new.self in
+    let finds : Finds old c.in-Ok-item.frame new = rw c.in-Ok-item.is at c.in-Some.ensures.steps in
+    let one = ap length (finds_left old new c.in-Ok-item.frame finds) in
+    omega (arith, one)
+
+pub returns-in-Err-item : goal.returns-in-Err-item
+returns-in-Err-item g c =
+    let old = c.loop-item.frames in
+    let new = c.next.new.self in
+    let fails : Fails old c.in-Err-item.invalid new = rw c.in-Err-item.is at c.in-Some.ensures.steps in
+    let here = fails_left old new c.in-Err-item.invalid fails in
+    search rules
+
+pub returns : goal.returns
+returns g c =
+    let none = spent_left c.loop-item.frames c.in_default.ensures.steps.0 in
+    search rules

@@ -1,13 +1,13 @@
 -- Places in a payload.
-use Rattle.std.proofs.Common.{◌≡◌, ℕ, ◌+◌, ◌-◌, ◌≤◌, ◌<◌, ◌^◌, List, [], ◌∷◌, ◌++◌, length, take, drop, Ok, refl, sym, ap, ◌∙◌, arith}
+use Rattle.std.proofs.Common.{◌≡◌, ℕ, ◌+◌, ◌-◌, ◌≤◌, ◌<◌, ◌^◌, List, ◌++◌, length, take, drop, refl, sym, ap, ◌∙◌, arith}
 use Rattle.std.proofs.lemmas.List.{length-take-le, length-drop, length-append, drop-take, drop-drop, drop_at, take-take, take_at}
 use Rattle.std.specs.Prelude.{slice_range}
-use Rattle.quic_frame_fields.specs.Reading.{first_range_at, ranges_of, blocks_left, IsBlocks}
+use Rattle.quic_frame_fields.specs.FirstRange.{BeginsWithRange, SplitsRanges}
 use Rattle.quic_c.specs.declared.words.CRange.{CRange}
 use Rattle.quic_c.specs.declared.words.CRangeIter.{CRangeIter}
 use Rattle.quic_c.specs.declared.words.CFrame.{CFrame}
 use Rattle.quic_c.specs.Answers.{GivesRange, GivesPlace, frame_of_words}
-use Rattle.quic_frame_fields.specs.AckPlace.{ack_at}
+use Rattle.quic_frame_fields.specs.AckPlace.{BeginsWithAck}
 
 pub length-part : (bytes : List ℕ) (start stop : ℕ) → stop ≤ length bytes
     → length (slice_range bytes start stop) ≡ stop - start
@@ -32,14 +32,12 @@ range_words start end = record { start = start; end = end }
 -- what a step over the blocks at a place means for the words
 pub range_given : (payload : List ℕ) (begin end largest least next : ℕ) (rest : List ℕ) → begin < end
     → end ≤ length payload → largest < 2 ^ 62
-    → first_range_at largest (slice_range payload begin end) ≡ Ok (least, next, rest)
+    → BeginsWithRange largest (slice_range payload begin end) least next rest
     → length rest < length (slice_range payload begin end)
     → drop (length (slice_range payload begin end) - length rest) (slice_range payload begin end) ≡ rest
-    → (IsBlocks largest (slice_range payload begin end) → ranges_of largest (slice_range payload begin end)
-    ≡ (least, largest) ∷ ranges_of next rest)
-    → (IsBlocks largest (slice_range payload begin end) → blocks_left next rest ≡ Ok [])
+    → SplitsRanges largest (slice_range payload begin end) least next rest
     → GivesRange (at_place begin end largest) payload (at_place (end - length rest) end next) (range_words least (largest + 1))
-range_given payload begin end largest least next rest some within small step shorter tail first valid =
+range_given payload begin end largest least next rest some within small begins shorter tail ranges =
     let len = length-part payload begin end within in
     let k : begin + (length (slice_range payload begin end) - length rest) ≡ end - length rest = omega arith in
     let left : slice_range payload (end - length rest) end ≡ rest =
@@ -49,13 +47,12 @@ range_given payload begin end largest least next rest some within small step sho
     record {
       some = some;
       small = small;
-      step = rw left step;
+      begins = rw left begins;
       above = refl;
       last = refl;
       further = omega arith;
       within = record { ordered = omega arith; ends = within };
-      ranges = rw left first;
-      valid = rw left valid;
+      ranges = rw left ranges;
     }
 
 -- bytes in a part, before what ends it
@@ -86,21 +83,18 @@ blocks_placed payload begin end front blocks rest ordered within parts =
 -- the facts about the words of an ACK, whose blocks are in it
 pub place_given : (payload : List ℕ) (frame : CFrame) (largest : ℕ) (blocks rest : List ℕ) → frame.begin ≤ frame.end
     → frame.end ≤ length payload
-    → ack_at (frame_of_words frame payload) ≡ Ok (largest, blocks, rest)
-    → largest < 2 ^ 62 → IsBlocks largest blocks
-    → (front : List ℕ) × (frame_of_words frame payload ≡ front ++ (blocks ++ rest))
+    → BeginsWithAck (frame_of_words frame payload) largest blocks rest → largest < 2 ^ 62
     → GivesPlace frame payload (at_place (frame.end - length rest - length blocks) (frame.end - length rest) largest)
-place_given payload frame largest blocks rest ordered within reads small valid parts =
-    let s = blocks_placed payload frame.begin frame.end parts.0 blocks rest ordered within parts.1 in
+place_given payload frame largest blocks rest ordered within ack small =
+    let s = blocks_placed payload frame.begin frame.end ack.header blocks rest ordered within ack.parts in
     let all = s.0 in
     record {
       ordered = ordered;
       ends = within;
       rest = rest;
-      reads = rw s.1 reads;
+      begins_with = rw s.1 ack;
       stop = omega arith;
       begins = omega arith;
       within = record { ordered = omega arith; ends = omega arith };
       small = small;
-      valid = rw s.1 valid;
     }

@@ -1,8 +1,9 @@
 -- Ranges that are filled one after the other.
 use Rattle.std.proofs.Common.{◌≡◌, ℕ, ◌+◌, ◌-◌, ◌<◌, ◌≤◌, List, ◌∷◌, ◌++◌, length, take, drop, set, sym, ap, ◌∙◌, inr, arith}
-use Rattle.std.specs.Prelude.{◌⊎◌, ◌^◌, [], Ok, Err, slice_range}
+use Rattle.std.specs.Prelude.{◌⊎◌, ◌^◌, [], slice_range}
 use Rattle.quic_frame_fields.specs.declared.frame.fault.Fault.{Fault}
-use Rattle.quic_frame_fields.specs.Reading.{first_range_at, ranges_of, blocks_left, IsBlocks}
+use Rattle.quic_frame_fields.specs.Field.{AreBlocks}
+use Rattle.quic_frame_fields.specs.FirstRange.{BeginsWithRange, RangeStops, SplitsRanges}
 use Rattle.std.proofs.lemmas.List.{take_more_set, drop-set-lt}
 use Rattle.std.proofs.Math.ListN.{length-set}
 use Rattle.std.proofs.lemmas.Grind.{drop_more_same}
@@ -34,23 +35,22 @@ pub record RangeFilling (old : CRangeIter) (payload : List ℕ) (before : List C
 -- what a step over the bytes that are left means for the words
 pub range_of_left : (payload : List ℕ) (end largest least next : ℕ) (left rest : List ℕ) → 0 < length left
     → length left ≤ end → end ≤ length payload → largest < 2 ^ 62
-    → slice_range payload (end - length left) end ≡ left → first_range_at largest left ≡ Ok (least, next, rest)
+    → slice_range payload (end - length left) end ≡ left → BeginsWithRange largest left least next rest
     → length rest < length left → drop (length left - length rest) left ≡ rest
-    → (IsBlocks largest left → ranges_of largest left ≡ (least, largest) ∷ ranges_of next rest)
-    → (IsBlocks largest left → blocks_left next rest ≡ Ok [])
+    → SplitsRanges largest left least next rest
     → GivesRange (left_at end left largest) payload (left_at end rest next) (range_words least (largest + 1))
-range_of_left payload end largest least next left rest some short within small is_slice step shorter tail first valid =
-    range_given payload (end - length left) end largest least next rest (omega arith) within small (rw is_slice step)
-    (rw is_slice shorter) (rw is_slice tail) (rw is_slice first) (rw is_slice valid)
+range_of_left payload end largest least next left rest some short within small is_slice begins shorter tail ranges =
+    range_given payload (end - length left) end largest least next rest (omega arith) within small
+    (rw is_slice begins) (rw is_slice shorter) (rw is_slice tail) (rw is_slice ranges)
 
 -- the bytes that are left don't begin with a range
 pub none_of_left : (payload : List ℕ) (end largest : ℕ) (left : List ℕ) (reason : Fault) → 0 < length left
     → length left ≤ end → slice_range payload (end - length left) end ≡ left
-    → first_range_at largest left ≡ Err reason → (IsBlocks largest left → ⊥)
+    → RangeStops largest left reason → ((ranges : List (ℕ × ℕ)) → AreBlocks largest ranges left → ⊥)
     → HasNoRange (left_at end left largest) payload
-none_of_left payload end largest left reason some short is_slice step refused =
+none_of_left payload end largest left reason some short is_slice stops none =
     let lacks : LacksRange (left_at end left largest) payload =
-    record { some = omega arith; reason = reason; step = rw is_slice step; refused = rw is_slice refused } in
+    record { some = omega arith; reason = reason; stops = rw is_slice stops; none = rw is_slice none } in
     inr (inr (inr (inr lacks)))
 
 pub ranges_go_on : (old : CRangeIter) (payload : List ℕ) (before : List CRange) (left : List ℕ) (largest : ℕ)

@@ -1,12 +1,14 @@
 -- What the calls answer.
-use Rattle.std.specs.Prelude.{◌≡◌, ◌==◌, ℕ, ◌+◌, ◌<◌, ◌≤◌, ◌^◌, ◌⊎◌, ◌↔◌, ℤ, pos, negsuc, slice_range, Result, Ok, Err, IsErr, length, List, [], ◌∷◌, Bool, true, Some, codes, nat_eq, if◌then◌else◌}
+use Rattle.std.specs.Prelude.{◌≡◌, ℕ, ◌+◌, ◌<◌, ◌≤◌, ◌^◌, ◌⊎◌, ◌↔◌, ℤ, pos, negsuc, slice_range, length, List, [], ◌∷◌, ◌++◌, Bool, true, Some, codes, nat_eq, if◌then◌else◌}
 use Rattle.std.specs.Cmp.Lexicographic.{pointwise}
 use Rattle.quic_frames.specs.declared.frame.Frame.{Frame}
 use Rattle.quic_frame_fields.specs.declared.frame.fault.Fault.{Fault}
-use Rattle.quic_frame_fields.specs.AckPlace.{ack_at}
+use Rattle.quic_frame_fields.specs.AckPlace.{BeginsWithAck}
+use Rattle.quic_frame_fields.specs.Field.{AreBlocks}
+use Rattle.quic_frame_fields.specs.FirstRange.{BeginsWithRange, RangeStops, SplitsRanges}
+use Rattle.quic_frame_fields.specs.Numbers.{AreEncoded}
 use Rattle.quic_frame_fields.specs.declared.frame.fault.Fault.TheVariants.{InvalidFrameId}
-use Rattle.quic_base.specs.Reading.{◌>>=◌}
-use Rattle.quic_frame_fields.specs.Reading.{varint_at, Invalid, invalid, IsBlocks, blocks_left, ranges_of, first_range_at}
+use Rattle.quic_frame_fields.specs.Reading.{Invalid, invalid}
 use Rattle.quic_frames.specs.IterState.{IterState}
 use Rattle.quic_frames.specs.Walk.{Finds, LacksFrame, IsSpent}
 use Rattle.quic_c.specs.declared.words.CFrameIter.{CFrameIter}
@@ -85,77 +87,63 @@ pub record GivesPlace (frame : CFrame) (payload : List ℕ) (new : CRangeIter) :
   pub ordered : frame.begin ≤ frame.end
   pub ends : frame.end ≤ length payload
   pub rest : List ℕ
-  pub reads : ack_at (frame_of_words frame payload) ≡ Ok (new.largest, blocks_in new payload, rest)
+  pub begins_with : BeginsWithAck (frame_of_words frame payload) new.largest (blocks_in new payload) rest
   pub stop : new.end + length rest ≡ frame.end
   pub begins : frame.begin ≤ new.begin
   pub within : IsWithin new payload
   pub small : new.largest < 2 ^ 62
-  pub valid : IsBlocks new.largest (blocks_in new payload)
 
-abbrev pub behind_plain_type : List ℕ → Result (ℕ × List ℕ) Fault
-behind_plain_type bytes = do
-  largest ← varint_at bytes
-  delay ← varint_at largest.1
-  count ← varint_at delay.1
-  Ok (largest.0, count.1)
-
--- for an ACK without counts its greatest number, and what follows the count of its ranges (RFC 9000, section 19.3)
-unfoldable pub ack_front_at : List ℕ → Result (ℕ × List ℕ) Fault
-ack_front_at bytes = do
-  type ← varint_at bytes
-  if type.0 == 2 then behind_plain_type type.1 else Err InvalidFrameId
-
--- If the bytes are an ACK to their end, it has this greatest number and these blocks.
-abbrev pub IsWholeAck : List ℕ → ℕ → List ℕ → Type 0
-IsWholeAck bytes largest blocks =
-    (greatest : ℕ) (others : List ℕ) → ack_at bytes ≡ Ok (greatest, others, [])
-    → (ack_at bytes ≡ Ok (largest, blocks, [])) × IsBlocks largest blocks
+-- The bytes begin as an ACK without counts (RFC 9000, section 19.3): the type, the greatest number, the delay and how
+-- many ranges are below the first. The rest may be no blocks.
+pub record BeginsAsAck (bytes : List ℕ) (largest : ℕ) (rest : List ℕ) : Type 0 where
+  pub delay : ℕ
+  pub count : ℕ
+  pub header : List ℕ
+  pub parts : bytes ≡ header ++ rest
+  pub numbers : AreEncoded (2 ∷ largest ∷ delay ∷ count ∷ []) header
 
 -- The frame begins as an ACK without counts, and its greatest number and the place of everything after the count of its
 -- ranges were given. If the frame is an ACK to its end, that is the place of its blocks.
 pub record GivesFront (frame : CFrame) (payload : List ℕ) (new : CRangeIter) : Type 0 where
   pub ordered : frame.begin ≤ frame.end
   pub ends : frame.end ≤ length payload
-  pub front : ack_front_at (frame_of_words frame payload) ≡ Ok (new.largest, blocks_in new payload)
+  pub front : BeginsAsAck (frame_of_words frame payload) new.largest (blocks_in new payload)
   pub stop : new.end ≡ frame.end
   pub within : IsWithin new payload
   pub begins : frame.begin ≤ new.begin
   pub small : new.largest < 2 ^ 62
-  pub ack : (greatest : ℕ) (others : List ℕ) → ack_at (frame_of_words frame payload) ≡ Ok (greatest, others, [])
+  pub ack : (greatest : ℕ) (others : List ℕ) → BeginsWithAck (frame_of_words frame payload) greatest others []
       → GivesPlace frame payload new
 
 -- The place of the frame is outside of the payload, or there is no valid front of an ACK without counts.
 abbrev pub LacksFront : CFrame → List ℕ → Type 0
 LacksFront frame payload =
     (frame.end < frame.begin) ⊎ (length payload < frame.end)
-    ⊎ IsErr (ack_front_at (frame_of_words frame payload))
+    ⊎ ((largest : ℕ) (rest : List ℕ) → BeginsAsAck (frame_of_words frame payload) largest rest → ⊥)
 
 -- The place of the frame is outside of the payload, or there is no valid ACK.
 abbrev pub LacksAck : CFrame → List ℕ → Type 0
 LacksAck frame payload =
     (frame.end < frame.begin) ⊎ (length payload < frame.end)
-    ⊎ IsErr (ack_at (frame_of_words frame payload))
+    ⊎ ((largest : ℕ) (blocks rest : List ℕ) → BeginsWithAck (frame_of_words frame payload) largest blocks rest → ⊥)
 
 -- The first range of the blocks was given, and the blocks of the other ranges are left.
 pub record GivesRange (old : CRangeIter) (payload : List ℕ) (new : CRangeIter) (out : CRange) : Type 0 where
   pub some : old.begin < old.end
   pub small : old.largest < 2 ^ 62
-  pub step : first_range_at old.largest (blocks_in old payload) ≡ Ok (out.start, new.largest, blocks_in new payload)
+  pub begins : BeginsWithRange old.largest (blocks_in old payload) out.start new.largest (blocks_in new payload)
   pub above : out.end ≡ old.largest + 1
   pub last : new.end ≡ old.end
   pub further : old.begin < new.begin
   pub within : IsWithin new payload
-  pub ranges : IsBlocks old.largest (blocks_in old payload)
-      → ranges_of old.largest (blocks_in old payload)
-      ≡ (out.start, old.largest) ∷ ranges_of new.largest (blocks_in new payload)
-  pub valid : IsBlocks old.largest (blocks_in old payload) → blocks_left new.largest (blocks_in new payload) ≡ Ok []
+  pub ranges : SplitsRanges old.largest (blocks_in old payload) out.start new.largest (blocks_in new payload)
 
--- The bytes don't begin with a range, and why.
+-- The bytes don't begin with a range, and why; so they are the blocks of no ACK.
 pub record LacksRange (ranges : CRangeIter) (payload : List ℕ) : Type 0 where
   pub some : ranges.begin < ranges.end
   pub reason : Fault
-  pub step : first_range_at ranges.largest (blocks_in ranges payload) ≡ Err reason
-  pub refused : IsBlocks ranges.largest (blocks_in ranges payload) → ⊥
+  pub stops : RangeStops ranges.largest (blocks_in ranges payload) reason
+  pub none : (others : List (ℕ × ℕ)) → AreBlocks ranges.largest others (blocks_in ranges payload) → ⊥
 
 -- The words describe no blocks: the place is outside of the payload, or it has bytes, and the number is too large or
 -- they don't begin with a range.

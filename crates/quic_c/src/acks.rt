@@ -1,6 +1,6 @@
 //! The ranges of an ACK, one with each call.
-ghost use Rattle.std.specs.Prelude.{◌≡◌, ◌⊎◌, ◌↔◌, ◌<◌, ◌≤◌, ◌^◌, ◌++◌, List, ℕ, Ok, IfSome, IsErr, IsNone, pos, negsuc, length};
-ghost use Rattle.quic_c.specs.Answers.{GivesFront, GivesPlace, GivesRange, IsWholeAck, IsWithin, LacksAck, LacksFront, NamesNone, ack_front_at};
+ghost use Rattle.std.specs.Prelude.{◌≡◌, ◌⊎◌, ◌<◌, ◌^◌, List, ℕ, IfSome, IsNone, pos, negsuc};
+ghost use Rattle.quic_c.specs.Answers.{BeginsAsAck, GivesFront, GivesPlace, GivesRange, IsWithin, LacksAck, LacksFront, NamesNone};
 
 use crate::words::{CFrame, CRange, CRangeIter};
 use quic_base::varint::split_var;
@@ -68,13 +68,10 @@ pub extern "C" fn quic_wire_ack_ranges_init_unchecked_(
 
 // The greatest number of an ACK without counts, and what follows its count of ranges.
 #[inline(always)]
-#[tactic(auto, unfolding(crate::specs::Answers::ack_front_at), using(quic_frame_fields::proofs::Varints::slices))]
 fn split_front(bytes: &[u8]) -> Option<(u64, &[u8])>
-    ensures none { IsNone result → IsErr (ack_front_at bytes.now) }
-    ensures gives { IfSome result (λ x. ack_front_at bytes.now ≡ Ok (x.0, x.1.now)) }
+    ensures none { IsNone result → (largest : ℕ) (rest : List ℕ) → BeginsAsAck bytes.now largest rest → ⊥ }
+    ensures begins { IfSome result (λ x. BeginsAsAck bytes.now x.0 x.1.now) }
     ensures bound { IfSome result (λ x. x.0 < 2 ^ 62) }
-    ensures suffix { IfSome result (λ x. (front : List ℕ) × (bytes.now ≡ front ++ x.1.now)) }
-    ensures ack { IfSome result (λ x. IsWholeAck bytes.now x.0 x.1.now) }
 {
     let (ty, behind_type) = split_var(bytes)?;
     if ty != 2 {

@@ -284,7 +284,7 @@ acked greatest bytes fits valid =
 
 -- ---- what can't be read
 
-number_fails : {A : Type 0} (bytes : List ℕ) (e : Fault) (is_large : ℕ → Bool) (k : ℕ × List ℕ → Result A Fault)
+pub number_fails : {A : Type 0} (bytes : List ℕ) (e : Fault) (is_large : ℕ → Bool) (k : ℕ × List ℕ → Result A Fault)
     (After : ℕ → List ℕ → Type 0)
     → AreBytes bytes
     → ((n : ℕ) (left : List ℕ) → AreBytes left → k (n, left) ≡ Err e → After n left)
@@ -328,7 +328,7 @@ number_stops bytes e is_large k After fits after (inr (inr s)) =
     rw (one, s.5.0) two
 
 -- a step that tests a number, and what follows it
-tested : {A : Type 0} (r : Result (ℕ × List ℕ) Fault) (is_large : ℕ → Bool) (f : ℕ → ℕ) (k : ℕ × List ℕ → Result A Fault)
+pub tested : {A : Type 0} (r : Result (ℕ × List ℕ) Fault) (is_large : ℕ → Bool) (f : ℕ → ℕ) (k : ℕ × List ℕ → Result A Fault)
     → ((r >>= λ n. cond (is_large n.0) (Err Malformed) (Ok (f n.0, n.1))) >>= k)
     ≡ (r >>= λ n. cond (is_large n.0) (Err Malformed) (k (f n.0, n.1)))
 tested (Err e) is_large f k = refl

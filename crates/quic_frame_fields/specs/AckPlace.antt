@@ -1,7 +1,8 @@
 -- Where the blocks of an ACK are in the bytes of its frame (RFC 9000, section 19.3).
-use Rattle.std.specs.Prelude.{◌≡◌, ◌≤◌, ℕ, ◌-◌, List, [], ◌∷◌, ◌++◌, length, Result, Ok, Err, ◌==◌, ◌||◌, if◌then◌else◌}
+use Rattle.std.specs.Prelude.{◌≡◌, ◌≤◌, ◌⊎◌, ℕ, ◌-◌, List, [], ◌∷◌, ◌++◌, length, Result, Ok, Err, ◌==◌, ◌||◌, if◌then◌else◌}
 use Rattle.quic_frame_fields.specs.declared.frame.ack.Ack.{Ack}
 use Rattle.quic_frame_fields.specs.Acks.{AckParts, parts_of, ranges_acked}
+use Rattle.quic_frame_fields.specs.Field.{AreBlocks}
 use Rattle.quic_frame_fields.specs.Numbers.{AreEncoded}
 use Rattle.quic_frame_fields.specs.declared.frame.fault.Fault.{Fault}
 use Rattle.quic_frame_fields.specs.declared.frame.fault.Fault.TheVariants.{InvalidFrameId}
@@ -17,7 +18,19 @@ pub record BlocksStand (type : ℕ) (ack : Ack) (bytes : List ℕ) : Type 0 wher
   pub numbers : AreEncoded (type ∷ (parts_of ack).largest ∷ (parts_of ack).delay ∷ (length (ranges_acked ack) - 1)
       ∷ []) header
 
--- ---- as readers find them
+-- The bytes begin with an ACK up to its counts, if it has these: the type, the greatest number, the delay, how many
+-- ranges are below the first, and the blocks.
+pub record BeginsWithAck (bytes : List ℕ) (largest : ℕ) (blocks rest : List ℕ) : Type 0 where
+  pub type : ℕ
+  pub is_ack : (type ≡ 2) ⊎ (type ≡ 3)
+  pub delay : ℕ
+  pub ranges : List (ℕ × ℕ)
+  pub header : List ℕ
+  pub parts : bytes ≡ header ++ (blocks ++ rest)
+  pub numbers : AreEncoded (type ∷ largest ∷ delay ∷ (length ranges - 1) ∷ []) header
+  pub encoded : AreBlocks largest ranges blocks
+
+-- ---- as readers find them. No public clause cites what follows.
 
 -- what follows the type: the greatest number, the delay, the blocks with their count
 abbrev pub behind_ack_type : List ℕ → Result (ℕ × List ℕ × List ℕ) Fault

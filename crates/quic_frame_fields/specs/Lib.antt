@@ -9,6 +9,7 @@ pub mod Table
 pub mod Payload
 pub mod Reading
 pub mod Refusal
+pub mod FirstRange
 pub mod Acks
 pub mod Parts
 pub mod Shortest

@@ -1,7 +1,7 @@
 //! Finds the blocks of an ACK in the bytes of its frame (RFC 9000, section 19.3).
-ghost use Rattle.std.specs.Prelude.{◌≡◌, ◌<◌, ◌^◌, ◌++◌, List, ℕ, Ok, IfOk, IfSome, OnSome, IsNone, IsErr};
-ghost use Rattle.quic_frame_fields.specs.AckPlace.{ack_at};
-ghost use Rattle.quic_frame_fields.specs.Reading.{Gives, IsBlocks};
+ghost use Rattle.std.specs.Prelude.{◌<◌, ◌^◌, List, ℕ, IfOk, IfSome, IsNone};
+ghost use Rattle.quic_frame_fields.specs.AckPlace.{ack_at, BeginsWithAck};
+ghost use Rattle.quic_frame_fields.specs.Reading.{Gives};
 
 use super::fault::Fault;
 use super::field::{blocks, varint};
@@ -10,13 +10,10 @@ use super::field::{blocks, varint};
 /// exactly if the type is another one, a number up to there is missing or cut off, or a block or a gap is too large.
 /// Counts aren't read. It allocates no memory.
 pub fn split_ack(bytes: &[u8]) -> Option<(u64, &[u8], &[u8])>
-    ensures none { IsNone result → IsErr (ack_at bytes.now) }
-    ensures gives { IfSome result (λ x. ack_at bytes.now ≡ Ok (x.0, x.1.now, x.2.now)) }
+    ensures none { IsNone result
+        → (largest : ℕ) (blocks rest : List ℕ) → BeginsWithAck bytes.now largest blocks rest → ⊥ }
+    ensures begins { IfSome result (λ x. BeginsWithAck bytes.now x.0 x.1.now x.2.now) }
     ensures bound { IfSome result (λ x. x.0 < 2 ^ 62) }
-    ensures valid { IfSome result (λ x. IsBlocks x.0 x.1.now) }
-
-    // The blocks are followed by the rest of the bytes.
-    ensures stand { IfSome result (λ x. (front : List ℕ) × (bytes.now ≡ front ++ (x.1.now ++ x.2.now))) }
 {
     match read_ack(bytes) {
         Ok((largest, blocks, rest)) => Some((largest, blocks, rest)),
@@ -29,8 +26,6 @@ pub fn split_ack(bytes: &[u8]) -> Option<(u64, &[u8], &[u8])>
 fn read_ack(bytes: &[u8]) -> Result<(u64, &[u8], &[u8]), Fault>
     ensures gives { Gives (λ x. (x.0, x.1.now, x.2.now)) result (ack_at bytes.now) }
     ensures bound { IfOk result (λ x. x.0 < 2 ^ 62) }
-    ensures valid { IfOk result (λ x. IsBlocks x.0 x.1.now) }
-    ensures stand { IfOk result (λ x. (front : List ℕ) × (bytes.now ≡ front ++ (x.1.now ++ x.2.now))) }
 {
     let (ty, behind_type) = varint(bytes)?;
     if ty != 2 && ty != 3 {

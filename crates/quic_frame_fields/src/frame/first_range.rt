@@ -1,7 +1,7 @@
 //! Reads the first range of an acknowledgement from any bytes (RFC 9000, section 19.3.1).
-ghost use Rattle.std.specs.Prelude.{◌≡◌, ◌⊎◌, ◌-◌, ◌<◌, ◌≤◌, [], ◌∷◌, Ok, Err, IfErr, IfOk, OnErr, MatchResult, length, drop};
+ghost use Rattle.std.specs.Prelude.{◌≡◌, ◌⊎◌, ◌-◌, ◌<◌, IfErr, IfOk, length, drop};
 ghost use Rattle.quic_frame_fields.specs.Acks.{fault_of};
-ghost use Rattle.quic_frame_fields.specs.Reading.{IsBlocks, blocks_left, first_range_at, ranges_of};
+ghost use Rattle.quic_frame_fields.specs.FirstRange.{BeginsWithRange, RangeStops, SplitsRanges};
 ghost use Rattle.quic_frame_fields.specs.Refusal.{AreNoBlocks};
 
 use super::ack::AckError;
@@ -14,22 +14,17 @@ use super::field;
 /// if more follow it and these don't begin with a gap; what follows the gap isn't read. It allocates no memory.
 #[inline(always)]
 pub fn split_first_range(greatest: u64, blocks: &[u8]) -> Result<(u64, u64, &[u8]), AckError>
-    ensures gives { MatchResult result (λ x. first_range_at greatest blocks.now ≡ Ok (x.0, x.1, x.2.now))
-        (λ e. first_range_at greatest blocks.now ≡ Err (fault_of e)) }
-    ensures least { IfOk result (λ x. x.0 ≤ greatest) }
+    ensures begins { IfOk result (λ x. BeginsWithRange greatest blocks.now x.0 x.1 x.2.now) }
+    ensures stops { IfErr result (λ e. RangeStops greatest blocks.now (fault_of e)) }
 
     // The remaining bytes are the end of the given ones, and shorter.
     ensures shorter { IfOk result (λ x. length x.2.now < length blocks.now) }
     ensures left { IfOk result (λ x. drop (length blocks.now - length x.2.now) blocks.now ≡ x.2.now) }
 
-    // The ranges of an ACK's blocks are the first one and those of the remaining bytes, which are blocks too.
-    ensures first { IfOk result (λ x. IsBlocks greatest blocks.now
-        → ranges_of greatest blocks.now ≡ (x.0, greatest) ∷ ranges_of x.1 x.2.now) }
-    ensures valid { IfOk result (λ x. IsBlocks greatest blocks.now → blocks_left x.1 x.2.now ≡ Ok []) }
-
-    // Bytes that are refused are no blocks.
+    // The ranges of an ACK's blocks are the first one and those of the remaining bytes; bytes that are refused are no
+    // blocks.
+    ensures ranges { IfOk result (λ x. SplitsRanges greatest blocks.now x.0 x.1 x.2.now) }
     ensures refused { IfErr result (λ e. AreNoBlocks greatest blocks.now (fault_of e)) }
-    ensures taken { OnErr result (IsBlocks greatest blocks.now → ⊥) }
 {
     match field::checked_range(greatest, blocks) {
         Ok((least, next, rest)) => Ok((least, next, rest)),

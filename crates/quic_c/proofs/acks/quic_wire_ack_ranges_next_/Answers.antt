@@ -7,4 +7,4 @@ returns-clause-range c = λ _.
     let facts = c.in-Ok.ensures in
     range_given c.args.payload.now c.args.ranges.now.begin c.args.ranges.now.end c.args.ranges.now.largest c.in-Ok.least
     c.in-Ok.next c.in-Ok.rest.now
-    (omega arith) (omega arith) (omega arith) facts.gives facts.shorter facts.left facts.first facts.valid
+    (omega arith) (omega arith) (omega arith) facts.begins facts.shorter facts.left facts.ranges

@@ -7,7 +7,7 @@ pub mod Readings
 mod Later
 mod Reasons
 mod Finding
-pub mod Placing
+mod Placing
 mod Places
 mod Padding
 pub mod Turns

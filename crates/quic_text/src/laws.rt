@@ -24,6 +24,7 @@ ghost use Rattle.quic_text.specs.ParameterText.{answer_lines, parameter_lines};
 use crate::id_len::IdLen;
 use crate::mode::Mode;
 use quic_canon::laws as canonical;
+use quic_frames::laws::items_in_place;
 use quic_params::laws;
 
 /// If a datagram is these packets, or these and then an error, `datagram` prints exactly their lines, with these
@@ -47,7 +48,9 @@ pub fn frames_printed()
         → AreBytes bytes → frames.IsPlacedBroken false some bytes type reason
         → payload_lines Mode.Frames bytes ≡ map (λ p. item_line (frames.whole p)) some
         ++ item_line (Broken (invalid type reason)) ∷ [] }
-{}
+{
+    items_in_place();
+}
 
 /// `strict` prints the same, but a type that is not in its shortest encoding is an error.
 pub fn strict_printed()
@@ -57,7 +60,9 @@ pub fn strict_printed()
         → AreBytes bytes → frames.IsPlacedBroken true some bytes type reason
         → payload_lines Mode.Strict bytes ≡ map (λ p. item_line (frames.whole p)) some
         ++ item_line (Broken (invalid type reason)) ∷ [] }
-{}
+{
+    items_in_place();
+}
 
 /// `canon` prints the digits of the shortest payload with the same meaning, or the line of the error if the payload is
 /// invalid.

@@ -6,3 +6,4 @@ mod Counts
 mod HeadersBack
 mod Values
 mod Lowest
+mod LongTypes

@@ -1,15 +1,19 @@
 //! Payloads: what a capture reader and a connection do with their frames.
-ghost use Rattle.std.specs.Prelude.{◌≡◌, ◌<◌, ◌^◌, ◌-◌, ◌++◌, List, false, length, min, IfErr, IfOk, OnOk};
+ghost use Rattle.std.specs.Prelude.{◌≡◌, ◌≢◌, ◌↔◌, ◌<◌, ◌^◌, ◌-◌, ◌++◌, List, false, length, min, IfErr, IfOk, IsTrue, MatchBool, OnOk};
 ghost use Rattle.quic_callers.specs.Data.{streams_len};
 ghost use Rattle.quic_callers.specs.Reported.{IsReported};
+ghost use Rattle.quic_errors.specs.Codes.{long_type_reason};
 ghost use Rattle.quic_frame_fields.specs.Payload.{TypedFrame, AreFrames};
+ghost use Rattle.quic_frame_fields.specs.Reading.{reason_text};
 ghost use Rattle.quic_frame_fields.specs.Shortest.{shortest_frame};
+ghost use Rattle.quic_frame_fields.specs.declared.frame.fault.Fault.{Fault};
+ghost use Rattle.quic_frame_fields.specs.declared.frame.fault.Fault.TheVariants.{LongType};
 ghost use Rattle.quic_frames.specs.Meaning.{meaning_of};
 ghost use Rattle.quic_frames.specs.declared.frame.Frame.TheVariants as frames;
 
 use quic_base::coding::NoRoom;
-use quic_frames::frame::{Frame, FrameType, Iter, Stream, StreamMeta};
-use quic_frames::laws::stream_header_and_data;
+use quic_frames::frame::{Frame, FrameType, InvalidFrame, Iter, Stream, StreamMeta};
+use quic_frames::laws::{reasons, stream_header_and_data};
 use quic_frames::transport_error::Error;
 
 /// How many bytes of stream data a payload has, up to its error, and the type that the error names.
@@ -68,4 +72,20 @@ pub fn write_stream(stream: &Stream<'_>, last: bool, out: &mut Vec<u8>) -> Resul
     meta.encode(!last, out)?;
     out.extend_from_slice(stream.bytes)?;
     Ok(())
+}
+
+/// Whether an error of reading a payload is that of a frame type that isn't in its shortest encoding, for which an
+/// endpoint closes with PROTOCOL_VIOLATION (RFC 9000, section 12.4).
+pub fn has_long_type(invalid: &InvalidFrame) -> bool
+    ensures { (reason : Fault) → invalid.now.reason.now ≡ reason_text reason → IsTrue result ↔ (reason ≡ LongType) }
+{
+    reasons();
+    is_long_type(invalid.reason)
+}
+
+// Whether a reason is that of a type in a longer encoding.
+fn is_long_type(reason: &str) -> bool
+    ensures { MatchBool result (reason.now ≡ long_type_reason) (reason.now ≢ long_type_reason) }
+{
+    reason == "frame type not in shortest form"
 }

@@ -12,7 +12,7 @@ ghost use Rattle.quic_frames.specs.InRange.{IsTypedFrame, AreTyped, HasNoTypeZer
 ghost use Rattle.quic_frames.specs.Least.{AreOrExceed, shortest_frames, frame_in, as_written, all_written};
 ghost use Rattle.quic_frames.specs.Meaning.{meaning_of};
 ghost use Rattle.quic_frame_fields.specs.Payload.{Meaning, TypedFrame, IsFrame, AreFrames, AreClosed, IsBroken, Reading, Complete, IsReadingAfter, IsReadingOf, followed_by, last_type};
-ghost use Rattle.quic_frame_fields.specs.Reading.{Broken, IsBlocks, invalid, items_of, ranges_of, reason_text};
+ghost use Rattle.quic_frame_fields.specs.Reading.{Broken, invalid, items_of, reason_text};
 ghost use Rattle.quic_errors.specs.Codes.{long_type_reason};
 ghost use Rattle.quic_frames.specs.Placed.{Placed, ArePlaced, IsPlacedBroken, found_in, whole};
 ghost use Rattle.quic_frame_fields.specs.Shortest.{shortest_frame, stream_header};
@@ -88,17 +88,6 @@ pub fn one_list_of_ranges()
         → AreBlocks greatest some bytes → AreBlocks greatest others bytes → some ≡ others }
     ensures apart { (greatest : ℕ) (ranges : List (ℕ × ℕ)) (bytes : List ℕ)
         → AreBlocks greatest ranges bytes → AreApart ranges }
-{}
-
-/// The ranges of each ACK are those that its blocks encode (RFC 9000, section 19.3.1): bytes are read as some ranges
-/// exactly if they encode them.
-pub fn ranges_encoded()
-    ensures held { (ack : Ack) → AreBytes (parts_of ack).additional
-        → AreBlocks (parts_of ack).largest (ranges_acked ack) (parts_of ack).additional }
-    ensures read { (greatest : ℕ) (bytes : List ℕ) → AreBytes bytes → IsBlocks greatest bytes
-        → AreBlocks greatest (ranges_of greatest bytes) bytes }
-    ensures encoded { (greatest : ℕ) (ranges : List (ℕ × ℕ)) (bytes : List ℕ) → AreBlocks greatest ranges bytes
-        → IsBlocks greatest bytes × (ranges_of greatest bytes ≡ ranges) }
 {}
 
 /// An ACK of a set acknowledges the numbers of that set and no others. Its ranges never touch, and the

@@ -16,5 +16,10 @@ pub reports : (payload : List ℕ) (found : List TypedFrame) (state next : IterS
     → IsReported payload error
 reports payload found state next invalid error read f is =
     let l = f.lacks in
-    inr (found, l.type, l.reason, has_read_error false payload found state (invalid_of invalid) read l,
-    subst (λ (x : Invalid). IsErrorOf x.type x.reason error) l.says is)
+    inr (
+      found,
+      l.type,
+      l.reason,
+      has_read_error false payload found state (invalid_of invalid) read l,
+      subst (λ (x : Invalid). IsErrorOf x.type x.reason error) l.says is,
+    )

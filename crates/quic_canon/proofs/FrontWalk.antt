@@ -191,14 +191,13 @@ pub front_fails : (payload : List ℕ) (front start : ℕ) (state next : IterSta
     → FrontWalk payload front start state → Fails state error next
     → (found : List TypedFrame) × (type : Option ℕ) × (reason : Fault) × IsBroken false None found payload type reason
     × (invalid_of error ≡ invalid type reason)
-front_fails payload front start state next error w f =
-    (
-      w.walks.found,
-      f.lacks.type,
-      f.lacks.reason,
-      has_read_error false payload w.walks.found state (invalid_of error) w.walks.read f.lacks,
-      f.lacks.says,
-    )
+front_fails payload front start state next error w f = (
+  w.walks.found,
+  f.lacks.type,
+  f.lacks.reason,
+  has_read_error false payload w.walks.found state (invalid_of error) w.walks.read f.lacks,
+  f.lacks.says,
+)
 
 pub grows_to : (payload : List ℕ) (front start stop : ℕ) (old new : IterState) (frame : Frame) (b : Bool) → BeginsNone
     → OneShortest → front ≡ start

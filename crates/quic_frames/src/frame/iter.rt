@@ -42,7 +42,6 @@ impl<'a> Iter<'a> {
         ensures refusal { IfErr result (λ e. IsError e protocol_violation (codes "packet payload is empty")) }
         ensures first { IfOk result (λ it. it ≡ first_of false payload.now) }
 
-
         // Each payload has one reading: frames to its end, or frames up to an error, with its type and reason.
         ensures one { ExactlyOne (IsReadingOf false payload.now) }
 

@@ -1,7 +1,7 @@
 -- Headers as places in bytes: the header whose fields are at these places, or an error.
 use Rattle.std.specs.Prelude.{◌≡◌, ◌≢◌, ℕ, ◌+◌, ◌-◌, ◌/◌, ◌%◌, ◌<◌, ◌≤◌, List, ◌∷◌, ◌++◌, drop, length, true, Option, Some, None, Result, Ok, Err, Contains, slice_range, codes, nat_lt, nat_eq, if◌then◌else◌}
 use Rattle.quic_base.specs.ConnectionId.{long_id}
-use Rattle.quic_base.specs.Number.{IsNumber}
+use Rattle.quic_base.specs.Number.{has_bit, IsNumber}
 use Rattle.quic_header_encode.specs.declared.long_type.HeaderKind.{HeaderKind}
 use Rattle.quic_header_encode.specs.declared.long_type.HeaderKind.TheVariants as kind
 use Rattle.quic_header_encode.specs.declared.long_type.LongHeaderType.{LongHeaderType}
@@ -17,8 +17,8 @@ use Rattle.quic_header_decode.specs.declared.protected.ProtectedHeader.{Protecte
 use Rattle.quic_header_decode.specs.declared.protected.ProtectedHeader.TheVariants as protected
 use Rattle.quic_header_decode.specs.Grammar.{is_long, HeaderAt, Refused}
 use Rattle.quic_header_decode.specs.Parsers.{fixed_parsed}
-use Rattle.quic_header_decode.specs.Reading.{DecodeOptions, read_by}
-use Rattle.quic_header_decode.specs.Refusal.{Refusal, Unsupported, Invalid, NoMemory}
+use Rattle.quic_header_decode.specs.Reading.{DecodeOptions, initial_at, read_by}
+use Rattle.quic_header_decode.specs.Refusal.{Refusal, Unsupported, Invalid}
 
 -- the type of a kind that has one
 abbrev pub type_placed : HeaderKind → LongHeaderType
@@ -37,20 +37,12 @@ src_part bytes x = slice_range bytes (6 + x.dst_len + 1) (6 + x.dst_len + 1 + x.
 
 -- the header of a kind, with the fields that it has of these
 abbrev pub header_placed : HeaderKind → ℕ → List ℕ → List ℕ → Place → ℕ → ℕ → ProtectedHeader
-header_placed kind.Initial first dst src token len version =
-    protected.Initial (record {
-      dst_cid = dst;
-      src_cid = src;
-      token_pos = record
-          { start = token.start; end = token.end };
-      len = len;
-      version = version;
-    })
+header_placed kind.Initial first dst src token len version = initial_at dst src token.start token.end len version
 header_placed kind.ZeroRtt first dst src token len version = protected.Long ZeroRtt dst src len version
 header_placed kind.Handshake first dst src token len version = protected.Long Handshake dst src len version
 header_placed kind.Retry first dst src token len version = protected.Retry dst src version
-header_placed kind.Short first dst src token len version = protected.Short (nat_eq (first / 32 % 2) 1) dst
-header_placed kind.VersionNegotiate first dst src token len version = protected.VersionNegotiate (first - 128) dst src
+header_placed kind.Short first dst src token len version = protected.Short (has_bit 0x20 first) dst
+header_placed kind.VersionNegotiate first dst src token len version = protected.VersionNegotiate (first - 0x80) dst src
 
 -- the header that places say in these bytes
 abbrev pub header_in : List ℕ → HeaderPlaces → ProtectedHeader
@@ -143,9 +135,5 @@ any_fixed id_len versions = read_by (fixed_parsed id_len) versions true
 abbrev pub ReadAnswer : DecodeOptions → List ℕ → Result (ProtectedHeader × List ℕ) Refusal → Type 0
 ReadAnswer options bytes (Ok found) = HeaderAt options (length bytes) bytes found.0 found.1
 ReadAnswer options bytes (Err (Unsupported src dst version)) = IsUnknownVersion options bytes version dst src
-ReadAnswer options bytes (Err (Invalid text)) =
-    Refused options bytes (Invalid text)
-    × ((version : ℕ) (dst src : List ℕ) → IsUnknownVersion options bytes version dst src → ⊥)
-ReadAnswer options bytes (Err NoMemory) =
-    Refused options bytes NoMemory × ((version : ℕ) (dst src : List ℕ) → IsUnknownVersion options bytes version dst src
-    → ⊥)
+ReadAnswer options bytes (Err e) =
+    Refused options bytes e × ((version : ℕ) (dst src : List ℕ) → IsUnknownVersion options bytes version dst src → ⊥)

@@ -1,8 +1,8 @@
 //! Reads headers as places in the caller's bytes: nothing is copied.
 ghost use Rattle.std.specs.Prelude.{◌≡◌, ◌+◌, ◌<◌, ◌≤◌, ◌∷◌, ℕ, Some, None, length, drop, slice_index, slice_range, IfOk, IfSome, MatchOption, ◌==◌};
 ghost use Rattle.std.specs.List.{list_any};
-ghost use Rattle.quic_header_encode.specs.Storing.{IsTyped};
-ghost use Rattle.quic_header_decode.specs.Fields.{Reads, wide_id_at, word_at};
+ghost use Rattle.quic_header_encode.specs.Writing.{IsTyped};
+ghost use Rattle.quic_header_decode.specs.Reading.{Reads, wide_id_at, word_at};
 ghost use Rattle.quic_header_decode.specs.Places.{any_fixed, ends_at, seen_in, type_placed, IsLongFront, IsSeen, ReadAnswer};
 ghost use Rattle.quic_header_decode.specs.Reading.{wide_at, wide_header_at, typed_at};
 

@@ -2,7 +2,7 @@
 use Rattle.std.proofs.Common.{length, subst, ap, ◌∙◌, take, Ok}
 use Rattle.std.proofs.Math.Seq.{take-length}
 use Rattle.quic_base.specs.Number.{AreBytes}
-use Rattle.quic_header_decode.specs.Packet.{IsUncut}
+use Rattle.quic_header_decode.specs.Datagram.{IsUncut}
 use Rattle.quic_header_decode.specs.Reading.{DecodeOptions, read_by}
 use Rattle.quic_header_decode.proofs.CutAnswers.{cut_front}
 use Rattle.quic_callers.proofs.HeadersBack.{alone, is_alone, no_refusal, parsers_memory}

@@ -146,8 +146,8 @@ made : (k l : HeaderKind) (first f version v dst_len d src_len s start a end b l
     (record { kind = l; first = f; version = v; dst_len = d; src_len = s; token = record { start = a; end = b }; len = n; header_end = h })
 made k l first f version v dst_len d src_len s start a end b len n header_end h e0 e1 e2 e3 e4 e5 e6 e7 e8 = cc
 
-same_places : (packet : List ℕ) (x y : HeaderPlaces) → ArePlacesWithin x (length packet)
-    → ArePlacesWithin y (length packet) → x.first ≡ y.first
+same_places : (packet : List ℕ) (x y : HeaderPlaces) → ArePlacesWithin x.kind x (length packet)
+    → ArePlacesWithin y.kind y (length packet) → x.first ≡ y.first
     → header_in packet x ≡ header_in packet y → drop x.header_end packet ≡ drop y.header_end packet → x ≡ y
 same_places packet x y one two first words behind =
     let same =

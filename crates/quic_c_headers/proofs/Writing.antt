@@ -22,7 +22,7 @@ use Rattle.quic_header_encode.specs.Writing.{token_by, type_bits, IsTyped}
 use Rattle.quic_header_encode.specs.Kinds.{long_front}
 use Rattle.quic_c_headers.specs.declared.words.HeaderFields.{HeaderFields}
 use Rattle.quic_c_headers.specs.Headers.{part_of, described_bytes, CanWriteHeader}
-use Rattle.quic_c_headers.specs.Reading.{kind_word}
+use Rattle.quic_c_headers.specs.Headers.{word_of}
 use Rattle.quic_c_headers.specs.Headers.{first_word, worded_bytes, IsNumbered, IsShaped}
 use Rattle.quic_c_headers.specs.Headers.{WrotePacketHeader}
 
@@ -96,7 +96,7 @@ source_described : (words : HeaderFields) (dst src token from : List ℕ) → Is
 source_described words dst src token from s source other = (sym (source other), s.parts.src_few other)
 
 pub can_described : (k : HeaderKind) (words : HeaderFields) (dst src token from own : List ℕ)
-    → IsShaped words dst src token → kind_word k ≡ words.kind
+    → IsShaped words dst src token → word_of (row k) ≡ words.kind
     → (words.kind ≢ 4 → from ≡ src) → (words.kind ≡ 0 → own ≡ token)
     → CanWriteHeader words dst src token (clear_by k words.flags) (header_described k words dst from own)
 can_described kind.Initial words dst src token from own s e source mine =
@@ -230,7 +230,7 @@ bits_described kind.Short words dst src token =
 bits_described kind.VersionNegotiate words dst src token = omega arith
 
 pub bytes_described : (k : HeaderKind) (len : ℕ) (words : HeaderFields) (dst src token : List ℕ) → IsNumbered words
-    → kind_word k ≡ words.kind
+    → word_of (row k) ≡ words.kind
     → ((words.length_len ≡ 2) ⊎ (words.length_len ≡ 4) → len ≡ words.length_len)
     → stored_described k len words dst src token ≡ described_bytes words.length_len (clear_by k words.flags)
     (header_described k words dst src token)
@@ -329,7 +329,7 @@ short_wrote words dst old new n s e within front back =
 
 -- ---- headers of packets with a number and a length
 
-pub with_length : (k : HeaderKind) (words : HeaderFields) → kind_word k ≡ words.kind → IsTrue (row k).has_len
+pub with_length : (k : HeaderKind) (words : HeaderFields) → word_of (row k) ≡ words.kind → IsTrue (row k).has_len
     → words.kind ≤ 2
 with_length kind.Initial words e has = omega (arith, e)
 with_length kind.ZeroRtt words e has = omega (arith, e)

@@ -1,7 +1,6 @@
 -- Headers as C sees them, and what the call that reads them answers; version negotiation packets (RFC 9000, section
 -- 17.2.1), whose ids have up to 255 bytes (RFC 8999, section 6).
 use Rattle.std.specs.Prelude.{◌≡◌, ℕ, ◌+◌, ◌-◌, List, length, Option, None, Some, Result, Ok, Err, IfOk, slice_index, unwrap_or, ◌%◌, ◌++◌}
-use Rattle.quic_header_encode.specs.declared.long_type.HeaderKind.{HeaderKind}
 use Rattle.quic_header_encode.specs.Kinds.{row}
 use Rattle.quic_header_decode.specs.declared.places.HeaderPlaces.{HeaderPlaces}
 use Rattle.quic_header_decode.specs.declared.places.ReadError.{ReadError}
@@ -14,9 +13,6 @@ use Rattle.quic_base.specs.Number.{bytes_of}
 use Rattle.quic_header_encode.specs.declared.header.Header.TheVariants as header
 use Rattle.quic_header_encode.specs.Writing.{header_bytes}
 use Rattle.std.specs.Option.{option_map_or}
-
-abbrev pub kind_word : HeaderKind → ℕ
-kind_word kind = word_of (row kind)
 
 -- the answer to what was read in so many bytes: 0, 7 where the packet is cut off, or the number of the reason
 abbrev pub answer_word : Result HeaderPlaces ReadError → ℕ → ℕ
@@ -45,7 +41,7 @@ ids_words packet kind version dst_len src_len header_end = record {
 -- the words for what was read; they don't change if no header was read
 abbrev pub header_words : List ℕ → Result HeaderPlaces ReadError → CHeader → CHeader
 header_words packet (Ok x) old = record {
-  kind = kind_word x.kind;
+  kind = word_of (row x.kind);
   first = x.first;
   dst_len = x.dst_len;
   src_len = x.src_len;

@@ -7,8 +7,7 @@ ghost use Rattle.quic_header_encode.specs.Kinds.{row};
 ghost use Rattle.quic_header_encode.specs.Writing.{token_by, type_bits, IsTyped};
 ghost use Rattle.quic_header_encode.specs.Kinds.{long_front};
 ghost use Rattle.quic_c_headers.specs.Headers.{part_of};
-ghost use Rattle.quic_c_headers.specs.Reading.{kind_word};
-ghost use Rattle.quic_c_headers.specs.Headers.{first_word, short_size, worded_bytes, AreParts, HasShortRoom, IsNumbered, IsShaped, StoresShort};
+ghost use Rattle.quic_c_headers.specs.Headers.{first_word, short_size, word_of, worded_bytes, AreParts, HasShortRoom, IsNumbered, IsShaped, StoresShort};
 ghost use Rattle.quic_c_headers.specs.Headers.{PacketHeaderNeedsMore, DescribesNoHeader, WrotePacketHeader};
 
 use crate::words::HeaderFields;
@@ -273,7 +272,7 @@ fn write_as(
     token: &[u8],
     dest: &mut [u8],
 ) -> i64
-    requires kind { kind_word kind ≡ words.now.kind }
+    requires kind { word_of (row kind) ≡ words.now.kind }
     ensures wrote { (result ≡ negsuc 3) ⊎ (result ≡ negsuc 0) ⊎ ((count : ℕ) × (result ≡ pos count)
         × WrotePacketHeader words.now dst.now src.now token.now dest.old dest.new count) }
     ensures room { result ≡ negsuc 3 → PacketHeaderNeedsMore words.now dst.now src.now token.now (length dest.old) }

@@ -52,9 +52,8 @@ abbrev pub and_then : (ℕ → List ℕ → List PlacedPacket × Option Refusal)
 and_then others start bytes (Err e) = ([], Some e)
 and_then others start bytes (Ok cut) =
     let first : PlacedPacket = record { start = start; stop = start + cut.2; header = cut.0 } in
-    if nat_lt cut.2 (length bytes) then
-    (first ∷ (others (start + cut.2) (drop cut.2 bytes)).0, (others (start + cut.2) (drop cut.2 bytes)).1)
-    else (first ∷ [], None)
+    let more = others (start + cut.2) (drop cut.2 bytes) in
+    if nat_lt cut.2 (length bytes) then (first ∷ more.0, more.1) else (first ∷ [], None)
 
 -- at most so many packets
 unfoldable pub packets_from : DecodeOptions → ℕ → ℕ → List ℕ → List PlacedPacket × Option Refusal

@@ -20,9 +20,8 @@ use Rattle.quic_header_encode.specs.declared.long_type.LongType.TheVariants.{Zer
 abbrev pub space_of : ProtectedHeader → Option SpaceId
 space_of (protected.Initial h) = Some space.Initial
 space_of (protected.Long ty dst src len version) = Some (long_space ty)
-space_of (protected.Retry dst src version) = None
 space_of (protected.Short spin dst) = Some space.Data
-space_of (protected.VersionNegotiate random dst src) = None
+space_of _ = None
 
 abbrev pub IsInitial : ProtectedHeader → Type 0
 IsInitial (protected.Initial h) = Unit {0}
@@ -67,8 +66,7 @@ IsWithNumber (protected.Initial h) number packet got =
 IsWithNumber (protected.Long ty dst src len version) number packet got = got ≡ header.Long ty dst src number version
 IsWithNumber (protected.Short spin dst) number packet got = got
     ≡ header.Short spin (has_bit 0x04 (slice_index packet 0)) dst number
-IsWithNumber (protected.Retry dst src version) number packet got = ⊥
-IsWithNumber (protected.VersionNegotiate random dst src) number packet got = ⊥
+IsWithNumber _ number packet got = ⊥
 
 -- what a header without a number says
 abbrev pub IsWithoutNumber : ProtectedHeader → Header → Type 0

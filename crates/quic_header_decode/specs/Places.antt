@@ -73,16 +73,15 @@ IsNowhere place = (place.start ≡ 0) × (place.end ≡ 0)
 -- Where the fields of a header are. Fields that a kind doesn't have are 0.
 abbrev pub ArePlaces : HeaderKind → HeaderPlaces → Type 0
 ArePlaces kind.Initial x = (ids_end x < x.token.start) × (x.token.start ≤ x.token.end) × (x.token.end < x.header_end)
-ArePlaces kind.ZeroRtt x = (ids_end x < x.header_end) × IsNowhere x.token
-ArePlaces kind.Handshake x = (ids_end x < x.header_end) × IsNowhere x.token
 ArePlaces kind.Retry x = (ids_end x ≡ x.header_end) × IsNowhere x.token × (x.len ≡ 0)
 ArePlaces kind.Short x = (1 + x.dst_len ≡ x.header_end) × (x.src_len ≡ 0) × IsNowhere x.token × (x.len ≡ 0)
     × (x.version ≡ 0)
 ArePlaces kind.VersionNegotiate x = (ids_end x ≡ x.header_end) × IsNowhere x.token × (x.len ≡ 0) × (x.version ≡ 0)
+ArePlaces _ x = (ids_end x < x.header_end) × IsNowhere x.token
 
 -- The fields are within the header, and the header within so many bytes.
-pub record ArePlacesWithin (x : HeaderPlaces) (datagram_len : ℕ) : Type 0 where
-  pub fields : ArePlaces x.kind x
+pub record ArePlacesWithin (kind : HeaderKind) (x : HeaderPlaces) (datagram_len : ℕ) : Type 0 where
+  pub fields : ArePlaces kind x
   pub dst_few : x.dst_len ≤ 20
   pub src_few : x.src_len ≤ 20
   pub token_order : x.token.start ≤ x.token.end
@@ -90,19 +89,9 @@ pub record ArePlacesWithin (x : HeaderPlaces) (datagram_len : ℕ) : Type 0 wher
   pub first : 0 < x.header_end
   pub head : x.header_end ≤ datagram_len
 
--- what a long header has before its type's fields
-pub record IsLongFront (x : HeaderPlaces) (datagram_len : ℕ) : Type 0 where
-  pub ids : ids_end x ≡ x.header_end
-  pub dst_few : x.dst_len ≤ 20
-  pub src_few : x.src_len ≤ 20
-  pub start : x.token.start ≡ 0
-  pub end : x.token.end ≡ 0
-  pub len : x.len ≡ 0
-  pub head : x.header_end ≤ datagram_len
-
 -- the ids of an unknown version are within so many bytes
 abbrev pub IsSeen : Result HeaderPlaces ReadError → ℕ → Type 0
-IsSeen (Ok x) datagram_len = ArePlacesWithin x datagram_len
+IsSeen (Ok x) datagram_len = ArePlacesWithin x.kind x datagram_len
 IsSeen (Err (error.UnsupportedVersion version dst_len src_len)) datagram_len = (dst_len ≤ 255) × (src_len ≤ 255)
     × (6 + dst_len + 1 + src_len ≤ datagram_len)
 IsSeen _ datagram_len = Unit {0}

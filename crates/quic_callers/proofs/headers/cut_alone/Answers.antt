@@ -1,9 +1,12 @@
 -- By the answer that there is, and no other.
-use Rattle.std.proofs.Common.{length, subst, ap, ◌∙◌, take, Ok}
+use Rattle.std.proofs.Common.{◌≡◌, ℕ, length, subst, ap, ◌∙◌, take, Result, Ok}
 use Rattle.std.proofs.Math.Seq.{take-length}
 use Rattle.quic_base.specs.Number.{AreBytes}
+use Rattle.quic_header_decode.specs.declared.protected.ProtectedHeader.{ProtectedHeader}
 use Rattle.quic_header_decode.specs.Datagram.{IsUncut}
+use Rattle.quic_header_decode.specs.Grammar.{CutAnswer}
 use Rattle.quic_header_decode.specs.Reading.{DecodeOptions, read_by}
+use Rattle.quic_header_decode.specs.Refusal.{Refusal}
 use Rattle.quic_header_decode.proofs.CutAnswers.{cut_front}
 use Rattle.quic_callers.proofs.HeadersBack.{alone, is_alone, no_refusal, parsers_memory}
 use Rattle.quic_callers.proofs.headers.cut_alone.Goals as goal
@@ -27,7 +30,8 @@ returns-in-Err g c = λ h front rest parts none head.
     read_by (g.C.ConnectionIdParser.parsed c.args.parser.now) c.args.versions.now c.args.grease in
     let cut = alone options c.args.datagram.items front rest h parts head none in
     let bytes : AreBytes c.args.datagram.items = subst AreBytes c.as_slice.ensures c.are_bytes.ensures in
-    let same = λ one other. c.one_answer.ensures.cut options c.args.datagram.items one other bytes in
+    let same : (one other : Result (ProtectedHeader × ℕ × ℕ) Refusal) → CutAnswer options c.args.datagram.items one
+        → CutAnswer options c.args.datagram.items other → one ≡ other = λ one other. c.one_answer.ensures.cut options c.args.datagram.items one other bytes in
     let memory = no_refusal options _ c.args.datagram.items _ same cut c.in-Err.e c.in-Err.ensures.refused in (
       memory,
       parsers_memory options _ c.args.datagram.items h (length front) same cut

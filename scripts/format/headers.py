@@ -98,7 +98,8 @@ def meant(head):
 
 def is_protected(head):
     stated(HEADS, "is_protected", "h", "is_some (space_of h)")
-    return stated(HEADS, "space_of", head.read, "<answer..>")["answer"] != "None"
+    spaces = clauses(HEADS, "space_of")
+    return (spaces.get(head.read) or spaces["_"]) != "None"
 
 
 def row(head):

@@ -31,7 +31,7 @@ returns-in-Err g c = λ h front rest parts none head.
     let cut = alone options c.args.datagram.items front rest h parts head none in
     let bytes : AreBytes c.args.datagram.items = subst AreBytes c.as_slice.ensures c.are_bytes.ensures in
     let same : (one other : Result (ProtectedHeader × ℕ × ℕ) Refusal) → CutAnswer options c.args.datagram.items one
-        → CutAnswer options c.args.datagram.items other → one ≡ other = λ one other. c.one_answer.ensures.cut options c.args.datagram.items one other bytes in
+    → CutAnswer options c.args.datagram.items other → one ≡ other = λ one other. c.one_answer.ensures.cut options c.args.datagram.items one other bytes in
     let memory = no_refusal options _ c.args.datagram.items _ same cut c.in-Err.e c.in-Err.ensures.refused in (
       memory,
       parsers_memory options _ c.args.datagram.items h (length front) same cut

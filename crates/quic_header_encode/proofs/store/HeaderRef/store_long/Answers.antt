@@ -27,5 +27,5 @@ store_long_start-at-requires-clause-src_room g c =
       arith,
       c.requires.room.src,
       long_room c.args.self.now.kind 0 (7 + length (g.I.StoredId.id c.args.self.now.dst_cid)
-      + g.I.StoredId.room c.args.self.now.src_cid) c.requires.long,
+          + g.I.StoredId.room c.args.self.now.src_cid) c.requires.long,
     )

@@ -8,16 +8,12 @@ LONG_ID = "quic_base/specs/ConnectionId"
 CRYPTO = "quic_crypto/specs/PacketNumbers"
 KEYS = "quic_crypto/specs/Keys"
 TYPES = "quic_header_encode/specs/Types"
-QUERIES = "quic_header_encode/specs/Queries"
-STARTS = "quic_header_encode/specs/Starts"
 KINDS = "quic_header_encode/specs/Kinds"
 WRITING = "quic_header_encode/specs/Writing"
 GRAMMAR = "quic_header_decode/specs/Grammar"
 HEADS = "quic_header_decode/specs/Headers"
-FINISH = "quic_header_decode/specs/Finish"
-SPACES = "quic_header_decode/specs/Queries"
 PLACES = "quic_header_decode/specs/Places"
-NEGOTIATION = "quic_c_headers/specs/Negotiation"
+NEGOTIATION = "quic_c_headers/specs/Reading"
 
 # A header: its section in RFC 9000, its name in ProtectedHeader and in Header with what they hold, its row, its type.
 Figure = collections.namedtuple("Figure", "title section read written row type")
@@ -25,10 +21,10 @@ LONG = ("(protected.Long ty dst src len version)", "(header.Long ty dst src numb
 ALL = [
     Figure("Version Negotiation", "17.2.1", "(protected.VersionNegotiate random dst src)",
            "(header.VersionNegotiate random src dst)", "row kinds.VersionNegotiate", None),
-    Figure("Initial", "17.2.2", "(protected.Initial h)", "(header.Initial h)", "row kinds.Initial", "kind.Initial"),
-    Figure("0-RTT", "17.2.3", *LONG, "standard_row ty", "kind.Standard ZeroRtt"),
-    Figure("Handshake", "17.2.4", *LONG, "standard_row ty", "kind.Standard Handshake"),
-    Figure("Retry", "17.2.5", "(protected.Retry dst src version)", "(header.Retry dst src version)", "row kinds.Retry",
+    Figure("Initial", "17.2.2", "(protected.Initial h)", "(header.Initial h)", "type_row kind.Initial", "kind.Initial"),
+    Figure("0-RTT", "17.2.3", *LONG, "type_row (kind.Standard ty)", "kind.Standard ZeroRtt"),
+    Figure("Handshake", "17.2.4", *LONG, "type_row (kind.Standard ty)", "kind.Standard Handshake"),
+    Figure("Retry", "17.2.5", "(protected.Retry dst src version)", "(header.Retry dst src version)", "type_row kind.Retry",
            "kind.Retry"),
     Figure("1-RTT", "17.3.1", "(protected.Short spin dst)", "(header.Short spin key_phase dst number)",
            "row kinds.Short", None),
@@ -102,22 +98,25 @@ def meant(head):
 
 def is_protected(head):
     stated(HEADS, "is_protected", "h", "is_some (space_of h)")
-    return stated(SPACES, "space_of", head.read, "<answer..>")["answer"] != "None"
+    spaces = clauses(HEADS, "space_of")
+    return (spaces.get(head.read) or spaces["_"]) != "None"
 
 
 def row(head):
     """The fields of a header after its first byte."""
     rows = stated(GRAMMAR, "header_row_of", "first version", (
-        "if is_long first then <long..> ∷ row_behind_ids first version else <short..> ∷ []"))
-    behind = stated(GRAMMAR, "row_behind_ids", "first version", (
-        "if version == 0 then [] else <known..> ∷ typed_row (long_type version first)"))
+        "if is_long first then <long..> ∷ (if version == 0 then [] else <known..> ∷ typed_row (long_type version first))"
+        " else <short..> ∷ []"))
+    stated(GRAMMAR, "typed_row", "ty", (
+        "let len = if (type_row ty).has_len then Length ∷ [] else [] in"
+        " if (type_row ty).has_token then TokenLength ∷ Token ∷ len else len"))
     if head.title == "1-RTT":
         return rows["short"].split(" ∷ ")
     if not head.type:
         return rows["long"].split(" ∷ ")
-    typed = clauses(GRAMMAR, "typed_row")
-    last = typed.get(head.type) or typed.get(f"({head.type.split()[0]} ty)", "")
-    return rows["long"].split(" ∷ ") + [behind["known"]] + listed(last, f"typed_row {head.type}")
+    has = written_row(head)
+    return rows["long"].split(" ∷ ") + [rows["known"]] + [
+        field for field, name in (("TokenLength", "token"), ("Token", "token"), ("Length", "len")) if has[name]]
 
 
 def type_number(head, version):
@@ -141,11 +140,11 @@ def first_parts(head):
         yield found["unit"], found["count"], "Long Packet Type", type_number(head, "first")
     if head.title == "1-RTT":
         yield meant(head)["spin"], 2, "Spin Bit", None
-        found = stated(HEADS, "with_number", f"{head.read} number packet got", (
-            "got ≡ header.Short spin (nat_eq (slice_index packet 0 / <unit> % <count>) 1) dst number"))
-        yield found["unit"], found["count"], "Key Phase", None
+        found = stated(HEADS, "IsWithNumber", f"{head.read} number packet got", (
+            "got ≡ header.Short spin (has_bit <bit> (slice_index packet 0)) dst number"))
+        yield found["bit"], 2, "Key Phase", None
     if is_protected(head):
-        found = stated(QUERIES, "reserved_zero", "h first", (
+        found = stated(KINDS, "reserved_zero", "h first", (
             "nat_eq (first / (if (fields_of h).row.is_long then <long> else <short>) % <count>) 0"))
         unit = found["long" if written_row(head)["is_long"] else "short"]
         yield unit, found["count"], "Reserved Bits", None
@@ -172,7 +171,7 @@ def behind(head):
     """What follows the row of a header."""
     if not is_protected(head):
         return ["(..)"]
-    stated(FINISH, "IsNumberIn", "size", "number_size number ≡ number_len (slice_index packet 0)")
+    stated(HEADS, "IsNumberIn", "size", "number_size number ≡ number_len (slice_index packet 0)")
     stated(CRYPTO, "NumberAt", "number text", "IsNumber (number_size number) (low_part number) text")
     sizes = clauses(CRYPTO, "number_size")
     if list(sizes) != [f"(U{8 * int(size)} x)" for size in sizes.values()]:
@@ -219,7 +218,7 @@ def written_fields(head):
         " let front = if f.row.has_token then ids ++ (shortest_varint (length f.token) ++ f.token) else ids in"
         " let number = if f.row.has_len then len ++ number_bytes f.number else number_bytes f.number in"
         " if f.row.has_number then front ++ number else front"))
-    stated(STARTS, "long_front", "first version dst src", "(first ∷ bytes_of 4 version) ++ (long_id dst ++ long_id src)")
+    stated(KINDS, "long_front", "first version dst src", "(first ∷ bytes_of 4 version) ++ (long_id dst ++ long_id src)")
     has = written_row(head)
     return (["Version", "DestinationId", "SourceId"] if has["is_long"] else ["ShortId"]) + [
         field for field, name in (("TokenLength", "token"), ("Token", "token"), ("Length", "len")) if has[name]]
@@ -257,7 +256,7 @@ def reading():
     version = stated(TYPES, "version_2", "", "<number>")["number"]
     types = ", ".join(f"{type_number(head, 'second')} {head.title}" for head in ALL if head.type)
     return (
-        "A header is its first byte and its row's fields one after another (`HeaderAt`, `header_row_of`, `row_behind_ids`,"
+        "A header is its first byte and its row's fields one after another (`HeaderAt`, `header_row_of`,"
         f" `typed_row`, crates/{GRAMMAR}.antt); its packet ends as many bytes after Length as that says (`Cut`). Any"
         " fixed bit may be clear where `options.grease` holds (RFC 9287; `is_fixed`). Versions but 0 are known ones"
         f" (`Supported`). Version 2 ({version:#x}; RFC 9369, 3.2) has the Long Packet Types {types} (`types_of`).")

@@ -3,7 +3,7 @@ use Rattle.std.specs.Prelude.{◌≡◌, ℕ, ◌<◌, List, [], ◌++◌, lengt
 use Rattle.std.proofs.Common.{sym, ap, subst, ◌∙◌, arith, append-nil}
 use Rattle.bytes.specs.Filled.{Filled}
 use Rattle.quic_header_decode.specs.Reading.{IsRest}
-use Rattle.quic_header_encode.specs.Queries.{space_in}
+use Rattle.quic_header_encode.specs.Kinds.{space_in}
 use Rattle.quic_packets.specs.declared.opening.OpenError.{OpenError}
 use Rattle.quic_packets.specs.declared.opening.OpenError.TheVariants as error
 use Rattle.quic_packets.specs.Opening.{BeginsSealed, OpenedPacket, Opening, PacketAnswer, ReturnsSealed, packet_of, returned_by}

@@ -2,7 +2,7 @@
 use Rattle.std.specs.Prelude.{◌≡◌, ℕ, ◌<◌, ◌^◌, ◌⊎◌, List, ◌++◌, length, Some}
 use Rattle.quic_base.specs.declared.ids.SpaceId.{SpaceId}
 use Rattle.quic_frames.specs.InRange.{CanFollow}
-use Rattle.quic_header_encode.specs.Queries.{space_in}
+use Rattle.quic_header_encode.specs.Kinds.{space_in}
 use Rattle.quic_header_encode.specs.Writing.{IsWritable}
 use Rattle.quic_packets.specs.declared.opening.OpenError.TheVariants as error
 use Rattle.quic_packets.specs.declared.opening.Opened.{Opened}

@@ -1,7 +1,7 @@
 //! Two packets in one datagram that are sealed and opened again: what callers learn from the contracts of both, for
 //! every lawful pair of keys and every lawful parser of ids.
 ghost use Rattle.std.specs.Prelude.{◌⊎◌, false, List, [], ℕ, IfErr, IfOk};
-ghost use Rattle.quic_header_encode.specs.Queries.{space_in};
+ghost use Rattle.quic_header_encode.specs.Kinds.{space_in};
 ghost use Rattle.quic_packets.specs.Opening.{AreExpected};
 ghost use Rattle.quic_packets.specs.Sealing.{IsAppended, SealedFrames};
 ghost use Rattle.quic_bench.specs.Outgoing.{AreSealed, CanBeSealed, Carries, IsFailure, IsFoundAgain, IsRefusedPacket};

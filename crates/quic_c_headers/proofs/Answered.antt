@@ -16,7 +16,8 @@ use Rattle.quic_header_decode.specs.Places.{any_fixed, dst_part, src_part, dst_p
 use Rattle.quic_header_decode.specs.Reading.{DecodeOptions}
 use Rattle.quic_header_decode.specs.Refusal.{Refusal, Unsupported, Invalid, NoMemory}
 use Rattle.quic_c_headers.specs.declared.words.CHeader.{CHeader}
-use Rattle.quic_c_headers.specs.Reading.{answer_word, header_words, whole_word, HasFirst, Reported}
+use Rattle.quic_c_headers.specs.Reading.{answer_word, header_words, Reported}
+use Rattle.std.specs.Option.{option_map_or}
 
 -- ---- what a header has at its places
 
@@ -145,8 +146,8 @@ made : (k l : HeaderKind) (first f version v dst_len d src_len s start a end b l
     (record { kind = l; first = f; version = v; dst_len = d; src_len = s; token = record { start = a; end = b }; len = n; header_end = h })
 made k l first f version v dst_len d src_len s start a end b len n header_end h e0 e1 e2 e3 e4 e5 e6 e7 e8 = cc
 
-same_places : (packet : List ℕ) (x y : HeaderPlaces) → ArePlacesWithin x (length packet)
-    → ArePlacesWithin y (length packet) → x.first ≡ y.first
+same_places : (packet : List ℕ) (x y : HeaderPlaces) → ArePlacesWithin x.kind x (length packet)
+    → ArePlacesWithin y.kind y (length packet) → x.first ≡ y.first
     → header_in packet x ≡ header_in packet y → drop x.header_end packet ≡ drop y.header_end packet → x ≡ y
 same_places packet x y one two first words behind =
     let same =
@@ -200,6 +201,10 @@ same_reported packet e f is one two = absurd (omega (arith, ap mark is))
 
 -- ---- one answer
 
+-- the first byte is reported unchanged
+abbrev pub HasFirst : Result HeaderPlaces ReadError → List ℕ → Type 0
+HasFirst read packet = IfOk read (λ x. x.first ≡ slice_index packet 0)
+
 firsts : (packet : List ℕ) (x y : HeaderPlaces) → HasFirst (Ok x) packet → HasFirst (Ok y) packet → x.first ≡ y.first
 firsts packet x y one two = one ∙ sym two
 
@@ -227,11 +232,6 @@ same_read packet (Ok x) (Ok y) e one two f g =
 same_read packet (Ok x) (Err y) e one two f g = absurd cc
 same_read packet (Err x) (Ok y) e one two f g = absurd cc
 same_read packet (Err x) (Err y) e one two f g = ap Err (same_reported packet x y (reported_is _ _ e) one two)
-
-pub has_first : (read : Result HeaderPlaces ReadError) (packet : List ℕ)
-    → IfOk read (λ x. x.first ≡ slice_index packet 0) → HasFirst read packet
-has_first (Ok x) packet is = is
-has_first (Err e) packet is = tt
 
 -- what is reported of one packet is one answer
 pub one_answer : (id_len : ℕ) (versions packet : List ℕ) (old new words : CHeader) (answer other : ℕ)
@@ -262,7 +262,7 @@ Law =
 
 ended : (options : DecodeOptions) (packet : List ℕ) (x : HeaderPlaces) (end : Option ℕ) (old new : CHeader) → Law
     → HeaderAt options (length packet) packet (header_in packet x) (drop x.header_end packet)
-    → x.header_end ≤ length packet → ends_at x (length packet) ≡ end → 0 ≡ whole_word end
+    → x.header_end ≤ length packet → ends_at x (length packet) ≡ end → (let none : ℕ = 0 in none) ≡ option_map_or (λ (q : ℕ). let none : ℕ = 0 in none) end 7
     → new ≡ header_words packet (Ok x) old → IsCut options packet new
 ended options packet x None old new law head within ends zero words = absurd (omega (arith, zero))
 ended options packet x (Some q) old new law head within ends zero words =

@@ -9,7 +9,7 @@ use Rattle.std.proofs.lemmas.Nat.{le_or_l}
 use Rattle.quic_base.specs.ConnectionId.{long_id}
 use Rattle.quic_base.specs.Number.{num, AreBytes, bytes_of}
 use Rattle.quic_base.proofs.PublicLaws as law
-use Rattle.quic_header_encode.specs.Starts.{long_front}
+use Rattle.quic_header_encode.specs.Kinds.{long_front}
 use Rattle.quic_header_encode.specs.declared.long_type.HeaderKind.TheVariants as kind
 use Rattle.quic_header_encode.proofs.Stores.{stays}
 use Rattle.quic_header_decode.specs.declared.places.HeaderPlaces.{HeaderPlaces}
@@ -20,7 +20,7 @@ use Rattle.quic_header_decode.specs.Reading.{DecodeOptions}
 use Rattle.quic_header_decode.proofs.Made.{negotiation_header, LongStart}
 use Rattle.quic_header_decode.proofs.Steps.{drop_front, take_front}
 use Rattle.quic_c_headers.specs.declared.words.CHeader.{CHeader}
-use Rattle.quic_c_headers.specs.Negotiation.{negotiation_bytes, negotiation_words, version_bytes, IsNegotiation}
+use Rattle.quic_c_headers.specs.Reading.{negotiation_bytes, negotiation_words, version_bytes, IsNegotiation}
 use Rattle.quic_c_headers.specs.Reading.{Reported}
 
 -- ---- what is read

@@ -7,7 +7,7 @@ use Rattle.quic_header_encode.specs.declared.header.Header.{Header}
 use Rattle.quic_header_encode.specs.declared.header.Header.TheVariants as header
 use Rattle.quic_c_headers.specs.declared.words.HeaderFields.{HeaderFields}
 use Rattle.quic_c_headers.specs.Headers.{DescribesNumber, CanWriteHeader}
-use Rattle.quic_c_headers.specs.Shapes.{AreParts, IsNumbered, IsShaped}
+use Rattle.quic_c_headers.specs.Headers.{AreParts, IsNumbered, IsShaped}
 
 with_number : (words : HeaderFields) (number : PacketNumber)
     → DescribesNumber words.number words.number_len (Some number)

@@ -18,13 +18,13 @@ use Rattle.quic_header_encode.specs.declared.header.Header.{Header}
 use Rattle.quic_header_encode.specs.declared.header.Header.TheVariants as header
 use Rattle.quic_header_encode.specs.declared.long_type.LongType.TheVariants.{Handshake, ZeroRtt}
 use Rattle.quic_header_encode.specs.Kinds.{bit_value, fields_of, header_text, row, says, Row}
-use Rattle.quic_header_encode.specs.Storing.{token_by, type_bits, IsTyped}
-use Rattle.quic_header_encode.specs.Starts.{long_front}
+use Rattle.quic_header_encode.specs.Writing.{token_by, type_bits, IsTyped}
+use Rattle.quic_header_encode.specs.Kinds.{long_front}
 use Rattle.quic_c_headers.specs.declared.words.HeaderFields.{HeaderFields}
 use Rattle.quic_c_headers.specs.Headers.{part_of, described_bytes, CanWriteHeader}
-use Rattle.quic_c_headers.specs.Reading.{kind_word}
-use Rattle.quic_c_headers.specs.Shapes.{first_word, worded_bytes, IsNumbered, IsShaped}
-use Rattle.quic_c_headers.specs.Written.{WrotePacketHeader}
+use Rattle.quic_c_headers.specs.Headers.{word_of}
+use Rattle.quic_c_headers.specs.Headers.{first_word, worded_bytes, IsNumbered, IsShaped}
+use Rattle.quic_c_headers.specs.Headers.{WrotePacketHeader}
 
 -- whether the fixed bit is cleared
 abbrev pub clear_by : HeaderKind → ℕ → Bool
@@ -54,13 +54,13 @@ bit_at : (x n : ℕ) → x < 2 → bit_value (nat_eq x 1) n ≡ n * x
 bit_at x n lt = grind (arith, nat_tests)
 
 -- the bits of flags
-clear_is : (f : ℕ) → bit_value (has_bit 64 f) 64 ≡ 64 * (f / 64 % 2)
+pub clear_is : (f : ℕ) → bit_value (has_bit 64 f) 64 ≡ 64 * (f / 64 % 2)
 clear_is f = bit_at (f / 64 % 2) 64 (omega arith)
 
-spin_is : (f : ℕ) → bit_value (has_bit 32 f) 32 ≡ 32 * (f / 32 % 2)
+pub spin_is : (f : ℕ) → bit_value (has_bit 32 f) 32 ≡ 32 * (f / 32 % 2)
 spin_is f = bit_at (f / 32 % 2) 32 (omega arith)
 
-phase_is : (f : ℕ) → bit_value (has_bit 4 f) 4 ≡ 4 * (f / 4 % 2)
+pub phase_is : (f : ℕ) → bit_value (has_bit 4 f) 4 ≡ 4 * (f / 4 % 2)
 phase_is f = bit_at (f / 4 % 2) 4 (omega arith)
 
 -- the part of a number that is written
@@ -96,7 +96,7 @@ source_described : (words : HeaderFields) (dst src token from : List ℕ) → Is
 source_described words dst src token from s source other = (sym (source other), s.parts.src_few other)
 
 pub can_described : (k : HeaderKind) (words : HeaderFields) (dst src token from own : List ℕ)
-    → IsShaped words dst src token → kind_word k ≡ words.kind
+    → IsShaped words dst src token → word_of (row k) ≡ words.kind
     → (words.kind ≢ 4 → from ≡ src) → (words.kind ≡ 0 → own ≡ token)
     → CanWriteHeader words dst src token (clear_by k words.flags) (header_described k words dst from own)
 can_described kind.Initial words dst src token from own s e source mine =
@@ -230,7 +230,7 @@ bits_described kind.Short words dst src token =
 bits_described kind.VersionNegotiate words dst src token = omega arith
 
 pub bytes_described : (k : HeaderKind) (len : ℕ) (words : HeaderFields) (dst src token : List ℕ) → IsNumbered words
-    → kind_word k ≡ words.kind
+    → word_of (row k) ≡ words.kind
     → ((words.length_len ≡ 2) ⊎ (words.length_len ≡ 4) → len ≡ words.length_len)
     → stored_described k len words dst src token ≡ described_bytes words.length_len (clear_by k words.flags)
     (header_described k words dst src token)
@@ -329,7 +329,7 @@ short_wrote words dst old new n s e within front back =
 
 -- ---- headers of packets with a number and a length
 
-pub with_length : (k : HeaderKind) (words : HeaderFields) → kind_word k ≡ words.kind → IsTrue (row k).has_len
+pub with_length : (k : HeaderKind) (words : HeaderFields) → word_of (row k) ≡ words.kind → IsTrue (row k).has_len
     → words.kind ≤ 2
 with_length kind.Initial words e has = omega (arith, e)
 with_length kind.ZeroRtt words e has = omega (arith, e)
@@ -384,6 +384,8 @@ numbered_described kind.Initial words dst src token has some few =
     (sym (low_bytes words.number_len words.number some few))
     ∙ ap (λ (n : ℕ). (192 - 64 * (words.flags / 64 % 2) + type_bits kind.Initial words.version + (n - 1))
     ∷ ((ids ++ own) ++ (replicate words.length_len 0 ++ number_bytes part))) size
+    ∙ ap (λ (n : ℕ). (192 - n + type_bits kind.Initial words.version + (number_size part - 1))
+    ∷ ((ids ++ own) ++ (replicate words.length_len 0 ++ number_bytes part))) (sym (clear_is words.flags))
 numbered_described kind.ZeroRtt words dst src token has some few =
     let first : ℕ = 192 - 64 * (words.flags / 64 % 2) + type_bits kind.ZeroRtt words.version + (words.number_len - 1) in
     let part : PacketNumber = part_of words.number_len words.number in
@@ -394,6 +396,8 @@ numbered_described kind.ZeroRtt words dst src token has some few =
     ∙ ap (λ (xs : List ℕ). front ++ (replicate words.length_len 0 ++ xs)) (sym (low_bytes words.number_len words.number some few))
     ∙ ap (λ (n : ℕ). (192 - 64 * (words.flags / 64 % 2) + type_bits kind.ZeroRtt words.version + (n - 1))
     ∷ (ids ++ (replicate words.length_len 0 ++ number_bytes part))) size
+    ∙ ap (λ (n : ℕ). (192 - n + type_bits kind.ZeroRtt words.version + (number_size part - 1))
+    ∷ (ids ++ (replicate words.length_len 0 ++ number_bytes part))) (sym (clear_is words.flags))
 numbered_described kind.Handshake words dst src token has some few =
     let first : ℕ = 192 - 64 * (words.flags / 64 % 2) + type_bits kind.Handshake words.version + (words.number_len - 1) in
     let part : PacketNumber = part_of words.number_len words.number in
@@ -404,6 +408,8 @@ numbered_described kind.Handshake words dst src token has some few =
     ∙ ap (λ (xs : List ℕ). front ++ (replicate words.length_len 0 ++ xs)) (sym (low_bytes words.number_len words.number some few))
     ∙ ap (λ (n : ℕ). (192 - 64 * (words.flags / 64 % 2) + type_bits kind.Handshake words.version + (n - 1))
     ∷ (ids ++ (replicate words.length_len 0 ++ number_bytes part))) size
+    ∙ ap (λ (n : ℕ). (192 - n + type_bits kind.Handshake words.version + (number_size part - 1))
+    ∷ (ids ++ (replicate words.length_len 0 ++ number_bytes part))) (sym (clear_is words.flags))
 numbered_described kind.Retry words dst src token has some few = absurd (search (rules, has))
 numbered_described kind.Short words dst src token has some few = absurd (search (rules, has))
 numbered_described kind.VersionNegotiate words dst src token has some few = absurd (search (rules, has))

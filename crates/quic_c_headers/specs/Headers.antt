@@ -1,14 +1,17 @@
--- The headers that words describe (RFC 9000, section 17).
+-- The headers that words describe (RFC 9000, section 17), and what the calls that write them answer.
 use Rattle.quic_base.specs.Number.{has_bit}
-use Rattle.std.specs.Prelude.{◌≡◌, IsTrue, is_some, ℕ, ◌-◌, ◌%◌, ◌<◌, ◌≤◌, ◌^◌, ◌⊎◌, Bool, false, List, length, replicate, Option, None, Some, ◌==◌, if◌then◌else◌}
+use Rattle.std.specs.Prelude.{◌≡◌, ◌≢◌, IsTrue, is_some, ℕ, ◌+◌, ◌-◌, ◌*◌, ◌/◌, ◌%◌, ◌<◌, ◌≤◌, ◌^◌, ◌⊎◌, Bool, false, List, [], ◌++◌, length, take, drop, replicate, bit_or, Option, None, Some, ◌==◌, if◌then◌else◌}
+use Rattle.std.specs.Option.{option_map_or}
 use Rattle.quic_crypto.specs.declared.packet_number.PacketNumber.{PacketNumber}
 use Rattle.quic_crypto.specs.declared.packet_number.PacketNumber.TheVariants.{U8, U16, U24, U32}
 use Rattle.quic_crypto.specs.PacketNumbers.{low_part, number_size, window_of}
-use Rattle.quic_header_encode.specs.declared.long_type.LongType.TheVariants.{Handshake, ZeroRtt}
+use Rattle.quic_header_encode.specs.declared.long_type.HeaderKind.{HeaderKind}
+use Rattle.quic_header_encode.specs.declared.long_type.HeaderKind.TheVariants as kind
 use Rattle.quic_header_encode.specs.declared.header.Header.{Header}
 use Rattle.quic_header_encode.specs.declared.header.Header.TheVariants as header
-use Rattle.quic_header_encode.specs.Kinds.{bit_value, fields_of, header_text, says}
-use Rattle.quic_header_encode.specs.Queries.{dst_in, number_in}
+use Rattle.quic_header_encode.specs.Kinds.{Row, bit_value, fields_of, header_text, row, says}
+use Rattle.quic_header_encode.specs.Kinds.{dst_in, number_in}
+use Rattle.quic_header_encode.specs.Types.{type_code}
 use Rattle.quic_header_encode.specs.Writing.{IsWritable}
 use Rattle.quic_c_headers.specs.declared.words.HeaderFields.{HeaderFields}
 
@@ -21,13 +24,8 @@ part_of len number =
     else U8 (number % 2 ^ 8)
 
 -- the word for a kind: 0 Initial, 1 0-RTT, 2 Handshake, 3 Retry, 4 1-RTT, 5 version negotiation
-abbrev pub header_word : Header → ℕ
-header_word (header.Initial h) = 0
-header_word (header.Long ZeroRtt dst src number version) = 1
-header_word (header.Long Handshake dst src number version) = 2
-header_word (header.Retry dst src version) = 3
-header_word (header.Short spin key_phase dst number) = 4
-header_word (header.VersionNegotiate random src dst) = 5
+abbrev pub word_of : Row → ℕ
+word_of row = option_map_or type_code row.type (if row.is_long then 5 else 4)
 
 -- For a short header 0x20 is the spin bit and 0x04 the key phase; for a version negotiation they are the seven low bits
 -- of the first byte; for the others and for a short header 0x40 clears the fixed bit (RFC 9287).
@@ -36,24 +34,6 @@ DescribesFlags flags clear (header.Short spin key_phase dst number) =
     (clear ≡ has_bit 0x40 flags) × (spin ≡ has_bit 0x20 flags) × (key_phase ≡ has_bit 0x04 flags)
 DescribesFlags flags clear (header.VersionNegotiate random src dst) = (clear ≡ false) × (random ≡ flags % 128)
 DescribesFlags flags clear _ = clear ≡ has_bit 0x40 flags
-
--- A version other than 0, since version 0 means a version negotiation (RFC 9000, section 17.2.1); short headers and
--- version negotiations have none.
-abbrev pub DescribesVersion : ℕ → Header → Type 0
-DescribesVersion version header =
-    let f = fields_of header in IsTrue (is_some f.row.type) → (version ≡ f.version) × (0 < version)
-
--- the sender's id, of at most 20 bytes, which a short header lacks
-abbrev pub DescribesSource : List ℕ → Header → Type 0
-DescribesSource id header = let f = fields_of header in IsTrue f.row.is_long → (id ≡ f.src) × (length id ≤ 20)
-
--- the token, which only an Initial packet has in its header
-abbrev pub DescribesToken : List ℕ → Header → Type 0
-DescribesToken token header = let f = fields_of header in IsTrue f.row.has_token → token ≡ f.token
-
--- how many bytes the length has, 2 or 4, if the header has one
-abbrev pub LengthIs : ℕ → Header → Type 0
-LengthIs len header = IsTrue (fields_of header).row.has_len → (len ≡ 2) ⊎ (len ≡ 4)
 
 -- A number below 2^62, in so many bytes (RFC 9000, section 17.1), if the header has one.
 abbrev pub DescribesNumber : ℕ → ℕ → Option PacketNumber → Type 0
@@ -64,14 +44,16 @@ DescribesNumber number len (Some written) =
 -- The words, two ids and a token describe the header, with the fixed bit clear or set. What its kind lacks isn't looked
 -- at.
 pub record DescribesHeader (words : HeaderFields) (dst src token : List ℕ) (clear : Bool) (header : Header) : Type 0 where
-  pub kind : words.kind ≡ header_word header
+  pub kind : words.kind ≡ word_of (fields_of header).row
   pub flags : DescribesFlags words.flags clear header
-  pub version : DescribesVersion words.version header
+  -- a version other than 0, since version 0 means a version negotiation (RFC 9000, section 17.2.1)
+  pub version : IsTrue (is_some (fields_of header).row.type)
+      → (words.version ≡ (fields_of header).version) × (0 < words.version)
   pub number : DescribesNumber words.number words.number_len (number_in header)
-  pub len : LengthIs words.length_len header
+  pub len : IsTrue (fields_of header).row.has_len → (words.length_len ≡ 2) ⊎ (words.length_len ≡ 4)
   pub dst_is : dst ≡ dst_in header
-  pub src_is : DescribesSource src header
-  pub token_is : DescribesToken token header
+  pub src_is : IsTrue (fields_of header).row.is_long → (src ≡ (fields_of header).src) × (length src ≤ 20)
+  pub token_is : IsTrue (fields_of header).row.has_token → token ≡ (fields_of header).token
 
 -- They describe a header that can be written: the receiver's id has at most 20 bytes.
 pub record CanWriteHeader (words : HeaderFields) (dst src token : List ℕ) (clear : Bool) (header : Header) : Type 0 where
@@ -85,3 +67,77 @@ abbrev pub described_bytes : ℕ → Bool → Header → List ℕ
 described_bytes len clear header =
     let f = fields_of header in
     header_text (replicate len 0) (says f.row (f.bits - bit_value clear 0x40) f.version f.dst f.src f.token f.number)
+
+-- ---- what the calls that write headers answer
+
+-- The bytes of the header that the words, the ids and the token describe are at the front, the bytes after them didn't
+-- change, and they are counted.
+pub record WrotePacketHeader (words : HeaderFields) (dst src token old new : List ℕ) (count : ℕ) : Type 0 where
+  pub clear : Bool
+  pub head : Header
+  pub can : CanWriteHeader words dst src token clear head
+  pub front : new ≡ described_bytes words.length_len clear head ++ drop count old
+  pub count_is : count ≡ length (described_bytes words.length_len clear head)
+
+-- There is less room than such a header needs.
+pub record PacketHeaderNeedsMore (words : HeaderFields) (dst src token : List ℕ) (room : ℕ) : Type 0 where
+  pub clear : Bool
+  pub head : Header
+  pub can : CanWriteHeader words dst src token clear head
+  pub full : room < length (described_bytes words.length_len clear head)
+
+-- No header is described by these words, ids and token.
+abbrev pub DescribesNoHeader : HeaderFields → List ℕ → List ℕ → List ℕ → Type 0
+DescribesNoHeader words dst src token =
+    (clear : Bool) (header : Header) → CanWriteHeader words dst src token clear header → ⊥
+
+-- ---- No public clause cites what follows: what a kind of header has.
+
+-- A header of the kind can have this number and these sizes of the number and the length.
+pub record IsNumbered (words : HeaderFields) : Type 0 where
+  pub number : (words.kind ≤ 2) ⊎ (words.kind ≡ 4)
+      → (1 ≤ words.number_len) × (words.number_len ≤ 4) × (words.number < 2 ^ 62)
+  pub len : words.kind ≤ 2 → (words.length_len ≡ 2) ⊎ (words.length_len ≡ 4)
+
+-- A header of the kind can have these ids and this token.
+pub record AreParts (kind : ℕ) (dst src token : List ℕ) : Type 0 where
+  pub dst_few : length dst ≤ 20
+  pub src_few : kind ≢ 4 → length src ≤ 20
+  pub token_short : kind ≡ 0 → length token < 2 ^ 62
+
+-- A header of the kind can have these words, ids and token.
+pub record IsShaped (words : HeaderFields) (dst src token : List ℕ) : Type 0 where
+  pub known : words.kind ≤ 5
+  pub numbered : IsNumbered words
+  pub named : words.kind < 4 → 0 < words.version
+  pub parts : AreParts words.kind dst src token
+
+-- the bits of the first byte other than the type and the number's size, by the flags
+abbrev pub first_word : HeaderKind → ℕ → ℕ
+first_word kind.Short flags =
+    0x40 - bit_value (has_bit 0x40 flags) 0x40 + bit_value (has_bit 0x20 flags) 0x20 + bit_value (has_bit 0x04 flags) 0x04
+first_word kind.VersionNegotiate flags = bit_or 0x80 (flags % 0x80)
+first_word _ flags = 0xc0 - bit_value (has_bit 0x40 flags) 0x40
+
+-- the bytes of a header of the kind, with so many zeros as its length
+abbrev pub worded_bytes : HeaderKind → HeaderFields → List ℕ → List ℕ → List ℕ → List ℕ
+worded_bytes kind words dst src token =
+    header_text (replicate words.length_len 0)
+    (says (row kind) (first_word kind words.flags) words.version dst src token (part_of words.number_len words.number))
+
+abbrev pub short_size : HeaderFields → List ℕ → ℕ
+short_size words dst = 1 + length dst + words.number_len
+
+-- A short header's number has 1 to 4 bytes, its id at most 20, and there is room for it.
+pub record HasShortRoom (words : HeaderFields) (dst : List ℕ) (room : ℕ) : Type 0 where
+  pub some : 1 ≤ words.number_len
+  pub few : words.number_len ≤ 4
+  pub dst_few : length dst ≤ 20
+  pub fits : short_size words dst ≤ room
+
+-- It stands at the front, up to its end, and what stood behind that is the same.
+pub record StoresShort (words : HeaderFields) (dst old new : List ℕ) (end : ℕ) : Type 0 where
+  pub size : end ≡ short_size words dst
+  pub front : take end new ≡ worded_bytes kind.Short words dst [] []
+  pub back : drop end new ≡ drop end old
+  pub len : length new ≡ length old

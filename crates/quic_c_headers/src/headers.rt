@@ -3,7 +3,9 @@ ghost use Rattle.std.specs.Prelude.{◌≡◌, ◌+◌, ◌<◌, ◌≤◌, ◌�
 ghost use Rattle.quic_header_decode.specs.Grammar.{Cut, HeaderAt};
 ghost use Rattle.quic_header_decode.specs.Places.{any_fixed, ArePlacesWithin, IsSeen};
 ghost use Rattle.quic_header_decode.specs.declared.protected.ProtectedHeader.{ProtectedHeader};
-ghost use Rattle.quic_c_headers.specs.Reading.{answer_word, header_words, kind_word, Reported};
+ghost use Rattle.quic_header_encode.specs.Kinds.{row};
+ghost use Rattle.quic_c_headers.specs.Headers.{word_of};
+ghost use Rattle.quic_c_headers.specs.Reading.{answer_word, header_words, Reported};
 
 use crate::words::CHeader;
 use quic_base::coding::are_bytes;
@@ -13,7 +15,7 @@ use quic_header_decode::places::{HeaderKind, HeaderPlaces, ReadError, read_heade
 // The word for a kind.
 #[inline(always)]
 fn kind_word(kind: HeaderKind) -> u8
-    ensures { result ≡ kind_word kind }
+    ensures { result ≡ word_of (row kind) }
 {
     match kind {
         HeaderKind::Initial => 0,
@@ -29,7 +31,7 @@ fn kind_word(kind: HeaderKind) -> u8
 #[inline(always)]
 fn show_header(packet: &[u8], places: HeaderPlaces, head: &mut CHeader) -> u32
     requires whole { length packet.now < 2 ^ 32 }
-    requires placed { ArePlacesWithin places (length packet.now) }
+    requires placed { ArePlacesWithin places.kind places (length packet.now) }
     ensures answer { result ≡ answer_word (Ok places) (length packet.now) }
     ensures few { result ≤ 7 }
     ensures words { head.new ≡ header_words packet.now (Ok places) head.old }

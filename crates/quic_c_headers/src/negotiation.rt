@@ -1,7 +1,7 @@
 //! Version negotiation packets, whose ids may have up to 255 bytes (RFC 8999, section 6; RFC 9000, section 17.2.1).
 ghost use Rattle.std.specs.Prelude.{◌≡◌, ◌+◌, ◌*◌, ◌^◌, ◌<◌, ◌≤◌, ◌⊎◌, ◌↔◌, ◌++◌, ℕ, List, length, take, drop, pos, negsuc, IfSome, MatchOption};
 ghost use Rattle.quic_base.specs.ConnectionId.{long_id};
-ghost use Rattle.quic_c_headers.specs.Negotiation.{negotiation_bytes, negotiation_words, version_bytes, IsNegotiation};
+ghost use Rattle.quic_c_headers.specs.Reading.{negotiation_bytes, negotiation_words, version_bytes, IsNegotiation};
 ghost use Rattle.quic_c_headers.specs.Reading.{Reported};
 
 use crate::words::CHeader;

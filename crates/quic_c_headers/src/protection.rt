@@ -2,9 +2,9 @@
 ghost use Rattle.std.specs.Prelude.{◌≡◌, ◌⊎◌, ◌↔◌, ◌<◌, ◌≤◌, ◌+◌, ◌^◌, ℕ, pos, negsuc, length, slice_index, slice_set, IsTrue};
 ghost use Rattle.quic_crypto.specs.Keys.{number_len};
 ghost use Rattle.quic_crypto.specs.PacketNumbers.{number_size};
-ghost use Rattle.quic_header_encode.specs.Storing.{with_len, TakesLen};
-ghost use Rattle.quic_c_headers.specs.Protecting.{masked_packet};
-ghost use Rattle.quic_c_headers.specs.Unprotecting.{unmasked_first, unmasked_at, unmasked, GivesNumber, HasNumber, StandsAt};
+ghost use Rattle.quic_header_encode.specs.Writing.{with_len, TakesLen};
+ghost use Rattle.quic_c_headers.specs.Protection.{masked_packet};
+ghost use Rattle.quic_c_headers.specs.Protection.{unmasked_first, unmasked_at, unmasked, GivesNumber, HasNumber, StandsAt};
 
 use quic_crypto::packet_number::PacketNumber;
 use quic_header_encode::store::set_len;

@@ -4,12 +4,11 @@ ghost use Rattle.quic_base.specs.Number.{bytes_of};
 ghost use Rattle.quic_crypto.specs.PacketNumbers.{IsInRange};
 ghost use Rattle.quic_header_encode.specs.declared.long_type.HeaderKind.TheVariants as kind;
 ghost use Rattle.quic_header_encode.specs.Kinds.{row};
-ghost use Rattle.quic_header_encode.specs.Storing.{token_by, type_bits, IsTyped};
-ghost use Rattle.quic_header_encode.specs.Starts.{long_front};
+ghost use Rattle.quic_header_encode.specs.Writing.{token_by, type_bits, IsTyped};
+ghost use Rattle.quic_header_encode.specs.Kinds.{long_front};
 ghost use Rattle.quic_c_headers.specs.Headers.{part_of};
-ghost use Rattle.quic_c_headers.specs.Reading.{kind_word};
-ghost use Rattle.quic_c_headers.specs.Shapes.{first_word, short_size, worded_bytes, AreParts, HasShortRoom, IsNumbered, IsShaped, StoresShort};
-ghost use Rattle.quic_c_headers.specs.Written.{PacketHeaderNeedsMore, DescribesNoHeader, WrotePacketHeader};
+ghost use Rattle.quic_c_headers.specs.Headers.{first_word, short_size, word_of, worded_bytes, AreParts, HasShortRoom, IsNumbered, IsShaped, StoresShort};
+ghost use Rattle.quic_c_headers.specs.Headers.{PacketHeaderNeedsMore, DescribesNoHeader, WrotePacketHeader};
 
 use crate::words::HeaderFields;
 use quic_base::coding::store_array;
@@ -86,6 +85,7 @@ fn written_part(number: u64, len: u8) -> PacketNumber
 
 // The bits of the first byte other than the type and the number's size.
 #[inline(always)]
+#[tactic(auto, using(crate::proofs::Writing::clear_is, crate::proofs::Writing::spin_is, crate::proofs::Writing::phase_is))]
 pub(crate) fn first_word(kind: HeaderKind, flags: u8) -> u8
     ensures { result ≡ first_word kind flags }
 {
@@ -109,6 +109,7 @@ fn stored_length_len(words: &HeaderFields) -> usize
 // The first byte of a short header. All its flags are taken over at once, and the fixed bit, which is clear if its flag
 // is set, is turned by a sum: so this takes few instructions.
 #[inline(always)]
+#[tactic(auto, using(crate::proofs::Writing::clear_is, crate::proofs::Writing::spin_is, crate::proofs::Writing::phase_is))]
 fn short_first(flags: u8, number_len: u8) -> u8
     requires some { 1 ≤ number_len }
     requires few { number_len ≤ 4 }
@@ -271,7 +272,7 @@ fn write_as(
     token: &[u8],
     dest: &mut [u8],
 ) -> i64
-    requires kind { kind_word kind ≡ words.now.kind }
+    requires kind { word_of (row kind) ≡ words.now.kind }
     ensures wrote { (result ≡ negsuc 3) ⊎ (result ≡ negsuc 0) ⊎ ((count : ℕ) × (result ≡ pos count)
         × WrotePacketHeader words.now dst.now src.now token.now dest.old dest.new count) }
     ensures room { result ≡ negsuc 3 → PacketHeaderNeedsMore words.now dst.now src.now token.now (length dest.old) }

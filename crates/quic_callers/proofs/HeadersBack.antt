@@ -5,7 +5,7 @@ use Rattle.quic_header_decode.specs.declared.decode_error.PacketDecodeError.{Pac
 use Rattle.quic_header_decode.specs.declared.decode_error.PacketDecodeError.TheVariants as error
 use Rattle.quic_header_decode.specs.declared.protected.ProtectedHeader.{ProtectedHeader}
 use Rattle.quic_header_decode.specs.Grammar.{HeaderAt, Cut, CutAnswer}
-use Rattle.quic_header_decode.specs.Packet.{IsUncut}
+use Rattle.quic_header_decode.specs.Datagram.{IsUncut}
 use Rattle.quic_header_decode.specs.Reading.{DecodeOptions, len_in}
 use Rattle.quic_header_decode.specs.Refusal.{Refusal, Invalid, Unsupported}
 

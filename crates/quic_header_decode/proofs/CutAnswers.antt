@@ -12,7 +12,7 @@ use Rattle.quic_header_decode.specs.declared.decode_error.PacketDecodeError.{Pac
 use Rattle.quic_header_decode.specs.declared.decode_error.PacketDecodeError.TheVariants as error
 use Rattle.quic_header_decode.specs.Refusal.{Refusal, Invalid, NoMemory, GivesRead, refusal_of}
 use Rattle.quic_header_decode.specs.Grammar.{HeaderAt, HeaderAnswer, Refused, Cut, Uncut, no_header, past_end, CutAnswer}
-use Rattle.quic_header_decode.specs.Packet.{CutPacket, CutsFirst, IsUncut}
+use Rattle.quic_header_decode.specs.Datagram.{CutPacket, CutsFirst, IsUncut}
 use Rattle.quic_header_decode.specs.Reading.{DecodeOptions, IsRest, header_at, cut_at, left_of, len_in}
 use Rattle.quic_header_decode.proofs.Headers.{header_found, header_again, refused_found, refused_again, header_strict}
 use Rattle.quic_header_decode.proofs.Steps.{then_ok, then_err, otherwise, taken}

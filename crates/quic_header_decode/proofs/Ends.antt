@@ -12,8 +12,9 @@ use Rattle.quic_header_encode.specs.declared.long_type.LongHeaderType.{LongHeade
 use Rattle.quic_header_encode.specs.declared.long_type.LongHeaderType.TheVariants as kind
 use Rattle.quic_header_encode.specs.Types.{long_type}
 use Rattle.quic_header_decode.specs.Refusal.{Refusal, Invalid, Unsupported, NoMemory}
-use Rattle.quic_header_decode.specs.Grammar.{is_long, HeaderField, Supported, ShortId, HeaderValue, Number, Bytes, typed_row, row_behind_ids, header_row_of, StopsAtField, AreHeaderFields, StopsWithinRow, IsHeader, Refused, Cut}
+use Rattle.quic_header_decode.specs.Grammar.{is_long, HeaderField, Supported, ShortId, HeaderValue, Number, Bytes, typed_row, header_row_of, StopsAtField, AreHeaderFields, StopsWithinRow, IsHeader, Refused, Cut}
 use Rattle.quic_header_decode.specs.Reading.{DecodeOptions, len_in, at_end, bad_id}
+use Rattle.quic_header_decode.proofs.Rows.{row_behind_ids}
 use Rattle.quic_header_decode.proofs.Steps.{take_front, drop_front}
 use Rattle.quic_header_decode.proofs.Headers.{Ids, id_values, long_row, ids_of, of_ids, stops_behind_ids, version_is}
 

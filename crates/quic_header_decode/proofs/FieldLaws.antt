@@ -10,7 +10,7 @@ use Rattle.quic_base.specs.Varint.{Encodes}
 use Rattle.quic_base.specs.Reading.{number_at}
 use Rattle.quic_base.specs.ConnectionId.{IsLongId, long_id}
 use Rattle.quic_base.proofs.PublicLaws as law
-use Rattle.quic_header_decode.specs.Fields.{word_at, long_id_at}
+use Rattle.quic_header_decode.specs.Reading.{word_at, long_id_at}
 use Rattle.quic_header_decode.proofs.Steps.{chosen, none_some, some_same, pair_parts, option_cases, otherwise, some_pair, take_front, drop_front}
 
 -- no front of the bytes is an id after its length

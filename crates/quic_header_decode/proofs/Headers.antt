@@ -14,9 +14,10 @@ use Rattle.quic_header_encode.specs.declared.long_type.LongHeaderType.{LongHeade
 use Rattle.quic_header_encode.specs.declared.long_type.LongHeaderType.TheVariants as kind
 use Rattle.quic_header_encode.specs.Types.{long_type}
 use Rattle.quic_header_decode.specs.Refusal.{Refusal, Unsupported, Invalid}
-use Rattle.quic_header_decode.specs.Fields.{word_at, long_id_at}
-use Rattle.quic_header_decode.specs.Grammar.{is_long, is_fixed, HeaderField, Version, DestinationId, SourceId, Supported, ShortId, HeaderValue, Number, Bytes, typed_row, row_behind_ids, header_row_of, AreHeaderFields, StopsWithinRow, IsHeader, HeaderAt, Refused, token_length_of}
+use Rattle.quic_header_decode.specs.Reading.{word_at, long_id_at}
+use Rattle.quic_header_decode.specs.Grammar.{is_long, is_fixed, HeaderField, Version, DestinationId, SourceId, Supported, ShortId, HeaderValue, Number, Bytes, typed_row, header_row_of, AreHeaderFields, StopsWithinRow, IsHeader, HeaderAt, Refused, token_length_of}
 use Rattle.quic_header_decode.specs.Reading.{DecodeOptions, TakesWithin, header_at, long_at, typed_at, at_end, bad_id}
+use Rattle.quic_header_decode.proofs.Rows.{row_behind_ids}
 use Rattle.quic_header_decode.proofs.Steps.{chosen, otherwise, taken, option_ok, ok_pair, ok_err, err_ok, err_same, bool_cases, some_same, none_some, take_front}
 use Rattle.quic_header_decode.proofs.Rows.{Taken, row_at, row_again, row_found, row_refused, row_stops, row_room}
 

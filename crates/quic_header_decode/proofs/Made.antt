@@ -12,10 +12,11 @@ use Rattle.quic_header_decode.specs.declared.protected.ProtectedInitialHeader.{P
 use Rattle.quic_header_encode.specs.declared.long_type.LongHeaderType.{LongHeaderType}
 use Rattle.quic_header_encode.specs.declared.long_type.LongHeaderType.TheVariants as kind
 use Rattle.quic_header_encode.specs.declared.long_type.LongType.{LongType}
-use Rattle.quic_header_encode.specs.Starts.{long_front}
+use Rattle.quic_header_encode.specs.Kinds.{long_front}
 use Rattle.quic_header_encode.specs.Types.{long_type}
-use Rattle.quic_header_decode.specs.Grammar.{is_long, is_fixed, HeaderField, Supported, ShortId, HeaderValue, Number, Bytes, typed_row, row_behind_ids, header_row_of, AreHeaderFields, IsHeader, HeaderAt, IsKnownVersion}
+use Rattle.quic_header_decode.specs.Grammar.{is_long, is_fixed, HeaderField, Supported, ShortId, HeaderValue, Number, Bytes, typed_row, header_row_of, AreHeaderFields, IsHeader, HeaderAt, IsKnownVersion}
 use Rattle.quic_header_decode.specs.Reading.{DecodeOptions}
+use Rattle.quic_header_decode.proofs.Rows.{row_behind_ids}
 use Rattle.quic_header_decode.proofs.Rows.{or_right}
 use Rattle.quic_header_decode.proofs.Headers.{Ids, id_values, long_row, of_ids, version_is}
 

@@ -10,8 +10,9 @@ use Rattle.quic_base.specs.Reading.{◌>>=◌, number_at}
 use Rattle.quic_base.specs.ConnectionId.{long_id}
 use Rattle.quic_base.proofs.PublicLaws as law
 use Rattle.quic_header_decode.specs.Refusal.{Refusal, Invalid}
-use Rattle.quic_header_decode.specs.Fields.{word_at, long_id_at}
-use Rattle.quic_header_decode.specs.Grammar.{HeaderField, Version, DestinationId, SourceId, Supported, TokenLength, Token, Length, ShortId, HeaderValue, Number, Bytes, token_length_of, IsHeaderField, refusal_at, IsRefusal, BeginsWithField, StopsAtField, AreHeaderFields, StopsWithinRow}
+use Rattle.quic_header_decode.specs.Reading.{word_at, long_id_at}
+use Rattle.quic_header_encode.specs.Types.{long_type}
+use Rattle.quic_header_decode.specs.Grammar.{typed_row, HeaderField, Version, DestinationId, SourceId, Supported, TokenLength, Token, Length, ShortId, HeaderValue, Number, Bytes, token_length_of, IsHeaderField, refusal_at, IsRefusal, BeginsWithField, StopsAtField, AreHeaderFields, StopsWithinRow}
 use Rattle.quic_header_decode.specs.Reading.{DecodeOptions, TakesWithin, at_end, bad_id}
 use Rattle.quic_header_decode.proofs.Steps.{bind_ok, bind_err, option_ok, chosen, then_ok, then_err, otherwise, some_of, drop_front, step, err_same, ok_err, err_ok, ok_pair}
 use Rattle.quic_header_decode.proofs.FieldLaws.{back_fits, word_of, word_found, id_again, id_found, var_again, var_found}
@@ -232,6 +233,10 @@ field_stops options field before bytes e h = record {
       (sym h ∙ ap (field_at options field before) split ∙ field_again options field before values front rest is);
   why = field_reported options field before bytes e h;
 }
+
+-- what follows the ids
+abbrev pub row_behind_ids : ℕ → ℕ → List HeaderField
+row_behind_ids first version = cond (nat_eq version 0) [] (Supported version ∷ typed_row (long_type version first))
 
 -- where no such field stands, none is read
 none_of_other : (options : DecodeOptions) (field : HeaderField) (before : List HeaderValue) (bytes : List ℕ) (e : Refusal)

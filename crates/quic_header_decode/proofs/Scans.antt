@@ -3,7 +3,7 @@ use Rattle.std.specs.Prelude.{◌≡◌, ℕ, ◌+◌, ◌-◌, ◌≤◌, List,
 use Rattle.std.proofs.Common.{sym, ap, ◌∙◌, arith, refl}
 use Rattle.std.proofs.lemmas.List.{drop-drop}
 use Rattle.std.proofs.lemmas.Bool.Decides.{nat_tests}
-use Rattle.quic_header_decode.specs.Fields.{wide_id_at}
+use Rattle.quic_header_decode.specs.Reading.{wide_id_at}
 use Rattle.quic_header_decode.proofs.Steps.{otherwise, some_pair}
 
 -- an id of any version is after its length

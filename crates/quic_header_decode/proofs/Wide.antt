@@ -15,7 +15,7 @@ use Rattle.quic_header_encode.specs.declared.long_type.LongHeaderType.TheVariant
 use Rattle.quic_header_encode.specs.Types.{long_type}
 use Rattle.quic_header_decode.specs.declared.protected.ProtectedHeader.{ProtectedHeader}
 use Rattle.quic_header_decode.specs.declared.protected.ProtectedHeader.TheVariants as protected
-use Rattle.quic_header_decode.specs.Fields.{long_id_at, wide_id_at, word_at}
+use Rattle.quic_header_decode.specs.Reading.{long_id_at, wide_id_at, word_at}
 use Rattle.quic_header_decode.specs.Grammar.{is_long, Refused}
 use Rattle.quic_header_decode.specs.Parsers.{fixed_parsed, fixed_lawful}
 use Rattle.quic_header_decode.specs.Places.{any_fixed, IsUnknownVersion, ReadAnswer}

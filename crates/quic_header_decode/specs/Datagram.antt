@@ -1,9 +1,31 @@
--- The packets of a datagram, one after another (RFC 9000, section 12.2).
-use Rattle.std.specs.Prelude.{ℕ, zero, suc, ◌+◌, ◌<◌, List, [], ◌∷◌, length, drop, Option, Some, None, Result, Ok, Err, nat_lt, if◌then◌else◌}
+-- The first packet of a datagram, and all of them, one after another (RFC 9000, section 12.2).
+use Rattle.std.specs.Prelude.{◌≡◌, ℕ, ◌<◌, ◌⊎◌, Bool, IsTrue, List, ◌++◌, length, zero, suc, ◌+◌, [], ◌∷◌, drop, Option, Some, None, Result, Ok, Err, nat_lt, if◌then◌else◌}
+use Rattle.quic_header_decode.specs.declared.decode_error.PacketDecodeError.{PacketDecodeError}
+use Rattle.quic_header_decode.specs.declared.decode_error.PacketDecodeError.TheVariants as error
 use Rattle.quic_header_decode.specs.declared.protected.ProtectedHeader.{ProtectedHeader}
-use Rattle.quic_header_decode.specs.Refusal.{Refusal}
 use Rattle.quic_header_decode.specs.Grammar.{Cut, Uncut}
 use Rattle.quic_header_decode.specs.Reading.{DecodeOptions, cut_at}
+use Rattle.quic_header_decode.specs.Refusal.{refusal_of, Refusal}
+
+-- a packet's header, where that ends, and the packet's bytes
+pub record CutPacket : Type 0 where
+  pub head : ProtectedHeader
+  pub header_end : ℕ
+  pub bytes : List ℕ
+
+-- the bytes begin with this packet, and rest follows it
+pub record CutsFirst (options : DecodeOptions) (bytes : List ℕ) (packet : CutPacket) (rest : List ℕ) : Type 0 where
+  pub cut : Cut options bytes packet.head packet.header_end (length packet.bytes)
+  pub text : bytes ≡ packet.bytes ++ rest
+
+-- No packet is cut, for this error: the first field that can't be read, or a length beyond the end; or memory ran out,
+-- which happens only in a parser that takes memory, or if bytes follow the packet.
+abbrev pub IsUncut : DecodeOptions → Bool → List ℕ → PacketDecodeError → Type 0
+IsUncut options takes_memory bytes error.OutOfMemory = IsTrue takes_memory
+    ⊎ ((packet : CutPacket) × (rest : List ℕ) × CutsFirst options bytes packet rest × (0 < length rest))
+IsUncut options takes_memory bytes e = Uncut options bytes (refusal_of e)
+
+-- ---- all packets
 
 -- a packet in its datagram: where it begins and ends, and its header
 pub record PlacedPacket : Type 0 where
@@ -30,9 +52,8 @@ abbrev pub and_then : (ℕ → List ℕ → List PlacedPacket × Option Refusal)
 and_then others start bytes (Err e) = ([], Some e)
 and_then others start bytes (Ok cut) =
     let first : PlacedPacket = record { start = start; stop = start + cut.2; header = cut.0 } in
-    if nat_lt cut.2 (length bytes) then
-    (first ∷ (others (start + cut.2) (drop cut.2 bytes)).0, (others (start + cut.2) (drop cut.2 bytes)).1)
-    else (first ∷ [], None)
+    let more = others (start + cut.2) (drop cut.2 bytes) in
+    if nat_lt cut.2 (length bytes) then (first ∷ more.0, more.1) else (first ∷ [], None)
 
 -- at most so many packets
 unfoldable pub packets_from : DecodeOptions → ℕ → ℕ → List ℕ → List PlacedPacket × Option Refusal

@@ -3,6 +3,7 @@ use Rattle.std.specs.Prelude.{◌≡◌, ◌≢◌, ℕ, ◌+◌, ◌<◌, ◌�
 use Rattle.quic_base.specs.Number.{has_bit, IsNumber, num}
 use Rattle.quic_base.specs.Varint.{Encodes}
 use Rattle.quic_base.specs.ConnectionId.{long_id}
+use Rattle.quic_header_encode.specs.Kinds.{type_row}
 use Rattle.quic_header_encode.specs.Types.{long_type}
 use Rattle.quic_header_encode.specs.declared.long_type.LongHeaderType.{LongHeaderType}
 use Rattle.quic_header_encode.specs.declared.long_type.LongHeaderType.TheVariants as kind
@@ -39,20 +40,18 @@ pub data HeaderField : Type 0 where
   -- as many bytes as the parser of ids takes, since their length is not written (section 17.3.1)
   ShortId : HeaderField
 
--- after the ids: of Initial (section 17.2.2); of 0-RTT and Handshake (17.2.3, 17.2.4); of Retry (17.2.5)
+-- what a type has after the ids (sections 17.2.2 to 17.2.5)
 abbrev pub typed_row : LongHeaderType → List HeaderField
-typed_row kind.Initial = TokenLength ∷ Token ∷ Length ∷ []
-typed_row (kind.Standard ty) = Length ∷ []
-typed_row kind.Retry = []
+typed_row ty =
+    let len = if (type_row ty).has_len then Length ∷ [] else [] in
+    if (type_row ty).has_token then TokenLength ∷ Token ∷ len else len
 
--- and of a version negotiation, which has version 0 and no type (section 17.2.1)
-abbrev pub row_behind_ids : ℕ → ℕ → List HeaderField
-row_behind_ids first version = if version == 0 then [] else Supported version ∷ typed_row (long_type version first)
-
--- the version is the number in the four bytes after the first one (RFC 8999, section 5.1)
+-- The version is the number in the four bytes after the first one (RFC 8999, section 5.1). A version negotiation has
+-- version 0 and no type (section 17.2.1).
 abbrev pub header_row_of : ℕ → ℕ → List HeaderField
 header_row_of first version =
-    if is_long first then Version ∷ DestinationId ∷ SourceId ∷ row_behind_ids first version else ShortId ∷ []
+    if is_long first then Version ∷ DestinationId ∷ SourceId
+    ∷ (if version == 0 then [] else Supported version ∷ typed_row (long_type version first)) else ShortId ∷ []
 
 -- ---- which bytes are a field, and why others aren't
 

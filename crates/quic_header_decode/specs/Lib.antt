@@ -1,11 +1,7 @@
 pub mod Datagram
-pub mod Fields
-pub mod Finish
 pub mod Grammar
 pub mod Headers
-pub mod Packet
 pub mod Parsers
 pub mod Places
-pub mod Queries
 pub mod Reading
 pub mod Refusal

@@ -3,7 +3,12 @@
 use Rattle.std.specs.Prelude.{◌≡◌, ◌≢◌, ℕ, ◌≤◌, List, length, take, Result, Ok, Err, MatchResult, nat_lt, if◌then◌else◌, codes}
 use Rattle.std.proofs.Common.{cond, Bool, true, false, arith, refl}
 use Rattle.std.proofs.lemmas.Bool.Decides.{nat_tests}
+use Rattle.quic_header_decode.specs.declared.parser.FixedLengthConnectionIdParser.{FixedLengthConnectionIdParser}
 use Rattle.quic_header_decode.specs.Refusal.{Refusal, Invalid, NoMemory}
+
+-- how many bytes each id has
+abbrev pub id_len : FixedLengthConnectionIdParser → ℕ
+id_len parser = parser.expected_len
 
 -- that many bytes
 abbrev pub fixed_parsed : ℕ → List ℕ → Result (List ℕ × ℕ) Refusal

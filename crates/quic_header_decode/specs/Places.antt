@@ -1,7 +1,7 @@
 -- Headers as places in bytes: the header whose fields are at these places, or an error.
 use Rattle.std.specs.Prelude.{◌≡◌, ◌≢◌, ℕ, ◌+◌, ◌-◌, ◌/◌, ◌%◌, ◌<◌, ◌≤◌, List, ◌∷◌, ◌++◌, drop, length, true, Option, Some, None, Result, Ok, Err, Contains, slice_range, codes, nat_lt, nat_eq, if◌then◌else◌}
 use Rattle.quic_base.specs.ConnectionId.{long_id}
-use Rattle.quic_base.specs.Number.{IsNumber}
+use Rattle.quic_base.specs.Number.{has_bit, IsNumber}
 use Rattle.quic_header_encode.specs.declared.long_type.HeaderKind.{HeaderKind}
 use Rattle.quic_header_encode.specs.declared.long_type.HeaderKind.TheVariants as kind
 use Rattle.quic_header_encode.specs.declared.long_type.LongHeaderType.{LongHeaderType}
@@ -17,8 +17,8 @@ use Rattle.quic_header_decode.specs.declared.protected.ProtectedHeader.{Protecte
 use Rattle.quic_header_decode.specs.declared.protected.ProtectedHeader.TheVariants as protected
 use Rattle.quic_header_decode.specs.Grammar.{is_long, HeaderAt, Refused}
 use Rattle.quic_header_decode.specs.Parsers.{fixed_parsed}
-use Rattle.quic_header_decode.specs.Reading.{DecodeOptions, read_by}
-use Rattle.quic_header_decode.specs.Refusal.{Refusal, Unsupported, Invalid, NoMemory}
+use Rattle.quic_header_decode.specs.Reading.{DecodeOptions, initial_at, read_by}
+use Rattle.quic_header_decode.specs.Refusal.{Refusal, Unsupported, Invalid}
 
 -- the type of a kind that has one
 abbrev pub type_placed : HeaderKind → LongHeaderType
@@ -37,20 +37,12 @@ src_part bytes x = slice_range bytes (6 + x.dst_len + 1) (6 + x.dst_len + 1 + x.
 
 -- the header of a kind, with the fields that it has of these
 abbrev pub header_placed : HeaderKind → ℕ → List ℕ → List ℕ → Place → ℕ → ℕ → ProtectedHeader
-header_placed kind.Initial first dst src token len version =
-    protected.Initial (record {
-      dst_cid = dst;
-      src_cid = src;
-      token_pos = record
-          { start = token.start; end = token.end };
-      len = len;
-      version = version;
-    })
+header_placed kind.Initial first dst src token len version = initial_at dst src token.start token.end len version
 header_placed kind.ZeroRtt first dst src token len version = protected.Long ZeroRtt dst src len version
 header_placed kind.Handshake first dst src token len version = protected.Long Handshake dst src len version
 header_placed kind.Retry first dst src token len version = protected.Retry dst src version
-header_placed kind.Short first dst src token len version = protected.Short (nat_eq (first / 32 % 2) 1) dst
-header_placed kind.VersionNegotiate first dst src token len version = protected.VersionNegotiate (first - 128) dst src
+header_placed kind.Short first dst src token len version = protected.Short (has_bit 0x20 first) dst
+header_placed kind.VersionNegotiate first dst src token len version = protected.VersionNegotiate (first - 0x80) dst src
 
 -- the header that places say in these bytes
 abbrev pub header_in : List ℕ → HeaderPlaces → ProtectedHeader
@@ -81,16 +73,15 @@ IsNowhere place = (place.start ≡ 0) × (place.end ≡ 0)
 -- Where the fields of a header are. Fields that a kind doesn't have are 0.
 abbrev pub ArePlaces : HeaderKind → HeaderPlaces → Type 0
 ArePlaces kind.Initial x = (ids_end x < x.token.start) × (x.token.start ≤ x.token.end) × (x.token.end < x.header_end)
-ArePlaces kind.ZeroRtt x = (ids_end x < x.header_end) × IsNowhere x.token
-ArePlaces kind.Handshake x = (ids_end x < x.header_end) × IsNowhere x.token
 ArePlaces kind.Retry x = (ids_end x ≡ x.header_end) × IsNowhere x.token × (x.len ≡ 0)
 ArePlaces kind.Short x = (1 + x.dst_len ≡ x.header_end) × (x.src_len ≡ 0) × IsNowhere x.token × (x.len ≡ 0)
     × (x.version ≡ 0)
 ArePlaces kind.VersionNegotiate x = (ids_end x ≡ x.header_end) × IsNowhere x.token × (x.len ≡ 0) × (x.version ≡ 0)
+ArePlaces _ x = (ids_end x < x.header_end) × IsNowhere x.token
 
 -- The fields are within the header, and the header within so many bytes.
-pub record ArePlacesWithin (x : HeaderPlaces) (datagram_len : ℕ) : Type 0 where
-  pub fields : ArePlaces x.kind x
+pub record ArePlacesWithin (kind : HeaderKind) (x : HeaderPlaces) (datagram_len : ℕ) : Type 0 where
+  pub fields : ArePlaces kind x
   pub dst_few : x.dst_len ≤ 20
   pub src_few : x.src_len ≤ 20
   pub token_order : x.token.start ≤ x.token.end
@@ -98,19 +89,9 @@ pub record ArePlacesWithin (x : HeaderPlaces) (datagram_len : ℕ) : Type 0 wher
   pub first : 0 < x.header_end
   pub head : x.header_end ≤ datagram_len
 
--- what a long header has before its type's fields
-pub record IsLongFront (x : HeaderPlaces) (datagram_len : ℕ) : Type 0 where
-  pub ids : ids_end x ≡ x.header_end
-  pub dst_few : x.dst_len ≤ 20
-  pub src_few : x.src_len ≤ 20
-  pub start : x.token.start ≡ 0
-  pub end : x.token.end ≡ 0
-  pub len : x.len ≡ 0
-  pub head : x.header_end ≤ datagram_len
-
 -- the ids of an unknown version are within so many bytes
 abbrev pub IsSeen : Result HeaderPlaces ReadError → ℕ → Type 0
-IsSeen (Ok x) datagram_len = ArePlacesWithin x datagram_len
+IsSeen (Ok x) datagram_len = ArePlacesWithin x.kind x datagram_len
 IsSeen (Err (error.UnsupportedVersion version dst_len src_len)) datagram_len = (dst_len ≤ 255) × (src_len ≤ 255)
     × (6 + dst_len + 1 + src_len ≤ datagram_len)
 IsSeen _ datagram_len = Unit {0}
@@ -143,9 +124,5 @@ any_fixed id_len versions = read_by (fixed_parsed id_len) versions true
 abbrev pub ReadAnswer : DecodeOptions → List ℕ → Result (ProtectedHeader × List ℕ) Refusal → Type 0
 ReadAnswer options bytes (Ok found) = HeaderAt options (length bytes) bytes found.0 found.1
 ReadAnswer options bytes (Err (Unsupported src dst version)) = IsUnknownVersion options bytes version dst src
-ReadAnswer options bytes (Err (Invalid text)) =
-    Refused options bytes (Invalid text)
-    × ((version : ℕ) (dst src : List ℕ) → IsUnknownVersion options bytes version dst src → ⊥)
-ReadAnswer options bytes (Err NoMemory) =
-    Refused options bytes NoMemory × ((version : ℕ) (dst src : List ℕ) → IsUnknownVersion options bytes version dst src
-    → ⊥)
+ReadAnswer options bytes (Err e) =
+    Refused options bytes e × ((version : ℕ) (dst src : List ℕ) → IsUnknownVersion options bytes version dst src → ⊥)

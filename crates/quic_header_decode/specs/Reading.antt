@@ -1,6 +1,6 @@
 -- How a header is read, step by step.
 use Rattle.quic_header_encode.specs.Types.{long_type}
-use Rattle.std.specs.Prelude.{◌≡◌, ℕ, ◌+◌, ◌-◌, ◌/◌, ◌%◌, ◌<◌, ◌≤◌, Bool, List, [], length, drop, Option, Some, None, Result, Ok, Err, nat_lt, nat_eq, not, ◌&&◌, ◌||◌, if◌then◌else◌, codes, unwrap_or}
+use Rattle.std.specs.Prelude.{◌≡◌, ℕ, ◌+◌, ◌-◌, ◌/◌, ◌%◌, ◌<◌, ◌≤◌, Bool, List, [], ◌∷◌, length, take, drop, Option, Some, None, Result, Ok, Err, nat_lt, nat_eq, not, ◌&&◌, ◌||◌, if◌then◌else◌, codes, unwrap_or}
 use Rattle.std.specs.List.{list_any}
 use Rattle.std.specs.Option.{ok_or}
 use Rattle.quic_header_decode.specs.declared.protected.ProtectedHeader.{ProtectedHeader}
@@ -8,8 +8,8 @@ use Rattle.quic_header_decode.specs.declared.protected.ProtectedHeader.TheVarian
 use Rattle.quic_header_encode.specs.declared.long_type.LongHeaderType.{LongHeaderType}
 use Rattle.quic_header_encode.specs.declared.long_type.LongHeaderType.TheVariants as kind
 use Rattle.quic_header_decode.specs.Refusal.{Refusal, Unsupported, Invalid}
-use Rattle.quic_header_decode.specs.Fields.{byte_at, word_at, long_id_at, wide_id_at}
 use Rattle.quic_header_decode.specs.Parsers.{fixed_parsed}
+use Rattle.quic_base.specs.Number.{has_bit, num}
 use Rattle.quic_base.specs.Reading.{◌>>=◌, number_at}
 use Rattle.bytes.specs.Filled.{Filled}
 
@@ -27,11 +27,48 @@ read_by parsed versions grease = record { parsed = parsed; versions = versions; 
 abbrev pub TakesWithin : DecodeOptions → Type 0
 TakesWithin options = (text id : List ℕ) (count : ℕ) → options.parsed text ≡ Ok (id, count) → count ≤ length text
 
+-- ---- fields: each gives a value and the bytes after it
+
+-- what a call that reads answers is what there is to be read, and the rest is left
+abbrev pub Reads : {X : Type 0} → Option X → List ℕ → Option (X × List ℕ) → Type 0
+Reads (Some x) new read = read ≡ Some (x, new)
+Reads None new read = read ≡ None
+
+abbrev pub byte_at : List ℕ → Option (ℕ × List ℕ)
+byte_at [] = None
+byte_at (b ∷ rest) = Some (b, rest)
+
+-- four bytes, the highest first
+abbrev pub word_at : List ℕ → Option (ℕ × List ℕ)
+word_at bytes = if nat_lt (length bytes) 4 then None else Some (num (take 4 bytes), drop 4 bytes)
+
+-- a byte of length, at most 20, and that many bytes
+abbrev pub long_id_at : List ℕ → Option (List ℕ × List ℕ)
+long_id_at [] = None
+long_id_at (n ∷ rest) = if nat_lt 20 n || nat_lt (length rest) n then None else Some (take n rest, drop n rest)
+
+-- a byte of length and that many bytes, as ids of any version have them (RFC 8999, section 5.1)
+abbrev pub wide_id_at : List ℕ → Option (List ℕ × List ℕ)
+wide_id_at [] = None
+wide_id_at (n ∷ rest) = if nat_lt (length rest) n then None else Some (take n rest, drop n rest)
+
+-- ---- headers
+
 abbrev pub at_end : Refusal
 at_end = Invalid (codes "unexpected end of packet")
 
 abbrev pub bad_id : Refusal
 bad_id = Invalid (codes "malformed cid")
+
+-- an Initial packet's header, whose token is at a place
+abbrev pub initial_at : List ℕ → List ℕ → ℕ → ℕ → ℕ → ℕ → ProtectedHeader
+initial_at dst src start end len version = protected.Initial (record {
+  dst_cid = dst;
+  src_cid = src;
+  token_pos = record { start = start; end = end };
+  len = len;
+  version = version;
+})
 
 unfoldable pub typed_at : LongHeaderType → ℕ → List ℕ → List ℕ → ℕ → List ℕ → Result (ProtectedHeader × List ℕ) Refusal
 typed_at kind.Retry datagram_len dst src version bytes = Ok (protected.Retry dst src version, bytes)
@@ -43,24 +80,14 @@ typed_at kind.Initial datagram_len dst src version bytes = do
   if nat_lt (length token.1) token.0 then Err (Invalid (codes "token out of bounds"))
       else (ok_or (number_at (drop token.0 token.1)) at_end >>= λ len.
       let start = datagram_len - length token.1 in
-      Ok (
-        protected.Initial (record {
-          dst_cid = dst;
-          src_cid = src;
-          token_pos = record
-              { start = start; end = start + token.0 };
-          len = len.0;
-          version = version;
-        }),
-        len.1,
-      ))
+      Ok (initial_at dst src start (start + token.0) len.0 version, len.1))
 
 unfoldable pub long_at : List ℕ → ℕ → ℕ → List ℕ → Result (ProtectedHeader × List ℕ) Refusal
 long_at versions datagram_len first bytes = do
   version ← ok_or (word_at bytes) at_end
   dst ← ok_or (long_id_at version.1) bad_id
   src ← ok_or (long_id_at dst.1) bad_id
-  if nat_eq version.0 0 then Ok (protected.VersionNegotiate (first - 128) dst.0 src.0, src.1)
+  if nat_eq version.0 0 then Ok (protected.VersionNegotiate (first - 0x80) dst.0 src.0, src.1)
       else (if not (list_any (λ known. nat_eq known version.0) versions) then Err (Unsupported src.0 dst.0 version.0)
       else typed_at (long_type version.0 first) datagram_len dst.0 src.0 version.0 src.1)
 
@@ -73,23 +100,23 @@ wide_at versions datagram_len first bytes = do
   if not (nat_eq version.0 0) && not (list_any (λ known. nat_eq known version.0) versions)
       then Err (Unsupported src.0 dst.0 version.0)
       else (if nat_lt 20 (length dst.0) || nat_lt 20 (length src.0) then Err bad_id
-      else (if nat_eq version.0 0 then Ok (protected.VersionNegotiate (first - 128) dst.0 src.0, src.1)
+      else (if nat_eq version.0 0 then Ok (protected.VersionNegotiate (first - 0x80) dst.0 src.0, src.1)
       else typed_at (long_type version.0 first) datagram_len dst.0 src.0 version.0 src.1))
 
 unfoldable pub header_at : DecodeOptions → ℕ → List ℕ → Result (ProtectedHeader × List ℕ) Refusal
 header_at options datagram_len bytes = do
   first ← ok_or (byte_at bytes) at_end
   if not options.grease && nat_eq (first.0 / 64 % 2) 0 then Err (Invalid (codes "fixed bit unset"))
-      else (if nat_lt first.0 128
-      then (options.parsed first.1 >>= λ id. Ok (protected.Short (nat_eq (first.0 / 32 % 2) 1) id.0, drop id.1 first.1))
+      else (if nat_lt first.0 0x80
+      then (options.parsed first.1 >>= λ id. Ok (protected.Short (has_bit 0x20 first.0) id.0, drop id.1 first.1))
       else long_at options.versions datagram_len first.0 first.1)
 
 -- a header whose fixed bit isn't checked, with ids of so many bytes in short ones, and of any length in long ones
 unfoldable pub wide_header_at : ℕ → List ℕ → ℕ → List ℕ → Result (ProtectedHeader × List ℕ) Refusal
 wide_header_at id_len versions datagram_len bytes = do
   first ← ok_or (byte_at bytes) at_end
-  if nat_lt first.0 128
-      then (fixed_parsed id_len first.1 >>= λ id. Ok (protected.Short (nat_eq (first.0 / 32 % 2) 1) id.0, drop id.1 first.1))
+  if nat_lt first.0 0x80
+      then (fixed_parsed id_len first.1 >>= λ id. Ok (protected.Short (has_bit 0x20 first.0) id.0, drop id.1 first.1))
       else wide_at versions datagram_len first.0 first.1
 
 -- the length that a header says

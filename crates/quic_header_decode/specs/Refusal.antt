@@ -15,9 +15,8 @@ refusal_of error.OutOfMemory = NoMemory
 
 -- what a call answered is what there is to be read, or its refusal, unless memory ran out
 abbrev pub RefusesHeader : {Y : Type 0} → PacketDecodeError → Result Y Refusal → Type 0
-RefusesHeader (error.UnsupportedVersion src dst version) read = read ≡ Err (Unsupported src dst version)
-RefusesHeader (error.InvalidHeader text) read = read ≡ Err (Invalid text.now)
 RefusesHeader error.OutOfMemory read = Unit {0}
+RefusesHeader e read = read ≡ Err (refusal_of e)
 
 abbrev pub GivesRead : {X Y : Type 0} → (X → Y) → Result X PacketDecodeError → Result Y Refusal → Type 0
 GivesRead view (Ok x) read = read ≡ Ok (view x)

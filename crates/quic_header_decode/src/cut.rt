@@ -1,7 +1,7 @@
 //! The cutting of datagrams into packets (RFC 9000, section 12.2).
 ghost use Rattle.std.specs.Prelude.{◌≡◌, ◌<◌, ◌≤◌, length, take, drop, IsTrue, IfErr, IfOk, IsErrOf, IfSome, IsNone, MatchResult, ◌⊎◌, ◌↔◌};
-ghost use Rattle.quic_header_decode.specs.Queries.{dst_of, space_of, IsShort, IsInitial, IsZeroRtt};
-ghost use Rattle.quic_header_decode.specs.Packet.{CutsFirst, IsUncut};
+ghost use Rattle.quic_header_decode.specs.Headers.{dst_of, space_of, IsShort, IsInitial, IsZeroRtt};
+ghost use Rattle.quic_header_decode.specs.Datagram.{CutsFirst, IsUncut};
 ghost use Rattle.quic_header_decode.specs.Reading.{cut_at, left_of, read_by, IsRest};
 ghost use Rattle.quic_header_decode.specs.Refusal.{GivesRead};
 
@@ -24,7 +24,7 @@ pub struct PartialDecode {
 
 impl Model for PartialDecode {
     ghost use Rattle.std.specs.Prelude.{◌≤◌, length};
-    ghost use Rattle.quic_header_decode.specs.Packet.{CutPacket};
+    ghost use Rattle.quic_header_decode.specs.Datagram.{CutPacket};
     ghost use Rattle.quic_header_decode.specs.Reading.{IsPlaced};
 
     ghost Value = { CutPacket };

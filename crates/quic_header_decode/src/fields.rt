@@ -2,7 +2,7 @@
 ghost use Rattle.std.specs.Prelude.{◌≡◌, ◌+◌, ◌<◌, ◌≤◌, Some, None, drop, length, IfSome, MatchOption};
 ghost use Rattle.quic_base.specs.Number.{AreBytes};
 ghost use Rattle.quic_base.specs.Reading.{number_at};
-ghost use Rattle.quic_header_decode.specs.Fields.{Reads, word_at, long_id_at};
+ghost use Rattle.quic_header_decode.specs.Reading.{Reads, word_at, long_id_at};
 
 use quic_base::coding::are_bytes;
 use quic_base::ids::MAX_CID_SIZE;

@@ -1,7 +1,7 @@
 //! Takes the protection off headers (RFC 9001, section 5.4).
 ghost use Rattle.std.specs.Prelude.{◌≡◌, ◌≤◌, ◌<◌, ◌/◌, ◌%◌, ◌++◌, length, take, drop, IfOk, IfErr, IsTrue, IsSome, IfSome, true, false, nat_eq, slice_index, slice_range};
 ghost use Rattle.quic_crypto.specs.Keys.{HasSample};
-ghost use Rattle.quic_header_decode.specs.Finish.{sample_refusal, IsUnfinished, IsNumberIn};
+ghost use Rattle.quic_header_decode.specs.Headers.{sample_refusal, IsUnfinished, IsNumberIn};
 ghost use Rattle.quic_header_decode.specs.Headers.{is_protected, IsOpened, IsOpenedBy};
 ghost use Rattle.quic_header_decode.specs.Refusal.{refusal_of, NoMemory};
 

@@ -1,7 +1,7 @@
 //! Packets whose headers' protection is taken off (RFC 9000, section 17).
 ghost use Rattle.std.specs.Prelude.{◌≡◌, ◌<◌, length, slice_index, false};
 ghost use Rattle.quic_header_encode.specs.declared.header.Header.TheVariants as headers;
-ghost use Rattle.quic_header_encode.specs.Queries.{reserved_zero};
+ghost use Rattle.quic_header_encode.specs.Kinds.{reserved_zero};
 
 use bytes::{Bytes, BytesMut};
 use quic_header_encode::header::{Header, InitialHeader};

@@ -42,7 +42,7 @@ pub struct FixedLengthConnectionIdParser {
 }
 
 impl FixedLengthConnectionIdParser {
-    ghost use Rattle.quic_header_decode.specs.Packet.{id_len};
+    ghost use Rattle.quic_header_decode.specs.Parsers.{id_len};
 
     /// A parser of ids of that many bytes. The caller must ensure that these are at most 20.
     pub fn new(expected_len: usize) -> Self
@@ -63,7 +63,7 @@ impl FixedLengthConnectionIdParser {
 }
 
 impl ConnectionIdParser for FixedLengthConnectionIdParser {
-    ghost use Rattle.quic_header_decode.specs.Packet.{id_len};
+    ghost use Rattle.quic_header_decode.specs.Parsers.{id_len};
     ghost use Rattle.quic_header_decode.specs.Parsers.{fixed_parsed, fixed_lawful};
 
     ghost parsed = { λ p bytes. fixed_parsed (id_len p) bytes };

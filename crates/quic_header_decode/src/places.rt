@@ -1,9 +1,9 @@
 //! Reads headers as places in the caller's bytes: nothing is copied.
 ghost use Rattle.std.specs.Prelude.{◌≡◌, ◌+◌, ◌<◌, ◌≤◌, ◌∷◌, ℕ, Some, None, length, drop, slice_index, slice_range, IfOk, IfSome, MatchOption, ◌==◌};
 ghost use Rattle.std.specs.List.{list_any};
-ghost use Rattle.quic_header_encode.specs.Storing.{IsTyped};
-ghost use Rattle.quic_header_decode.specs.Fields.{Reads, wide_id_at, word_at};
-ghost use Rattle.quic_header_decode.specs.Places.{any_fixed, ends_at, seen_in, type_placed, IsLongFront, IsSeen, ReadAnswer};
+ghost use Rattle.quic_header_encode.specs.Writing.{IsTyped};
+ghost use Rattle.quic_header_decode.specs.Reading.{Reads, wide_id_at, word_at};
+ghost use Rattle.quic_header_decode.specs.Places.{any_fixed, ends_at, seen_in, type_placed, ArePlacesWithin, IsSeen, ReadAnswer};
 ghost use Rattle.quic_header_decode.specs.Reading.{wide_at, wide_header_at, typed_at};
 
 pub use crate::fields::Place;
@@ -233,7 +233,7 @@ fn read_typed(
     front: HeaderPlaces,
 ) -> Result<HeaderPlaces, ReadError>
     requires typed { IsTyped kind }
-    requires front { IsLongFront front (length bytes.now) }
+    requires front { ArePlacesWithin HeaderKind.Retry front (length bytes.now) }
     ensures exact { typed_at (type_placed kind) (length bytes.now) (slice_range bytes.now 6 (6 + front.dst_len))
         (slice_range bytes.now (6 + front.dst_len + 1) (6 + front.dst_len + 1 + front.src_len)) front.version
         (drop front.header_end bytes.now)

@@ -2,7 +2,7 @@
 ghost use Rattle.std.specs.Prelude.{◌≡◌, ◌<◌, ◌≤◌, length, IsTrue, Err, IfErr, IfOk, IsErrOf, ◌≢◌, drop};
 ghost use Rattle.quic_header_decode.specs.Refusal.{refusal_of, GivesRead};
 ghost use Rattle.quic_header_decode.specs.Grammar.{HeaderAt, Refused};
-ghost use Rattle.quic_header_decode.specs.Queries.{dst_of};
+ghost use Rattle.quic_header_decode.specs.Headers.{dst_of};
 ghost use Rattle.quic_header_decode.specs.Reading.{header_at, long_at, read_by, typed_at, len_in, IsPlaced};
 
 use crate::decode_error::PacketDecodeError;

@@ -8,12 +8,12 @@ use Rattle.quic_header_encode.proofs.Writings.{number_length}
 use Rattle.quic_header_encode.specs.declared.header.Header.{Header}
 use Rattle.quic_header_encode.specs.declared.header.Header.TheVariants as header
 use Rattle.quic_header_encode.specs.Kinds.{fields_of, first_in}
-use Rattle.quic_header_encode.specs.Starts.{long_front}
-use Rattle.quic_header_encode.specs.Storing.{begun_by, length_in, with_len}
+use Rattle.quic_header_encode.specs.Kinds.{long_front}
+use Rattle.quic_header_encode.specs.Writing.{begun_by, length_in, with_len}
 use Rattle.quic_header_encode.specs.Writing.{has_length, header_bytes, header_size, header_with, size_in, with_length}
 
 -- n elements of a list are written over
-filled : (front zeros number tail len : List ℕ) (n at : ℕ) → length zeros ≡ n → at ≡ length front + n
+pub filled : (front zeros number tail len : List ℕ) (n at : ℕ) → length zeros ≡ n → at ≡ length front + n
     → take (at - n) ((front ++ (zeros ++ number)) ++ tail) ++ (len ++ drop at ((front ++ (zeros ++ number)) ++ tail))
     ≡ (front ++ (len ++ number)) ++ tail
 filled front zeros number tail len n at width is =
@@ -67,7 +67,7 @@ sizes front rest width n is =
     )
 
 -- what a header with a length has before it
-abbrev front_of : Header → List ℕ
+abbrev pub front_of : Header → List ℕ
 front_of (header.Initial h) =
     long_front (first_in (fields_of (header.Initial h))) h.version h.dst_cid h.src_cid
     ++ (shortest_varint (length h.token) ++ h.token)

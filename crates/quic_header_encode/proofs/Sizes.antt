@@ -11,10 +11,10 @@ use Rattle.quic_crypto.specs.declared.packet_number.PacketNumber.TheVariants.{U8
 use Rattle.quic_crypto.specs.PacketNumbers.{number_bytes, number_size}
 use Rattle.quic_header_encode.specs.declared.long_type.HeaderKind.{HeaderKind}
 use Rattle.quic_header_encode.specs.declared.long_type.HeaderKind.TheVariants as kinds
-use Rattle.quic_header_encode.specs.Starts.{long_front}
+use Rattle.quic_header_encode.specs.Kinds.{long_front}
 use Rattle.quic_header_encode.specs.Kinds.{header_text, says, row, Fields, first_in, version_in}
 use Rattle.quic_header_encode.specs.declared.store.HeaderRef.{HeaderRef}
-use Rattle.quic_header_encode.specs.Storing.{end_bytes, room_by, stored_len, token_by, token_bytes, HasStoreRoom, IsLong}
+use Rattle.quic_header_encode.specs.Writing.{end_bytes, room_by, stored_len, token_by, HasStoreRoom, IsLong}
 use Rattle.quic_header_encode.proofs.Writings.{number_length}
 
 pub long_length : (first version : ℕ) (dst src : List ℕ)
@@ -154,7 +154,7 @@ long_parts kinds.Short dst src token number len long = absurd (search (rules, lo
 long_parts kinds.VersionNegotiate dst src token number len long = omega arith
 
 pub long_sized : {I : Type 0} (id : I → List ℕ) (fields : HeaderRef I) → IsLong fields.kind → stored_len id fields
-    ≡ 7 + length (id fields.dst_cid) + length (id fields.src_cid) + length (token_bytes fields) + length (end_bytes fields)
+    ≡ 7 + length (id fields.dst_cid) + length (id fields.src_cid) + length (token_by fields.kind fields.token.now) + length (end_bytes fields)
 long_sized id fields long =
     sized id fields
     ∙ long_parts fields.kind (id fields.dst_cid) (id fields.src_cid) fields.token.now fields.number.now fields.length_len long
@@ -190,3 +190,12 @@ exact_room id fields n fits =
       dst = omega (arith, fits, within.0, sized id fields);
       src = omega (arith, fits, within.1, sized id fields);
     }
+
+-- the room of a long header
+pub long_room : (k : HeaderKind) (short long : ℕ) → IsLong k → room_by k short long ≡ long
+long_room kinds.Initial short long is = refl
+long_room kinds.ZeroRtt short long is = refl
+long_room kinds.Handshake short long is = refl
+long_room kinds.Retry short long is = refl
+long_room kinds.VersionNegotiate short long is = refl
+long_room kinds.Short short long is = absurd cc

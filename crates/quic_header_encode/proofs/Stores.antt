@@ -6,7 +6,7 @@ use Rattle.std.proofs.lemmas.List.{append-nil, append_assoc, length-append, leng
 use Rattle.std.specs.Int.{byte_at}
 use Rattle.quic_base.specs.Number.{bytes_of}
 use Rattle.quic_base.specs.Varint.{shortest_varint, size}
-use Rattle.quic_header_encode.specs.Storing.{length_in, with_len}
+use Rattle.quic_header_encode.specs.Writing.{length_in, with_len}
 
 -- a number below 64 is encoded by itself
 pub short_small : (n : ℕ) → n < 64 → shortest_varint n ≡ n ∷ []

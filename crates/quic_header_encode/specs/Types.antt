@@ -7,9 +7,9 @@ use Rattle.quic_header_encode.specs.declared.long_type.LongHeaderType.{LongHeade
 use Rattle.quic_header_encode.specs.declared.long_type.LongHeaderType.TheVariants as kind
 use Rattle.quic_header_encode.specs.declared.long_type.LongType.TheVariants.{Handshake, ZeroRtt}
 
--- version 2 of QUIC, 0x6b3343cf (RFC 9369, section 3.1)
+-- version 2 of QUIC (RFC 9369, section 3.1)
 abbrev pub version_2 : ℕ
-version_2 = 1798521807
+version_2 = 0x6b3343cf
 
 -- the types of long headers under a version, by the numbers 0 to 3 that first bytes say
 abbrev pub types_of : ℕ → List LongHeaderType
@@ -21,12 +21,12 @@ types_of version =
 abbrev pub long_type : ℕ → ℕ → LongHeaderType
 long_type version first = slice_index_or (types_of version) (first / 16 % 4) kind.Retry
 
--- a number that tells the types apart
+-- the number of a type under version 1 (RFC 9000, section 17.2), which tells the types apart
 abbrev pub type_code : LongHeaderType → ℕ
 type_code kind.Initial = 0
-type_code kind.Retry = 1
-type_code (kind.Standard ZeroRtt) = 2
-type_code (kind.Standard Handshake) = 3
+type_code (kind.Standard ZeroRtt) = 1
+type_code (kind.Standard Handshake) = 2
+type_code kind.Retry = 3
 
 -- the place of a type in a table
 abbrev pub place_of : LongHeaderType → List LongHeaderType → ℕ
@@ -40,7 +40,7 @@ type_number version ty = place_of ty (types_of version)
 -- the first byte of a type under a version: bits 0x80 and 0x40 are set, and so are those of its number; the lowest
 -- four are clear
 abbrev pub first_byte : ℕ → LongHeaderType → ℕ
-first_byte version ty = 192 + 16 * type_number version ty
+first_byte version ty = 0xc0 + 16 * type_number version ty
 
 -- the space of the numbers of packets with a long header of this form
 abbrev pub long_space : LongType → SpaceId

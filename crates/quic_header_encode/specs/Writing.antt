@@ -1,15 +1,24 @@
 -- The bytes of headers, and a packet that is finished after its payload was appended to its header (RFC 9000, section
--- 17; RFC 9001, sections 5.3 and 5.4).
-use Rattle.std.specs.Prelude.{◌≡◌, IsTrue, IsOk, OnOk, OnErr, Result, Vec, vec_len, vec_capacity, ◌≤◌, take, drop, ℕ, ◌+◌, ◌-◌, ◌<◌, ◌^◌, Bool, true, false, Option, Some, None, List, [], ◌∷◌, ◌++◌, length}
+-- 17; RFC 9001, sections 5.3 and 5.4). Headers are appended, or written over bytes: then the first byte's fixed bit may
+-- be clear (RFC 9287), and there are as many zeros in place of the length as are asked for.
+use Rattle.std.specs.Prelude.{◌≡◌, IsTrue, IsOk, OnOk, OnErr, Result, Vec, vec_len, vec_capacity, ◌≤◌, take, drop, ℕ, ◌+◌, ◌-◌, ◌<◌, ◌^◌, Bool, true, false, Option, Some, None, List, [], ◌∷◌, ◌++◌, length, ◌*◌, ◌⊎◌, replicate, ◌==◌, is_some, if◌then◌else◌}
 use Rattle.std.specs.declared.alloc.Global.{Global}
 use Rattle.quic_base.specs.declared.coding.NoRoom.{NoRoom}
 use Rattle.std.specs.Option.{option_map, option_map_or}
 use Rattle.quic_base.specs.Number.{bytes_of}
 use Rattle.quic_crypto.specs.Keys.{payload_in}
-use Rattle.quic_crypto.specs.PacketNumbers.{IsInRange, number_size}
+use Rattle.quic_crypto.specs.PacketNumbers.{IsInRange, number_size, number_bytes}
 use Rattle.quic_header_encode.specs.declared.header.Header.{Header}
-use Rattle.quic_header_encode.specs.Kinds.{fields_of, header_text}
-use Rattle.quic_header_encode.specs.Queries.{number_in}
+use Rattle.quic_header_encode.specs.Kinds.{fields_of, header_text, number_in, Fields, first_in, row, says, version_in}
+use Rattle.quic_base.specs.Varint.{shortest_varint}
+use Rattle.quic_header_encode.specs.declared.store.HeaderRef.{HeaderRef}
+use Rattle.quic_header_encode.specs.declared.store.Padded.{Padded}
+use Rattle.quic_header_encode.specs.declared.long_type.HeaderKind.{HeaderKind}
+use Rattle.quic_header_encode.specs.declared.long_type.HeaderKind.TheVariants as kinds
+use Rattle.quic_header_encode.specs.declared.long_type.LongHeaderType.{LongHeaderType}
+use Rattle.quic_header_encode.specs.declared.long_type.LongHeaderType.TheVariants as kind
+use Rattle.quic_header_encode.specs.declared.long_type.LongType.TheVariants.{Handshake, ZeroRtt}
+use Rattle.quic_header_encode.specs.Types.{type_number}
 
 -- two bytes of length, which are filled in later
 abbrev pub no_length : List ℕ
@@ -73,6 +82,118 @@ pub record HasRoom (pn_len : ℕ) (write_len : Bool) (header_len sample_len size
   pub length_fits : IsTrue write_len → size + pn_len < header_len + 2 ^ 14
   pub within : header_len ≤ size
   pub sample : header_len + 4 + sample_len ≤ size + pn_len
+
+-- ---- headers over bytes
+
+-- the bits that say a long header's type under a version, and those that say how many bytes of a number are written
+abbrev pub type_bits : HeaderKind → ℕ → ℕ
+type_bits kind version = option_map_or (λ ty. 16 * type_number version ty) (row kind).type 0
+
+-- what it says, and its first byte
+abbrev pub fields_by : {I : Type 0} → (I → List ℕ) → HeaderRef I → Fields
+fields_by id fields =
+    says (row fields.kind) fields.first fields.version (id fields.dst_cid) (id fields.src_cid) fields.token.now fields.number.now
+
+abbrev pub first_byte_of : {I : Type 0} → (I → List ℕ) → HeaderRef I → ℕ
+first_byte_of id fields = first_in (fields_by id fields)
+
+-- bytes with another first one
+abbrev pub begun_by : ℕ → List ℕ → List ℕ
+begun_by first bytes = first ∷ drop 1 bytes
+
+-- the bytes that are written, with so many zeros as its length, and how many these are
+abbrev pub stored_bytes : {I : Type 0} → (I → List ℕ) → HeaderRef I → List ℕ
+stored_bytes id fields = header_text (replicate fields.length_len 0) (fields_by id fields)
+
+abbrev pub stored_len : {I : Type 0} → (I → List ℕ) → HeaderRef I → ℕ
+stored_len id fields = length (stored_bytes id fields)
+
+-- what a first byte has beside its type and number has room for these: all eight bits of a version negotiation are
+-- its own
+abbrev pub HasLow : HeaderKind → ℕ → Type 0
+HasLow kinds.VersionNegotiate first = Unit {0}
+HasLow _ first = first ≤ 192
+
+-- Such a header can be written.
+pub record IsStorable {I : Type 0} (id : I → List ℕ) (fields : HeaderRef I) : Type 0 where
+  pub low : HasLow fields.kind fields.first
+  pub dst_few : length (id fields.dst_cid) ≤ 20
+  pub src_few : length (id fields.src_cid) ≤ 20
+  pub token : length fields.token.now < 2 ^ 62
+  pub number : IsInRange fields.number.now
+  pub length_len : (fields.length_len ≡ 2) ⊎ (fields.length_len ≡ 4)
+
+-- a token that is written by stores of 16 bytes
+abbrev pub IsShortToken : List ℕ → Type 0
+IsShortToken token = (length token ≡ 0) ⊎ ((16 ≤ length token) × (length token ≤ 32))
+
+-- all headers but short ones, and those that say a type
+abbrev pub IsLong : HeaderKind → Type 0
+IsLong kind = IsTrue (row kind).is_long
+
+abbrev pub IsTyped : HeaderKind → Type 0
+IsTyped kind = IsTrue (is_some (row kind).type)
+
+-- the kind of a type
+abbrev pub kind_of : LongHeaderType → HeaderKind
+kind_of kind.Initial = kinds.Initial
+kind_of (kind.Standard ZeroRtt) = kinds.ZeroRtt
+kind_of (kind.Standard Handshake) = kinds.Handshake
+kind_of kind.Retry = kinds.Retry
+
+-- the version that a header says
+abbrev pub version_field : {I : Type 0} → (I → List ℕ) → HeaderRef I → ℕ
+version_field id fields = version_in (fields_by id fields)
+
+-- a token after its length; zeros for the length and a number: where a header has these
+abbrev pub token_by : HeaderKind → List ℕ → List ℕ
+token_by kind token = if (row kind).has_token then shortest_varint (length token) ++ token else []
+
+abbrev pub end_bytes : {I : Type 0} → HeaderRef I → List ℕ
+end_bytes fields =
+    if (row fields.kind).has_len then replicate fields.length_len 0 ++ number_bytes fields.number.now else []
+
+abbrev pub room_by : HeaderKind → ℕ → ℕ → ℕ
+room_by kind short long = if (row kind).is_long then long else short
+
+-- So many bytes have room for the header, and for what its ids are written with. A short header has no sender's id.
+pub record HasStoreRoom {I : Type 0} (id : I → List ℕ) (room : I → ℕ) (fields : HeaderRef I) (size : ℕ) : Type 0 where
+  pub whole : stored_len id fields ≤ size
+  pub dst : room_by fields.kind 1 6 + room fields.dst_cid ≤ size
+  pub src : room_by fields.kind 0 (7 + length (id fields.dst_cid) + room fields.src_cid) ≤ size
+
+-- the ids are written with nothing after them
+pub record IsExact {I : Type 0} (id : I → List ℕ) (room : I → ℕ) (fields : HeaderRef I) : Type 0 where
+  pub dst : length (id fields.dst_cid) ≡ room fields.dst_cid
+  pub src : length (id fields.src_cid) ≡ room fields.src_cid
+
+-- Such a header is written as this one's bytes.
+pub record StoresHeader {I : Type 0} (id : I → List ℕ) (fields : HeaderRef I) (h : Header) : Type 0 where
+  pub bytes : stored_bytes id fields ≡ header_bytes h
+  pub storable : IsStorable id fields
+
+-- a padded id, and over how many bytes it is written
+abbrev pub padded_id : Padded → List ℕ
+padded_id id = id.0.now
+
+abbrev pub padded_room : Padded → ℕ
+padded_room id = 20
+
+-- a length in two or four bytes (RFC 9000, section 16)
+abbrev pub length_in : ℕ → ℕ → List ℕ
+length_in width count = if width == 4 then bytes_of 4 (2 * 2 ^ 30 + count) else bytes_of 2 (2 ^ 14 + count)
+
+-- a packet with its length set, in so many bytes before the place of its number: it counts the bytes from there on
+abbrev pub with_len : ℕ → ℕ → List ℕ → List ℕ
+with_len width place bytes = take (place - width) bytes ++ (length_in width (length bytes - place) ++ drop place bytes)
+
+-- A packet of that size has a length of so many bytes before a place, and what it is to count has room in it.
+pub record TakesLen (width place size : ℕ) : Type 0 where
+  pub known : (width ≡ 2) ⊎ (width ≡ 4)
+  pub behind : width ≤ place
+  pub within : place ≤ size
+  pub short : width ≡ 2 → size < place + 2 ^ 14
+  pub long : width ≡ 4 → size < place + 2 ^ 30
 
 -- ---- No public clause cites what follows.
 

@@ -4,7 +4,7 @@ ghost use Rattle.quic_base.specs.Number.{AreBytes, bytes_of};
 ghost use Rattle.quic_crypto.specs.PacketNumbers.{IsInRange};
 ghost use Rattle.quic_header_encode.specs.declared.header.Header.TheVariants as header;
 ghost use Rattle.quic_header_encode.specs.declared.long_type.LongHeaderType.TheVariants as kind;
-ghost use Rattle.quic_header_encode.specs.Storing.{kind_of, stored_bytes, stored_len, padded_id, padded_room, HasStoreRoom, IsStorable, IsShortToken, StoresHeader};
+ghost use Rattle.quic_header_encode.specs.Writing.{kind_of, stored_bytes, stored_len, padded_id, padded_room, HasStoreRoom, IsStorable, IsShortToken, StoresHeader};
 ghost use Rattle.quic_header_encode.specs.Kinds.{bit_value};
 ghost use Rattle.quic_header_encode.specs.Writing.{header_size, place_in, header_bytes, AppendsHeader, IsWritable, size_in, has_length, finished, HasRoom};
 

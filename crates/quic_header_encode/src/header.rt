@@ -1,6 +1,6 @@
 //! Headers of packets as values (RFC 9000, section 17).
 ghost use Rattle.std.specs.Prelude.{◌≡◌, ◌↔◌, IsTrue};
-ghost use Rattle.quic_header_encode.specs.Queries.{space_in, dst_in, number_in, phase_in, IsShortHeader, IsEarly};
+ghost use Rattle.quic_header_encode.specs.Kinds.{space_in, dst_in, number_in, phase_in, IsShortHeader, IsEarly};
 ghost use Rattle.quic_header_encode.specs.Writing.{has_number};
 
 use crate::long_type::LongType;

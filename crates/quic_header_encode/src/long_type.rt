@@ -1,7 +1,7 @@
 //! The first bytes of headers, and the types of long headers (RFC 9000, section 17.2; RFC 9369, section 3.2).
 ghost use Rattle.std.specs.Prelude.{◌≡◌, ◌≤◌};
 ghost use Rattle.quic_header_encode.specs.Kinds.{row};
-ghost use Rattle.quic_header_encode.specs.Storing.{kind_of, type_bits, IsTyped};
+ghost use Rattle.quic_header_encode.specs.Writing.{kind_of, type_bits, IsTyped};
 ghost use Rattle.quic_header_encode.specs.Types.{first_byte, long_type};
 
 /// The bit of a first byte that is set in long headers.

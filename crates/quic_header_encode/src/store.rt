@@ -4,8 +4,8 @@ ghost use Rattle.std.specs.Prelude.{◌≡◌, ◌+◌, ◌*◌, ◌^◌, ◌<�
 ghost use Rattle.quic_base.specs.ConnectionId.{long_id};
 ghost use Rattle.quic_base.specs.Varint.{shortest_varint, size};
 ghost use Rattle.quic_crypto.specs.PacketNumbers.{IsInRange};
-ghost use Rattle.quic_header_encode.specs.Starts.{long_front};
-ghost use Rattle.quic_header_encode.specs.Storing.{end_bytes, first_byte_of, stored_bytes, stored_len, token_bytes, version_field, with_len, HasStoreRoom, HasLongRoom, HasLow, IsExact, IsStorable, IsLong, IsShortToken, TakesLen};
+ghost use Rattle.quic_header_encode.specs.Kinds.{long_front};
+ghost use Rattle.quic_header_encode.specs.Writing.{end_bytes, first_byte_of, stored_bytes, stored_len, token_by, version_field, with_len, HasStoreRoom, HasLow, IsExact, IsStorable, IsLong, IsShortToken, TakesLen};
 
 use crate::fields::{store_bytes, store_ends, store_id, store_number};
 use crate::long_type::HeaderKind;
@@ -337,9 +337,9 @@ impl<I: StoredId> HeaderRef<'_, I> {
     fn store_its_token<const SHORT_TOKEN: bool>(&self, out: &mut [u8], at: usize) -> usize
         requires short { SHORT_TOKEN ≡ true → IsShortToken self.now.token.now }
         requires numeric { length self.now.token.now < 2 ^ 62 }
-        requires room { at + length (token_bytes self.now) ≤ length out.old }
-        ensures end { result ≡ at + length (token_bytes self.now) }
-        ensures front { take result out.new ≡ take at out.old ++ token_bytes self.now }
+        requires room { at + length (token_by self.now.kind self.now.token.now) ≤ length out.old }
+        ensures end { result ≡ at + length (token_by self.now.kind self.now.token.now) }
+        ensures front { take result out.new ≡ take at out.old ++ token_by self.now.kind self.now.token.now }
         ensures back { drop result out.new ≡ drop result out.old }
         ensures len { length out.new ≡ length out.old }
     {
@@ -375,7 +375,7 @@ impl<I: StoredId> HeaderRef<'_, I> {
         requires long { IsLong self.now.kind }
         requires storable { IsStorable I.id self.now }
         requires short { SHORT_TOKEN ≡ true → IsShortToken self.now.token.now }
-        requires room { HasLongRoom I.id I.room self.now (length out.old) }
+        requires room { HasStoreRoom I.id I.room self.now (length out.old) }
         ensures end { result ≡ stored_len I.id self.now }
         ensures front { take result out.new ≡ stored_bytes I.id self.now }
         ensures back { IsExact I.id I.room self.now → drop result out.new ≡ drop result out.old }

@@ -6,12 +6,12 @@ use Rattle.quic_crypto.specs.Keys.{HasSample, Protects, first_unit}
 use Rattle.quic_crypto.specs.declared.packet_number.PacketNumber.{PacketNumber}
 use Rattle.quic_crypto.specs.declared.packet_number.PacketNumber.TheVariants.{U8, U16, U24, U32}
 use Rattle.quic_crypto.specs.PacketNumbers.{number_size, number_bytes, low_part, IsInRange, NumberAt}
-use Rattle.quic_header_decode.specs.Finish.{IsNumberIn}
+use Rattle.quic_header_decode.specs.Headers.{IsNumberIn}
 use Rattle.quic_packets.specs.Pairs.{KeyPair}
 use Rattle.quic_header_decode.specs.declared.protected.ProtectedHeader.{ProtectedHeader}
 use Rattle.quic_header_decode.specs.declared.protected.ProtectedHeader.TheVariants as protected
 use Rattle.quic_header_encode.specs.declared.header.Header.{Header}
-use Rattle.quic_header_encode.specs.Queries.{number_in}
+use Rattle.quic_header_encode.specs.Kinds.{number_in}
 use Rattle.quic_header_decode.specs.Headers.{IsOpenedBy}
 use Rattle.quic_packets.proofs.Sealings.{middle, number_length}
 use Rattle.quic_packets.proofs.Parts.{same_front, number_same}

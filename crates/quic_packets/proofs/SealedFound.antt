@@ -25,15 +25,16 @@ use Rattle.quic_header_decode.proofs.Made.{LongStart, fixed_set, long_header, in
 use Rattle.quic_header_decode.specs.Reading.{DecodeOptions}
 use Rattle.quic_header_encode.specs.Types.{types_of, long_type, version_2, type_number, place_of}
 use Rattle.quic_header_decode.specs.Headers.{IsOpenedBy}
-use Rattle.quic_header_decode.specs.Queries.{space_of}
-use Rattle.quic_header_encode.specs.Queries.{space_in}
-use Rattle.quic_header_decode.specs.Finish.{IsNumberIn}
+use Rattle.quic_header_decode.specs.Headers.{space_of}
+use Rattle.quic_header_encode.specs.Kinds.{space_in}
+use Rattle.quic_header_decode.specs.Headers.{IsNumberIn}
 use Rattle.quic_header_encode.specs.Kinds.{bit_value}
 use Rattle.quic_header_encode.specs.Writing.{header_size, size_in, has_number}
 use Rattle.quic_packets.specs.Pairs.{KeyPair}
 use Rattle.quic_packets.specs.Sealing.{sealed_header, protected_len}
 use Rattle.quic_packets.specs.Opening.{IsReadBack}
-use Rattle.quic_packets.proofs.Sealings.{SealedOf, plain_of, long_first, long_length, number_length, front_length, header_length, size_within, middle}
+use Rattle.quic_packets.proofs.Sealings.{SealedOf, plain_of, long_first, number_length, front_length, header_length, size_within, middle}
+use Rattle.quic_header_encode.proofs.Sizes.{long_length}
 use Rattle.quic_packets.proofs.Parts.{length_encoded}
 use Rattle.quic_packets.proofs.Opened.{Lawful, Shape, shape, front_bytes, number_known, number_there}
 

@@ -12,7 +12,7 @@ use Rattle.quic_crypto.specs.declared.packet_number.PacketNumber.{PacketNumber}
 use Rattle.quic_crypto.specs.PacketNumbers.{number_size, number_bytes, low_part}
 use Rattle.quic_header_encode.specs.declared.header.Header.{Header}
 use Rattle.quic_header_encode.specs.declared.header.Header.TheVariants as header
-use Rattle.quic_header_encode.specs.Starts.{long_front}
+use Rattle.quic_header_encode.specs.Kinds.{long_front}
 use Rattle.quic_header_encode.specs.Types.{first_byte}
 use Rattle.quic_header_encode.specs.declared.long_type.LongHeaderType.{LongHeaderType}
 use Rattle.quic_header_encode.specs.declared.long_type.LongHeaderType.TheVariants as kind
@@ -20,6 +20,8 @@ use Rattle.quic_header_encode.specs.Writing.{header_with, header_bytes, header_s
 use Rattle.quic_packets.specs.Pairs.{KeyPair}
 use Rattle.quic_packets.specs.Sealing.{IsLowPart, Sealed, plain_packet, sealed_header, protected_len}
 use Rattle.quic_header_decode.proofs.Steps.{take_front, drop_front}
+use Rattle.quic_header_encode.proofs.Later.{filled, front_of}
+use Rattle.quic_header_encode.proofs.Sizes.{long_length}
 
 -- a sealed packet, and the packet before its header is protected, by their parts
 abbrev pub SealedOf : KeyPair → Header → ℕ → List ℕ → List ℕ → Type 0
@@ -54,29 +56,9 @@ some_if P None x e h = absurd cc
 pub number_length : (number : PacketNumber) → length (number_bytes number) ≡ number_size number
 number_length number = length-bytes_of (number_size number) (low_part number)
 
-pub long_length : (first version : ℕ) (dst src : List ℕ)
-    → length (long_front first version dst src) ≡ 7 + length dst + length src
-long_length first version dst src =
-    omega (
-      arith,
-      length-append (first ∷ bytes_of 4 version) (long_id dst ++ long_id src),
-      length-append (long_id dst) (long_id src),
-      length-bytes_of 4 version,
-      length-append (bytes_of 4 version) (long_id dst ++ long_id src),
-    )
-
 -- the first byte of a long header with a number of that many bytes
 abbrev pub long_first : ℕ → LongHeaderType → ℕ → ℕ
 long_first version ty count = first_byte version ty + (count - 1)
-
--- what a header with a length has before it
-abbrev front_of : Header → List ℕ
-front_of (header.Initial h) =
-    long_front (long_first h.version kind.Initial (number_size h.number)) h.version h.dst_cid h.src_cid
-    ++ (shortest_varint (length h.token) ++ h.token)
-front_of (header.Long ty dst src number version) =
-    long_front (long_first version (kind.Standard ty) (number_size number)) version dst src
-front_of _ = []
 
 -- where a header's number is
 pub front_length : (h : Header) → IsTrue (has_length h) → header_size h ≡ length (front_of h) + 2 + size_in h
@@ -114,37 +96,19 @@ header_length (header.Retry dst src version) len e two = absurd cc
 header_length (header.Short spin key_phase dst number) len e two = refl
 header_length (header.VersionNegotiate random src dst) len e two = absurd cc
 
--- two bytes of a list are filled in
-filled : (front number tail len : List ℕ) (at : ℕ) → at ≡ length front + 2
-    → take (at - 2) ((front ++ (no_length ++ number)) ++ tail)
-    ++ (len ++ drop at ((front ++ (no_length ++ number)) ++ tail)) ≡ (front ++ (len ++ number)) ++ tail
-filled front number tail len at is =
-    let shown : (front ++ (no_length ++ number)) ++ tail ≡ front ++ (no_length ++ (number ++ tail)) =
-    append_assoc front (no_length ++ number) tail in
-    let before : take (at - 2) ((front ++ (no_length ++ number)) ++ tail) ≡ front =
-    ap (take (at - 2)) shown ∙ take_front front (no_length ++ (number ++ tail)) (at - 2) (omega arith) in
-    let long : length (front ++ no_length) ≡ at = omega (arith, length-append front no_length) in
-    let behind : drop at ((front ++ (no_length ++ number)) ++ tail) ≡ number ++ tail =
-    ap (drop at) (shown ∙ sym (append_assoc front no_length (number ++ tail)))
-    ∙ drop_front (front ++ no_length) (number ++ tail) at long in
-    ap (λ (xs : List ℕ). xs ++ (len ++ drop at ((front ++ (no_length ++ number)) ++ tail))) before
-    ∙ ap (λ (xs : List ℕ). front ++ (len ++ xs)) behind
-    ∙ ap (λ (xs : List ℕ). front ++ xs) (sym (append_assoc len number tail))
-    ∙ sym (append_assoc front (len ++ number) tail)
-
 filled_in : (h : Header) (tail : List ℕ) → IsTrue (has_number h)
     → with_length (size_in h) (has_length h) (header_size h) (header_bytes h ++ tail)
     ≡ header_with (bytes_of 2 (2 ^ 14 + (length (header_bytes h ++ tail) - (header_size h - size_in h)))) h ++ tail
 filled_in (header.Initial h) tail e =
-    filled (front_of (header.Initial h)) (number_bytes h.number) tail
+    filled (front_of (header.Initial h)) no_length (number_bytes h.number) tail
     (bytes_of 2 (2 ^ 14 + (length (header_bytes (header.Initial h) ++ tail)
     - (header_size (header.Initial h) - number_size h.number))))
-    (header_size (header.Initial h) - number_size h.number) (omega (arith, front_length (header.Initial h) refl))
+    2 (header_size (header.Initial h) - number_size h.number) refl (omega (arith, front_length (header.Initial h) refl))
 filled_in (header.Long ty dst src number version) tail e =
-    filled (front_of (header.Long ty dst src number version)) (number_bytes number) tail
+    filled (front_of (header.Long ty dst src number version)) no_length (number_bytes number) tail
     (bytes_of 2 (2 ^ 14 + (length (header_bytes (header.Long ty dst src number version) ++ tail)
     - (header_size (header.Long ty dst src number version) - number_size number))))
-    (header_size (header.Long ty dst src number version) - number_size number)
+    2 (header_size (header.Long ty dst src number version) - number_size number) refl
     (omega (arith, front_length (header.Long ty dst src number version) refl))
 filled_in (header.Retry dst src version) tail e = absurd cc
 filled_in (header.Short spin key_phase dst number) tail e = refl

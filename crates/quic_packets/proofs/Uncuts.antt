@@ -2,8 +2,8 @@
 use Rattle.std.specs.Prelude.{◌≡◌, List, ℕ, MatchOption, Option, None, Some}
 use Rattle.std.proofs.Common.{refl, inr}
 use Rattle.quic_base.specs.declared.ids.SpaceId.{SpaceId}
-use Rattle.quic_header_decode.specs.Packet.{CutPacket, CutsFirst}
-use Rattle.quic_header_decode.specs.Queries.{space_of}
+use Rattle.quic_header_decode.specs.Datagram.{CutPacket, CutsFirst}
+use Rattle.quic_header_decode.specs.Headers.{space_of}
 use Rattle.quic_packets.specs.declared.opening.OpenError.{OpenError}
 use Rattle.quic_packets.specs.declared.opening.OpenError.TheVariants as refused
 use Rattle.quic_packets.specs.Opening.{Opening, Refuses}

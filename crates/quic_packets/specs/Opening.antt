@@ -1,20 +1,20 @@
 -- Opening packets: the first one of a datagram, the next one, and all of them.
-use Rattle.std.specs.Prelude.{◌≡◌, ◌≢◌, ℕ, ◌+◌, ◌<◌, ◌≤◌, ◌⊎◌, Bool, true, List, [], ◌∷◌, ◌++◌, length, map, Option, Some, None, ◌^◌, Result, Ok, Err, IfOk, IfErr, IfSome, MatchOption, MatchResult}
+use Rattle.std.specs.Prelude.{◌≡◌, ◌≢◌, ℕ, ◌+◌, ◌<◌, ◌≤◌, ◌⊎◌, Bool, true, IsTrue, List, [], ◌∷◌, ◌++◌, length, map, Option, Some, None, ◌^◌, Result, Ok, Err, IfOk, IfErr, IfSome, MatchOption, MatchResult}
 use Rattle.bytes.specs.Filled.{Filled}
 use Rattle.quic_base.specs.declared.ids.SpaceId.{SpaceId}
 use Rattle.quic_crypto.specs.Keys.{HasSample}
 use Rattle.quic_crypto.specs.PacketNumbers.{low_part, window_of, Expands}
 use Rattle.quic_header_decode.specs.declared.decode_error.PacketDecodeError.{PacketDecodeError}
-use Rattle.quic_header_decode.specs.Finish.{sample_refusal}
+use Rattle.quic_header_decode.specs.Headers.{sample_refusal}
 use Rattle.quic_header_decode.specs.Grammar.{IsKnownVersion}
-use Rattle.quic_header_decode.specs.Headers.{IsOpenedBy, without_number}
-use Rattle.quic_header_decode.specs.Packet.{CutPacket, CutsFirst, IsUncut}
-use Rattle.quic_header_decode.specs.Queries.{space_of}
+use Rattle.quic_header_decode.specs.Headers.{IsOpenedBy, IsWithoutNumber}
+use Rattle.quic_header_decode.specs.Datagram.{CutPacket, CutsFirst, IsUncut}
+use Rattle.quic_header_decode.specs.Headers.{space_of}
 use Rattle.quic_header_decode.specs.Reading.{DecodeOptions, IsRest}
 use Rattle.quic_header_decode.specs.Refusal.{refusal_of, NoMemory}
 use Rattle.quic_header_encode.specs.declared.header.Header.{Header}
 use Rattle.quic_header_encode.specs.declared.header.Header.TheVariants as header
-use Rattle.quic_header_encode.specs.Queries.{number_in, space_in}
+use Rattle.quic_header_encode.specs.Kinds.{number_in, space_in}
 use Rattle.quic_packets.specs.declared.keys.Expected.{Expected}
 use Rattle.quic_packets.specs.declared.opening.OpenError.{OpenError}
 use Rattle.quic_packets.specs.declared.opening.OpenError.TheVariants as error
@@ -87,7 +87,7 @@ pub record OpensWithKey (key : KeyPair) (expected : ℕ) (cut : CutPacket) (open
 
 -- a Retry or version negotiation is returned unchanged
 pub record OpensPlain (cut : CutPacket) (opened : OpenedPacket) : Type 0 where
-  pub header : without_number cut.head opened.header
+  pub header : IsWithoutNumber cut.head opened.header
   pub bytes : opened.header_bytes ++ opened.payload ≡ cut.bytes
   pub header_end : length opened.header_bytes ≡ cut.header_end
   pub number : opened.number ≡ None

@@ -7,7 +7,7 @@ use Rattle.quic_frames.specs.Meaning.{meaning_of}
 use Rattle.quic_frames.specs.Least.{shortest_frames}
 use Rattle.quic_frames.specs.Written.{IsPayload}
 use Rattle.quic_header_encode.specs.declared.header.Header.{Header}
-use Rattle.quic_header_encode.specs.Queries.{number_in}
+use Rattle.quic_header_encode.specs.Kinds.{number_in}
 use Rattle.quic_packets.specs.declared.seal.SealError.{SealError}
 use Rattle.quic_packets.specs.declared.seal.SealError.TheVariants as refusal
 use Rattle.quic_packets.specs.Pairs.{KeyPair}

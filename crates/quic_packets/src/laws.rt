@@ -2,9 +2,9 @@
 ghost use Rattle.std.specs.Prelude.{◌≡◌, List, Some, ℕ};
 ghost use Rattle.quic_crypto.specs.PacketNumbers.{Expands, low_part, window_of};
 ghost use Rattle.quic_frames.specs.Written.{IsPayload};
-ghost use Rattle.quic_header_decode.specs.Packet.{CutPacket, CutsFirst};
-ghost use Rattle.quic_header_decode.specs.Queries.{space_of};
-ghost use Rattle.quic_header_encode.specs.Queries.{space_in};
+ghost use Rattle.quic_header_decode.specs.Datagram.{CutPacket, CutsFirst};
+ghost use Rattle.quic_header_decode.specs.Headers.{space_of};
+ghost use Rattle.quic_header_encode.specs.Kinds.{space_in};
 ghost use Rattle.quic_packets.specs.Opening.{BeginsSealed, Opening, Opens, returned_by};
 ghost use Rattle.quic_packets.specs.Pairs.{IsLawful, KeyPair};
 ghost use Rattle.quic_packets.specs.Sealing.{PacketContents, Sealed};

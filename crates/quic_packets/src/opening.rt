@@ -2,8 +2,8 @@
 ghost use Rattle.std.specs.Prelude.{◌≡◌, ◌<◌, ◌^◌, IfOk, IfErr, IsSome, IsTrue, MatchOption, None, Some};
 ghost use Rattle.quic_crypto.specs.PacketNumbers.{IsInRange};
 ghost use Rattle.quic_header_decode.specs.Headers.{is_protected};
-ghost use Rattle.quic_header_decode.specs.Queries.{space_of};
-ghost use Rattle.quic_header_encode.specs.Queries.{number_in};
+ghost use Rattle.quic_header_decode.specs.Headers.{space_of};
+ghost use Rattle.quic_header_encode.specs.Kinds.{number_in};
 ghost use Rattle.quic_packets.specs.Opening.{DatagramAnswer, PacketAnswer, NextAnswer, AreExpected, ExpandsIn, IsDecode, OpensPacket, OpensWithKey, RefusesPacket, RefusesWithKey, left_size, packet_of};
 ghost use Rattle.quic_packets.specs.Pairs.{expected_in};
 

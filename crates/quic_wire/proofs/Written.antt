@@ -3,7 +3,7 @@ use Rattle.std.proofs.Common.{◌≡◌, ℕ, ◌+◌, List, [], ◌++◌, lengt
 use Rattle.std.specs.Prelude.{MatchOption, OnOk, Err}
 use Rattle.std.proofs.lemmas.List.{append-nil}
 use Rattle.quic_header_decode.specs.Grammar.{CutAnswer, HeaderAt}
-use Rattle.quic_header_decode.specs.Headers.{without_number}
+use Rattle.quic_header_decode.specs.Headers.{IsWithoutNumber}
 use Rattle.quic_header_decode.specs.Packet.{CutPacket}
 use Rattle.quic_header_decode.specs.Reading.{DecodeOptions, len_in}
 use Rattle.quic_header_decode.specs.Refusal.{Refusal}
@@ -34,7 +34,7 @@ content_is (Err f) x old new content bytes is wrote e empty = absurd cc
 
 -- ---- headers of packets without protection
 
-lacks_length : (read : ProtectedHeader) (header : Header) → without_number read header → len_in read ≡ None
+lacks_length : (read : ProtectedHeader) (header : Header) → IsWithoutNumber read header → len_in read ≡ None
 lacks_length (protected.Retry dst src version) header is = refl
 lacks_length (protected.VersionNegotiate random dst src) header is = refl
 lacks_length (protected.Initial h) header is = absurd is
@@ -43,13 +43,13 @@ lacks_length (protected.Short spin dst) header is = absurd is
 
 abbrev Again : DecodeOptions → Type 0
 Again options = (header : Header) (rest : List ℕ) → IsPlainInRange options header
-    → (read : ProtectedHeader) × without_number read header
+    → (read : ProtectedHeader) × IsWithoutNumber read header
     × HeaderAt options (length (header_bytes header ++ rest)) (header_bytes header ++ rest) read rest
 
 pub plain_cut : (options : DecodeOptions) (bytes : List ℕ) (packet : CutPacket) → Again options
     → ReturnsOne (CutAnswer options bytes) (λ answer. answer ≡ Ok (packet.head, packet.header_end, length packet.bytes))
     → (header : Header) (rest : List ℕ) → bytes ≡ header_bytes header ++ rest → IsPlainInRange options header
-    → without_number packet.head header
+    → IsWithoutNumber packet.head header
 plain_cut options bytes packet again gives header rest text range =
     let written : List ℕ = header_bytes header in
     let back = again header rest range in
@@ -68,4 +68,4 @@ plain_cut options bytes packet again gives header rest text range =
     ≡ (packet.head, packet.header_end, length packet.bytes) =
     cc in
     let head : back.0 ≡ packet.head = ap (λ (p : ProtectedHeader × ℕ × ℕ). p.0) parts in
-    subst (λ (h : ProtectedHeader). without_number h header) head back.1
+    subst (λ (h : ProtectedHeader). IsWithoutNumber h header) head back.1

@@ -9,10 +9,10 @@ ghost use Rattle.quic_frames.specs.InRange.{AreTyped, CanFollow};
 ghost use Rattle.quic_frames.specs.Meaning.{meaning_of};
 ghost use Rattle.quic_frames.specs.Written.{IsPayload};
 ghost use Rattle.quic_header_decode.specs.Grammar.{CutAnswer};
-ghost use Rattle.quic_header_decode.specs.Headers.{without_number};
+ghost use Rattle.quic_header_decode.specs.Headers.{IsWithoutNumber};
 ghost use Rattle.quic_header_decode.specs.Reading.{read_by};
 ghost use Rattle.quic_header_decode.specs.Refusal.{GivesRead};
-ghost use Rattle.quic_header_encode.specs.Queries.{space_in};
+ghost use Rattle.quic_header_encode.specs.Kinds.{space_in};
 ghost use Rattle.quic_header_encode.specs.Writing.{header_bytes};
 ghost use Rattle.quic_packets.specs.Opening.{AreExpected, BeginsSealed, Opens, ReturnsSealed, packet_of};
 ghost use Rattle.quic_packets.specs.Pairs.{IsLawful};
@@ -215,7 +215,7 @@ pub fn cut_plain<P: ConnectionIdParser>(
 ) -> Result<PartialDecode, PacketDecodeError>
     ensures { IfOk result (λ x. (header : Header) (rest : List ℕ) → datagram.items ≡ header_bytes header ++ rest
         → IsPlainInRange (read_by (P.parsed parser.now) versions.now grease) header
-        → without_number x.head header) }
+        → IsWithoutNumber x.head header) }
 {
     headers_again();
     match cut_first(datagram, parser, versions, grease) {

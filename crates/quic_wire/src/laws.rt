@@ -12,10 +12,10 @@ ghost use Rattle.quic_frame_fields.specs.declared.frame.fault.Fault.TheVariants.
 ghost use Rattle.quic_frames.specs.Least.{frame_in};
 ghost use Rattle.quic_frames.specs.Written.{IsShortestOf};
 ghost use Rattle.quic_header_decode.specs.Grammar.{CutAnswer, HeaderAt};
-ghost use Rattle.quic_header_decode.specs.Headers.{IsOpenedBy, without_number};
+ghost use Rattle.quic_header_decode.specs.Headers.{IsOpenedBy, IsWithoutNumber};
 ghost use Rattle.quic_header_decode.specs.Reading.{DecodeOptions, TakesWithin};
 ghost use Rattle.quic_header_decode.specs.declared.protected.ProtectedHeader.{ProtectedHeader};
-ghost use Rattle.quic_header_encode.specs.Queries.{space_in};
+ghost use Rattle.quic_header_encode.specs.Kinds.{space_in};
 ghost use Rattle.quic_header_encode.specs.Writing.{IsWritable, header_bytes, header_with, size_in};
 ghost use Rattle.quic_packets.specs.Opening.{BeginsSealed, IsReadBack, Opening, Opens, returned_by};
 ghost use Rattle.quic_packets.specs.Pairs.{IsLawful};
@@ -82,7 +82,7 @@ pub fn frames_again()
 pub fn headers_again()
     // Those without a packet number, a Retry's and a version negotiation's, whatever follows them.
     ensures plain { (options : DecodeOptions) (header : Header) (rest : List ℕ) → IsPlainInRange options header
-        → (read : ProtectedHeader) × without_number read header
+        → (read : ProtectedHeader) × IsWithoutNumber read header
         × HeaderAt options (length (header_bytes header ++ rest)) (header_bytes header ++ rest) read rest }
     // The others, in a packet whose header protection is removed, with their length in any encoding.
     ensures numbered { (options : DecodeOptions) (header : Header) (count : ℕ) (len payload : List ℕ)

@@ -1,6 +1,6 @@
 -- By the law of one packet.
 use Rattle.std.proofs.Common.{◌≡◌, ◌∙◌, rules}
-use Rattle.quic_header_encode.specs.Queries.{space_in}
+use Rattle.quic_header_encode.specs.Kinds.{space_in}
 use Rattle.quic_packets.specs.Pairs.{KeyPair, keys_in}
 use Rattle.quic_bench.proofs.Carried.{contents_of}
 use Rattle.quic_bench.proofs.RowOfOne.{sealed_same, reported_same}

@@ -1,7 +1,7 @@
 -- Each packet is given back, and the second one follows the first.
 use Rattle.std.specs.Prelude.{◌<◌, false, [], ◌++◌, length}
 use Rattle.std.proofs.Common.{◌∙◌, refl}
-use Rattle.quic_header_encode.specs.Queries.{space_in}
+use Rattle.quic_header_encode.specs.Kinds.{space_in}
 use Rattle.quic_packets.specs.Opening.{Opening}
 use Rattle.quic_packets.specs.Pairs.{IsLawful, keys_in, expected_in}
 use Rattle.quic_bench.proofs.Carried.{begins, carries, contents_of, given_back, left_is, not_given, some_bytes, some_left}

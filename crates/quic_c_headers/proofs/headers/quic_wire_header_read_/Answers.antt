@@ -1,7 +1,7 @@
 -- There is one answer, and a packet that is reported to be whole is cut there.
 use Rattle.std.proofs.Common.{◌≡◌, ◌∙◌, ap, sym, inr, pos, rules, to_z, w32}
 use Rattle.quic_c_headers.specs.Reading.{Reported}
-use Rattle.quic_c_headers.proofs.Answered.{has_first, one_answer, whole_cut}
+use Rattle.quic_c_headers.proofs.Answered.{one_answer, whole_cut}
 use Rattle.quic_c_headers.proofs.headers.quic_wire_header_read_.Goals as goal
 
 pub returns-then-first-ge128-clause-one : goal.returns-then-first-ge128-clause-one
@@ -27,7 +27,7 @@ returns-clause-one c = inr (λ answer words other.
       read = c.read_header.result;
       right = c.read_header.ensures.answer;
       stored = c.read_header.ensures.seen;
-      first = has_first c.read_header.result c.args.packet.now c.read_header.ensures.first;
+      first = c.read_header.ensures.first;
       answers = c.show.ensures.answer;
       words = c.show.ensures.words;
     } in
@@ -43,7 +43,7 @@ returns-clause-whole c = λ zero.
       read = c.read_header.result;
       right = c.read_header.ensures.answer;
       stored = c.read_header.ensures.seen;
-      first = has_first c.read_header.result c.args.packet.now c.read_header.ensures.first;
+      first = c.read_header.ensures.first;
       answers = c.show.ensures.answer;
       words = c.show.ensures.words;
     } in

@@ -3,7 +3,7 @@ use Rattle.std.proofs.Common.{◌≡◌, ℕ, List, Result, Ok, Err, ap, sym, �
 use Rattle.std.specs.Prelude.{IfOk, slice_index}
 use Rattle.quic_header_decode.specs.declared.places.HeaderPlaces.{HeaderPlaces}
 use Rattle.quic_header_decode.specs.declared.places.ReadError.{ReadError}
-use Rattle.quic_c_headers.specs.Reading.{HasFirst}
+use Rattle.quic_c_headers.proofs.Answered.{HasFirst}
 use Rattle.quic_c_headers.proofs.headers.show_long.Goals as goal
 
 first_of : (read : Result HeaderPlaces ReadError) (first : ℕ) (packet : List ℕ) → IfOk read (λ x. x.first ≡ first)

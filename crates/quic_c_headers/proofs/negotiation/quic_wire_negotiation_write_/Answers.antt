@@ -1,7 +1,7 @@
 -- All of the packet is written, and read back.
 use Rattle.std.proofs.Common.{◌≡◌, ◌+◌, ◌*◌, ◌++◌, ◌∙◌, ℕ, List, length, take, drop, sym, ap, inr, arith}
 use Rattle.quic_header_decode.proofs.Steps.{take_front}
-use Rattle.quic_c_headers.specs.Negotiation.{negotiation_bytes}
+use Rattle.quic_c_headers.specs.Reading.{negotiation_bytes}
 use Rattle.quic_c_headers.proofs.Negotiated.{bytes_long, read_back}
 use Rattle.quic_c_headers.proofs.negotiation.quic_wire_negotiation_write_.Goals as goal
 

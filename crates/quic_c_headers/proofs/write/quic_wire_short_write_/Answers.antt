@@ -4,7 +4,7 @@ use Rattle.std.specs.Prelude.{pos}
 use Rattle.quic_base.specs.Number.{bytes_of}
 use Rattle.quic_base.proofs.PublicLaws.{length-bytes_of}
 use Rattle.quic_header_encode.specs.declared.long_type.HeaderKind.TheVariants as kind
-use Rattle.quic_c_headers.specs.Shapes.{IsShaped}
+use Rattle.quic_c_headers.specs.Headers.{IsShaped}
 use Rattle.quic_c_headers.proofs.Writing.{clear_by, header_described, short_can, short_described, short_stored, short_wrote}
 use Rattle.quic_c_headers.proofs.write.quic_wire_short_write_.Goals as goal
 

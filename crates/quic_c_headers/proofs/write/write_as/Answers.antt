@@ -5,7 +5,7 @@ use Rattle.std.specs.Prelude.{pos, replicate, take, drop}
 use Rattle.quic_header_encode.specs.Kinds.{header_text, row, says}
 use Rattle.quic_header_encode.proofs.Sizes.{exact_room}
 use Rattle.quic_c_headers.specs.Headers.{described_bytes}
-use Rattle.quic_c_headers.specs.Shapes.{worded_bytes, IsShaped}
+use Rattle.quic_c_headers.specs.Headers.{worded_bytes, IsShaped}
 use Rattle.quic_c_headers.proofs.Shaping.{shaped}
 use Rattle.quic_c_headers.proofs.Writing.{stored_as, bytes_described, can_described, clear_by, header_described, stored_described, with_length, written}
 use Rattle.quic_c_headers.proofs.write.write_as.Goals as goal

@@ -2,8 +2,8 @@
 use Rattle.std.proofs.Common.{◌≡◌, ℕ, Result, length, subst, ap, ◌∙◌, take, Ok}
 use Rattle.std.proofs.Math.Seq.{take-length}
 use Rattle.quic_base.specs.Number.{AreBytes}
+use Rattle.quic_header_decode.specs.Datagram.{IsUncut}
 use Rattle.quic_header_decode.specs.Grammar.{CutAnswer}
-use Rattle.quic_header_decode.specs.Packet.{IsUncut}
 use Rattle.quic_header_decode.specs.Refusal.{Refusal}
 use Rattle.quic_header_decode.specs.declared.protected.ProtectedHeader.{ProtectedHeader}
 use Rattle.quic_header_decode.specs.Reading.{DecodeOptions, read_by}

@@ -12,7 +12,7 @@ use Rattle.quic_header_encode.specs.declared.long_type.LongHeaderType.{LongHeade
 use Rattle.quic_header_encode.specs.declared.long_type.LongHeaderType.TheVariants as kind
 use Rattle.quic_header_encode.specs.declared.long_type.LongType.TheVariants.{Handshake, ZeroRtt}
 use Rattle.quic_header_encode.specs.Types.{version_2, types_of, long_type, type_number, first_byte, place_of}
-use Rattle.quic_header_encode.specs.Starts.{long_front}
+use Rattle.quic_header_encode.specs.Kinds.{long_front}
 use Rattle.quic_header_encode.specs.Kinds.{bit_value}
 use Rattle.quic_header_decode.proofs.Made.{fixed_set, initial_header, long_header, retry_header, short_header, negotiation_header}
 use Rattle.quic_header_decode.proofs.laws.written.Goals as goal

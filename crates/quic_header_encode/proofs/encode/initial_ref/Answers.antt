@@ -2,7 +2,7 @@
 use Rattle.std.proofs.Common.{◌≡◌, ◌<◌, length, arith}
 use Rattle.quic_base.specs.Varint.{size}
 use Rattle.quic_header_encode.specs.declared.long_type.HeaderKind.TheVariants as kinds
-use Rattle.quic_header_encode.specs.Storing.{padded_id}
+use Rattle.quic_header_encode.specs.Writing.{padded_id}
 use Rattle.quic_header_encode.proofs.Stores.{size_small}
 use Rattle.quic_header_encode.proofs.Sizes.{number_few, stored_length}
 use Rattle.quic_header_encode.proofs.encode.initial_ref.Goals as goal

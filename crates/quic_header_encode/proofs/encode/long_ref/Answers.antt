@@ -1,6 +1,6 @@
 -- 64 bytes are enough for a header without a token.
 use Rattle.std.proofs.Common.{◌+◌, [], length, arith}
-use Rattle.quic_header_encode.specs.Storing.{padded_id}
+use Rattle.quic_header_encode.specs.Writing.{padded_id}
 use Rattle.quic_header_encode.proofs.Sizes.{room_few, stored_within}
 use Rattle.quic_header_encode.proofs.encode.long_ref.Goals as goal
 

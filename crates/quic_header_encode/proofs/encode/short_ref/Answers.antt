@@ -1,6 +1,6 @@
 use Rattle.std.proofs.Common.{[], arith}
 use Rattle.quic_header_encode.specs.declared.long_type.HeaderKind.TheVariants as kinds
-use Rattle.quic_header_encode.specs.Storing.{padded_id}
+use Rattle.quic_header_encode.specs.Writing.{padded_id}
 use Rattle.quic_header_encode.proofs.Sizes.{stored_length, number_few}
 use Rattle.quic_header_encode.proofs.encode.short_ref.Goals as goal
 

@@ -1,7 +1,7 @@
 -- The length is written over the bytes before the place.
 use Rattle.std.proofs.Common.{◌≡◌, ℕ, ◌+◌, ◌-◌, ◌^◌, ◌*◌, List, length, sym, ap, ◌∙◌, arith}
 use Rattle.quic_base.specs.Number.{bytes_of}
-use Rattle.quic_header_encode.specs.Storing.{with_len}
+use Rattle.quic_header_encode.specs.Writing.{with_len}
 use Rattle.quic_header_encode.proofs.Stores.{len_stored}
 use Rattle.quic_header_encode.proofs.store.set_len.Goals as goal
 

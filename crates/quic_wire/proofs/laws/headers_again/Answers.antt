@@ -8,7 +8,7 @@ use Rattle.quic_crypto.specs.PacketNumbers.{number_bytes, number_size}
 use Rattle.quic_crypto.specs.declared.packet_number.PacketNumber.{PacketNumber}
 use Rattle.quic_header_decode.specs.Finish.{IsNumberIn}
 use Rattle.quic_header_decode.specs.Grammar.{HeaderAt}
-use Rattle.quic_header_decode.specs.Headers.{IsOpenedBy, without_number}
+use Rattle.quic_header_decode.specs.Headers.{IsOpenedBy, IsWithoutNumber}
 use Rattle.quic_header_decode.specs.Reading.{DecodeOptions}
 use Rattle.quic_header_decode.specs.declared.protected.ProtectedHeader.{ProtectedHeader}
 use Rattle.quic_header_decode.specs.declared.protected.ProtectedHeader.TheVariants as protected
@@ -27,7 +27,7 @@ pub returns-clause-plain : goal.returns-clause-plain
 returns-clause-plain c = of
   where
     of : (options : DecodeOptions) (h : Header) (rest : List ℕ) → IsPlainInRange options h
-        → (read : ProtectedHeader) × without_number read h
+        → (read : ProtectedHeader) × IsWithoutNumber read h
         × HeaderAt options (length (header_bytes h ++ rest)) (header_bytes h ++ rest) read rest
     of options (header.Retry dst src version) rest range = (
       protected.Retry dst src version,

@@ -1,4 +1,4 @@
--- Protection is taken off a header by a mask that the caller brings (RFC 9001, section 5.4.1).
+-- Protection is put on a header, and taken off, by a mask that the caller brings (RFC 9001, section 5.4.1).
 use Rattle.std.specs.Prelude.{◌≡◌, ℕ, zero, suc, ◌+◌, ◌%◌, ◌<◌, ◌≤◌, List, drop, slice_index, slice_set, bit_xor, nat_lt}
 use Rattle.quic_base.specs.Codec.{Takes}
 use Rattle.quic_crypto.specs.Keys.{first_unit, number_len}
@@ -41,3 +41,10 @@ pub record GivesNumber (place : ℕ) (mask : List ℕ) (expected : ℕ) (old new
   pub size : number_size written ≡ number_len (unmasked_first mask (slice_index old 0))
   pub whole : Expands (low_part written) (window_of written) expected number
   pub count_is : count ≡ number_size written
+
+-- A mask is applied to a header whose number begins at a place; the number's size is in the first byte before that. A
+-- byte is joined to its mask by exclusive or, so applying and removing a mask are the same.
+abbrev pub masked_packet : ℕ → List ℕ → List ℕ → List ℕ
+masked_packet at mask bytes =
+    let first = slice_index bytes 0 in
+    unmasked_at at mask (number_len first) (slice_set bytes 0 (unmasked_first mask first))

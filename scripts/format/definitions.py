@@ -68,7 +68,7 @@ def stated(file, name, left, template):
 
 def listed(text, what):
     """The items of a list that is written out."""
-    *items, end = text.split(" ∷ ")
+    *items, end = re.split(r" ∷ (?![^(]*\))", text)
     if end != "[]":
         fail(what, text)
     return items

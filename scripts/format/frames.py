@@ -131,12 +131,13 @@ def part_of(frame, text, known):
 def frames():
     """The frames of the table, in its order."""
     for pair in listed(clauses(TABLE, "rows")[""], "rows"):
-        entry = re.fullmatch(r"\((0x[0-9a-f]+), (\w+)((?: \w+)*)\)", pair)
+        entry = re.fullmatch(r"\((0x[0-9a-f]+), ((\w+).*)\)", pair)
         if not entry:
             fail(f"rows in crates/{TABLE}.antt", pair)
-        row = entry[2]
-        names, right = only(TABLE, row)
-        known = dict(zip(names, entry[3].split()))
+        row, right, known = entry[3], entry[2], {}
+        if row != "row":
+            names, right = only(TABLE, row)
+            known = dict(zip(names, entry[2].split()[1:]))
         body = re.fullmatch(r"row (\w+) (?:\((.+)\)|(\[\]))", right)
         if not body:
             fail(f"{row} in crates/{TABLE}.antt", right)

@@ -17,9 +17,11 @@ SAME = "quic_canon/specs/Same"
 LAWS = "crates/quic_wire/src/laws.rt"
 
 # What is reported where no frame begins, in the order of IsNoFrame.
-NO_FRAME = ("(LacksType bytes × (type ≡ before) × (reason ≡ <none>)) ⊎ ((t : ℕ) × HasLongType strict bytes t × (type"
-            " ≡ Some t) × (reason ≡ <long>)) ⊎ ((t : ℕ) × HasUnknownType strict bytes t × (type ≡ Some t) × (reason ≡"
-            " <unknown>)) ⊎ ((t : ℕ) × HasBrokenField strict bytes t reason × (type ≡ Some t))")
+NO_FRAME = (
+    "((bytes ≢ []) × NoNumber bytes × (type ≡ before) × (reason ≡ <none>)) ⊎ ((t : ℕ) × HasLongType strict bytes t"
+    " × (type ≡ Some t) × (reason ≡ <long>)) ⊎ ((t : ℕ) × BeginsWithType strict bytes t (λ back. row_of t ≡ None)"
+    " × (type ≡ Some t) × (reason ≡ <unknown>)) ⊎ ((t : ℕ) × BeginsWithType strict bytes t (λ back. (r : Row)"
+    " × (row_of t ≡ Some r) × StopsWithin r.fields [] back reason) × (type ≡ Some t))")
 # What a law says, beside the statement that it must have.
 SENTENCES = {
     "every_payload": ("ExactlyOne (IsReadingOf strict bytes)", "a payload has exactly one reading (`Reading`)"),

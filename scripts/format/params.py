@@ -42,12 +42,12 @@ BOUNDS = {
 def identifiers():
     """The parameters: name, number, kind, whether once."""
     for name, text in clauses(TABLE, "row_of").items():
-        found = matched("<how> <index> <number> <kind..>", text)
-        if not found or found["how"] not in ("single", "repeated"):
+        found = matched("row <index> <number> <kind..> <once>", text)
+        if not found or found["once"] not in ("true", "false"):
             fail(f"row {name} in crates/{TABLE}.antt", text)
         if listed(clauses(TABLE, "ids")[""], "ids")[found["index"]:][:1] != [name]:
             fail(f"row {name} in crates/{TABLE}.antt", f"{text}: not its place in ids")
-        yield name, found["number"], found["kind"].strip("()"), found["how"] == "single"
+        yield name, found["number"], found["kind"].strip("()"), found["once"] == "true"
 
 
 def fields():

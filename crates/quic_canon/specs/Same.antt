@@ -16,8 +16,7 @@ abbrev pub is_ack : Name → Bool
 is_ack Ack = true
 is_ack name = false
 
--- The values in which two frames are compared: all, but of an ACK not the first, its greatest number, which its ranges
--- have too.
+-- The values in which frames are compared: of an ACK all but the first, its greatest number, which its ranges have too.
 abbrev pub compared_values : Meaning → List Value
 compared_values frame = if is_ack frame.name then drop 1 frame.values else frame.values
 

@@ -109,8 +109,7 @@ BelowStops (suc count) low bytes reason =
 
 -- the same, for a first block and so many ranges below it
 abbrev pub RangesStop : ℕ → ℕ → List ℕ → Fault → Type 0
-RangesStop count greatest bytes reason =
-    NumberStops bytes reason (λ block. nat_lt greatest block)
+RangesStop count greatest bytes reason = NumberStops bytes reason (λ block. nat_lt greatest block)
     (λ block others. BelowStops count (greatest - block) others reason)
 
 abbrev pub BlocksStop : ℕ → List ℕ → Fault → Type 0

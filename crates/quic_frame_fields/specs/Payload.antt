@@ -7,8 +7,7 @@ use Rattle.quic_frame_fields.specs.declared.frame.fault.Fault.TheVariants.{Unexp
 use Rattle.quic_frame_fields.specs.Field.{Value, AreFields, StopsWithin, NoNumber}
 use Rattle.quic_frame_fields.specs.Table.{Name, Row, row_of, is_open}
 
--- A frame: its name, and its values in the order of its row in Table.antt: the order of the wire, but that what the
--- type implies (FIN, the direction) comes first.
+-- A frame: its name, and its values in the order of its row. What the type implies (FIN, the direction) comes first.
 pub record Meaning : Type 0 where
   pub name : Name
   pub values : List Value
@@ -58,12 +57,7 @@ pub record BeginsWithType (strict : Bool) (bytes : List ℕ) (t : ℕ) (P : List
   pub encoded : IsType strict t front
   pub then : P back
 
--- No frame begins here: no type can be read,
-pub record LacksType (bytes : List ℕ) : Type 0 where
-  pub some : bytes ≢ []
-  pub no_front : NoNumber bytes
-
--- or the type is not in its shortest encoding, if strict,
+-- A type comes first, which is not in its shortest encoding, as it must be.
 pub record HasLongType (strict : Bool) (bytes : List ℕ) (t : ℕ) : Type 0 where
   pub counts : strict ≡ true
   pub front : List ℕ
@@ -72,22 +66,15 @@ pub record HasLongType (strict : Bool) (bytes : List ℕ) (t : ℕ) : Type 0 whe
   pub encoded : Encodes t front
   pub long : front ≢ shortest_varint t
 
--- or the type has no row,
-abbrev pub HasUnknownType : Bool → List ℕ → ℕ → Type 0
-HasUnknownType strict bytes t = BeginsWithType strict bytes t (λ back. row_of t ≡ None)
-
--- or a field of the type's row can't be read.
-abbrev pub HasBrokenField : Bool → List ℕ → ℕ → Fault → Type 0
-HasBrokenField strict bytes t reason = BeginsWithType strict bytes t
-    (λ back. (r : Row) × (row_of t ≡ Some r) × StopsWithin r.fields [] back reason)
-
--- The type and the reason of the error for bytes that can't be read, after a frame of the given type.
+-- The type and the reason of the error where no frame begins, after a frame of the given type: no type can be read; or
+-- it must be in its shortest encoding, and is not; or it has no row; or a field of its row can't be read.
 abbrev pub IsNoFrame : Bool → Option ℕ → List ℕ → Option ℕ → Fault → Type 0
 IsNoFrame strict before bytes type reason =
-    (LacksType bytes × (type ≡ before) × (reason ≡ UnexpectedEnd))
+    ((bytes ≢ []) × NoNumber bytes × (type ≡ before) × (reason ≡ UnexpectedEnd))
     ⊎ ((t : ℕ) × HasLongType strict bytes t × (type ≡ Some t) × (reason ≡ LongType))
-    ⊎ ((t : ℕ) × HasUnknownType strict bytes t × (type ≡ Some t) × (reason ≡ InvalidFrameId))
-    ⊎ ((t : ℕ) × HasBrokenField strict bytes t reason × (type ≡ Some t))
+    ⊎ ((t : ℕ) × BeginsWithType strict bytes t (λ back. row_of t ≡ None) × (type ≡ Some t) × (reason ≡ InvalidFrameId))
+    ⊎ ((t : ℕ) × BeginsWithType strict bytes t
+    (λ back. (r : Row) × (row_of t ≡ Some r) × StopsWithin r.fields [] back reason) × (type ≡ Some t))
 
 -- The bytes are these frames, followed by an invalid one.
 pub record IsBroken (strict : Bool) (before : Option ℕ) (found : List TypedFrame) (bytes : List ℕ) (type : Option ℕ)

@@ -90,8 +90,6 @@ request_max_ack_delay = Varint
 abbrev pub reordering_threshold : Field
 reordering_threshold = Varint
 
--- ---- the rows
-
 abbrev pub ack_row : Row
 ack_row = row Ack (largest_acknowledged ∷ ack_delay ∷ ack_ranges ∷ [])
 
@@ -121,31 +119,17 @@ abbrev pub stream_row : Bool → Bool → Bool → Row
 stream_row has_offset has_length fin = row Stream
     (Implied (if fin then 1 else 0) ∷ stream_id ∷ offset_field has_offset ∷ data_field has_length ∷ [])
 
-abbrev pub max_stream_data_row : Row
-max_stream_data_row = row MaxStreamData (stream_id ∷ maximum_stream_data ∷ [])
-
-abbrev pub stream_data_blocked_row : Row
-stream_data_blocked_row = row StreamDataBlocked (stream_id ∷ maximum_stream_data ∷ [])
-
 -- first the direction, then the count
-abbrev pub max_streams_row : Dir → Row
-max_streams_row dir = row MaxStreams (Implied (dir_number dir) ∷ Varint ∷ [])
-
-abbrev pub streams_blocked_row : Dir → Row
-streams_blocked_row dir = row StreamsBlocked (Implied (dir_number dir) ∷ Varint ∷ [])
+abbrev pub streams_row : Name → Dir → Row
+streams_row name dir = row name (Implied (dir_number dir) ∷ Varint ∷ [])
 
 -- the sequence number, the one before which ids are retired, which is at most that, the id, the token
 abbrev pub new_connection_id_row : Row
 new_connection_id_row = row NewConnectionId
     (sequence_number ∷ retire_prior_to ∷ Ordered ∷ connection_id ∷ stateless_reset_token ∷ [])
 
--- the error code, the type of the frame that caused it, or 0, the reason
-abbrev pub connection_close_row : Row
-connection_close_row = row ConnectionClose (error_code ∷ frame_type ∷ reason_phrase ∷ [])
-
--- the error code, the reason
-abbrev pub application_close_row : Row
-application_close_row = row ApplicationClose (error_code ∷ reason_phrase ∷ [])
+abbrev pub retire_connection_id_row : Row
+retire_connection_id_row = row RetireConnectionId (sequence_number ∷ [])
 
 abbrev pub datagram_row : Bool → Row
 datagram_row has_length = row Datagram (data_field has_length ∷ [])
@@ -154,33 +138,23 @@ abbrev pub ack_frequency_row : Row
 ack_frequency_row = row AckFrequency
     (sequence_number ∷ ack_eliciting_threshold ∷ request_max_ack_delay ∷ reordering_threshold ∷ [])
 
--- a frame of one number
-abbrev pub number_row : Name → Row
-number_row name = row name (Varint ∷ [])
-
--- a frame of eight bytes
-abbrev pub path_row : Name → Row
-path_row name = row name (Uint64 ∷ [])
-
-abbrev pub empty_row : Name → Row
-empty_row name = row name []
-
 abbrev pub rows : List (ℕ × Row)
 rows =
-    (0x00, empty_row Padding) ∷ (0x01, empty_row Ping) ∷ (0x02, ack_row) ∷ (0x03, ack_ecn_row)
-    ∷ (0x04, reset_stream_row) ∷ (0x05, stop_sending_row)
-    ∷ (0x06, crypto_row) ∷ (0x07, new_token_row) ∷ (0x08, stream_row false false false)
-    ∷ (0x09, stream_row false false true)
-    ∷ (0x0a, stream_row false true false) ∷ (0x0b, stream_row false true true) ∷ (0x0c, stream_row true false false)
-    ∷ (0x0d, stream_row true false true) ∷ (0x0e, stream_row true true false) ∷ (0x0f, stream_row true true true)
-    ∷ (0x10, number_row MaxData) ∷ (0x11, max_stream_data_row) ∷ (0x12, max_streams_row Bi)
-    ∷ (0x13, max_streams_row Uni)
-    ∷ (0x14, number_row DataBlocked) ∷ (0x15, stream_data_blocked_row) ∷ (0x16, streams_blocked_row Bi)
-    ∷ (0x17, streams_blocked_row Uni)
-    ∷ (0x18, new_connection_id_row) ∷ (0x19, number_row RetireConnectionId) ∷ (0x1a, path_row PathChallenge)
-    ∷ (0x1b, path_row PathResponse)
-    ∷ (0x1c, connection_close_row) ∷ (0x1d, application_close_row) ∷ (0x1e, empty_row HandshakeDone)
-    ∷ (0x1f, empty_row ImmediateAck)
+    (0x00, row Padding []) ∷ (0x01, row Ping []) ∷ (0x02, ack_row) ∷ (0x03, ack_ecn_row)
+    ∷ (0x04, reset_stream_row) ∷ (0x05, stop_sending_row) ∷ (0x06, crypto_row) ∷ (0x07, new_token_row)
+    ∷ (0x08, stream_row false false false) ∷ (0x09, stream_row false false true)
+    ∷ (0x0a, stream_row false true false) ∷ (0x0b, stream_row false true true)
+    ∷ (0x0c, stream_row true false false) ∷ (0x0d, stream_row true false true)
+    ∷ (0x0e, stream_row true true false) ∷ (0x0f, stream_row true true true)
+    ∷ (0x10, row MaxData (Varint ∷ [])) ∷ (0x11, row MaxStreamData (stream_id ∷ maximum_stream_data ∷ []))
+    ∷ (0x12, streams_row MaxStreams Bi) ∷ (0x13, streams_row MaxStreams Uni)
+    ∷ (0x14, row DataBlocked (Varint ∷ [])) ∷ (0x15, row StreamDataBlocked (stream_id ∷ maximum_stream_data ∷ []))
+    ∷ (0x16, streams_row StreamsBlocked Bi) ∷ (0x17, streams_row StreamsBlocked Uni)
+    ∷ (0x18, new_connection_id_row) ∷ (0x19, retire_connection_id_row)
+    ∷ (0x1a, row PathChallenge (Uint64 ∷ [])) ∷ (0x1b, row PathResponse (Uint64 ∷ []))
+    ∷ (0x1c, row ConnectionClose (error_code ∷ frame_type ∷ reason_phrase ∷ []))
+    ∷ (0x1d, row ApplicationClose (error_code ∷ reason_phrase ∷ []))
+    ∷ (0x1e, row HandshakeDone []) ∷ (0x1f, row ImmediateAck [])
     ∷ (0x30, datagram_row false) ∷ (0x31, datagram_row true) ∷ (0xaf, ack_frequency_row) ∷ []
 
 abbrev pub row_of : ℕ → Option Row

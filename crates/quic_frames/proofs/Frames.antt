@@ -10,9 +10,9 @@ use Rattle.quic_frame_fields.specs.declared.frame.fault.Fault.{Fault}
 use Rattle.quic_frame_fields.specs.declared.frame.fault.Fault.TheVariants.{InvalidFrameId, LongType}
 use Rattle.std.specs.List.{list_any}
 use Rattle.std.specs.Option.{option_map_or}
-use Rattle.quic_frame_fields.specs.Field.{is_rest}
+use Rattle.quic_frame_fields.specs.Field.{NoNumber, is_rest}
 use Rattle.quic_frame_fields.specs.Table.{Row, row_of, is_open}
-use Rattle.quic_frame_fields.specs.Payload.{Meaning, TypedFrame, IsType, IsFrame, LacksType, IsNoFrame}
+use Rattle.quic_frame_fields.specs.Payload.{Meaning, TypedFrame, IsType, IsFrame, IsNoFrame}
 use Rattle.quic_frame_fields.specs.Reading.{varint_at, fields_at, row_at, in_row, frame_at, Invalid, invalid, after_type, is_long_type, at_type, found_at}
 use Rattle.quic_frame_fields.proofs.Steps.{bind_ok, mapped_err, err_of, ok_is, true_is_not_false}
 use Rattle.quic_frame_fields.proofs.Varints.{varint_takes, varint_again, varint_fails}
@@ -222,11 +222,13 @@ unfolding found_at frame_at row_at
 found_fails strict before bytes i fits some e =
     elim (at_type_err strict before (length bytes) (varint_at bytes) i e) [
       | inl a ↦
-          let lacks : LacksType bytes = record {
-            some = some;
-            no_front = λ n front back parts v. let again = ap varint_at parts ∙ varint_again n front back v in absurd (cc (again, a.1));
-          } in
-          record { type = before; reason = a.0; is_reported = a.2; no_frame = inl (lacks, refl, varint_fails bytes a.0 a.1) }
+          let no_front : NoNumber bytes = λ n front back parts v. let again = ap varint_at parts ∙ varint_again n front back v in absurd (cc (again, a.1)) in
+          record {
+            type = before;
+            reason = a.0;
+            is_reported = a.2;
+            no_frame = inl (some, no_front, refl, varint_fails bytes a.0 a.1);
+          }
       | inr a ↦
           let t = varint_takes bytes a.0.0 a.0.1 fits a.1 in
           let wide = ap (is_long_type strict a.0.0) (sym (front_width bytes t.front a.0.1 t.split)) in
@@ -303,9 +305,9 @@ pub no_frame_again : (strict : Bool) (before : Option ℕ) (bytes : List ℕ) (t
 unfolding found_at frame_at row_at
 no_frame_again strict before bytes type reason fits (inl a) =
     let failed =
-    err_of (varint_at bytes) (λ x h. let t = varint_takes bytes x.0 x.1 fits h in a.0.no_front x.0 t.front x.1 t.split t.is) in
+    err_of (varint_at bytes) (λ x h. let t = varint_takes bytes x.0 x.1 fits h in a.1 x.0 t.front x.1 t.split t.is) in
     let why = varint_fails bytes failed.0 failed.1 in
-    rw (failed.1, why, a.1, a.2) refl
+    rw (failed.1, why, a.2, a.3) refl
 no_frame_again strict before bytes type reason fits (inr (inl a)) =
     let u = a.1 in
     let one = varint_again a.0 u.front u.back u.encoded in

@@ -149,7 +149,7 @@ begins_some strict bytes t P u =
 
 pub no_frame_some : (strict : Bool) (before : Option ℕ) (bytes : List ℕ) (type : Option ℕ) (reason : Fault)
     → IsNoFrame strict before bytes type reason → bytes ≢ []
-no_frame_some strict before bytes type reason (inl a) = a.0.some
+no_frame_some strict before bytes type reason (inl a) = a.0
 no_frame_some strict before bytes type reason (inr (inl a)) =
     let some = varint_some a.0 a.1.front a.1.encoded in is_some_bytes bytes
     (omega (arith, some, ap length a.1.parts, length-append a.1.front a.1.back))

@@ -117,7 +117,7 @@ begins_on strict bytes more t P Q fits lasts u =
 no_frame_lasts : (strict : Bool) (before : Option ℕ) (bytes more : List ℕ) (type : Option ℕ) (reason : Fault)
     → AreBytes (bytes ++ more) → reason ≢ UnexpectedEnd → IsNoFrame strict before bytes type reason
     → IsNoFrame strict before (bytes ++ more) type reason
-no_frame_lasts strict before bytes more type reason fits known (inl a) = absurd (known a.2)
+no_frame_lasts strict before bytes more type reason fits known (inl a) = absurd (known a.3)
 no_frame_lasts strict before bytes more type reason fits known (inr (inl a)) =
     let u = a.1 in
     inr (inl (

@@ -10,7 +10,7 @@ use Rattle.quic_base.specs.declared.ids.Dir.{Dir}
 use Rattle.quic_base.specs.declared.ids.Dir.TheVariants.{Bi, Uni}
 use Rattle.quic_base.specs.Ids.{dir_number}
 use Rattle.quic_frame_fields.specs.Field.{Value, Number, Bytes, IsField, AreFields}
-use Rattle.quic_frame_fields.specs.Table.{Name, Ack, Stream, Datagram, MaxStreams, StreamsBlocked, Row, rows, row_of, is_open, offset_field, data_field, stream_row, datagram_row, max_streams_row, streams_blocked_row, ack_row, ack_ecn_row}
+use Rattle.quic_frame_fields.specs.Table.{Name, Ack, Stream, Datagram, MaxStreams, StreamsBlocked, Row, rows, row_of, is_open, offset_field, data_field, stream_row, datagram_row, streams_row, ack_row, ack_ecn_row}
 use Rattle.quic_frame_fields.specs.Payload.{Meaning, TypedFrame, IsFrame}
 use Rattle.quic_frame_fields.specs.Parts.{frame_of, flag}
 use Rattle.quic_frame_fields.specs.Shortest.{shortest_fields, shortest_row, written_type, shortest_frame}
@@ -433,12 +433,12 @@ ack_ecn_type last values bytes s =
     rw (x.5.0, s.4.1, t.4.1, u.4.4, v.4.1) refl
 
 max_streams_type : (dir : Dir) (last : Bool) (values : List Value) (bytes : List ℕ)
-    → AreFields (max_streams_row dir).fields [] values bytes
+    → AreFields (streams_row MaxStreams dir).fields [] values bytes
     → written_type last MaxStreams values ≡ 0x12 + dir_number dir
 max_streams_type dir last values bytes s = rw (s.5.5.0, s.4.0) refl
 
 streams_blocked_type : (dir : Dir) (last : Bool) (values : List Value) (bytes : List ℕ)
-    → AreFields (streams_blocked_row dir).fields [] values bytes
+    → AreFields (streams_row StreamsBlocked dir).fields [] values bytes
     → written_type last StreamsBlocked values ≡ 0x16 + dir_number dir
 streams_blocked_type dir last values bytes s = rw (s.5.5.0, s.4.0) refl
 

@@ -12,8 +12,6 @@ use Rattle.quic_header_decode.specs.declared.protected.ProtectedHeader.TheVarian
 use Rattle.quic_header_decode.specs.Refusal.{Refusal, Unsupported, Invalid}
 use Rattle.quic_header_decode.specs.Reading.{DecodeOptions, len_in}
 
--- ---- the first byte
-
 -- the header form, the highest bit, is set in long headers (section 17.2) and clear in short ones (section 17.3)
 abbrev pub is_long : ℕ → Bool
 is_long first = nat_le 0x80 first
@@ -28,15 +26,13 @@ pub data HeaderField : Type 0 where
   -- four bytes (section 17.2)
   Version : HeaderField
   -- a byte n, at most 20, and n bytes (section 17.2)
-  DestinationId : HeaderField
-  SourceId : HeaderField
+  DestinationId SourceId : HeaderField
   -- no bytes: this version is one of those that are known (section 6.1)
   Supported : ℕ → HeaderField
-  -- a number of any width, and that many bytes (section 17.2.2)
-  TokenLength : HeaderField
+  -- a number of any width (sections 17.2 and 17.2.2)
+  TokenLength Length : HeaderField
+  -- as many bytes as the number before (section 17.2.2)
   Token : HeaderField
-  -- a number of any width (section 17.2)
-  Length : HeaderField
   -- as many bytes as the parser of ids takes, since their length is not written (section 17.3.1)
   ShortId : HeaderField
 
@@ -53,7 +49,7 @@ header_row_of first version =
     if is_long first then Version ∷ DestinationId ∷ SourceId
     ∷ (if version == 0 then [] else Supported version ∷ typed_row (long_type version first)) else ShortId ∷ []
 
--- ---- which bytes are a field, and why others aren't
+-- ---- which bytes are a field or a row, and why others aren't
 
 pub data HeaderValue : Type 0 where
   Number : ℕ → HeaderValue
@@ -96,8 +92,6 @@ refusal_at field before = Invalid (codes "unexpected end of packet")
 abbrev pub IsRefusal : DecodeOptions → HeaderField → List HeaderValue → List ℕ → Refusal → Type 0
 IsRefusal options ShortId before bytes e = options.parsed bytes ≡ Err e
 IsRefusal options field before bytes e = e ≡ refusal_at field before
-
--- ---- which bytes are a row, and why others aren't
 
 -- The bytes are such a field, and then rest.
 abbrev pub BeginsWithField : DecodeOptions → HeaderField → List HeaderValue → List HeaderValue → List ℕ → List ℕ

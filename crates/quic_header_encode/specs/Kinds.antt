@@ -19,9 +19,8 @@ use Rattle.quic_header_encode.specs.Types.{type_number, long_space}
 use Rattle.quic_base.specs.declared.ids.SpaceId.{SpaceId}
 use Rattle.quic_base.specs.declared.ids.SpaceId.TheVariants as space
 
--- What a header has: the type that its first byte says; whether it is long, so that its version and both ids follow,
--- each id after its length, and not the receiver's id alone; and after these a token with its length, the packet's
--- length and its number.
+-- What a header has: the type that its first byte says; a version and both ids, each after its length, if it is long,
+-- else the receiver's id alone; then a token with its length, the packet's length, and its number.
 pub record Row : Type 0 where
   pub type : Option LongHeaderType
   pub is_long : Bool

@@ -212,7 +212,7 @@ fn read_new_connection_id(bytes: &[u8]) -> Result<(Frame<'_>, &[u8]), Fault>
 #[inline(always)]
 fn read_retire_connection_id(bytes: &[u8]) -> Result<(Frame<'_>, &[u8]), Fault>
     ensures { GivesFrame (λ rest. rest.now) bytes.now result
-        (row_at (table.number_row table.RetireConnectionId) bytes.now) }
+        (row_at table.retire_connection_id_row bytes.now) }
 {
     let (sequence, rest) = varint(bytes)?;
     Ok((Frame::RetireConnectionId { sequence }, rest))

@@ -1,8 +1,8 @@
 /* initial < initial.hex: opens the Initial packet of a client, given as a line
  * of hexadecimal, prints its frames, and seals it anew, which must give the
  * same bytes.  The ciphers are libcrypto's; the keys come from the packet's own
- * id (RFC 9001, section 5.2).  c/initial.hex is that RFC's example, appendix
- * A.2. */
+ * id (RFC 9001, section 5.2).  initial.hex beside it is that RFC's example,
+ * appendix A.2. */
 #define _POSIX_C_SOURCE 200809L
 #include <inttypes.h>
 #include <stdio.h>

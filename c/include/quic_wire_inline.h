@@ -6,9 +6,9 @@
  * quic_wire_padding_count and quic_wire_header_len.  quic_wire_unprotect_header
  * looks at two lengths and copies, quic_wire_frame_len asks for a frame where
  * there is no room, and quic_wire_header_write chooses one of two proved calls
- * of one meaning.  c/abuse/ holds these against the proved calls.  quic_wire.h
- * includes this file where QUIC_WIRE_INLINE is defined, and so does the
- * library's own quic_wire.c, which makes symbols of them.
+ * of one meaning.  c/tests/abuse/ holds these against the proved calls.
+ * quic_wire.h includes this file where QUIC_WIRE_INLINE is defined, and so does
+ * the library's own quic_wire.c, which makes symbols of them.
  */
 #ifndef QUIC_WIRE_INLINE_H
 #define QUIC_WIRE_INLINE_H

@@ -4,7 +4,7 @@ takes them: ACKs of 10,000 ranges whose numbers have one width or several in any
 numbers of 8 bytes, 64 KiB of PADDING, and 1,200 bytes of it behind a PING whose shortest form is shorter. They are the
 same each time.
 
-scripts/counting/hostile.py FOLDER
+bench/hostile.py FOLDER
 """
 import pathlib
 import random
@@ -37,7 +37,7 @@ def frames():
 
 def main():
     if len(sys.argv) != 2:
-        sys.exit("usage: scripts/counting/hostile.py FOLDER")
+        sys.exit("usage: bench/hostile.py FOLDER")
     folder = pathlib.Path(sys.argv[1])
     folder.mkdir(parents=True, exist_ok=True)
     random.seed(7)

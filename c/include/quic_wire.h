@@ -123,6 +123,21 @@
 #define QUIC_WIRE_EXTENSION
 #endif
 
+/* Structs lie at multiples of 8 bytes, also on machines of 32 bits that are
+ * content with 4. */
+#if defined(__GNUC__) && (defined(__i386__) || defined(__m68k__))
+#define QUIC_WIRE_ALIGNED __attribute__((aligned(8)))
+#else
+#define QUIC_WIRE_ALIGNED
+#endif
+
+/* A length or place in a struct: of 64 bits on each machine. */
+#if defined(SIZE_MAX) && SIZE_MAX < UINT64_MAX
+typedef uint64_t quic_wire_size;
+#else
+typedef size_t quic_wire_size;
+#endif
+
 #ifdef __cplusplus
 extern "C" {
 #endif
@@ -199,12 +214,12 @@ extern "C" {
 /* How far an iterator over a payload has come.  A struct of any other words is
  * harmless, and reads from |offset| on. */
 typedef struct quic_wire_frames {
-  size_t offset;      /* the end of the last whole frame, in bytes */
-  uint64_t last_type; /* its type as in the payload, or QUIC_WIRE_NO_TYPE */
-  uint32_t ended;     /* not 0 once an invalid frame was met */
-  uint32_t strict;    /* not 0: a type that isn't in its shortest encoding is an
-                         error (RFC 9000, section 12.4) */
-} quic_wire_frames;
+  quic_wire_size offset; /* the end of the last whole frame, in bytes */
+  uint64_t last_type;    /* its type as in the payload, or QUIC_WIRE_NO_TYPE */
+  uint32_t ended;        /* not 0 once an invalid frame was met */
+  uint32_t strict;       /* not 0: a type that isn't in its shortest encoding is
+                            an error (RFC 9000, section 12.4) */
+} QUIC_WIRE_ALIGNED quic_wire_frames;
 
 /* What the kinds of frames say in numbers: the fields of a frame's union. */
 typedef struct quic_wire_ack {
@@ -212,44 +227,45 @@ typedef struct quic_wire_ack {
   uint64_t delay;   /* in microseconds, shifted right by the sender's
                        ack_delay_exponent */
   uint64_t ect0, ect1, ce; /* packets; with QUIC_WIRE_FLAG_ECN */
-} quic_wire_ack;           /* its ranges: quic_wire_ack_ranges_init */
+} QUIC_WIRE_ALIGNED quic_wire_ack; /* its ranges: quic_wire_ack_ranges_init */
 typedef struct quic_wire_reset_stream {
   uint64_t stream_id, error_code, final_size; /* bytes */
-} quic_wire_reset_stream;
+} QUIC_WIRE_ALIGNED quic_wire_reset_stream;
 typedef struct quic_wire_stop_sending {
   uint64_t stream_id, error_code;
-} quic_wire_stop_sending;
+} QUIC_WIRE_ALIGNED quic_wire_stop_sending;
 typedef struct quic_wire_stream {
   uint64_t stream_id, offset; /* bytes */
-} quic_wire_stream;
+} QUIC_WIRE_ALIGNED quic_wire_stream;
 typedef struct quic_wire_crypto {
   uint64_t reserved; /* 0 */
   uint64_t offset;   /* bytes */
-} quic_wire_crypto;
+} QUIC_WIRE_ALIGNED quic_wire_crypto;
 typedef struct quic_wire_limit { /* MAX_DATA to STREAMS_BLOCKED_UNI */
   uint64_t stream_id; /* MAX_STREAM_DATA, STREAM_DATA_BLOCKED; of others 0 */
   uint64_t limit;     /* bytes; of MAX_STREAMS, STREAMS_BLOCKED: streams */
-} quic_wire_limit;
+} QUIC_WIRE_ALIGNED quic_wire_limit;
 typedef struct quic_wire_new_connection_id {
   uint64_t sequence, retire_prior_to;
-} quic_wire_new_connection_id; /* its token: quic_wire_reset_token */
+  /* its token: quic_wire_reset_token */
+} QUIC_WIRE_ALIGNED quic_wire_new_connection_id;
 typedef struct quic_wire_retire_connection_id {
   uint64_t sequence;
-} quic_wire_retire_connection_id;
+} QUIC_WIRE_ALIGNED quic_wire_retire_connection_id;
 typedef struct quic_wire_path { /* PATH_CHALLENGE and PATH_RESPONSE */
   uint64_t data;                /* the eight bytes, the highest first */
-} quic_wire_path;
+} QUIC_WIRE_ALIGNED quic_wire_path;
 typedef struct quic_wire_close {
   uint64_t error_code;
   uint64_t frame_type; /* of CONNECTION_CLOSE alone; 0: none is known, so that
                           PADDING, whose type is 0, can't be named */
-} quic_wire_close;
+} QUIC_WIRE_ALIGNED quic_wire_close;
 typedef struct quic_wire_ack_frequency {
   uint64_t sequence;
   uint64_t ack_eliciting_threshold; /* packets */
   uint64_t max_ack_delay;           /* microseconds */
   uint64_t reordering_threshold;    /* packets */
-} quic_wire_ack_frequency;
+} QUIC_WIRE_ALIGNED quic_wire_ack_frequency;
 
 /* A frame.  Each number of the union that |kind| doesn't name is 0, as
  * quic_wire_frame_write asks.  Numbers that were read are below 2^62, but
@@ -262,12 +278,13 @@ typedef struct quic_wire_frame {
                      DATAGRAM, of others |kind|.  What writes a frame doesn't
                      look at it */
   uint32_t flags; /* QUIC_WIRE_FLAG_FIN, QUIC_WIRE_FLAG_ECN */
-  size_t begin;   /* where the frame begins in the payload, in bytes */
-  size_t end;     /* where it ends */
-  size_t data;    /* where its data begin in the payload: of CRYPTO, NEW_TOKEN,
-                     STREAM and DATAGRAM; the reason phrase of a close; the id
-                     of a NEW_CONNECTION_ID, with its token after it */
-  size_t datalen; /* how many bytes these are, without that token */
+  quic_wire_size begin;   /* where the frame begins in the payload, in bytes */
+  quic_wire_size end;     /* where it ends */
+  quic_wire_size data;    /* where its data begin in the payload: of CRYPTO,
+                             NEW_TOKEN, STREAM and DATAGRAM; the reason phrase of
+                             a close; the id of a NEW_CONNECTION_ID, with its
+                             token after it */
+  quic_wire_size datalen; /* how many bytes these are, without that token */
   QUIC_WIRE_EXTENSION union {
     uint64_t numbers[5];
     quic_wire_ack ack;
@@ -282,33 +299,33 @@ typedef struct quic_wire_frame {
     quic_wire_close close;
     quic_wire_ack_frequency ack_frequency;
   };
-} quic_wire_frame;
+} QUIC_WIRE_ALIGNED quic_wire_frame;
 
 /* Packet numbers from |start| to below |end|. */
 typedef struct quic_wire_range {
   uint64_t start, end;
-} quic_wire_range;
+} QUIC_WIRE_ALIGNED quic_wire_range;
 
 /* A range of an ACK below another one, as it is encoded (RFC 9000, section
  * 19.3.1): how many packet numbers are between the two, and how many it has,
  * both less one. */
 typedef struct quic_wire_gap {
   uint64_t gap, len;
-} quic_wire_gap;
+} QUIC_WIRE_ALIGNED quic_wire_gap;
 
 /* How far the ranges of an ACK have been read. */
 typedef struct quic_wire_ack_ranges {
-  size_t begin, end; /* the remaining bytes, in the payload */
-  uint64_t largest;  /* the greatest number of the next range */
-} quic_wire_ack_ranges;
+  quic_wire_size begin, end; /* the remaining bytes, in the payload */
+  uint64_t largest;          /* the greatest number of the next range */
+} QUIC_WIRE_ALIGNED quic_wire_ack_ranges;
 
 /* The length of a payload's shortest form, or why it has none. */
 typedef struct quic_wire_canon {
-  size_t len;         /* how many bytes the shortest form has */
+  quic_wire_size len; /* how many bytes the shortest form has */
   uint64_t last_type; /* of an invalid frame: the last type that was read, its
                          own included, or QUIC_WIRE_NO_TYPE */
   uint64_t reason;    /* QUIC_WIRE_REASON_UNEXPECTED_END and so on */
-} quic_wire_canon;
+} QUIC_WIRE_ALIGNED quic_wire_canon;
 
 /* ---- Packets (RFC 9000, section 17) */
 
@@ -353,7 +370,7 @@ typedef struct quic_wire_header {
   uint32_t token, tokenlen; /* the token of an Initial packet */
   uint64_t len; /* how many bytes an Initial, Handshake or 0-RTT packet has
                    from |header_end| on, as its header says */
-} quic_wire_header;
+} QUIC_WIRE_ALIGNED quic_wire_header;
 
 /* What a header says that is written, beside its ids and its token.  What its
  * kind lacks isn't looked at. */
@@ -366,7 +383,7 @@ typedef struct quic_wire_header_fields {
   uint8_t lengthlen; /* how many bytes the packet's length has, 2 or 4 */
   uint32_t version;
   uint64_t number; /* the packet number */
-} quic_wire_header_fields;
+} QUIC_WIRE_ALIGNED quic_wire_header_fields;
 
 /* ---- Transport parameters (RFC 9000, section 18) */
 
@@ -426,14 +443,15 @@ typedef struct quic_wire_params {
   uint8_t preferred_token[16]; /* the token of the id at that address */
   uint8_t preferred_v6[16];    /* the highest byte first */
   uint8_t preferred_v4[4];
-} quic_wire_params;
+} QUIC_WIRE_ALIGNED quic_wire_params;
 
 /* An entry of a list of transport parameters (RFC 9000, section 18). */
 typedef struct quic_wire_param {
-  uint64_t id;     /* its number, below 2^62 */
-  size_t value;    /* the place of its value in the list that was read */
-  size_t valuelen; /* how many bytes it has; the next entry begins after them */
-} quic_wire_param;
+  uint64_t id;             /* its number, below 2^62 */
+  quic_wire_size value;    /* the place of its value in the list that was read */
+  quic_wire_size valuelen; /* how many bytes it has; the next entry begins after
+                              them */
+} QUIC_WIRE_ALIGNED quic_wire_param;
 
 /* Numbers of parameters that quic_wire_params has no field for: the versions
  * of RFC 9368, and the |n|th of those that have no meaning and that each peer
@@ -447,12 +465,8 @@ typedef struct quic_wire_param {
 
 /* ---- The library that is linked */
 
-/* What the library asserts of its own structs, which no machine of 32 bits can
- * keep to. */
-#if (defined(__SIZEOF_POINTER__) && __SIZEOF_POINTER__ < 8) ||                 \
-    (defined(UINTPTR_MAX) && UINTPTR_MAX <= 0xffffffff)
-#error "quic_wire is for machines whose pointers and lengths have 64 bits"
-#elif defined(__cplusplus) && __cplusplus >= 201103L
+/* What the library asserts of its own structs. */
+#if defined(__cplusplus) && __cplusplus >= 201103L
 #define QUIC_WIRE_ASSERT(so, why) static_assert(so, why)
 #elif defined(__STDC_VERSION__) && __STDC_VERSION__ >= 201112L
 #define QUIC_WIRE_ASSERT(so, why) _Static_assert(so, why)

@@ -3,8 +3,6 @@
  * line before it reads the next: where a read fails, lines before it are
  * printed.  Each line's bytes are in a block of exactly their length, so that a
  * sanitizer or valgrind sees each byte that is read past it. */
-#define _POSIX_C_SOURCE 200809L
-#include <errno.h>
 #include <inttypes.h>
 #include <signal.h>
 #include <stdio.h>
@@ -72,7 +70,7 @@ static int print_frames(const uint8_t *payload, size_t len, int strict) {
   }
   while ((answer = quic_wire_frames_next(&frames, payload, len, &frame)) ==
          QUIC_WIRE_ITEM) {
-    printf("%zu..%zu ", frame.begin, frame.end);
+    printf("%zu..%zu ", (size_t)frame.begin, (size_t)frame.end);
     print_type(frame.kind);
     putchar('\n');
   }
@@ -309,22 +307,40 @@ static int print_line(mode m, char *line, size_t len) {
   return clean;
 }
 
+/* Reads the next line, with its end, into |*line|, which has |*room| bytes and
+ * grows.  Returns its length, 0 at the end of the input. */
+static size_t read_line(char **line, size_t *room) {
+  size_t len = 0;
+  int c = 0;
+  while (c != '\n' && (c = getchar()) != EOF) {
+    if (len == *room) {
+      *room = 2 * *room + 256;
+      *line = (char *)realloc(*line, *room);
+      if (!*line)
+        fail("out of memory");
+    }
+    (*line)[len++] = (char)c;
+  }
+  return len;
+}
+
 int main(int argc, char **argv) {
   mode m = {FRAMES, 0};
   char *line = NULL;
-  size_t room = 0;
-  ssize_t len;
+  size_t room = 0, len;
   int clean = 1;
+#ifdef SIGPIPE
   signal(SIGPIPE, SIG_IGN);
+#endif
   if (!read_mode(argc, argv, &m)) {
     fputs("usage: quic-show frames|strict|canon|datagram LEN|params "
           "client|server\n", stderr);
     return 2;
   }
-  while (!ferror(stdout) && (len = getline(&line, &room, stdin)) >= 0)
-    clean &= print_line(m, line, (size_t)len);
-  if (!ferror(stdout) && !feof(stdin))
-    fail(errno == ENOMEM ? "out of memory" : "read failed");
+  while (!ferror(stdout) && (len = read_line(&line, &room)) != 0)
+    clean &= print_line(m, line, len);
+  if (!ferror(stdout) && ferror(stdin))
+    fail("read failed");
   free(line);
   if (fflush(stdout) == EOF || ferror(stdout))
     fail("write failed");

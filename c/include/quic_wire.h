@@ -132,7 +132,8 @@
 #endif
 
 /* A length or place in a struct: of 64 bits on each machine. */
-#if defined(SIZE_MAX) && SIZE_MAX < UINT64_MAX
+#if (defined(__SIZEOF_SIZE_T__) && __SIZEOF_SIZE_T__ < 8) ||                   \
+    (defined(SIZE_MAX) && SIZE_MAX <= 0xffffffff)
 typedef uint64_t quic_wire_size;
 #else
 typedef size_t quic_wire_size;

@@ -4,7 +4,7 @@
  * the RFC says.  It ends with 0 where all is as it should be, and is built here
  * by
  *
- *   cc -O2 -I.. -o abuse *.c libquic_wire.a
+ *   cc -O2 -I../../include -o abuse *.c libquic_wire.a
  */
 #include "abuse.h"
 

@@ -1,6 +1,7 @@
 # shellcheck shell=bash
 # What the scripts of this folder share. WORK is the folder in which everything is made, LIB that of the library.
 here=$(cd "$(dirname -- "$(readlink -f -- "${BASH_SOURCE[0]}")")" && pwd)
+export top lists
 top=$(dirname -- "$here")
 lists=$WORK/lists
 

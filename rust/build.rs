@@ -1,7 +1,10 @@
 //! Says where the library `quic_wire` is: in the folder that `QUIC_WIRE_LIB` names, packed in this package, where
-//! `pkg-config` finds it, or where `scripts/install out` left it in the repository. Where there is none, only what
-//! links fails: `cargo check`, `cargo clippy` and `cargo doc` need no library.
+//! `pkg-config` finds it, or where `scripts/install out` left it in the repository. Where there is none, it is built of
+//! the library as C, which this package holds or `scripts/portable out/portable` left in the repository, by a C
+//! compiler like gcc or clang: `cc`, or what `CC_TARGET`, `TARGET_CC` or `CC` name, with `AR` in the same way. Where
+//! that isn't there either, only what links fails: `cargo check`, `cargo clippy` and `cargo doc` need no library.
 use std::env;
+use std::ffi::OsString;
 use std::path::{Path, PathBuf};
 use std::process::Command;
 
@@ -18,7 +21,10 @@ fn main() {
         named().or_else(|| packed(&top, &target)).or_else(|| installed_for(&target)).or_else(|| left(&top, &target));
     match found {
         Some(folder) => link(&folder),
-        None => miss(&top, &target),
+        None => match as_c(&top).and_then(|sources| built(&sources, &target)) {
+            Some(folder) => link_built(&folder),
+            None => miss(&top, &target),
+        },
     }
 }
 
@@ -58,6 +64,62 @@ fn left(top: &Path, target: &str) -> Option<PathBuf> {
     with_archive(out.join(target).join("lib")).or_else(here)
 }
 
+// The library as C, as `scripts/portable` leaves it.
+fn as_c(top: &Path) -> Option<PathBuf> {
+    let left = top.parent().map(|parent| parent.join("out").join("portable"));
+    let folders = [Some(top.join("portable")), left];
+    folders.into_iter().flatten().find(|folder| folder.join("src").join("quic_wire_proved.c").is_file())
+}
+
+// A tool for the target by the variables that other crates look at, which may have words after its name.
+fn tool(name: &str, target: &str) -> Option<Vec<OsString>> {
+    let variables = [
+        format!("{name}_{target}"),
+        format!("{name}_{}", target.replace('-', "_")),
+        if target == variable("HOST") { format!("HOST_{name}") } else { format!("TARGET_{name}") },
+        name.to_string(),
+    ];
+    for variable in &variables {
+        println!("cargo:rerun-if-env-changed={variable}");
+    }
+    let said = variables.iter().map(|variable| self::variable(variable)).find(|said| !said.trim().is_empty());
+    // Without any, what is on the path is for this machine alone.
+    let said = said.or_else(|| (target == variable("HOST")).then(|| name.to_lowercase()))?;
+    Some(said.split_whitespace().map(OsString::from).collect())
+}
+
+// Builds the archive, and says why where that fails.
+fn built(sources: &Path, target: &str) -> Option<PathBuf> {
+    let (cc, ar) = (tool("CC", target)?, tool("AR", target)?);
+    let to = PathBuf::from(variable("OUT_DIR"));
+    println!("cargo:rerun-if-changed={}", sources.display());
+    let mut objects = Vec::new();
+    for part in ["quic_wire_proved", "quic_wire", "texts"] {
+        let object = to.join(part).with_extension("o");
+        let mut command = Command::new(&cc[0]);
+        command.args(&cc[1..]).args(["-std=c99", "-O2", "-ffunction-sections", "-c", "-o"]).arg(&object);
+        if !target.contains("windows") {
+            command.arg("-fPIC");
+        }
+        command.arg("-I").arg(sources.join("include")).arg("-I").arg(sources.join("src"));
+        run(command.arg(sources.join("src").join(part).with_extension("c")))?;
+        objects.push(object);
+    }
+    let mut command = Command::new(&ar[0]);
+    run(command.args(&ar[1..]).arg("rcs").arg(to.join(archive())).args(&objects))?;
+    Some(to)
+}
+
+fn run(command: &mut Command) -> Option<()> {
+    let why = match command.output() {
+        Ok(output) if output.status.success() => return Some(()),
+        Ok(output) => String::from_utf8_lossy(&output.stderr).lines().next().unwrap_or("it failed").to_string(),
+        Err(error) => error.to_string(),
+    };
+    println!("cargo:warning={}: {why}", command.get_program().to_string_lossy());
+    None
+}
+
 fn with_archive(folder: PathBuf) -> Option<PathBuf> {
     folder.join(archive()).is_file().then_some(folder)
 }
@@ -72,6 +134,10 @@ fn link(folder: &Path) {
     if !file.is_file() {
         println!("cargo:warning=QUIC_WIRE_LIB names {}, which holds no {}", folder.display(), archive());
     }
+    link_built(folder);
+}
+
+fn link_built(folder: &Path) {
     println!("cargo:rustc-link-search=native={}", folder.display());
     println!("cargo:rustc-link-lib=static={NAME}");
     println!("cargo:lib={}", folder.display());

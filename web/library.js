@@ -1,4 +1,4 @@
-// The calls of the proved library, as they stand in c/quic_wire.h, over bytes that lie in the module's memory.
+// The calls of the proved library, as they stand in c/include/quic_wire.h, over bytes that lie in the module's memory.
 
 import { PACKET_FIXED_BIT_UNSET, PACKET_MALFORMED_CID, PACKET_UNSUPPORTED_VERSION, PADDING } from "./names.js";
 import { EMPTY, ITEM, LAYOUT, MALFORMED, NO_TYPE, OK, Struct } from "./layout.js";

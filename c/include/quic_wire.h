@@ -1,0 +1,1227 @@
+/* SPDX-License-Identifier: MIT OR Apache-2.0 */
+/*
+ * quic_wire: the wire layer of QUIC versions 1 and 2 for C and C++: frames (RFC
+ * 9000, section 19), packet headers and the packets of a datagram (sections
+ * 12.2 and 17), header protection (RFC 9001, section 5.4), transport parameters
+ * (RFC 9000, section 18), sets of packet numbers; with DATAGRAM of RFC 9221 and
+ * the ACK frequency extension.  Ciphers are the caller's.
+ *
+ * No call takes memory or keeps anything: what is kept between calls is a
+ * struct of the caller's, and the bytes are given anew with each call.  What a
+ * packet or a frame holds is reported by its offset and length in these bytes.
+ * No call is made back, and no error is global, so each function may be called
+ * from several threads at once on different structs.
+ *
+ * The caller must ensure what is so anywhere in C: each pointer that isn't
+ * NULL leads to as many items as the length beside it says (or to one
+ * struct), and what a call may write overlaps nothing else that it is given.
+ * All else is checked: NULL, lengths, places outside the bytes, numbers that
+ * can't be encoded, unknown kinds, structs of any words.
+ *
+ * The frames of a payload are read so:
+ *
+ *   quic_wire_frames frames;
+ *   quic_wire_frame frame;
+ *   int answer = quic_wire_frames_init(&frames, payload, len);
+ *   while (answer >= 0 &&
+ *          (answer = quic_wire_frames_next(&frames, payload, len, &frame)) ==
+ *              QUIC_WIRE_ITEM)
+ *     if (frame.kind == QUIC_WIRE_STREAM)
+ *       deliver(frame.stream.stream_id, frame.stream.offset,
+ *               payload + frame.data, frame.datalen);
+ *   // 0: all are read; below 0: the payload is refused from frames.offset on
+ *
+ * The packets of a datagram are opened so, where make_mask and open_payload are
+ * the caller's cipher:
+ *
+ *   while (len != 0 && quic_wire_header_read(packet, len, cidlen, versions,
+ *                                            nversions, &header) == 0) {
+ *     const uint8_t *sample =
+ *         quic_wire_sample(packet, header.end, header.header_end, 16);
+ *     if (sample && header.kind != QUIC_WIRE_RETRY &&
+ *         header.kind != QUIC_WIRE_VERSION_NEGOTIATION) {
+ *       make_mask(mask, sample);
+ *       numberlen = quic_wire_unprotect(packet, header.end, header.header_end,
+ *                                       mask, expected, &number);
+ *       size_t begin = header.header_end + (size_t)numberlen;
+ *       open_payload(number, packet, begin, packet + begin, header.end - begin);
+ *     }
+ *     packet += header.end;
+ *     len -= header.end;
+ *   }
+ *
+ * And a packet is sealed so, with room for a tag of 16 bytes after it:
+ *
+ *   quic_wire_header_fields fields = {0};
+ *   fields.kind = QUIC_WIRE_HANDSHAKE;
+ *   fields.version = 1;
+ *   fields.number = number;
+ *   fields.numberlen = (uint8_t)quic_wire_number_len(number, largest_acked);
+ *   fields.lengthlen = 2;
+ *   int64_t begin = quic_wire_header_write(&fields, dcid, dcidlen, scid,
+ *                                          scidlen, NULL, 0, packet, room);
+ *   size_t place = (size_t)begin - fields.numberlen; // where the number is
+ *   quic_wire_frame_write(&frame, data, datalen, 1, packet + begin,
+ *                         room - 16 - (size_t)begin, &payloadlen);
+ *   size_t end = (size_t)begin + payloadlen + 16;
+ *   quic_wire_set_len(packet, end, place, fields.lengthlen);
+ *   seal_payload(number, packet, (size_t)begin, packet + begin, payloadlen);
+ *   make_mask(mask, quic_wire_sample(packet, end, place, 16));
+ *   quic_wire_protect(packet, end, place, mask);
+ *
+ * A payload of fewer than 4 - numberlen bytes is padded before it is sealed, so
+ * that there is a sample (RFC 9001, section 5.4.2).
+ */
+/*
+ * All of it is in one file, to copy and to read.  Each section begins with four
+ * dashes.  Words and structs come first:
+ *
+ *   Results
+ *   Frames (RFC 9000, section 19)
+ *   Packets (RFC 9000, section 17)
+ *   Transport parameters (RFC 9000, section 18)
+ *
+ * Functions follow:
+ *
+ *   The library that is linked
+ *   Frames, read
+ *   The ranges of an ACK, read
+ *   Frames, written
+ *   Payloads in their shortest form
+ *   Headers of packets, read
+ *   The protection of headers
+ *   Numbers of packets, and of variable length
+ *   Headers of packets, written
+ *   Transport parameters, read and written
+ *   Sets of packet numbers, and ACKs of them
+ *   Texts
+ */
+#ifndef QUIC_WIRE_H
+#define QUIC_WIRE_H
+
+#include <stddef.h>
+#include <stdint.h>
+
+/* The version of this header: a byte each of major, minor and patch. */
+#define QUIC_WIRE_VERSION 0x000100
+#define QUIC_WIRE_VERSION_TEXT "0.1.0"
+
+/* Each function is a symbol of both libraries, the archive and the shared one.
+ * Who is linked with the archive can define QUIC_WIRE_INLINE before this
+ * header: then the C compiler inlines what the functions do before and after
+ * the calls of the proved library. */
+#ifdef QUIC_WIRE_INLINE
+#define QUIC_WIRE_API static inline
+#else
+#define QUIC_WIRE_API extern
+#endif
+
+/* gcc and clang have unnamed members in C99 too. */
+#if defined(__GNUC__) && !defined(__cplusplus)
+#define QUIC_WIRE_EXTENSION __extension__
+#else
+#define QUIC_WIRE_EXTENSION
+#endif
+
+/* Structs lie at multiples of 8 bytes, also on machines of 32 bits that are
+ * content with 4. */
+#if defined(__GNUC__) && (defined(__i386__) || defined(__m68k__))
+#define QUIC_WIRE_ALIGNED __attribute__((aligned(8)))
+#else
+#define QUIC_WIRE_ALIGNED
+#endif
+
+/* A length or place in a struct: of 64 bits on each machine. */
+#if (defined(__SIZEOF_SIZE_T__) && __SIZEOF_SIZE_T__ < 8) ||                   \
+    (defined(SIZE_MAX) && SIZE_MAX <= 0xffffffff)
+typedef uint64_t quic_wire_size;
+#else
+typedef size_t quic_wire_size;
+#endif
+
+#ifdef __cplusplus
+extern "C" {
+#endif
+
+/* ---- Results.  Those below 0 are errors. */
+
+/* Nothing is left to be read; or something was written or changed. */
+#define QUIC_WIRE_OK 0
+/* An item was read. */
+#define QUIC_WIRE_ITEM 1
+/* The set changed. */
+#define QUIC_WIRE_CHANGED 1
+/* A pointer is NULL, a place lies outside the bytes, a number is too great,
+ * or the fields of a struct describe no valid value. */
+#define QUIC_WIRE_ERR_INVALID_ARGUMENT (-1)
+/* The payload is empty: a PROTOCOL_VIOLATION of the peer. */
+#define QUIC_WIRE_ERR_EMPTY (-2)
+/* The bytes have an invalid frame (a FRAME_ENCODING_ERROR of the peer, with
+ * QUIC_WIRE_REASON_LONG_TYPE a PROTOCOL_VIOLATION), are not a list of
+ * parameters, or are too short for a packet's number; a struct tells more of the
+ * first two. */
+#define QUIC_WIRE_ERR_MALFORMED (-3)
+/* The buffer has less room than is needed. */
+#define QUIC_WIRE_ERR_NOBUF (-4)
+/* The library that is linked is not this header's. */
+#define QUIC_WIRE_ERR_VERSION (-5)
+
+/* ---- Frames (RFC 9000, section 19) */
+
+/* The kinds of frames: the type, and one kind for all types of STREAM, of ACK
+ * and of DATAGRAM. */
+#define QUIC_WIRE_PADDING 0x00
+#define QUIC_WIRE_PING 0x01
+#define QUIC_WIRE_ACK 0x02
+#define QUIC_WIRE_RESET_STREAM 0x04
+#define QUIC_WIRE_STOP_SENDING 0x05
+#define QUIC_WIRE_CRYPTO 0x06
+#define QUIC_WIRE_NEW_TOKEN 0x07
+#define QUIC_WIRE_STREAM 0x08
+#define QUIC_WIRE_MAX_DATA 0x10
+#define QUIC_WIRE_MAX_STREAM_DATA 0x11
+#define QUIC_WIRE_MAX_STREAMS_BIDI 0x12
+#define QUIC_WIRE_MAX_STREAMS_UNI 0x13
+#define QUIC_WIRE_DATA_BLOCKED 0x14
+#define QUIC_WIRE_STREAM_DATA_BLOCKED 0x15
+#define QUIC_WIRE_STREAMS_BLOCKED_BIDI 0x16
+#define QUIC_WIRE_STREAMS_BLOCKED_UNI 0x17
+#define QUIC_WIRE_NEW_CONNECTION_ID 0x18
+#define QUIC_WIRE_RETIRE_CONNECTION_ID 0x19
+#define QUIC_WIRE_PATH_CHALLENGE 0x1a
+#define QUIC_WIRE_PATH_RESPONSE 0x1b
+#define QUIC_WIRE_CONNECTION_CLOSE 0x1c
+#define QUIC_WIRE_APPLICATION_CLOSE 0x1d
+#define QUIC_WIRE_HANDSHAKE_DONE 0x1e
+#define QUIC_WIRE_IMMEDIATE_ACK 0x1f
+#define QUIC_WIRE_DATAGRAM 0x30
+#define QUIC_WIRE_ACK_FREQUENCY 0xaf
+
+/* Flags of a frame. */
+#define QUIC_WIRE_FLAG_FIN 1 /* STREAM: the data end the stream */
+#define QUIC_WIRE_FLAG_ECN 2 /* ACK: counts of marked packets are there */
+#define QUIC_WIRE_FLAG_MORE 4 /* ACK: of quic_wire_frame_read, which had no
+                                 room for all ranges */
+
+/* The value of a type where there is none. */
+#define QUIC_WIRE_NO_TYPE UINT64_MAX
+
+/* Why a frame is invalid. */
+#define QUIC_WIRE_REASON_UNEXPECTED_END 1
+#define QUIC_WIRE_REASON_INVALID_FRAME_ID 2
+#define QUIC_WIRE_REASON_MALFORMED 3
+#define QUIC_WIRE_REASON_LONG_TYPE 4 /* of strict readers alone */
+
+/* How far an iterator over a payload has come.  A struct of any other words is
+ * harmless, and reads from |offset| on. */
+typedef struct quic_wire_frames {
+  quic_wire_size offset; /* the end of the last whole frame, in bytes */
+  uint64_t last_type;    /* its type as in the payload, or QUIC_WIRE_NO_TYPE */
+  uint32_t ended;        /* not 0 once an invalid frame was met */
+  uint32_t strict;       /* not 0: a type that isn't in its shortest encoding is
+                            an error (RFC 9000, section 12.4) */
+} QUIC_WIRE_ALIGNED quic_wire_frames;
+
+/* What the kinds of frames say in numbers: the fields of a frame's union. */
+typedef struct quic_wire_ack {
+  uint64_t largest; /* the greatest packet number */
+  uint64_t delay;   /* in microseconds, shifted right by the sender's
+                       ack_delay_exponent */
+  uint64_t ect0, ect1, ce; /* packets; with QUIC_WIRE_FLAG_ECN */
+} QUIC_WIRE_ALIGNED quic_wire_ack; /* its ranges: quic_wire_ack_ranges_init */
+typedef struct quic_wire_reset_stream {
+  uint64_t stream_id, error_code, final_size; /* bytes */
+} QUIC_WIRE_ALIGNED quic_wire_reset_stream;
+typedef struct quic_wire_stop_sending {
+  uint64_t stream_id, error_code;
+} QUIC_WIRE_ALIGNED quic_wire_stop_sending;
+typedef struct quic_wire_stream {
+  uint64_t stream_id, offset; /* bytes */
+} QUIC_WIRE_ALIGNED quic_wire_stream;
+typedef struct quic_wire_crypto {
+  uint64_t reserved; /* 0 */
+  uint64_t offset;   /* bytes */
+} QUIC_WIRE_ALIGNED quic_wire_crypto;
+typedef struct quic_wire_limit { /* MAX_DATA to STREAMS_BLOCKED_UNI */
+  uint64_t stream_id; /* MAX_STREAM_DATA, STREAM_DATA_BLOCKED; of others 0 */
+  uint64_t limit;     /* bytes; of MAX_STREAMS, STREAMS_BLOCKED: streams */
+} QUIC_WIRE_ALIGNED quic_wire_limit;
+typedef struct quic_wire_new_connection_id {
+  uint64_t sequence, retire_prior_to;
+  /* its token: quic_wire_reset_token */
+} QUIC_WIRE_ALIGNED quic_wire_new_connection_id;
+typedef struct quic_wire_retire_connection_id {
+  uint64_t sequence;
+} QUIC_WIRE_ALIGNED quic_wire_retire_connection_id;
+typedef struct quic_wire_path { /* PATH_CHALLENGE and PATH_RESPONSE */
+  uint64_t data;                /* the eight bytes, the highest first */
+} QUIC_WIRE_ALIGNED quic_wire_path;
+typedef struct quic_wire_close {
+  uint64_t error_code;
+  uint64_t frame_type; /* of CONNECTION_CLOSE alone; 0: none is known, so that
+                          PADDING, whose type is 0, can't be named */
+} QUIC_WIRE_ALIGNED quic_wire_close;
+typedef struct quic_wire_ack_frequency {
+  uint64_t sequence;
+  uint64_t ack_eliciting_threshold; /* packets */
+  uint64_t max_ack_delay;           /* microseconds */
+  uint64_t reordering_threshold;    /* packets */
+} QUIC_WIRE_ALIGNED quic_wire_ack_frequency;
+
+/* A frame.  Each number of the union that |kind| doesn't name is 0, as
+ * quic_wire_frame_write asks.  Numbers that were read are below 2^62, but
+ * for those of paths.  Whether data end below 2^62, and whether limits of
+ * streams are at most 2^60, isn't looked at: that is the connection's. */
+typedef struct quic_wire_frame {
+  uint16_t kind;  /* QUIC_WIRE_PADDING and so on */
+  uint16_t type;  /* the type as it is in the payload: 0x08 to 0x0f of a
+                     STREAM, 0x02 and 0x03 of an ACK, 0x30 and 0x31 of a
+                     DATAGRAM, of others |kind|.  What writes a frame doesn't
+                     look at it */
+  uint32_t flags; /* QUIC_WIRE_FLAG_FIN, QUIC_WIRE_FLAG_ECN */
+  quic_wire_size begin;   /* where the frame begins in the payload, in bytes */
+  quic_wire_size end;     /* where it ends */
+  quic_wire_size data;    /* where its data begin in the payload: of CRYPTO,
+                             NEW_TOKEN, STREAM and DATAGRAM; the reason phrase of
+                             a close; the id of a NEW_CONNECTION_ID, with its
+                             token after it */
+  quic_wire_size datalen; /* how many bytes these are, without that token */
+  QUIC_WIRE_EXTENSION union {
+    uint64_t numbers[5];
+    quic_wire_ack ack;
+    quic_wire_reset_stream reset_stream;
+    quic_wire_stop_sending stop_sending;
+    quic_wire_stream stream;
+    quic_wire_crypto crypto;
+    quic_wire_limit limit;
+    quic_wire_new_connection_id new_connection_id;
+    quic_wire_retire_connection_id retire_connection_id;
+    quic_wire_path path;
+    quic_wire_close close;
+    quic_wire_ack_frequency ack_frequency;
+  };
+} QUIC_WIRE_ALIGNED quic_wire_frame;
+
+/* Packet numbers from |start| to below |end|. */
+typedef struct quic_wire_range {
+  uint64_t start, end;
+} QUIC_WIRE_ALIGNED quic_wire_range;
+
+/* A range of an ACK below another one, as it is encoded (RFC 9000, section
+ * 19.3.1): how many packet numbers are between the two, and how many it has,
+ * both less one. */
+typedef struct quic_wire_gap {
+  uint64_t gap, len;
+} QUIC_WIRE_ALIGNED quic_wire_gap;
+
+/* How far the ranges of an ACK have been read. */
+typedef struct quic_wire_ack_ranges {
+  quic_wire_size begin, end; /* the remaining bytes, in the payload */
+  uint64_t largest;          /* the greatest number of the next range */
+} QUIC_WIRE_ALIGNED quic_wire_ack_ranges;
+
+/* The length of a payload's shortest form, or why it has none. */
+typedef struct quic_wire_canon {
+  quic_wire_size len; /* how many bytes the shortest form has */
+  uint64_t last_type; /* of an invalid frame: the last type that was read, its
+                         own included, or QUIC_WIRE_NO_TYPE */
+  uint64_t reason;    /* QUIC_WIRE_REASON_UNEXPECTED_END and so on */
+} QUIC_WIRE_ALIGNED quic_wire_canon;
+
+/* ---- Packets (RFC 9000, section 17) */
+
+/* The kinds of packets. */
+#define QUIC_WIRE_INITIAL 0
+#define QUIC_WIRE_0RTT 1
+#define QUIC_WIRE_HANDSHAKE 2
+#define QUIC_WIRE_RETRY 3
+#define QUIC_WIRE_1RTT 4
+#define QUIC_WIRE_VERSION_NEGOTIATION 5
+#define QUIC_WIRE_UNKNOWN_VERSION 6 /* a long header of a version that is none
+                                       of those given */
+
+/* Bits of a first byte. */
+#define QUIC_WIRE_LONG_FORM 0x80 /* set in all headers but those of 1-RTT */
+#define QUIC_WIRE_FIXED_BIT 0x40 /* set, but where it is greased (RFC 9287) */
+#define QUIC_WIRE_SPIN_BIT 0x20  /* of 1-RTT */
+#define QUIC_WIRE_KEY_PHASE 0x04 /* of 1-RTT, under protection */
+#define QUIC_WIRE_RESERVED_1RTT 0x18 /* must be 0, under protection */
+#define QUIC_WIRE_RESERVED_LONG 0x0c /* of Initial, 0-RTT and Handshake */
+
+/* Why a header, or its packet, isn't whole.  That the fixed bit is unset is for
+ * callers to say: no function answers it. */
+#define QUIC_WIRE_PACKET_UNSUPPORTED_VERSION 1
+#define QUIC_WIRE_PACKET_UNEXPECTED_END 2
+#define QUIC_WIRE_PACKET_FIXED_BIT_UNSET 3
+#define QUIC_WIRE_PACKET_TOO_SMALL 4
+#define QUIC_WIRE_PACKET_MALFORMED_CID 5
+#define QUIC_WIRE_PACKET_TOKEN_OUT_OF_BOUNDS 6
+#define QUIC_WIRE_PACKET_LENGTH_BEYOND_END 7
+
+/* The header of a packet, with its protection still on.  Every place is one in
+ * the packet, in bytes from its front; fields that the kind doesn't have are 0. */
+typedef struct quic_wire_header {
+  uint8_t kind;    /* QUIC_WIRE_INITIAL and so on */
+  uint8_t first;   /* the first byte, before protection is taken off */
+  uint8_t dcidlen; /* the receiver's id: quic_wire_dcid */
+  uint8_t scidlen; /* the sender's id: quic_wire_scid */
+  uint32_t version;
+  uint32_t header_end; /* where the number begins, if the packet has one */
+  uint32_t end;      /* where the packet ends, or its bytes if it is cut off */
+  uint32_t token, tokenlen; /* the token of an Initial packet */
+  uint64_t len; /* how many bytes an Initial, Handshake or 0-RTT packet has
+                   from |header_end| on, as its header says */
+} QUIC_WIRE_ALIGNED quic_wire_header;
+
+/* What a header says that is written, beside its ids and its token.  What its
+ * kind lacks isn't looked at. */
+typedef struct quic_wire_header_fields {
+  uint8_t kind;      /* QUIC_WIRE_INITIAL and so on */
+  uint8_t flags;     /* QUIC_WIRE_FIXED_BIT: it is clear; of 1-RTT
+                        QUIC_WIRE_SPIN_BIT and QUIC_WIRE_KEY_PHASE; of a
+                        version negotiation all bits but the highest */
+  uint8_t numberlen; /* how many bytes of the number are written, 1 to 4 */
+  uint8_t lengthlen; /* how many bytes the packet's length has, 2 or 4 */
+  uint32_t version;
+  uint64_t number; /* the packet number */
+} QUIC_WIRE_ALIGNED quic_wire_header_fields;
+
+/* ---- Transport parameters (RFC 9000, section 18) */
+
+/* The side that calls. */
+#define QUIC_WIRE_CLIENT 0
+#define QUIC_WIRE_SERVER 1
+
+/* What is there of what can be absent. */
+#define QUIC_WIRE_HAS_STATELESS_RESET_TOKEN 0x001
+#define QUIC_WIRE_HAS_DISABLE_ACTIVE_MIGRATION 0x002
+#define QUIC_WIRE_HAS_MAX_DATAGRAM_FRAME_SIZE 0x004
+#define QUIC_WIRE_HAS_PREFERRED_ADDRESS 0x008
+#define QUIC_WIRE_HAS_PREFERRED_V4 0x010
+#define QUIC_WIRE_HAS_PREFERRED_V6 0x020
+#define QUIC_WIRE_HAS_ORIGINAL_DST_CID 0x040
+#define QUIC_WIRE_HAS_INITIAL_SRC_CID 0x080
+#define QUIC_WIRE_HAS_RETRY_SRC_CID 0x100
+#define QUIC_WIRE_HAS_GREASE_QUIC_BIT 0x200
+#define QUIC_WIRE_HAS_MIN_ACK_DELAY 0x400
+
+/* Why a list is refused. */
+#define QUIC_WIRE_PARAMS_MALFORMED 1 /* an entry is cut off, no value of its
+                                        kind, or a repeat */
+#define QUIC_WIRE_PARAMS_ILLEGAL_VALUE 2 /* a value is out of range, or may not
+                                            come from that side */
+
+/* Transport parameters.  What is absent is 0 in all of its words and bytes, but
+ * for the numbers that have a default: these hold it then.  Ids are at the
+ * front of their bytes, followed by zeros. */
+typedef struct quic_wire_params {
+  uint32_t present; /* QUIC_WIRE_HAS_STATELESS_RESET_TOKEN and so on */
+  uint32_t reason;  /* of parameters 0; else why the list was refused */
+  uint64_t max_idle_timeout;     /* milliseconds; 0, the default: for ever */
+  uint64_t max_udp_payload_size; /* bytes, at least 1200; default 65527 */
+  uint64_t initial_max_data;     /* bytes; default 0, as of the next five */
+  uint64_t initial_max_stream_data_bidi_local;  /* bytes */
+  uint64_t initial_max_stream_data_bidi_remote; /* bytes */
+  uint64_t initial_max_stream_data_uni;         /* bytes */
+  uint64_t initial_max_streams_bidi;            /* at most 2^60 */
+  uint64_t initial_max_streams_uni;             /* at most 2^60 */
+  uint64_t ack_delay_exponent;         /* at most 20; default 3 */
+  uint64_t max_ack_delay;              /* milliseconds, below 2^14; default 25 */
+  uint64_t active_connection_id_limit; /* at least 2, the default */
+  uint64_t max_datagram_frame_size;    /* bytes (RFC 9221, section 3) */
+  uint64_t min_ack_delay; /* microseconds, no longer than max_ack_delay */
+  uint32_t original_dst_cidlen; /* the lengths of ids: at most 20 bytes */
+  uint32_t initial_src_cidlen;
+  uint32_t retry_src_cidlen;
+  uint32_t preferred_cidlen; /* 1 to 20, where there is a preferred address */
+  uint16_t preferred_v4_port; /* in the order of the machine */
+  uint16_t preferred_v6_port;
+  uint8_t original_dst_cid[20]; /* what the client's first packet was sent to */
+  uint8_t initial_src_cid[20];  /* what the sender's first packet came from */
+  uint8_t retry_src_cid[20];    /* what the server's Retry came from */
+  uint8_t preferred_cid[20];    /* the id at the preferred address */
+  uint8_t stateless_reset_token[16];
+  uint8_t preferred_token[16]; /* the token of the id at that address */
+  uint8_t preferred_v6[16];    /* the highest byte first */
+  uint8_t preferred_v4[4];
+} QUIC_WIRE_ALIGNED quic_wire_params;
+
+/* An entry of a list of transport parameters (RFC 9000, section 18). */
+typedef struct quic_wire_param {
+  uint64_t id;             /* its number, below 2^62 */
+  quic_wire_size value;    /* the place of its value in the list that was read */
+  quic_wire_size valuelen; /* how many bytes it has; the next entry begins after
+                              them */
+} QUIC_WIRE_ALIGNED quic_wire_param;
+
+/* Numbers of parameters that quic_wire_params has no field for: the versions
+ * of RFC 9368, and the |n|th of those that have no meaning and that each peer
+ * passes (RFC 9000, section 18.1). */
+#define QUIC_WIRE_PARAM_VERSION_INFORMATION 0x11
+#define QUIC_WIRE_PARAM_RESERVED(n) (31 * (uint64_t)(n) + 27)
+
+/* How many rows the table has in which quic_wire_params_write_with numbers the
+ * parameters that quic_wire_params has. */
+#define QUIC_WIRE_PARAM_ROWS 21
+
+/* ---- The library that is linked */
+
+/* What the library asserts of its own structs. */
+#if defined(__cplusplus) && __cplusplus >= 201103L
+#define QUIC_WIRE_ASSERT(so, why) static_assert(so, why)
+#elif defined(__STDC_VERSION__) && __STDC_VERSION__ >= 201112L
+#define QUIC_WIRE_ASSERT(so, why) _Static_assert(so, why)
+#endif
+#ifdef QUIC_WIRE_ASSERT
+QUIC_WIRE_ASSERT(sizeof(quic_wire_frames) == 24, "64-bit words");
+QUIC_WIRE_ASSERT(offsetof(quic_wire_frames, offset) == 0, "64-bit words");
+QUIC_WIRE_ASSERT(offsetof(quic_wire_frames, last_type) == 8, "64-bit words");
+QUIC_WIRE_ASSERT(offsetof(quic_wire_frames, ended) == 16, "no room");
+QUIC_WIRE_ASSERT(offsetof(quic_wire_frames, strict) == 20, "no room");
+QUIC_WIRE_ASSERT(sizeof(quic_wire_frame) == 80, "64-bit words");
+QUIC_WIRE_ASSERT(offsetof(quic_wire_frame, type) == 2, "no room");
+QUIC_WIRE_ASSERT(offsetof(quic_wire_frame, flags) == 4, "no room");
+QUIC_WIRE_ASSERT(offsetof(quic_wire_frame, numbers) == 40, "64-bit words");
+QUIC_WIRE_ASSERT(sizeof(quic_wire_range) == 16, "64-bit words");
+QUIC_WIRE_ASSERT(offsetof(quic_wire_range, start) == 0, "64-bit words");
+QUIC_WIRE_ASSERT(offsetof(quic_wire_range, end) == 8, "64-bit words");
+QUIC_WIRE_ASSERT(sizeof(quic_wire_gap) == 16, "64-bit words");
+QUIC_WIRE_ASSERT(offsetof(quic_wire_gap, len) == 8, "64-bit words");
+QUIC_WIRE_ASSERT(sizeof(quic_wire_ack_ranges) == 24, "64-bit words");
+QUIC_WIRE_ASSERT(sizeof(quic_wire_canon) == 24, "64-bit words");
+QUIC_WIRE_ASSERT(offsetof(quic_wire_canon, last_type) == 8, "64-bit words");
+QUIC_WIRE_ASSERT(offsetof(quic_wire_canon, reason) == 16, "64-bit words");
+QUIC_WIRE_ASSERT(sizeof(quic_wire_header) == 32, "no room between the fields");
+QUIC_WIRE_ASSERT(offsetof(quic_wire_header, version) == 4, "no room");
+QUIC_WIRE_ASSERT(offsetof(quic_wire_header, len) == 24, "no room");
+QUIC_WIRE_ASSERT(sizeof(quic_wire_header_fields) == 16,
+                 "no room between the fields");
+QUIC_WIRE_ASSERT(sizeof(quic_wire_params) == 264, "no room between the fields");
+QUIC_WIRE_ASSERT(offsetof(quic_wire_params, max_idle_timeout) == 8, "no room");
+QUIC_WIRE_ASSERT(offsetof(quic_wire_params, original_dst_cidlen) == 112,
+                 "no room");
+QUIC_WIRE_ASSERT(offsetof(quic_wire_params, preferred_v4_port) == 128,
+                 "no room");
+QUIC_WIRE_ASSERT(offsetof(quic_wire_params, original_dst_cid) == 132,
+                 "no room");
+QUIC_WIRE_ASSERT(offsetof(quic_wire_params, preferred_v4) == 260, "no room");
+QUIC_WIRE_ASSERT(sizeof(quic_wire_param) == 24, "64-bit words");
+QUIC_WIRE_ASSERT(offsetof(quic_wire_param, value) == 8, "64-bit words");
+#undef QUIC_WIRE_ASSERT
+#endif
+
+/* The sizes of the structs but quic_wire_gap, a byte for each, in words of 64
+ * bits. */
+#define QUIC_WIRE_LAYOUT                                                       \
+  ((uint64_t)(sizeof(quic_wire_frames) / 8) |                                  \
+   (uint64_t)(sizeof(quic_wire_frame) / 8) << 8 |                              \
+   (uint64_t)(sizeof(quic_wire_range) / 8) << 16 |                             \
+   (uint64_t)(sizeof(quic_wire_ack_ranges) / 8) << 24 |                        \
+   (uint64_t)(sizeof(quic_wire_canon) / 8) << 32 |                             \
+   (uint64_t)(sizeof(quic_wire_header) / 8) << 40 |                            \
+   (uint64_t)(sizeof(quic_wire_header_fields) / 8) << 48 |                     \
+   (uint64_t)(sizeof(quic_wire_params) / 8) << 56)
+
+/* QUIC_WIRE_VERSION and QUIC_WIRE_LAYOUT of the library that is linked. */
+extern uint32_t quic_wire_version(void);
+extern uint64_t quic_wire_layout(void);
+
+/*
+ * Whether the library that is linked is one for this header, which a program
+ * asks once, at its start.  Returns 0, or QUIC_WIRE_ERR_VERSION where major or
+ * minor version or the size of a struct differ.
+ */
+static inline int quic_wire_check_linked(void) {
+  return quic_wire_version() >> 8 == QUIC_WIRE_VERSION >> 8 &&
+                 quic_wire_layout() == QUIC_WIRE_LAYOUT
+             ? QUIC_WIRE_OK
+             : QUIC_WIRE_ERR_VERSION;
+}
+
+/* ---- Frames, read */
+
+/*
+ * Begins at the front of a |payload| of |payloadlen| bytes, with 0 in
+ * |frames->strict|.  Returns 0, or QUIC_WIRE_ERR_EMPTY,
+ * QUIC_WIRE_ERR_INVALID_ARGUMENT.
+ */
+QUIC_WIRE_API int quic_wire_frames_init(quic_wire_frames *frames,
+                                        const uint8_t *payload,
+                                        size_t payloadlen);
+
+/*
+ * The same with 1 in |frames->strict|: a type that isn't in its shortest encoding
+ * is an error, with QUIC_WIRE_REASON_LONG_TYPE.  Other fields may have any width.
+ */
+QUIC_WIRE_API int quic_wire_frames_init_strict(quic_wire_frames *frames,
+                                               const uint8_t *payload,
+                                               size_t payloadlen);
+
+/*
+ * Reads the next frame.  |payload| is the one that |frames| began with.
+ *
+ * Returns QUIC_WIRE_ITEM and the frame; 0 where none remains;
+ * QUIC_WIRE_ERR_MALFORMED, once, where the next frame is invalid, and then 0: its
+ * type and the reason are in |frame| (quic_wire_error_type,
+ * quic_wire_error_reason).
+ * QUIC_WIRE_ERR_INVALID_ARGUMENT for NULL, or where |frames->offset| is above
+ * |payloadlen|.  |frame| changes only with QUIC_WIRE_ITEM and
+ * QUIC_WIRE_ERR_MALFORMED.
+ */
+QUIC_WIRE_API int quic_wire_frames_next(quic_wire_frames *frames,
+                                        const uint8_t *payload,
+                                        size_t payloadlen,
+                                        quic_wire_frame *frame);
+
+/*
+ * The same where the ACK frequency extension wasn't negotiated: an ACK_FREQUENCY
+ * or IMMEDIATE_ACK is reported as a frame of an unknown type, with
+ * QUIC_WIRE_REASON_INVALID_FRAME_ID, but one with an invalid field for that
+ * field.  A caller may change between the two at any time.
+ */
+QUIC_WIRE_API int quic_wire_frames_next_basic(quic_wire_frames *frames,
+                                              const uint8_t *payload,
+                                              size_t payloadlen,
+                                              quic_wire_frame *frame);
+
+/*
+ * Reads the next frames, as many as the |room| entries of |out| hold, with one
+ * call.  |payload| is the one that |frames| began with.  A PADDING frame and
+ * all the zero bytes after it are one entry: quic_wire_padding_count.
+ *
+ * Returns QUIC_WIRE_ITEM, and in |*count| how many entries were filled, one at
+ * least; 0 where no frame remains; QUIC_WIRE_ERR_MALFORMED, once, where the next
+ * frame is invalid, and then 0: its type and the reason are in |out[0]|
+ * (quic_wire_error_type, quic_wire_error_reason); QUIC_WIRE_ERR_NOBUF where
+ * |room| is 0.  QUIC_WIRE_ERR_INVALID_ARGUMENT for NULL, or where
+ * |frames->offset| is above |payloadlen|.  Frames before an invalid one are
+ * given first, and the next call reports it.  Entries after those that were
+ * filled don't change, and |*count| changes only with QUIC_WIRE_ITEM.  Once
+ * |frames->offset| is |payloadlen| no frame remains, and no call is needed to
+ * learn that.
+ */
+QUIC_WIRE_API int quic_wire_frames_fill(quic_wire_frames *frames,
+                                        const uint8_t *payload,
+                                        size_t payloadlen, quic_wire_frame *out,
+                                        size_t room, size_t *count);
+
+/* The same without the ACK frequency extension, as quic_wire_frames_next_basic
+ * reads. */
+QUIC_WIRE_API int quic_wire_frames_fill_basic(quic_wire_frames *frames,
+                                              const uint8_t *payload,
+                                              size_t payloadlen,
+                                              quic_wire_frame *out, size_t room,
+                                              size_t *count);
+
+/*
+ * Begins at the front of a |payload| and reads its first frames, as many as the
+ * |room| entries of |out| hold: what quic_wire_frames_init and then
+ * quic_wire_frames_fill do, with one call.  quic_wire_frames_fill goes on where
+ * |frames->offset| is below |payloadlen|.
+ *
+ * Returns QUIC_WIRE_ITEM, and in |*count| how many entries were filled, one at
+ * least; QUIC_WIRE_ERR_EMPTY; QUIC_WIRE_ERR_MALFORMED, and its type and the reason
+ * in |out[0]|, if the payload doesn't begin with a valid frame;
+ * QUIC_WIRE_ERR_NOBUF where |room| is 0; QUIC_WIRE_ERR_INVALID_ARGUMENT for NULL.
+ * |*count| changes only with QUIC_WIRE_ITEM, and nothing changes but with that and
+ * QUIC_WIRE_ERR_MALFORMED.
+ */
+QUIC_WIRE_API int quic_wire_frames_first(quic_wire_frames *frames,
+                                         const uint8_t *payload,
+                                         size_t payloadlen,
+                                         quic_wire_frame *out, size_t room,
+                                         size_t *count);
+
+/*
+ * Reads the frame at the front of the rest of a payload, without an iterator: the
+ * caller goes on where it ends, which is returned, until no byte remains.
+ * |frame|'s places count from |payload|.  A PADDING frame and the bytes of 0
+ * after it are one frame.  Where |strict| is not 0, a type that isn't in its
+ * shortest encoding is an error (RFC 9000, section 12.4).
+ *
+ * Of an ACK |frame->datalen| is its first range, less one, the ranges below it
+ * are written to the |room| entries of |gaps| as they are encoded, and
+ * |frame->data| is how many were; where that isn't all, QUIC_WIRE_FLAG_MORE is
+ * set, and quic_wire_ack_ranges_init gives all.  For other frames |gaps| doesn't
+ * change.
+ *
+ * Returns where the frame ends, which is above 0; QUIC_WIRE_ERR_EMPTY where no
+ * byte remains; QUIC_WIRE_ERR_MALFORMED, and its type and the reason in |frame|,
+ * if the bytes don't begin with a valid frame (the type is QUIC_WIRE_NO_TYPE if
+ * they end within that); QUIC_WIRE_ERR_INVALID_ARGUMENT for NULL.
+ */
+QUIC_WIRE_API int64_t quic_wire_frame_read(const uint8_t *payload,
+                                           size_t payloadlen, int strict,
+                                           quic_wire_frame *frame,
+                                           quic_wire_gap *gaps, size_t room);
+
+/* The same without the ACK frequency extension, as quic_wire_frames_next_basic
+ * reads. */
+QUIC_WIRE_API int64_t quic_wire_frame_read_basic(const uint8_t *payload,
+                                                 size_t payloadlen, int strict,
+                                                 quic_wire_frame *frame,
+                                                 quic_wire_gap *gaps,
+                                                 size_t room);
+
+/* How many PADDING frames an entry of quic_wire_frames_fill has that was read
+ * from this payload: one whose type may be encoded in up to 8 bytes, and one
+ * for each byte after it.  0 for other kinds, and where there is no such place. */
+QUIC_WIRE_API size_t quic_wire_padding_count(const uint8_t *payload,
+                                             size_t payloadlen,
+                                             const quic_wire_frame *frame);
+
+/* The 16 bytes of the token for stateless resets of a NEW_CONNECTION_ID that
+ * was read of this payload (RFC 9000, section 19.15); NULL of other kinds, and
+ * where there is no such place. */
+QUIC_WIRE_API const uint8_t *
+quic_wire_reset_token(const uint8_t *payload, size_t payloadlen,
+                      const quic_wire_frame *frame);
+
+/* The eight bytes of a PATH_CHALLENGE or PATH_RESPONSE that was read of this
+ * payload (RFC 9000, sections 19.17 and 19.18), which are |path.data| as a
+ * number; NULL of other kinds, and where there is no such place. */
+QUIC_WIRE_API const uint8_t *quic_wire_path_data(const uint8_t *payload,
+                                                 size_t payloadlen,
+                                                 const quic_wire_frame *frame);
+
+/* After QUIC_WIRE_ERR_MALFORMED: the last type that was read, the broken
+ * frame's own included; QUIC_WIRE_NO_TYPE if none was.  It may be any number
+ * below 2^62, and |frame->type| is 0. */
+QUIC_WIRE_API uint64_t quic_wire_error_type(const quic_wire_frame *frame);
+
+/* After QUIC_WIRE_ERR_MALFORMED: QUIC_WIRE_REASON_UNEXPECTED_END and so on. */
+QUIC_WIRE_API uint32_t quic_wire_error_reason(const quic_wire_frame *frame);
+
+/* ---- The ranges of an ACK, read */
+
+/*
+ * Begins at the greatest range of |frame|, an ACK that was read of this
+ * payload.  Returns 0, or QUIC_WIRE_ERR_INVALID_ARGUMENT where its bytes
+ * are no ACK.
+ */
+QUIC_WIRE_API int quic_wire_ack_ranges_init(quic_wire_ack_ranges *ranges,
+                                            const uint8_t *payload,
+                                            size_t payloadlen,
+                                            const quic_wire_frame *frame);
+
+/*
+ * The same without a second look at the blocks of an ACK without counts, for
+ * a frame that was read of this payload.  Of other words it may return 0 too:
+ * then the bytes up to |frame->end| are read as blocks, and the call that comes
+ * to some that can be none refuses them.
+ */
+QUIC_WIRE_API int
+quic_wire_ack_ranges_init_unchecked(quic_wire_ack_ranges *ranges,
+                                    const uint8_t *payload, size_t payloadlen,
+                                    const quic_wire_frame *frame);
+
+/*
+ * Reads the next range, the greatest first.  Returns QUIC_WIRE_ITEM and the
+ * range, 0 where none remains, QUIC_WIRE_ERR_INVALID_ARGUMENT where |ranges|
+ * has no place of an ACK's blocks.
+ */
+QUIC_WIRE_API int quic_wire_ack_ranges_next(quic_wire_ack_ranges *ranges,
+                                            const uint8_t *payload,
+                                            size_t payloadlen,
+                                            quic_wire_range *range);
+
+/*
+ * Reads the next ranges, the greatest first, as many as the |room| entries of
+ * |out| hold, with one call.  Returns QUIC_WIRE_ITEM, and in |*count| how many
+ * entries were filled, one at least; 0 where no range remains;
+ * QUIC_WIRE_ERR_NOBUF where |room| is 0; QUIC_WIRE_ERR_INVALID_ARGUMENT where
+ * |ranges| has no place of an ACK's blocks.  Entries after those that were filled
+ * don't change, and nothing changes but with QUIC_WIRE_ITEM.  Once
+ * |ranges->begin| is |ranges->end| none remains, and no call is needed to learn
+ * that.
+ */
+QUIC_WIRE_API int quic_wire_ack_ranges_fill(quic_wire_ack_ranges *ranges,
+                                            const uint8_t *payload,
+                                            size_t payloadlen,
+                                            quic_wire_range *out, size_t room,
+                                            size_t *count);
+
+/* ---- Frames, written */
+
+/*
+ * Writes |frame|, any but an ACK, in its shortest form at the front of |dest|:
+ * as the last frame of its payload (|last| is not 0), where STREAM and
+ * DATAGRAM need no length, or as another one.  Its data are |frame->datalen|
+ * bytes at |frame->data| of |data|, followed by the token in a
+ * NEW_CONNECTION_ID.  Where |frame->datalen| is 0, as it is of each kind
+ * without data, neither |data| nor that place is looked at, so that a PING is
+ * written as it was read, with any |data| or NULL.  type, begin and end are
+ * not looked at.
+ *
+ * Returns 0, and in |*written| how many bytes were written;
+ * QUIC_WIRE_ERR_NOBUF where |destlen| is less, and in |*written| how many are
+ * needed; QUIC_WIRE_ERR_INVALID_ARGUMENT where |frame| is no frame that can be
+ * written.  Bytes of |dest| after those written don't change, and none if nothing
+ * was written.
+ */
+QUIC_WIRE_API int quic_wire_frame_write(const quic_wire_frame *frame,
+                                        const uint8_t *data, size_t datalen,
+                                        int last, uint8_t *dest,
+                                        size_t destlen, size_t *written);
+
+/*
+ * Writes |frame|, a STREAM, CRYPTO or DATAGRAM, up to its data, which are
+ * |frame->datalen| bytes: the front of what quic_wire_frame_write writes of it,
+ * after which the caller puts the data.  type, data, begin and end are not
+ * looked at.  Answers and |dest| are those of quic_wire_frame_write;
+ * QUIC_WIRE_ERR_INVALID_ARGUMENT also for other kinds.
+ */
+QUIC_WIRE_API int quic_wire_frame_header_write(const quic_wire_frame *frame,
+                                               int last, uint8_t *dest,
+                                               size_t destlen, size_t *written);
+
+/*
+ * Writes an ACK in its shortest form at the front of |dest|, as
+ * quic_wire_frame_read tells one: |ack->ack| has the greatest number, the delay
+ * and, where |ack->flags| is QUIC_WIRE_FLAG_ECN and not 0, the counts;
+ * |ack->datalen| is the first range, less one, and the |ngaps| entries of
+ * |gaps| are the ranges below it.  Nothing else of |ack| is looked at but its
+ * kind.
+ *
+ * Returns 0, and in |*written| how many bytes were written;
+ * QUIC_WIRE_ERR_NOBUF where |destlen| is less, and in |*written| how many are
+ * needed; QUIC_WIRE_ERR_INVALID_ARGUMENT for NULL, or where they are no ACK: a
+ * range goes below 0, a number is 2^62 or more, or the flags are others, as with
+ * QUIC_WIRE_FLAG_MORE, where ranges are missing.  Bytes of |dest| after those
+ * written don't change, and none if nothing was written.
+ */
+QUIC_WIRE_API int quic_wire_ack_gaps_write(const quic_wire_frame *ack,
+                                           const quic_wire_gap *gaps,
+                                           size_t ngaps, uint8_t *dest,
+                                           size_t destlen, size_t *written);
+
+/* How many bytes quic_wire_frame_write writes of these: returns 0 with |*len|,
+ * or QUIC_WIRE_ERR_INVALID_ARGUMENT where that does. */
+QUIC_WIRE_API int quic_wire_frame_len(const quic_wire_frame *frame,
+                                      const uint8_t *data, size_t datalen,
+                                      int last, size_t *len);
+
+/* ---- Payloads in their shortest form */
+
+/*
+ * Writes the one shortest payload with the meaning of |payload| at the front of
+ * |dest|: the same frames in the same order, each in its shortest form (RFC
+ * 9000, sections 12.4 and 19).  No memory is taken.
+ *
+ * Returns 0, and in |out->len| how many bytes were written, at most
+ * |payloadlen|; QUIC_WIRE_ERR_NOBUF where |destlen| is less, and in |out->len|
+ * how many are needed; QUIC_WIRE_ERR_EMPTY where the payload is empty;
+ * QUIC_WIRE_ERR_MALFORMED where it has an invalid frame, with its type and the
+ * reason in |out|.  Bytes of |dest| after those written don't change, and none if
+ * nothing was written; |out| changes only in the fields that are named here.
+ */
+QUIC_WIRE_API int quic_wire_canonical(const uint8_t *payload, size_t payloadlen,
+                                      uint8_t *dest, size_t destlen,
+                                      quic_wire_canon *out);
+
+/* ---- Headers of packets, read */
+
+/*
+ * Reads the header of the packet that |bytes| begin with, whether the packet is
+ * complete or ends after its header.  Ids of short headers have |cidlen| bytes; of
+ * versions that are not among |versions| only the ids are read.  The fixed bit
+ * isn't checked: who doesn't accept packets of RFC 9287 looks for it in
+ * |header->first|, but not in a version negotiation, where clients ignore it (RFC
+ * 9000, section 17.2.1).
+ *
+ * Returns 0 and the header, whose packet ends at |header->end|, where the next
+ * one of the datagram begins; QUIC_WIRE_PACKET_LENGTH_BEYOND_END and the
+ * header, of a packet that is cut off; QUIC_WIRE_PACKET_UNSUPPORTED_VERSION and
+ * of the header its kind, its version and its ids, which may have up to 255
+ * bytes; another reason where there is no header, or where a version
+ * negotiation has longer ids than 20 bytes, which quic_wire_negotiation_read
+ * tells; QUIC_WIRE_ERR_INVALID_ARGUMENT for NULL, or where |cidlen| is above 20
+ * or there are 2^32 bytes or more.  |header| stays with the last two.
+ */
+QUIC_WIRE_API int quic_wire_header_read(const uint8_t *bytes, size_t len,
+                                        uint32_t cidlen,
+                                        const uint32_t *versions,
+                                        size_t nversions,
+                                        quic_wire_header *header);
+
+/*
+ * Where the short header ends that |packet| begins with, whose id has |cidlen|
+ * bytes: where the number begins.  It is what quic_wire_header_read tells of
+ * such a packet, and the quickest way to it.  0 where no short header begins
+ * there, or |cidlen| is above 20, and for NULL.  The fixed bit isn't looked at.
+ */
+QUIC_WIRE_API size_t quic_wire_short_read(const uint8_t *packet,
+                                          size_t packetlen, uint32_t cidlen);
+
+/*
+ * Reads the header of the version negotiation that |packet| is (RFC 9000,
+ * section 17.2.1).  Its ids are those of the packet that it answers, which may
+ * be of any version, so they have up to 255 bytes (RFC 8999, section 6).  It is
+ * what quic_wire_header_read tells where both have at most 20, which refuses
+ * longer ones.  The seven low bits of the first byte aren't looked at.
+ *
+ * Returns 0 and the header, after which the versions are, from |header->header_end|
+ * to |header->end|, four bytes each, the highest first; QUIC_WIRE_ERR_MALFORMED
+ * where none begins there: the highest bit of the first byte is clear, the
+ * version isn't 0, or the bytes end within the ids;
+ * QUIC_WIRE_ERR_INVALID_ARGUMENT for NULL, or where there are 2^32 bytes or
+ * more.  |header| changes with 0 alone.
+ */
+QUIC_WIRE_API int quic_wire_negotiation_read(const uint8_t *packet,
+                                             size_t packetlen,
+                                             quic_wire_header *header);
+
+/* Where the ids begin in a packet of this header, or NULL for NULL. */
+QUIC_WIRE_API const uint8_t *quic_wire_dcid(const uint8_t *packet,
+                                            const quic_wire_header *header);
+QUIC_WIRE_API const uint8_t *quic_wire_scid(const uint8_t *packet,
+                                            const quic_wire_header *header);
+
+/* ---- The protection of headers */
+
+/*
+ * The sample of |samplelen| bytes from which the caller makes the mask of the
+ * header (RFC 9001, section 5.4.2), in a packet whose number begins at
+ * |number|, or NULL where the packet is too short.
+ */
+QUIC_WIRE_API const uint8_t *quic_wire_sample(const uint8_t *packet,
+                                              size_t packetlen, size_t number,
+                                              size_t samplelen);
+
+/*
+ * Takes the protection off the header of a packet whose number begins at
+ * |place|, by a mask of five bytes (RFC 9001, section 5.4.1), and says its
+ * number by the one that is |expected| next, as quic_wire_number_expand does;
+ * with 0 it is what is written.  Returns how many bytes the number has, 1 to 4:
+ * the payload begins after them, and packet[0] has the key phase and the
+ * reserved bits.  QUIC_WIRE_ERR_MALFORMED where |place| is 0 or has fewer than
+ * four bytes from it on; QUIC_WIRE_ERR_INVALID_ARGUMENT for NULL, or where
+ * |expected| is 2^62 or more.  Nothing changes then.
+ */
+QUIC_WIRE_API int quic_wire_unprotect(uint8_t *packet, size_t packetlen,
+                                      size_t place, const uint8_t *mask,
+                                      uint64_t expected, uint64_t *number);
+
+/*
+ * The same of a packet that stays as it is: its header and the four bytes from
+ * |place| on are copied to |header|, which has room for |headerlen| bytes, and
+ * opened there.  QUIC_WIRE_ERR_NOBUF where that is less.  With an answer below
+ * 0 |number| stays, and |header| may hold the copy.
+ */
+QUIC_WIRE_API int
+quic_wire_unprotect_header(const uint8_t *packet, size_t packetlen,
+                           size_t place, const uint8_t *mask, uint64_t expected,
+                           uint8_t *header, size_t headerlen, uint64_t *number);
+
+/*
+ * Puts the protection on the header of a packet whose payload is sealed and
+ * whose number begins at |place|.  Returns how many bytes the number has;
+ * QUIC_WIRE_ERR_MALFORMED where |place| is 0 or has fewer than four bytes from
+ * it on; QUIC_WIRE_ERR_INVALID_ARGUMENT for NULL.  Nothing changes then.
+ */
+QUIC_WIRE_API int quic_wire_protect(uint8_t *packet, size_t packetlen,
+                                    size_t place, const uint8_t *mask);
+
+/* ---- Numbers of packets, and of variable length */
+
+/* How many bytes of |number| are written whose receiver has acknowledged
+ * |largest_acked|, 1 to 4; QUIC_WIRE_ERR_INVALID_ARGUMENT where that is above
+ * |number|, or 2^31 or more below it. */
+QUIC_WIRE_API int quic_wire_number_len(uint64_t number,
+                                       uint64_t largest_acked);
+
+/* The whole number of which the low |numberlen| bytes are written, by the one
+ * that is |expected| next (RFC 9000, appendix A.3); UINT64_MAX where
+ * |numberlen| isn't 1 to 4, |written| takes more bytes, or |expected| is 2^62
+ * or more.  Where |expected| is at most 2^(8 * numberlen - 1) below 2^62 the
+ * number may be 2^62 or more, which no packet has; appendix A.3 gives the one
+ * that is less by 2^(8 * numberlen) then. */
+QUIC_WIRE_API uint64_t quic_wire_number_expand(uint64_t written,
+                                               uint32_t numberlen,
+                                               uint64_t expected);
+
+/* Reads a number of variable length at the front of |bytes|.  Returns how many
+ * bytes it has, or 0 where they end within it. */
+QUIC_WIRE_API size_t quic_wire_varint_read(const uint8_t *bytes, size_t len,
+                                           uint64_t *value);
+
+/* Writes a number of variable length at the front of |dest|, in |width| bytes,
+ * 1, 2, 4 or 8, or as few as it takes where that is 0.  Returns how many bytes,
+ * or 0 where it doesn't fit, and then |dest| stays. */
+QUIC_WIRE_API size_t quic_wire_varint_write(uint64_t value, uint32_t width,
+                                            uint8_t *dest, size_t destlen);
+
+/* ---- Headers of packets, written */
+
+/* How many bytes a header has whose token has |tokenlen|; 0 for NULL. */
+QUIC_WIRE_API size_t quic_wire_header_len(const quic_wire_header_fields *fields,
+                                          size_t dcidlen, size_t scidlen,
+                                          size_t tokenlen);
+
+/*
+ * Writes the header of a packet at the front of |dest|, with no protection on
+ * it: what |fields| says, with the receiver's id |dcid|, the sender's id |scid|
+ * and the |token|.  The length that an Initial, 0-RTT or Handshake packet has
+ * is 0, until quic_wire_set_len.
+ *
+ * Returns how many bytes were written, the last of which are the number;
+ * QUIC_WIRE_ERR_NOBUF where |destlen| is less than quic_wire_header_len;
+ * QUIC_WIRE_ERR_INVALID_ARGUMENT for NULL, or where no such header can be
+ * written: there is no such kind, an id is longer than 20 bytes, the number is
+ * 2^62 or more or has not 1 to 4 bytes, the length has not 2 or 4, or an
+ * Initial, 0-RTT, Handshake or Retry packet has version 0, which would be a
+ * version negotiation (RFC 9000, section 17.2.1).  |dest| changes where a
+ * header was written alone.
+ *
+ * What is looked at, and nothing else, so that one |fields| serves all kinds:
+ *
+ *   Initial          |flags|, |version|, both ids, |token|, |number|,
+ *                    |numberlen|, |lengthlen|
+ *   0-RTT, Handshake the same but for |token|
+ *   Retry            |flags|, |version|, both ids
+ *   1-RTT            |flags|, |dcid|, |number|, |numberlen|
+ *   negotiation      |flags|, both ids
+ *
+ * and of |flags| QUIC_WIRE_FIXED_BIT, with 1-RTT also QUIC_WIRE_SPIN_BIT and
+ * QUIC_WIRE_KEY_PHASE, and with a version negotiation the seven low bits.
+ *
+ * A version negotiation is written also where |fields->flags| lacks
+ * QUIC_WIRE_FIXED_BIT: RFC 9000, section 17.2.1, has that bit set where QUIC
+ * may share its port (RFC 7983), and readers that ask for it refuse it.
+ */
+QUIC_WIRE_API int64_t quic_wire_header_write(
+    const quic_wire_header_fields *fields, const uint8_t *dcid, size_t dcidlen,
+    const uint8_t *scid, size_t scidlen, const uint8_t *token, size_t tokenlen,
+    uint8_t *dest, size_t destlen);
+
+/*
+ * Writes a version negotiation at the front of |dest|, all of it: the first
+ * byte |first| with its highest bit set, version 0, the ids, which may have 255
+ * bytes (RFC 8999, section 6), and the versions.  |dcid| is the source id of
+ * the packet that it answers, |scid| its destination id (RFC 9000, section
+ * 17.2.1).  The seven low bits of |first| are free; that section has
+ * QUIC_WIRE_FIXED_BIT set where QUIC may share its port (RFC 7983), and readers
+ * that ask for it refuse a packet without it.
+ *
+ * Returns 0, and in |*written| how many bytes were written;
+ * QUIC_WIRE_ERR_NOBUF where |destlen| is less, and in |*written| how many are
+ * needed; QUIC_WIRE_ERR_INVALID_ARGUMENT for NULL, or where an id is longer than
+ * 255 bytes, and then |*written| stays.  Bytes of |dest| after
+ * those written don't change, and none if nothing was written.
+ */
+QUIC_WIRE_API int quic_wire_negotiation_write(
+    uint8_t first, const uint8_t *dcid, size_t dcidlen, const uint8_t *scid,
+    size_t scidlen, const uint32_t *versions, size_t nversions, uint8_t *dest,
+    size_t destlen, size_t *written);
+
+/*
+ * Sets the length in the header of a packet of |packetlen| bytes whose number
+ * begins at |place|, to what there is from there on.  |lengthlen| is that of
+ * the header.  Returns 0, or QUIC_WIRE_ERR_INVALID_ARGUMENT where that is neither
+ * 2 nor 4, has no place before |place| or can't hold the length; nothing
+ * changes then.
+ */
+QUIC_WIRE_API int quic_wire_set_len(uint8_t *packet, size_t packetlen,
+                                    size_t place, uint32_t lengthlen);
+
+/* ---- Transport parameters, read and written, by the |side| that calls. */
+
+/*
+ * Reads a list of transport parameters to its end (RFC 9000, sections 7.4 and
+ * 18), as QUIC_WIRE_CLIENT one that a server sent, as QUIC_WIRE_SERVER one that
+ * a client sent, which must lack what a server alone sends.  The list of no
+ * bytes gives each parameter its default.  An integer with a default that isn't
+ * in its shortest encoding is refused as malformed, though section 16 allows
+ * it; max_datagram_frame_size and min_ack_delay are taken in any.
+ *
+ * Returns 0 and the parameters; QUIC_WIRE_ERR_MALFORMED where the list is
+ * refused with a TRANSPORT_PARAMETER_ERROR, and then |params->reason| says why,
+ * and nothing else of |params| changes; QUIC_WIRE_ERR_INVALID_ARGUMENT where
+ * |side| is neither.
+ *
+ * |size| is that of the struct as the caller has it, so that it can grow at its
+ * end in a later version without a change for callers of this one: a size that
+ * the library doesn't know is refused with QUIC_WIRE_ERR_INVALID_ARGUMENT.
+ */
+QUIC_WIRE_API int quic_wire_params_read_sized(uint32_t side,
+                                              const uint8_t *list,
+                                              size_t listlen,
+                                              quic_wire_params *params,
+                                              size_t size);
+
+static inline int quic_wire_params_read(uint32_t side, const uint8_t *list,
+                                        size_t listlen,
+                                        quic_wire_params *params) {
+  return quic_wire_params_read_sized(side, list, listlen, params,
+                                     sizeof *params);
+}
+
+/*
+ * Writes the shortest list of these parameters, as QUIC_WIRE_CLIENT or as
+ * QUIC_WIRE_SERVER sends it: those numbers that differ from their defaults, and
+ * what else is there.
+ *
+ * Returns 0 and how many bytes were written; QUIC_WIRE_ERR_NOBUF and how many
+ * are needed where |dest| has fewer; QUIC_WIRE_ERR_INVALID_ARGUMENT where the
+ * peer would refuse the parameters, or would not read the same words: a number
+ * is out of range, something that is absent is not 0, |reason| is not 0, or the
+ * preferred address has no address, or one of zeros with port 0.  |dest|
+ * changes only with 0, and then only in the bytes that were written.
+ */
+QUIC_WIRE_API int quic_wire_params_write_sized(uint32_t side,
+                                               const quic_wire_params *params,
+                                               size_t size, uint8_t *dest,
+                                               size_t destlen, size_t *written);
+
+static inline int quic_wire_params_write(uint32_t side,
+                                         const quic_wire_params *params,
+                                         uint8_t *dest, size_t destlen,
+                                         size_t *written) {
+  return quic_wire_params_write_sized(side, params, sizeof *params, dest,
+                                      destlen, written);
+}
+
+/*
+ * The same with further entries, in an order.  |further| is a list of entries
+ * that quic_wire_params has no fields for, none of them twice, at most 235, as
+ * quic_wire_param_write writes them one after the other.  The parameters of
+ * quic_wire_params are numbered as the rows of this table are, whether they are
+ * written or not, and the further entries from QUIC_WIRE_PARAM_ROWS on; |order|
+ * has each of these numbers once, or |orderlen| is 0, and then the entries
+ * are written in the order of their numbers.
+ *
+ *    0 max_idle_timeout                     11 (a reserved one, never written)
+ *    1 max_udp_payload_size                 12 stateless_reset_token
+ *    2 initial_max_data                     13 disable_active_migration
+ *    3 initial_max_stream_data_bidi_local   14 max_datagram_frame_size
+ *    4 initial_max_stream_data_bidi_remote  15 preferred_address
+ *    5 initial_max_stream_data_uni          16 original_destination_connection_id
+ *    6 initial_max_streams_bidi             17 initial_source_connection_id
+ *    7 initial_max_streams_uni              18 retry_source_connection_id
+ *    8 ack_delay_exponent                   19 grease_quic_bit
+ *    9 max_ack_delay                        20 min_ack_delay
+ *   10 active_connection_id_limit
+ *
+ * Each entry is written in its least widths, and the peer reads the same
+ * |params|.  Returns what quic_wire_params_write does;
+ * QUIC_WIRE_ERR_INVALID_ARGUMENT also where |further| or |order| are none of
+ * that.
+ */
+QUIC_WIRE_API int quic_wire_params_write_with_sized(
+    uint32_t side, const quic_wire_params *params, size_t size,
+    const uint8_t *further, size_t furtherlen, const uint8_t *order,
+    size_t orderlen, uint8_t *dest, size_t destlen, size_t *written);
+
+static inline int quic_wire_params_write_with(
+    uint32_t side, const quic_wire_params *params, const uint8_t *further,
+    size_t furtherlen, const uint8_t *order, size_t orderlen, uint8_t *dest,
+    size_t destlen, size_t *written) {
+  return quic_wire_params_write_with_sized(side, params, sizeof *params,
+                                           further, furtherlen, order, orderlen,
+                                           dest, destlen, written);
+}
+
+/*
+ * Reads the entry at the front of a |list| of transport parameters, be it one
+ * that quic_wire_params has a field for or another.  The next one begins after
+ * its value.  Whether the value is one of its kind isn't looked at, nor whether
+ * an entry is there twice: quic_wire_params_read does that.
+ *
+ * Returns 0 and the entry; QUIC_WIRE_ERR_EMPTY where the list is empty;
+ * QUIC_WIRE_ERR_MALFORMED where its first entry is cut off;
+ * QUIC_WIRE_ERR_INVALID_ARGUMENT for NULL.  |param| changes only with 0.
+ */
+QUIC_WIRE_API int quic_wire_param_read(const uint8_t *list, size_t listlen,
+                                       quic_wire_param *param);
+
+/*
+ * Writes an entry of a list at the front of |dest| in its least widths.
+ *
+ * Returns 0 and how many bytes were written; QUIC_WIRE_ERR_NOBUF and how many
+ * are needed where |dest| has fewer; QUIC_WIRE_ERR_INVALID_ARGUMENT for NULL,
+ * or where |id| is 2^62 or more.  |dest| changes only with 0, and then only in
+ * the bytes that were written.
+ */
+QUIC_WIRE_API int quic_wire_param_write(uint64_t id, const uint8_t *value,
+                                        size_t valuelen, uint8_t *dest,
+                                        size_t destlen, size_t *written);
+
+/* Whether quic_wire_params has the parameter of this number: 1 or 0. */
+QUIC_WIRE_API int quic_wire_param_is_known(uint64_t id);
+
+/* ---- Sets of packet numbers, and ACKs of them.  A set is the first |count|
+ * entries of an array of |room|, each a run of numbers, sorted, none empty,
+ * none touching the next.  A set of no entries is empty.  Whether the entries
+ * are such runs is looked at with each call. */
+
+/*
+ * Puts the numbers from |start| to below |end| into the set; an empty or
+ * reversed range puts in nothing.  Returns QUIC_WIRE_CHANGED, and in |*count|
+ * how many entries the set then has; 0 where all of them were in it;
+ * QUIC_WIRE_ERR_NOBUF where the set needs one entry more than there are;
+ * QUIC_WIRE_ERR_INVALID_ARGUMENT where |*count| is above |room| or the entries
+ * are no such runs.  Entries after the set don't change, and nothing
+ * changes but with QUIC_WIRE_CHANGED.
+ */
+QUIC_WIRE_API int quic_wire_set_insert(quic_wire_range *runs, size_t room,
+                                       size_t *count, uint64_t start,
+                                       uint64_t end);
+
+/*
+ * Takes the numbers from |start| to below |end| out of the set.  Returns what
+ * quic_wire_set_insert does: 0 where none of them was in it, and
+ * QUIC_WIRE_ERR_NOBUF where a run falls in two and no entry is left.
+ */
+QUIC_WIRE_API int quic_wire_set_remove(quic_wire_range *runs, size_t room,
+                                       size_t *count, uint64_t start,
+                                       uint64_t end);
+
+/*
+ * Returns 1 where |number| is in the set of the |count| runs, 0 where it isn't,
+ * and QUIC_WIRE_ERR_INVALID_ARGUMENT where they are no such runs.
+ */
+QUIC_WIRE_API int quic_wire_set_contains(const quic_wire_range *runs,
+                                         size_t count, uint64_t number);
+
+/*
+ * Writes an ACK (RFC 9000, section 19.3) of the set of the |count| runs in its
+ * shortest form at the front of |dest|.  |counts| has three numbers, of packets
+ * marked ECT(0), ECT(1) and ECN-CE, or is NULL, and then the ACK has none.
+ *
+ * Returns 0, and in |*written| how many bytes were written;
+ * QUIC_WIRE_ERR_NOBUF where |destlen| is less, and in |*written| how many are
+ * needed; QUIC_WIRE_ERR_INVALID_ARGUMENT where the runs are none or no such
+ * runs, or a number in them, the delay or a count is 2^62 or more.  Bytes of
+ * |dest| after those written don't change, and none if nothing was written.
+ */
+QUIC_WIRE_API int quic_wire_ack_write(uint64_t delay,
+                                      const quic_wire_range *runs, size_t count,
+                                      const uint64_t *counts, uint8_t *dest,
+                                      size_t destlen, size_t *written);
+
+/* ---- Texts */
+
+/* What an answer below 0 says, in English; of others "ok". */
+extern const char *quic_wire_strerror(int answer);
+
+/* The name of a frame type, which is as on the wire, or NULL. */
+extern const char *quic_wire_type_name(uint64_t type);
+
+/* Why a frame is invalid. */
+extern const char *quic_wire_reason_text(uint32_t reason);
+
+/* Why a list of transport parameters is refused. */
+extern const char *quic_wire_params_reason_text(uint32_t reason);
+
+/* Why no packet was cut; that of an unsupported version wants its number too. */
+extern const char *quic_wire_packet_reason_text(uint32_t reason);
+
+#ifdef QUIC_WIRE_INLINE
+#include "quic_wire_inline.h"
+#endif
+
+#ifdef __cplusplus
+}
+#endif
+
+#endif /* QUIC_WIRE_H */

@@ -1,0 +1,628 @@
+/* SPDX-License-Identifier: MIT OR Apache-2.0 */
+/*
+ * What the functions of quic_wire.h do: they look at their pointers, and call
+ * the proved library with what they were given.  Without a call, each by one
+ * expression, are those that give a part of what was read,
+ * quic_wire_padding_count and quic_wire_header_len.  quic_wire_unprotect_header
+ * looks at two lengths and copies, quic_wire_frame_len asks for a frame where
+ * there is no room, and quic_wire_header_write chooses one of two proved calls
+ * of one meaning.  c/tests/abuse/ holds these against the proved calls.
+ * quic_wire.h includes this file where QUIC_WIRE_INLINE is defined, and so does
+ * the library's own quic_wire.c, which makes symbols of them.
+ */
+#ifndef QUIC_WIRE_INLINE_H
+#define QUIC_WIRE_INLINE_H
+
+#include <string.h>
+
+/* The functions of the proved library.  Their pointers must not be NULL. */
+int32_t quic_wire_frames_init_(quic_wire_frames *, const uint8_t *, size_t);
+int32_t quic_wire_frames_init_strict_(quic_wire_frames *, const uint8_t *,
+                                      size_t);
+int32_t quic_wire_frames_next_(quic_wire_frames *, const uint8_t *, size_t,
+                               quic_wire_frame *);
+int32_t quic_wire_frames_next_basic_(quic_wire_frames *, const uint8_t *,
+                                     size_t, quic_wire_frame *);
+int32_t quic_wire_frames_fill_(quic_wire_frames *, const uint8_t *, size_t,
+                               quic_wire_frame *, size_t, size_t *);
+int32_t quic_wire_frames_fill_basic_(quic_wire_frames *, const uint8_t *,
+                                     size_t, quic_wire_frame *, size_t,
+                                     size_t *);
+int32_t quic_wire_frames_first_(quic_wire_frames *, const uint8_t *, size_t,
+                               quic_wire_frame *, size_t, size_t *);
+int64_t quic_wire_frame_read_(const uint8_t *, size_t, uint32_t,
+                              quic_wire_frame *, quic_wire_gap *, size_t);
+int64_t quic_wire_frame_read_basic_(const uint8_t *, size_t, uint32_t,
+                                    quic_wire_frame *, quic_wire_gap *, size_t);
+int32_t quic_wire_ack_ranges_init_(quic_wire_ack_ranges *, const uint8_t *,
+                                   size_t, const quic_wire_frame *);
+int32_t quic_wire_ack_ranges_init_unchecked_(quic_wire_ack_ranges *,
+                                             const uint8_t *, size_t,
+                                             const quic_wire_frame *);
+int32_t quic_wire_ack_ranges_next_(quic_wire_ack_ranges *, const uint8_t *,
+                                   size_t, quic_wire_range *);
+int32_t quic_wire_ack_ranges_fill_(quic_wire_ack_ranges *, const uint8_t *,
+                                   size_t, quic_wire_range *, size_t, size_t *);
+int32_t quic_wire_frame_write_(const quic_wire_frame *, const uint8_t *,
+                               size_t, uint32_t, uint8_t *, size_t, size_t *);
+int32_t quic_wire_frame_header_write_(const quic_wire_frame *, uint32_t,
+                                      uint8_t *, size_t, size_t *);
+int32_t quic_wire_ack_gaps_write_(const quic_wire_frame *, const quic_wire_gap *,
+                                  size_t, uint8_t *, size_t, size_t *);
+int32_t quic_wire_canonical_(const uint8_t *, size_t, uint8_t *, size_t,
+                             quic_wire_canon *);
+int32_t quic_wire_header_read_(const uint8_t *, size_t, uint32_t,
+                               const uint32_t *, size_t, quic_wire_header *);
+size_t quic_wire_short_read_(const uint8_t *, size_t, uint32_t);
+int32_t quic_wire_negotiation_read_(const uint8_t *, size_t,
+                                    quic_wire_header *);
+int32_t quic_wire_unprotect_(uint8_t *, size_t, size_t, const uint8_t *,
+                             uint64_t, uint64_t *);
+int32_t quic_wire_protect_(uint8_t *, size_t, size_t, const uint8_t *);
+int64_t quic_wire_short_write_(const quic_wire_header_fields *, const uint8_t *,
+                               size_t, uint8_t *, size_t);
+int64_t quic_wire_header_write_(const quic_wire_header_fields *,
+                                const uint8_t *, size_t, const uint8_t *,
+                                size_t, const uint8_t *, size_t, uint8_t *,
+                                size_t);
+int32_t quic_wire_negotiation_write_(uint8_t, const uint8_t *, size_t,
+                                     const uint8_t *, size_t, const uint32_t *,
+                                     size_t, uint8_t *, size_t, size_t *);
+int32_t quic_wire_set_len_(uint8_t *, size_t, size_t, uint32_t);
+int32_t quic_wire_number_len_(uint64_t, uint64_t);
+uint64_t quic_wire_number_expand_(uint64_t, uint32_t, uint64_t);
+size_t quic_wire_varint_read_(const uint8_t *, size_t, uint64_t *);
+size_t quic_wire_varint_write_(uint64_t, uint32_t, uint8_t *, size_t);
+int32_t quic_wire_params_read_(uint32_t, const uint8_t *, size_t,
+                               quic_wire_params *);
+int32_t quic_wire_params_write_(uint32_t, const quic_wire_params *, uint8_t *,
+                                size_t, size_t *);
+int32_t quic_wire_params_write_with_(uint32_t, const quic_wire_params *,
+                                     const uint8_t *, size_t, const uint8_t *,
+                                     size_t, uint8_t *, size_t, size_t *);
+int32_t quic_wire_param_read_(const uint8_t *, size_t, quic_wire_param *);
+int32_t quic_wire_param_write_(uint64_t, const uint8_t *, size_t, uint8_t *,
+                               size_t, size_t *);
+uint32_t quic_wire_param_is_known_(uint64_t);
+int32_t quic_wire_set_insert_(quic_wire_range *, size_t, size_t *, uint64_t,
+                              uint64_t);
+int32_t quic_wire_set_remove_(quic_wire_range *, size_t, size_t *, uint64_t,
+                              uint64_t);
+int32_t quic_wire_set_contains_(const quic_wire_range *, size_t, size_t,
+                                uint64_t);
+int32_t quic_wire_ack_write_(uint64_t, const quic_wire_range *, size_t, size_t,
+                             const uint64_t *, size_t, uint8_t *, size_t,
+                             size_t *);
+
+/* A place for what has no items, since the proved library takes no NULL.  It is
+ * aligned for each kind of item, and nothing is read or written there. */
+static inline void *quic_wire_nothing_(void) {
+  static uint64_t nothing;
+  return &nothing;
+}
+
+QUIC_WIRE_API int quic_wire_frames_init(quic_wire_frames *frames,
+                                        const uint8_t *payload,
+                                        size_t payloadlen) {
+  if (!frames || (!payload && payloadlen))
+    return QUIC_WIRE_ERR_INVALID_ARGUMENT;
+  if (!payload)
+    payload = (const uint8_t *)quic_wire_nothing_();
+  return quic_wire_frames_init_(frames, payload, payloadlen);
+}
+
+QUIC_WIRE_API int quic_wire_frames_init_strict(quic_wire_frames *frames,
+                                               const uint8_t *payload,
+                                               size_t payloadlen) {
+  if (!frames || (!payload && payloadlen))
+    return QUIC_WIRE_ERR_INVALID_ARGUMENT;
+  if (!payload)
+    payload = (const uint8_t *)quic_wire_nothing_();
+  return quic_wire_frames_init_strict_(frames, payload, payloadlen);
+}
+
+QUIC_WIRE_API int quic_wire_frames_next(quic_wire_frames *frames,
+                                        const uint8_t *payload,
+                                        size_t payloadlen,
+                                        quic_wire_frame *frame) {
+  if (!frames || !frame || (!payload && payloadlen))
+    return QUIC_WIRE_ERR_INVALID_ARGUMENT;
+  if (!payload)
+    payload = (const uint8_t *)quic_wire_nothing_();
+  return quic_wire_frames_next_(frames, payload, payloadlen, frame);
+}
+
+QUIC_WIRE_API int quic_wire_frames_next_basic(quic_wire_frames *frames,
+                                              const uint8_t *payload,
+                                              size_t payloadlen,
+                                              quic_wire_frame *frame) {
+  if (!frames || !frame || (!payload && payloadlen))
+    return QUIC_WIRE_ERR_INVALID_ARGUMENT;
+  if (!payload)
+    payload = (const uint8_t *)quic_wire_nothing_();
+  return quic_wire_frames_next_basic_(frames, payload, payloadlen, frame);
+}
+
+QUIC_WIRE_API int quic_wire_frames_fill(quic_wire_frames *frames,
+                                        const uint8_t *payload,
+                                        size_t payloadlen, quic_wire_frame *out,
+                                        size_t room, size_t *count) {
+  if (!frames || !count || (!payload && payloadlen) || (!out && room))
+    return QUIC_WIRE_ERR_INVALID_ARGUMENT;
+  if (!payload)
+    payload = (const uint8_t *)quic_wire_nothing_();
+  if (!out)
+    out = (quic_wire_frame *)quic_wire_nothing_();
+  return quic_wire_frames_fill_(frames, payload, payloadlen, out, room, count);
+}
+
+QUIC_WIRE_API int quic_wire_frames_fill_basic(quic_wire_frames *frames,
+                                              const uint8_t *payload,
+                                              size_t payloadlen,
+                                              quic_wire_frame *out, size_t room,
+                                              size_t *count) {
+  if (!frames || !count || (!payload && payloadlen) || (!out && room))
+    return QUIC_WIRE_ERR_INVALID_ARGUMENT;
+  if (!payload)
+    payload = (const uint8_t *)quic_wire_nothing_();
+  if (!out)
+    out = (quic_wire_frame *)quic_wire_nothing_();
+  return quic_wire_frames_fill_basic_(frames, payload, payloadlen, out, room,
+                                      count);
+}
+
+QUIC_WIRE_API int quic_wire_frames_first(quic_wire_frames *frames,
+                                         const uint8_t *payload,
+                                         size_t payloadlen,
+                                         quic_wire_frame *out, size_t room,
+                                         size_t *count) {
+  if (!frames || !count || (!out && room))
+    return QUIC_WIRE_ERR_INVALID_ARGUMENT;
+  if (!payload) {
+    if (payloadlen)
+      return QUIC_WIRE_ERR_INVALID_ARGUMENT;
+    payload = (const uint8_t *)quic_wire_nothing_();
+  }
+  if (!out)
+    out = (quic_wire_frame *)quic_wire_nothing_();
+  return quic_wire_frames_first_(frames, payload, payloadlen, out, room, count);
+}
+
+QUIC_WIRE_API int64_t quic_wire_frame_read(const uint8_t *payload,
+                                           size_t payloadlen, int strict,
+                                           quic_wire_frame *frame,
+                                           quic_wire_gap *gaps, size_t room) {
+  if ((!payload && payloadlen) || !frame || (!gaps && room))
+    return QUIC_WIRE_ERR_INVALID_ARGUMENT;
+  if (!payload)
+    payload = (const uint8_t *)quic_wire_nothing_();
+  if (!gaps)
+    gaps = (quic_wire_gap *)quic_wire_nothing_();
+  return quic_wire_frame_read_(payload, payloadlen, (uint32_t)strict, frame,
+                               gaps, room);
+}
+
+QUIC_WIRE_API int64_t quic_wire_frame_read_basic(const uint8_t *payload,
+                                                 size_t payloadlen, int strict,
+                                                 quic_wire_frame *frame,
+                                                 quic_wire_gap *gaps,
+                                                 size_t room) {
+  if ((!payload && payloadlen) || !frame || (!gaps && room))
+    return QUIC_WIRE_ERR_INVALID_ARGUMENT;
+  if (!payload)
+    payload = (const uint8_t *)quic_wire_nothing_();
+  if (!gaps)
+    gaps = (quic_wire_gap *)quic_wire_nothing_();
+  return quic_wire_frame_read_basic_(payload, payloadlen, (uint32_t)strict,
+                                     frame, gaps, room);
+}
+
+QUIC_WIRE_API size_t quic_wire_padding_count(const uint8_t *payload,
+                                             size_t payloadlen,
+                                             const quic_wire_frame *frame) {
+  /* The first type may have more bytes than one, as its first two bits say. */
+  return payload && frame && frame->kind == QUIC_WIRE_PADDING &&
+                 frame->end <= payloadlen && frame->begin < frame->end &&
+                 (frame->end - frame->begin) >> (payload[frame->begin] >> 6)
+             ? frame->end + 1 - frame->begin -
+                   ((size_t)1 << (payload[frame->begin] >> 6))
+             : 0;
+}
+
+QUIC_WIRE_API const uint8_t *
+quic_wire_reset_token(const uint8_t *payload, size_t payloadlen,
+                      const quic_wire_frame *frame) {
+  return payload && frame && frame->kind == QUIC_WIRE_NEW_CONNECTION_ID &&
+                 frame->data <= payloadlen &&
+                 frame->datalen <= payloadlen - frame->data &&
+                 payloadlen - frame->data - frame->datalen >= 16
+             ? payload + frame->data + frame->datalen
+             : NULL;
+}
+
+QUIC_WIRE_API const uint8_t *quic_wire_path_data(const uint8_t *payload,
+                                                 size_t payloadlen,
+                                                 const quic_wire_frame *frame) {
+  return payload && frame &&
+                 (frame->kind == QUIC_WIRE_PATH_CHALLENGE ||
+                  frame->kind == QUIC_WIRE_PATH_RESPONSE) &&
+                 frame->end <= payloadlen && frame->end >= 8
+             ? payload + frame->end - 8
+             : NULL;
+}
+
+QUIC_WIRE_API uint64_t quic_wire_error_type(const quic_wire_frame *frame) {
+  return frame ? frame->numbers[0] : QUIC_WIRE_NO_TYPE;
+}
+
+QUIC_WIRE_API uint32_t quic_wire_error_reason(const quic_wire_frame *frame) {
+  return frame ? frame->flags : 0;
+}
+
+QUIC_WIRE_API int quic_wire_ack_ranges_init(quic_wire_ack_ranges *ranges,
+                                            const uint8_t *payload,
+                                            size_t payloadlen,
+                                            const quic_wire_frame *frame) {
+  if (!ranges || !payload || !frame)
+    return QUIC_WIRE_ERR_INVALID_ARGUMENT;
+  return quic_wire_ack_ranges_init_(ranges, payload, payloadlen, frame);
+}
+
+QUIC_WIRE_API int
+quic_wire_ack_ranges_init_unchecked(quic_wire_ack_ranges *ranges,
+                                    const uint8_t *payload, size_t payloadlen,
+                                    const quic_wire_frame *frame) {
+  if (!ranges || !payload || !frame)
+    return QUIC_WIRE_ERR_INVALID_ARGUMENT;
+  return quic_wire_ack_ranges_init_unchecked_(ranges, payload, payloadlen,
+                                              frame);
+}
+
+QUIC_WIRE_API int quic_wire_ack_ranges_next(quic_wire_ack_ranges *ranges,
+                                            const uint8_t *payload,
+                                            size_t payloadlen,
+                                            quic_wire_range *range) {
+  if (!ranges || !payload || !range)
+    return QUIC_WIRE_ERR_INVALID_ARGUMENT;
+  return quic_wire_ack_ranges_next_(ranges, payload, payloadlen, range);
+}
+
+QUIC_WIRE_API int quic_wire_ack_ranges_fill(quic_wire_ack_ranges *ranges,
+                                            const uint8_t *payload,
+                                            size_t payloadlen,
+                                            quic_wire_range *out, size_t room,
+                                            size_t *count) {
+  if (!ranges || !payload || !count || (!out && room))
+    return QUIC_WIRE_ERR_INVALID_ARGUMENT;
+  if (!out)
+    out = (quic_wire_range *)quic_wire_nothing_();
+  return quic_wire_ack_ranges_fill_(ranges, payload, payloadlen, out, room,
+                                    count);
+}
+
+QUIC_WIRE_API int quic_wire_frame_write(const quic_wire_frame *frame,
+                                        const uint8_t *data, size_t datalen,
+                                        int last, uint8_t *dest,
+                                        size_t destlen, size_t *written) {
+  size_t unused;
+  if (!frame || (!dest && destlen))
+    return QUIC_WIRE_ERR_INVALID_ARGUMENT;
+  if (!data) {
+    if (datalen && frame->datalen)
+      return QUIC_WIRE_ERR_INVALID_ARGUMENT;
+    data = (const uint8_t *)quic_wire_nothing_();
+    datalen = 0;
+  }
+  if (!dest)
+    dest = (uint8_t *)quic_wire_nothing_();
+  return quic_wire_frame_write_(frame, data, datalen, last != 0, dest, destlen,
+                                written ? written : &unused);
+}
+
+QUIC_WIRE_API int quic_wire_frame_header_write(const quic_wire_frame *frame,
+                                               int last, uint8_t *dest,
+                                               size_t destlen,
+                                               size_t *written) {
+  size_t unused;
+  if (!frame || (!dest && destlen))
+    return QUIC_WIRE_ERR_INVALID_ARGUMENT;
+  if (!dest)
+    dest = (uint8_t *)quic_wire_nothing_();
+  return quic_wire_frame_header_write_(frame, last != 0, dest, destlen,
+                                       written ? written : &unused);
+}
+
+QUIC_WIRE_API int quic_wire_frame_len(const quic_wire_frame *frame,
+                                      const uint8_t *data, size_t datalen,
+                                      int last, size_t *len) {
+  /* No frame has no byte, so that none fits where there is no room. */
+  int answer = len ? quic_wire_frame_write(frame, data, datalen, last, NULL, 0,
+                                           len)
+                   : QUIC_WIRE_ERR_INVALID_ARGUMENT;
+  return answer == QUIC_WIRE_ERR_NOBUF ? QUIC_WIRE_OK : answer;
+}
+
+QUIC_WIRE_API int quic_wire_ack_gaps_write(const quic_wire_frame *ack,
+                                           const quic_wire_gap *gaps,
+                                           size_t ngaps, uint8_t *dest,
+                                           size_t destlen, size_t *written) {
+  if (!ack || (!gaps && ngaps) || (!dest && destlen) || !written)
+    return QUIC_WIRE_ERR_INVALID_ARGUMENT;
+  if (!gaps)
+    gaps = (const quic_wire_gap *)quic_wire_nothing_();
+  if (!dest)
+    dest = (uint8_t *)quic_wire_nothing_();
+  return quic_wire_ack_gaps_write_(ack, gaps, ngaps, dest, destlen, written);
+}
+
+QUIC_WIRE_API int quic_wire_canonical(const uint8_t *payload, size_t payloadlen,
+                                      uint8_t *dest, size_t destlen,
+                                      quic_wire_canon *out) {
+  if ((!payload && payloadlen) || (!dest && destlen) || !out)
+    return QUIC_WIRE_ERR_INVALID_ARGUMENT;
+  if (!payload)
+    payload = (const uint8_t *)quic_wire_nothing_();
+  if (!dest)
+    dest = (uint8_t *)quic_wire_nothing_();
+  return quic_wire_canonical_(payload, payloadlen, dest, destlen, out);
+}
+
+QUIC_WIRE_API int quic_wire_header_read(const uint8_t *bytes, size_t len,
+                                        uint32_t cidlen,
+                                        const uint32_t *versions,
+                                        size_t nversions,
+                                        quic_wire_header *header) {
+  static const uint32_t none = 0;
+  if (!bytes || !header || (!versions && nversions))
+    return QUIC_WIRE_ERR_INVALID_ARGUMENT;
+  return quic_wire_header_read_(bytes, len, cidlen, versions ? versions : &none,
+                                nversions, header);
+}
+
+QUIC_WIRE_API size_t quic_wire_short_read(const uint8_t *packet,
+                                          size_t packetlen, uint32_t cidlen) {
+  return packet ? quic_wire_short_read_(packet, packetlen, cidlen) : 0;
+}
+
+QUIC_WIRE_API int quic_wire_negotiation_read(const uint8_t *packet,
+                                             size_t packetlen,
+                                             quic_wire_header *header) {
+  if (!packet || !header)
+    return QUIC_WIRE_ERR_INVALID_ARGUMENT;
+  return quic_wire_negotiation_read_(packet, packetlen, header);
+}
+
+QUIC_WIRE_API const uint8_t *quic_wire_dcid(const uint8_t *packet,
+                                            const quic_wire_header *header) {
+  return packet && header
+             ? packet + (header->first & QUIC_WIRE_LONG_FORM ? 6 : 1)
+             : NULL;
+}
+
+QUIC_WIRE_API const uint8_t *quic_wire_scid(const uint8_t *packet,
+                                            const quic_wire_header *header) {
+  return packet && header ? packet + 7 + header->dcidlen : NULL; /* of a long header */
+}
+
+QUIC_WIRE_API const uint8_t *quic_wire_sample(const uint8_t *packet,
+                                              size_t packetlen, size_t number,
+                                              size_t samplelen) {
+  return packet && packetlen >= number && packetlen - number >= 4 &&
+                 packetlen - number - 4 >= samplelen
+             ? packet + number + 4
+             : NULL;
+}
+
+QUIC_WIRE_API int quic_wire_unprotect(uint8_t *packet, size_t packetlen,
+                                      size_t place, const uint8_t *mask,
+                                      uint64_t expected, uint64_t *number) {
+  if (!packet || !mask || !number)
+    return QUIC_WIRE_ERR_INVALID_ARGUMENT;
+  return quic_wire_unprotect_(packet, packetlen, place, mask, expected, number);
+}
+
+QUIC_WIRE_API int quic_wire_unprotect_header(
+    const uint8_t *packet, size_t packetlen, size_t place, const uint8_t *mask,
+    uint64_t expected, uint8_t *header, size_t headerlen, uint64_t *number) {
+  if (!packet || !mask || !header || !number)
+    return QUIC_WIRE_ERR_INVALID_ARGUMENT;
+  return packetlen < 4 || packetlen - 4 < place ? QUIC_WIRE_ERR_MALFORMED
+         : headerlen < place + 4
+             ? QUIC_WIRE_ERR_NOBUF
+             : quic_wire_unprotect_(
+                   (uint8_t *)memcpy(header, packet, place + 4), place + 4,
+                   place, mask, expected, number);
+}
+
+QUIC_WIRE_API int quic_wire_protect(uint8_t *packet, size_t packetlen,
+                                    size_t place, const uint8_t *mask) {
+  if (!packet || !mask)
+    return QUIC_WIRE_ERR_INVALID_ARGUMENT;
+  return quic_wire_protect_(packet, packetlen, place, mask);
+}
+
+QUIC_WIRE_API int quic_wire_number_len(uint64_t number,
+                                       uint64_t largest_acked) {
+  return quic_wire_number_len_(number, largest_acked);
+}
+
+QUIC_WIRE_API uint64_t quic_wire_number_expand(uint64_t written,
+                                               uint32_t numberlen,
+                                               uint64_t expected) {
+  return quic_wire_number_expand_(written, numberlen, expected);
+}
+
+QUIC_WIRE_API size_t quic_wire_varint_read(const uint8_t *bytes, size_t len,
+                                           uint64_t *value) {
+  return bytes && value ? quic_wire_varint_read_(bytes, len, value) : 0;
+}
+
+QUIC_WIRE_API size_t quic_wire_varint_write(uint64_t value, uint32_t width,
+                                            uint8_t *dest, size_t destlen) {
+  return dest ? quic_wire_varint_write_(value, width, dest, destlen) : 0;
+}
+
+QUIC_WIRE_API size_t quic_wire_header_len(const quic_wire_header_fields *fields,
+                                          size_t dcidlen, size_t scidlen,
+                                          size_t tokenlen) {
+  return !fields ? 0
+         : fields->kind == QUIC_WIRE_1RTT
+             ? 1 + dcidlen + fields->numberlen
+             : 7 + dcidlen + scidlen +
+                   (fields->kind <= QUIC_WIRE_HANDSHAKE
+                        ? (size_t)fields->lengthlen + fields->numberlen
+                        : 0) +
+                   (fields->kind == QUIC_WIRE_INITIAL
+                        ? tokenlen + (tokenlen < 64        ? 1
+                                      : tokenlen < 16384   ? 2
+                                      : tokenlen < 1 << 30 ? 4
+                                                           : 8)
+                        : 0);
+}
+
+QUIC_WIRE_API int64_t quic_wire_header_write(
+    const quic_wire_header_fields *fields, const uint8_t *dcid, size_t dcidlen,
+    const uint8_t *scid, size_t scidlen, const uint8_t *token, size_t tokenlen,
+    uint8_t *dest, size_t destlen) {
+  static const uint8_t none = 0;
+  if (!fields || (!dcid && dcidlen) || !dest)
+    return QUIC_WIRE_ERR_INVALID_ARGUMENT;
+  if (!dcid)
+    dcid = &none;
+  if (fields->kind == QUIC_WIRE_1RTT)
+    return quic_wire_short_write_(fields, dcid, dcidlen, dest, destlen);
+  if (fields->kind != QUIC_WIRE_INITIAL)
+    tokenlen = 0;
+  if ((!scid && scidlen) || (!token && tokenlen))
+    return QUIC_WIRE_ERR_INVALID_ARGUMENT;
+  return quic_wire_header_write_(fields, dcid, dcidlen, scid ? scid : &none,
+                                 scidlen, token ? token : &none, tokenlen, dest,
+                                 destlen);
+}
+
+QUIC_WIRE_API int quic_wire_negotiation_write(
+    uint8_t first, const uint8_t *dcid, size_t dcidlen, const uint8_t *scid,
+    size_t scidlen, const uint32_t *versions, size_t nversions, uint8_t *dest,
+    size_t destlen, size_t *written) {
+  static const uint32_t none = 0;
+  if ((!dcid && dcidlen) || (!scid && scidlen) || (!versions && nversions) ||
+      (!dest && destlen) || !written)
+    return QUIC_WIRE_ERR_INVALID_ARGUMENT;
+  if (!dest)
+    dest = (uint8_t *)quic_wire_nothing_();
+  return quic_wire_negotiation_write_(
+      first, dcid ? dcid : (const uint8_t *)&none, dcidlen,
+      scid ? scid : (const uint8_t *)&none, scidlen, versions ? versions : &none,
+      nversions, dest, destlen, written);
+}
+
+QUIC_WIRE_API int quic_wire_set_len(uint8_t *packet, size_t packetlen,
+                                    size_t place, uint32_t lengthlen) {
+  return packet ? quic_wire_set_len_(packet, packetlen, place, lengthlen)
+                : QUIC_WIRE_ERR_INVALID_ARGUMENT;
+}
+
+QUIC_WIRE_API int quic_wire_params_read_sized(uint32_t side,
+                                              const uint8_t *list,
+                                              size_t listlen,
+                                              quic_wire_params *params,
+                                              size_t size) {
+  if ((!list && listlen) || !params || size != sizeof *params)
+    return QUIC_WIRE_ERR_INVALID_ARGUMENT;
+  return quic_wire_params_read_(
+      side, list ? list : (const uint8_t *)quic_wire_nothing_(), listlen,
+      params);
+}
+
+QUIC_WIRE_API int quic_wire_params_write_sized(uint32_t side,
+                                               const quic_wire_params *params,
+                                               size_t size, uint8_t *dest,
+                                               size_t destlen,
+                                               size_t *written) {
+  if (!params || size != sizeof *params || (!dest && destlen) || !written)
+    return QUIC_WIRE_ERR_INVALID_ARGUMENT;
+  return quic_wire_params_write_( /* it asks for the side that is to read */
+      side ^ 1, params, dest ? dest : (uint8_t *)quic_wire_nothing_(), destlen,
+      written);
+}
+
+QUIC_WIRE_API int quic_wire_params_write_with_sized(
+    uint32_t side, const quic_wire_params *params, size_t size,
+    const uint8_t *further, size_t furtherlen, const uint8_t *order,
+    size_t orderlen, uint8_t *dest, size_t destlen, size_t *written) {
+  const uint8_t *none = (const uint8_t *)quic_wire_nothing_();
+  if (!params || size != sizeof *params || (!further && furtherlen) ||
+      (!order && orderlen) || (!dest && destlen) || !written)
+    return QUIC_WIRE_ERR_INVALID_ARGUMENT;
+  return quic_wire_params_write_with_(
+      side ^ 1, params, further ? further : none, furtherlen,
+      order ? order : none, orderlen,
+      dest ? dest : (uint8_t *)quic_wire_nothing_(), destlen, written);
+}
+
+QUIC_WIRE_API int quic_wire_param_read(const uint8_t *list, size_t listlen,
+                                       quic_wire_param *param) {
+  if ((!list && listlen) || !param)
+    return QUIC_WIRE_ERR_INVALID_ARGUMENT;
+  return quic_wire_param_read_(
+      list ? list : (const uint8_t *)quic_wire_nothing_(), listlen, param);
+}
+
+QUIC_WIRE_API int quic_wire_param_write(uint64_t id, const uint8_t *value,
+                                        size_t valuelen, uint8_t *dest,
+                                        size_t destlen, size_t *written) {
+  if ((!value && valuelen) || (!dest && destlen) || !written)
+    return QUIC_WIRE_ERR_INVALID_ARGUMENT;
+  return quic_wire_param_write_(
+      id, value ? value : (const uint8_t *)quic_wire_nothing_(), valuelen,
+      dest ? dest : (uint8_t *)quic_wire_nothing_(), destlen, written);
+}
+
+QUIC_WIRE_API int quic_wire_param_is_known(uint64_t id) {
+  return (int)quic_wire_param_is_known_(id);
+}
+
+QUIC_WIRE_API int quic_wire_set_insert(quic_wire_range *runs, size_t room,
+                                       size_t *count, uint64_t start,
+                                       uint64_t end) {
+  if ((!runs && room) || !count)
+    return QUIC_WIRE_ERR_INVALID_ARGUMENT;
+  return quic_wire_set_insert_(
+      runs ? runs : (quic_wire_range *)quic_wire_nothing_(), room, count, start,
+      end);
+}
+
+QUIC_WIRE_API int quic_wire_set_remove(quic_wire_range *runs, size_t room,
+                                       size_t *count, uint64_t start,
+                                       uint64_t end) {
+  if ((!runs && room) || !count)
+    return QUIC_WIRE_ERR_INVALID_ARGUMENT;
+  return quic_wire_set_remove_(
+      runs ? runs : (quic_wire_range *)quic_wire_nothing_(), room, count, start,
+      end);
+}
+
+QUIC_WIRE_API int quic_wire_set_contains(const quic_wire_range *runs,
+                                         size_t count, uint64_t number) {
+  if (!runs && count)
+    return QUIC_WIRE_ERR_INVALID_ARGUMENT;
+  return quic_wire_set_contains_(
+      runs ? runs : (const quic_wire_range *)quic_wire_nothing_(), count, count,
+      number);
+}
+
+QUIC_WIRE_API int quic_wire_ack_write(uint64_t delay,
+                                      const quic_wire_range *runs, size_t count,
+                                      const uint64_t *counts, uint8_t *dest,
+                                      size_t destlen, size_t *written) {
+  size_t unused;
+  if ((!runs && count) || (!dest && destlen))
+    return QUIC_WIRE_ERR_INVALID_ARGUMENT;
+  return quic_wire_ack_write_(
+      delay, runs ? runs : (const quic_wire_range *)quic_wire_nothing_(), count,
+      count, counts ? counts : (const uint64_t *)quic_wire_nothing_(),
+      counts ? 3 : 0, dest ? dest : (uint8_t *)quic_wire_nothing_(), destlen,
+      written ? written : &unused);
+}
+
+#endif /* QUIC_WIRE_INLINE_H */

@@ -1,0 +1,97 @@
+#!/usr/bin/env python3
+"""Prints quic_wire.3, the page of the manual on the library for C, made of c/include/quic_wire.h: which call does what,
+then each with its declaration and what the header says of it.
+
+scripts/lib/manual.py HEADER DATE
+"""
+import collections
+import os
+import re
+import sys
+
+Call = collections.namedtuple("Call", "name declaration text")
+SECTION = re.compile(r"/\* ---- (.*?) *\*/", re.S)
+DECLARED = r"(?:QUIC_WIRE_API|extern|static inline) ([^;{]*\))"
+# A comment, and the calls that are declared after it.
+CALLS = re.compile(rf"/\*((?:(?!\*/).)*)\*/\n((?:{DECLARED}[;{{ ]+\n)+)", re.S)
+
+
+def unstarred(comment):
+    """The lines of a comment without what marks it as one."""
+    return re.sub(r"(?:^|\n) ?\*(?=\s)", "\n", comment).strip()
+
+
+def escaped(text):
+    return re.sub(r"^([.'])", r"\\&\1", text.replace("\\", "\\e").replace("-", "\\-"), flags=re.M)
+
+
+def marked(text):
+    """A text with what the header has between bars in italics, and names of calls and constants in bold."""
+    text = escaped(" ".join(text.split()))
+    text = re.sub(r"\|([^|]+)\|", r"\\fI\1\\fR", text)
+    return re.sub(r"\b(quic_wire_\w+|QUIC_WIRE_\w+)", r"\\fB\1\\fR", text)
+
+
+def calls_of(section):
+    for comment, declarations, _ in CALLS.findall(section):
+        for declaration in re.findall(DECLARED, declarations):
+            name = re.search(r"(quic_wire_\w+)\(", declaration)
+            yield Call(name[1], " ".join(declaration.split()) + ";", unstarred(comment))
+
+
+def sections_of(header):
+    """The calls of each section that has some, under its title."""
+    parts = SECTION.split(header)
+    for title, section in zip(parts[1::2], parts[2::2]):
+        calls = list(calls_of(section))
+        if calls:
+            yield unstarred(title).split(".  ")[0].split(", by the |side|")[0].rstrip("."), calls
+
+
+def first_sentence(text):
+    return re.split(r"(?<=[A-Za-z\d)|])[.;:](?:\s|$)", " ".join(text.split()))[0]
+
+
+def described(call):
+    yield f".TP\n.B {escaped(call.declaration)}"
+    paragraphs = re.split(r"\n\s*\n", call.text)
+    yield "\n.IP\n".join(map(marked, paragraphs))
+
+
+def page(header, date):
+    version = re.search(r'QUIC_WIRE_VERSION_TEXT "(.*)"', header)[1]
+    opening = unstarred(re.search(r"\n/\*\n(.*?)\*/", header, re.S)[1])
+    before, _, rest = opening.partition("The frames of a payload are read so:")
+    sections = list(sections_of(header))
+    yield f'.TH QUIC_WIRE 3 "{date}" "quic_wire {version}" "Library calls"'
+    yield ".SH NAME\nquic_wire \\- the wire layer of QUIC"
+    yield ".SH SYNOPSIS\n.nf\n.B #include <quic_wire.h>\n.fi\n.PP\n.B cc program.c $(pkg\\-config \\-\\-cflags \\-\\-libs quic_wire)"
+    yield ".SH DESCRIPTION"
+    yield "\n.PP\n".join(marked(re.sub(r"^quic_wire: ", "", part)) for part in re.split(r"\n\s*\n", before.strip()))
+    yield ".SH WHICH CALL DOES WHAT"
+    for title, calls in sections:
+        yield f".SS {escaped(title)}"
+        for call in calls:
+            yield f".TP\n.B {call.name}\n{marked(first_sentence(call.text))}"
+    yield ".SH CALLS"
+    for title, calls in sections:
+        yield f".SS {escaped(title)}"
+        for call in calls:
+            yield from described(call)
+    example = rest.split("\n\n")[1] if rest else ""
+    yield f".SH EXAMPLES\nThe frames of a payload are read so:\n.PP\n.nf\n.RS\n{escaped(example)}\n.RE\n.fi"
+    yield ".SH SEE ALSO\n.BR quic\\-show (1),\n.BR quic\\-wire (1)\n.PP\nRFC 9000, RFC 9001, RFC 9221, RFC 9369"
+
+
+def main():
+    if sys.argv[1:] in (["-h"], ["--help"]):
+        print(__doc__.strip())
+        return
+    if len(sys.argv) != 3 or not os.path.exists(sys.argv[1]):
+        print("usage: scripts/lib/manual.py HEADER DATE", file=sys.stderr)
+        sys.exit(2)
+    with open(sys.argv[1], encoding="utf-8") as it:
+        print("\n".join(page(it.read(), sys.argv[2])))
+
+
+main()

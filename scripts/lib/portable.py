@@ -1,0 +1,335 @@
+#!/usr/bin/env python3
+"""Makes quic_wire_proved.c of what wasm2c printed of one module that was linked twice, for stacks of 64 KiB and of
+128: the functions that c/include/quic_wire_inline.h declares with an underscore at their end, and those that they
+call, as C that works on the caller's own memory. Each number in which the two differ is the address of constant data,
+which become an array; the stack pointer becomes an argument, and each call from outside has a stack of just the bytes
+that it may use. What the generated C has no name for is in quic_wire_portable.h. Anything that isn't as it is known
+here ends it with a message.
+
+scripts/lib/portable.py HEAD FIRST.c SECOND.c INCLUDE >quic_wire_proved.c
+
+HEAD is a file with lines for the comment at the head, INCLUDE the folder of the header.
+"""
+import collections
+import os
+import re
+import sys
+
+DATA_AT = 65536  # where the data of the first module begin
+STEP = 65536  # how much further those of the second do
+MEMORY = "wasm_rt_local_memory_base, wasm_rt_local_memory_size, &instance->w2c_memory, "
+PREFIX = "w2c_quicwire_"
+
+Function = collections.namedtuple("Function", "returns arguments body")
+Export = collections.namedtuple("Export", "returns name arguments function")
+Data = collections.namedtuple("Data", "content pointers")
+
+
+def need(is_so, what):
+    if not is_so:
+        sys.exit(f"portable: {what}")
+
+
+def read(path):
+    with open(path, encoding="utf-8") as it:
+        return it.read()
+
+
+# ---- What wasm2c printed.
+
+
+def functions_of(text):
+    """Each function of the module by its name."""
+    found = re.finditer(
+        rf"^(u32|u64|void) ({PREFIX}\w+)\({PREFIX[:-1]}\* instance(.*?)\) \{{\n(.*?)^\}}", text, re.M | re.S
+    )
+    return {m[2]: Function(m[1], " ".join(m[3].split()), m[4]) for m in found}
+
+
+def data_of(text):
+    """The bytes of the module's one segment of data."""
+    segments = re.findall(r"data_segment_data_\w+\[\] = \{(.*?)\}", text, re.S)
+    need(len(segments) == 1, f"{len(segments)} segments of data")
+    need(f", {DATA_AT}ull, data_segment_data_" in text or f", {DATA_AT + STEP}ull, data_segment_data_" in text,
+         "the data lie elsewhere")
+    return bytes(int(n, 16) for n in re.findall(r"0x(\w\w)", segments[0]))
+
+
+def word(content, at):
+    return int.from_bytes(content[at : at + 8], "little")
+
+
+def joined_data(first, second):
+    """The data, in which each pointer to data is a place in them; those that both modules have are the same but for
+    pointers, which differ by the step."""
+    need(len(first) == len(second), "the data differ in length")
+    pointers = {}
+    for at in range(len(first) - 7):
+        target = word(first, at)
+        if DATA_AT <= target < DATA_AT + len(first) and word(second, at) == target + STEP:
+            pointers[at] = target - DATA_AT
+    plain, other = bytearray(first), bytearray(second)
+    for at, target in pointers.items():
+        plain[at : at + 8] = other[at : at + 8] = target.to_bytes(8, "little")
+    need(plain == other, "the data differ in more than pointers")
+    return Data(bytes(plain), pointers)
+
+
+# ---- What the header declares.
+
+
+def exports_of(header, functions):
+    """The functions of the proved library that quic_wire_inline.h declares, each with its function in the module."""
+    found = re.findall(r"^(\w+) (quic_wire_\w+_)\(([^;]*?)\);", header, re.M | re.S)
+    exports = []
+    for returns, name, arguments in found:
+        inside = f"{PREFIX}{name[:-1]}0x5F"
+        inside = inside if inside in functions else inside + "_0"
+        need(inside in functions, f"the module has no {name}")
+        exports.append(Export(returns, name, [" ".join(it.split()) for it in arguments.split(",")], inside))
+    need(exports, "quic_wire_inline.h declares nothing")
+    return exports
+
+
+def without_unions(body):
+    """A struct's fields, of a union within only the first."""
+    return re.sub(r"union \{(.*?;).*?\};", r"\1", body, flags=re.S)
+
+
+def layouts_of(header):
+    """For each struct the sizes of its numbers in turn, a letter each: b, h, l and q of 1, 2, 4 and 8 bytes."""
+    letters = {"uint8_t": "b", "uint16_t": "h", "uint32_t": "l", "uint64_t": "q", "quic_wire_size": "q", "size_t": "q"}
+    header = re.sub(r"/\*.*?\*/|QUIC_WIRE_EXTENSION|QUIC_WIRE_ALIGNED", "", header, flags=re.S)
+    found = {}
+    for name, body in re.findall(r"^typedef struct (\w+) \{(.*?)^\} *\w+;", header, re.M | re.S):
+        layout = ""
+        for kind, fields in re.findall(r"(\w+)\s+([^;{}]*);", without_unions(body)):
+            need(kind in letters, f"{name} has a {kind}")
+            for field in fields.split(","):
+                count = re.search(r"\[(\d+)\]", field)
+                layout += letters[kind] * int(count[1] if count else 1)
+        found[name] = layout
+    return found | {"uint32_t": "l", "uint64_t": "q"}
+
+
+# ---- Which functions, and how much stack they take.
+
+
+def calls_of(functions):
+    """The functions that each calls."""
+    called = re.compile(rf"\b({PREFIX}\w+)\(")
+    return {name: [it for it in dict.fromkeys(called.findall(f.body)) if it in functions]
+            for name, f in functions.items()}
+
+
+def reached(roots, calls):
+    """What is called from the roots, in whatever order."""
+    found, todo = set(), list(roots)
+    while todo:
+        name = todo.pop()
+        if name not in found:
+            found.add(name)
+            todo += calls[name]
+    return found
+
+
+def frame_of(name, body):
+    """The bytes of stack that a function takes for itself: it lowers the pointer once at its beginning, and puts it
+    back at its end."""
+    uses = body.count("stack_pointer")
+    lowered = re.findall(
+        r"(var_j\d) = instance->w2c_0x5F_stack_pointer;\n\s*(var_j\d) = (\d+)ull;\n\s*\1 -= \2;", body
+    )
+    need(len(lowered) <= 1 and uses in (0, 1, 3) and bool(lowered) == bool(uses), f"the stack of {name}")
+    size = int(lowered[0][2]) if lowered else 0
+    need(size % 16 == 0, f"the stack of {name} isn't aligned")
+    return size
+
+
+def depth_of(name, frames, calls, above=()):
+    """The bytes of stack that a function takes with all that it calls."""
+    need(name not in above, f"{name} calls itself")
+    deepest = max((depth_of(it, frames, calls, above + (name,)) for it in calls[name]), default=0)
+    return frames[name] + deepest
+
+
+def short_names(order, exports):
+    """A name in C for each function, from its path in the source."""
+    outside = {it.function for it in exports}
+    names = {}
+    for function in order:
+        name = re.sub(r"_0$", "", function[len(PREFIX) :])
+        name = re.sub(r"0x23([0-9a-f]{4})[0-9a-f]*?0x", r"0x5F\1_0x", name)  # of a type's number four digits
+        name = re.sub("_+", "_", re.sub(r"0x[0-9A-F]{2}", "_", name)).strip("_")
+        name = "qw_" + (name.removeprefix("quic_wire_") if function in outside else name)
+        taken, tries = set(names.values()), 1
+        while name in taken:
+            tries += 1
+            name = re.sub(r"(_\d+)?$", f"_{tries}", name, count=1) if tries > 2 else f"{name}_2"
+        names[function] = name
+    return names
+
+
+# ---- A function, translated.
+
+
+class Translation:
+    """The statements of the module's functions as C on the caller's memory."""
+
+    def __init__(self, data, names, depths):
+        self.data, self.names, self.depths = data, names, depths
+
+    def address(self, first, second):
+        """A line in whose two forms an address of data differs, with the address's place in the data."""
+        parts, others = (re.split(r"(\b\d+(?=u))", line) for line in (first, second))
+        need(len(parts) == len(others) and parts[::2] == others[::2], f"two lines differ: {first}")
+        for at in range(1, len(parts), 2):
+            if parts[at] == others[at]:
+                continue
+            place = int(parts[at]) - DATA_AT
+            need(int(others[at]) == int(parts[at]) + STEP and 0 <= place <= len(self.data.content),
+                 f"two numbers differ: {first}")
+            parts[at], parts[at + 1] = f"DATA({place}", re.sub(r"^u(ll)?", ")", parts[at + 1])
+        return "".join(parts)
+
+    def pointers_moved(self, line):
+        """A load of a pointer that lies among the data, which is kept there as a place in them."""
+        for place in map(int, re.findall(r"DATA\((\d+)\)", line)):
+            if place in self.data.pointers:
+                line, count = re.subn(rf"(i64_load\(\([^()]*DATA\({place}\)\)\))", r"(DATA(0) + \1)", line)
+                need(count == 1, f"a pointer is not loaded as it is known here: {line}")
+        return line
+
+    def called(self, found):
+        """The beginning of a call: with the stack pointer for a function that takes a stack."""
+        return self.names[found[1]] + ("(sp, " if self.depths[found[1]] else "(")
+
+    def statement(self, first, second):
+        line = first if first == second else self.address(first, second)
+        for machine in (MEMORY, "&instance->w2c_memory, &instance->w2c_memory, ", "&instance->w2c_memory, "):
+            line = line.replace(machine, "")
+        line = re.sub(r"checked_add_u64\((\w+), ([^()]*(?:\(\d+\))?)\)", r"(\1 + \2)", line)
+        line = line.replace("(u64)(var_j", "(var_j").replace("(u64)((", "((")
+        line = self.pointers_moved(line)
+        line = line.replace("instance->w2c_0x5F_stack_pointer", "sp")
+        line = re.sub(rf"\b({PREFIX}\w+)\(instance(?:, )?", self.called, line)
+        line = re.sub(r"\bvar_(\w+)", r"\1", line)
+        need("instance" not in line and "wasm" not in line, f"not known here: {line}")
+        return line
+
+    def body(self, first, second):
+        lines, others = first.split("\n"), second.split("\n")
+        need(len(lines) == len(others), "a function differs")
+        kept = []
+        for line, other in zip(lines, others):
+            is_machine = "wasm_rt_local_memory" in line and MEMORY not in line
+            if line.strip() not in ("FUNC_PROLOGUE;", "FUNC_EPILOGUE;") and not is_machine:
+                kept.append(self.statement(line, other))
+        return "\n".join(kept)
+
+
+def head_of(function, name, depth):
+    arguments = function.arguments.replace("var_", "")
+    arguments = f"u64 sp{arguments}" if depth else arguments.removeprefix(", ") or "void"
+    return f"static {function.returns} {name}({arguments})"
+
+
+def unused(head, body):
+    """Lines that name the parameters that a function doesn't use, so that no compiler warns of them."""
+    names = re.findall(r"(\w+)(?=[,)])", head[head.index("(") :])
+    return "".join(f"  (void){it};\n" for it in names if it != "void" and not re.search(rf"\b{it}\b", body))
+
+
+# ---- The functions that are called from outside.
+
+
+def argument(index, kinds, layouts):
+    """What a function from outside does with an argument before the call, in it and after it."""
+    kind = kinds[index]
+    plain = kind.replace("const ", "").rstrip("* ")
+    if not kind.endswith("*"):
+        return "", f"(u64)a{index}" if plain == "size_t" else f"a{index}", ""
+    if plain == "size_t":
+        return f"LENGTH_IN({index})", f"LENGTH({index})", f"LENGTH_OUT({index})"
+    if plain == "uint8_t":
+        return "", f"AT(a{index})", ""
+    need(plain in layouts, f"an argument {kind}")
+    is_many = index + 1 < len(kinds) and kinds[index + 1] == "size_t"
+    count, layout = f"a{index + 1}" if is_many else "1", layouts[plain]
+    if not kind.startswith("const"):
+        turn = f'TURN({index}, {count}, {plain}, "{layout}")'
+        return turn, f"AT(a{index})", turn
+    if is_many:
+        return f'MANY_IN({index}, {plain}, {count}, "{layout}")', f"MANY({index})", f"MANY_OUT({index})"
+    return f'ONE_IN({index}, {plain}, "{layout}")', f"ONE({index})", ""
+
+
+def outside(export, name, depth, layouts):
+    """A function that the header declares: a stack, its arguments, and the call of the module's."""
+    kinds = [] if export.arguments == ["void"] else export.arguments
+    declared = ", ".join(f"{it}{'' if it.endswith('*') else ' '}a{n}" for n, it in enumerate(kinds)) or "void"
+    parts = [argument(n, kinds, layouts) for n in range(len(kinds))]
+    call = ", ".join([*(["stack"] if depth else []), *(it[1] for it in parts)])
+    lines = [f"STACK({depth // 8})" if depth else "", *(it[0] for it in parts)]
+    lines += [f"const {export.returns} answer = ({export.returns}){name}({call});", *(it[2] for it in parts)]
+    body = "".join(f"  {line}\n" for line in lines if line)
+    return f"{export.returns} {export.name}({declared}) {{\n{body}  return answer;\n}}"
+
+
+def asserted(exports, layouts):
+    """That the structs are as long as their layouts say."""
+    sizes = {"b": 1, "h": 2, "l": 4, "q": 8}
+    used = {it.replace("const ", "").rstrip("* ") for export in exports for it in export.arguments}
+    for name in sorted(used & layouts.keys()):
+        size = sum(map(sizes.get, layouts[name]))
+        yield f"typedef char qw_size_of_{name}[sizeof({name}) == {size} ? 1 : -1];"
+
+
+# ---- The file.
+
+
+def array_of(content):
+    lines = [" ".join(f"{n}," for n in content[at : at + 24]) for at in range(0, len(content), 24)]
+    body = "".join(f"  {line}\n" for line in lines)
+    return (f"static const union {{ u8 bytes[{len(content)}]; u64 aligned; }} data = {{ {{\n{body}}} }};\n"
+            "#define DATA(n) (AT(data.bytes) + (n))\n")
+
+
+def file_of(head, first, second, include):
+    """The whole file, of the texts that wasm2c printed."""
+    functions, others = functions_of(first), functions_of(second)
+    need(functions.keys() == others.keys(), "the modules have other functions")
+    exports = exports_of(read(f"{include}/quic_wire_inline.h"), functions)
+    layouts = layouts_of(read(f"{include}/quic_wire.h"))
+    calls = calls_of(functions)
+    below = reached([it.function for it in exports], calls)
+    order = [name for name in functions if name in below]
+    frames = {name: frame_of(name, functions[name].body) for name in order}
+    names = short_names(order, exports)
+    data = joined_data(data_of(first), data_of(second))
+    depths = {name: depth_of(name, frames, calls) for name in order}
+    translation = Translation(data, names, depths)
+    bodies = {name: translation.body(functions[name].body, others[name].body) for name in order}
+    heads = {name: head_of(functions[name], names[name], depths[name]) for name in order}
+    parts = [f"/* SPDX-License-Identifier: MIT OR Apache-2.0 */\n/*\n{head} */\n#define QUIC_WIRE_INLINE\n"
+             '#include "quic_wire.h"\n#include "quic_wire_portable.h"\n']
+    parts += [*asserted(exports, layouts), "", array_of(data.content)]
+    parts += [heads[name] + ";" for name in order] + [""]
+    parts += [f"{heads[name]} {{\n{unused(heads[name], bodies[name])}{bodies[name]}}}\n" for name in order]
+    parts += [outside(it, names[it.function], depths[it.function], layouts) for it in exports]
+    print(f"{len(order)} of {len(functions)} functions, at most {max(depths.values())} bytes of stack", file=sys.stderr)
+    return "\n".join(parts) + "\n"
+
+
+def main():
+    if sys.argv[1:] in (["-h"], ["--help"]):
+        print(__doc__.strip())
+        return
+    if len(sys.argv) != 5 or not all(map(os.path.exists, sys.argv[1:])):
+        print("usage: scripts/lib/portable.py HEAD FIRST.c SECOND.c INCLUDE", file=sys.stderr)
+        sys.exit(2)
+    head = "".join(f" * {line}".rstrip() + "\n" for line in read(sys.argv[1]).splitlines())
+    sys.stdout.write(file_of(head, read(sys.argv[2]), read(sys.argv[3]), sys.argv[4]))
+
+
+main()

@@ -6,6 +6,7 @@ use Rattle.std.specs.List.{flat_map}
 use Rattle.quic_text.specs.Printed.{line_bytes}
 use Rattle.quic_base.specs.Number.{AreBytes}
 use Rattle.quic_header_decode.specs.Grammar.{Cut, Uncut}
+use Rattle.quic_header_decode.specs.Reading.{left_of, IsRest}
 use Rattle.quic_header_decode.specs.Refusal.{refusal_of}
 use Rattle.quic_header_decode.proofs.CutAnswers.{cut_rest, is_rest, is_uncut}
 use Rattle.quic_text.specs.IdLens.{count}
@@ -59,7 +60,10 @@ returns-in-None g c =
     let left : List ℕ = c.loop-left.left.items in
     let cut : Cut (with_ids_of c.new-parser.result.expected_len) left c.in-Ok.packet.head c.in-Ok.packet.header_end q =
     c.in-Ok.ensures.cut.cut in
-    let none : drop q left ≡ [] = sym (rw c.in-None.is at cut_rest c.in-Ok.ensures.cut) in
+    let after : left_of c.in-Ok.rest ≡ drop q left =
+    cut_rest {options = with_ids_of c.new-parser.result.expected_len} {bytes = left} {packet = c.in-Ok.packet}
+    {rest = left_of c.in-Ok.rest} c.in-Ok.ensures.cut in
+    let none : drop q left ≡ [] = sym (rw c.in-None.is at after) in
     let waits = text_last (with_ids_of c.new-parser.result.expected_len) c.loop-left.start
     (c.loop-left.start + c.len.result) q c.in-Ok.packet.header_end left (string_bytes c.pass_on_pieces.new.text)
     (string_bytes c.print_packet.new.text)
@@ -83,8 +87,11 @@ loop-left-preserved g c =
     let cut : Cut (with_ids_of c.new-parser.result.expected_len) left c.in-Ok.packet.head c.in-Ok.packet.header_end q =
     c.in-Ok.ensures.cut.cut in
     let stop : ℕ = c.loop-left.start + c.len.result in
-    let rest : (c.in-Some.rest.items ≡ drop q left) × (0 < length (drop q left)) =
-    rw c.in-Some.is at is_rest _ c.in-Ok.ensures.rest (cut_rest c.in-Ok.ensures.cut) in
+    let after : left_of c.in-Ok.rest ≡ drop q left =
+    cut_rest {options = with_ids_of c.new-parser.result.expected_len} {bytes = left} {packet = c.in-Ok.packet}
+    {rest = left_of c.in-Ok.rest} c.in-Ok.ensures.cut in
+    let follows : IsRest c.in-Ok.rest (drop q left) = is_rest c.in-Ok.rest c.in-Ok.ensures.rest after in
+    let rest : (c.in-Some.rest.items ≡ drop q left) × (0 < length (drop q left)) = rw c.in-Some.is at follows in
     let lt : q < length left = omega (arith, rest.1, length-drop q left) in
     let at : stop ≡ c.loop-left.start + q = ap (λ (n : ℕ). c.loop-left.start + n) c.len.ensures in
     record {

@@ -13,16 +13,6 @@ ghost use Rattle.quic_canon.specs.Least.{IsLeast};
 
 use quic_frames::laws::{least_encoding, one_reading};
 
-/// An ACK has one list of ranges: two lists of ranges that never touch are equal if they have the same numbers.
-pub fn one_list_of_a_set()
-    ensures one { (some others : List (ℕ × ℕ)) → AreApart some → AreApart others
-        → ((n : ℕ) → is_in some n ≡ is_in others n) → some ≡ others }
-    // So payloads mean the same exactly if their frames have the same values.
-    ensures frames { (found others : List TypedFrame) (payload other : List ℕ) → AreFrames false found payload
-        → AreFrames false others other → AllZip IsSameFrame (map frame_in found) (map frame_in others)
-        → map frame_in found ≡ map frame_in others }
-{}
-
 /// Each valid payload has one shortest payload of the same meaning, and no other payload has one.
 pub fn one_least()
     ensures exists { (found : List TypedFrame) (payload : List ℕ) → payload ≢ [] → AreFrames false found payload
@@ -41,6 +31,13 @@ pub fn one_least()
     // Its types are in their least widths, so the strict reading is the same.
     ensures strict { (payload least : List ℕ) → IsLeast least payload
         → (found : List TypedFrame) × AreFrames true found least × AreFrames false found least }
+    // An ACK has one list of ranges: lists of ranges that never touch are equal if they have the same numbers.
+    ensures ranges { (some others : List (ℕ × ℕ)) → AreApart some → AreApart others
+        → ((n : ℕ) → is_in some n ≡ is_in others n) → some ≡ others }
+    // So payloads mean the same exactly if their frames have the same values.
+    ensures values { (found others : List TypedFrame) (payload other : List ℕ) → AreFrames false found payload
+        → AreFrames false others other → AllZip IsSameFrame (map frame_in found) (map frame_in others)
+        → map frame_in found ≡ map frame_in others }
 {
     one_reading();
     least_encoding();

@@ -4,7 +4,7 @@ use Rattle.std.proofs.Common.{subst, sym}
 use Rattle.bytes.specs.Filled.{Filled}
 use Rattle.quic_base.specs.One.{ExactlyOne, ReturnsOne}
 use Rattle.quic_header_decode.specs.Grammar.{CutAnswer}
-use Rattle.quic_header_decode.specs.Packet.{CutPacket, CutsFirst, IsUncut}
+use Rattle.quic_header_decode.specs.Datagram.{CutPacket, CutsFirst, IsUncut}
 use Rattle.quic_header_decode.specs.declared.decode_error.PacketDecodeError.{PacketDecodeError}
 use Rattle.quic_header_decode.specs.declared.decode_error.PacketDecodeError.TheVariants as error
 use Rattle.quic_header_decode.specs.Reading.{DecodeOptions, TakesWithin, left_of}

@@ -4,7 +4,7 @@ use Rattle.std.specs.Prelude.{MatchOption, OnOk, Err}
 use Rattle.std.proofs.lemmas.List.{append-nil}
 use Rattle.quic_header_decode.specs.Grammar.{CutAnswer, HeaderAt}
 use Rattle.quic_header_decode.specs.Headers.{IsWithoutNumber}
-use Rattle.quic_header_decode.specs.Packet.{CutPacket}
+use Rattle.quic_header_decode.specs.Datagram.{CutPacket}
 use Rattle.quic_header_decode.specs.Reading.{DecodeOptions, len_in}
 use Rattle.quic_header_decode.specs.Refusal.{Refusal}
 use Rattle.quic_header_decode.specs.declared.protected.ProtectedHeader.{ProtectedHeader}

@@ -11,9 +11,9 @@ pub use Rattle.quic_frames.specs.Walk
 pub use Rattle.quic_frames.specs.Meaning as FrameMeaning
 pub use Rattle.quic_frames.specs.Written
 pub use Rattle.quic_header_encode.specs.Writing as HeaderWriting
+pub use Rattle.quic_header_decode.specs.Datagram
 pub use Rattle.quic_header_decode.specs.Grammar
 pub use Rattle.quic_header_decode.specs.Headers
-pub use Rattle.quic_header_decode.specs.Packet
 pub use Rattle.quic_header_decode.specs.Reading as HeaderReading
 pub use Rattle.quic_header_decode.specs.Refusal
 pub use Rattle.quic_packets.specs.Opening

@@ -6,9 +6,8 @@ use Rattle.quic_base.specs.Number.{bytes_of}
 use Rattle.quic_base.specs.Varint.{Encodes, shortest_varint}
 use Rattle.quic_crypto.specs.PacketNumbers.{number_bytes, number_size}
 use Rattle.quic_crypto.specs.declared.packet_number.PacketNumber.{PacketNumber}
-use Rattle.quic_header_decode.specs.Finish.{IsNumberIn}
 use Rattle.quic_header_decode.specs.Grammar.{HeaderAt}
-use Rattle.quic_header_decode.specs.Headers.{IsOpenedBy, IsWithoutNumber}
+use Rattle.quic_header_decode.specs.Headers.{IsNumberIn, IsOpenedBy, IsWithoutNumber}
 use Rattle.quic_header_decode.specs.Reading.{DecodeOptions}
 use Rattle.quic_header_decode.specs.declared.protected.ProtectedHeader.{ProtectedHeader}
 use Rattle.quic_header_decode.specs.declared.protected.ProtectedHeader.TheVariants as protected

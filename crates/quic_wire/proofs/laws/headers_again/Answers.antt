@@ -11,12 +11,13 @@ use Rattle.quic_header_decode.specs.Headers.{IsNumberIn, IsOpenedBy, IsWithoutNu
 use Rattle.quic_header_decode.specs.Reading.{DecodeOptions}
 use Rattle.quic_header_decode.specs.declared.protected.ProtectedHeader.{ProtectedHeader}
 use Rattle.quic_header_decode.specs.declared.protected.ProtectedHeader.TheVariants as protected
+use Rattle.quic_header_encode.proofs.Sizes.{long_length}
 use Rattle.quic_header_encode.specs.Writing.{IsWritable, header_bytes, header_with, size_in}
 use Rattle.quic_header_encode.specs.declared.header.Header.{Header}
 use Rattle.quic_header_encode.specs.declared.header.Header.TheVariants as header
 use Rattle.quic_header_encode.specs.declared.long_type.LongHeaderType.TheVariants as kind
 use Rattle.quic_packets.proofs.Opened.{number_there}
-use Rattle.quic_packets.proofs.Sealings.{long_length, middle}
+use Rattle.quic_packets.proofs.Sealings.{middle}
 use Rattle.quic_packets.specs.Opening.{IsReadBack}
 use Rattle.quic_wire.specs.Plain.{IsPlainInRange}
 use Rattle.quic_wire.proofs.Numbered.{behind, long_first, long_low, regroup, short_first, short_low, short_phase, size_bounds}

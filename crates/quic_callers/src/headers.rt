@@ -1,14 +1,13 @@
-//! Headers that are written and read again, datagrams that are cut, and packets whose length is filled in: what callers
-//! learn from contracts and from the laws of headers, for every lawful parser of ids and all lawful keys.
-ghost use Rattle.std.specs.Prelude.{◌≡◌, ◌≢◌, ◌+◌, ◌-◌, ◌∷◌, [], ◌++◌, ◌<◌, ◌≤◌, ◌⊎◌, List, ℕ, true, IsTrue, IfErr, IfOk, IfSome, IsOk, MatchResult, None, OnOk, Contains, length, option_map, take, vec_capacity};
-ghost use Rattle.quic_header_encode.specs.Writing.{HasRoom, IsWritable, has_length, header_bytes, header_size, header_with, length_in, sealed_packet, size_in};
+//! Datagrams that are cut, and packets whose length is filled in: what callers learn from contracts and from the laws of
+//! headers, for every lawful parser of ids and all lawful keys.
+ghost use Rattle.std.specs.Prelude.{◌≡◌, ◌+◌, ◌-◌, ◌∷◌, [], ◌++◌, ◌≤◌, ℕ, true, IsTrue, IfSome, IsOk, OnOk, Contains, length, option_map, take, vec_capacity};
+ghost use Rattle.quic_header_encode.specs.Writing.{HasRoom, IsWritable, has_length, header_size, header_with, length_in, sealed_packet, size_in};
 ghost use Rattle.quic_header_decode.specs.declared.protected.ProtectedHeader.{ProtectedHeader};
-ghost use Rattle.quic_header_decode.specs.Grammar.{Cut, HeaderAt};
-ghost use Rattle.quic_header_decode.specs.Reading.{len_in, read_by};
+ghost use Rattle.quic_header_decode.specs.Grammar.{Cut};
+ghost use Rattle.quic_header_decode.specs.Reading.{read_by};
 
 use bytes::BytesMut;
 use quic_base::coding::{NoRoom, are_bytes};
-use quic_base::ids::ConnectionId;
 use quic_crypto::crypto::{HeaderKey, PacketKey};
 use quic_header_decode::cut::PartialDecode;
 use quic_header_decode::decode_error::PacketDecodeError;
@@ -16,28 +15,6 @@ use quic_header_decode::laws;
 use quic_header_decode::parser::ConnectionIdParser;
 use quic_header_encode::header::Header;
 use quic_header_encode::laws::length_later;
-use std::alloc::Global;
-
-// Cuts a packet whose header has no length, and that therefore ends with the datagram.
-fn cut_alone<C: ConnectionIdParser>(
-    datagram: BytesMut,
-    parser: &C,
-    versions: &[u32],
-    grease: bool,
-) -> Result<PartialDecode, PacketDecodeError>
-    ensures { (h : ProtectedHeader) (front rest : List ℕ) → datagram.items ≡ front ++ rest → len_in h ≡ None
-        → HeaderAt (read_by (C.parsed parser.now) versions.now grease)
-        (length datagram.items) datagram.items h rest
-        → MatchResult result (λ x. (x.head ≡ h) × (x.bytes ≡ datagram.items))
-        (λ e. (e ≡ PacketDecodeError.OutOfMemory) × IsTrue (C.takes_memory parser.now)) }
-{
-    laws::one_answer();
-    are_bytes(datagram.as_slice());
-    match PartialDecode::new(datagram, parser, versions, grease) {
-        Ok((packet, _rest)) => Ok(packet),
-        Err(e) => Err(e),
-    }
-}
 
 // Cuts the first packet, and answers how many bytes it has.
 fn cut_len<C: ConnectionIdParser>(
@@ -53,80 +30,6 @@ fn cut_len<C: ConnectionIdParser>(
         Ok((packet, _rest)) => Some(packet.len()),
         Err(_) => None,
     }
-}
-
-// A header and what follows it, in one datagram.
-fn datagram_of(alloc: Global, header: &Header, behind: &[u8]) -> Option<BytesMut>
-    requires { IsWritable header.now }
-    ensures { IfSome result (λ datagram. datagram.items ≡ header_bytes header.now ++ behind.now) }
-{
-    let mut out = Vec::new(alloc);
-    if header.encode(&mut out).is_err() || out.extend_from_slice(behind).is_err() {
-        return None;
-    }
-    Some(BytesMut::from_vec(out))
-}
-
-/// Writes a Retry's header and what follows it, and cuts the packet: its header is what was written, whatever follows,
-/// and the only error is want of memory. The caller must give a known version.
-pub fn retry_read_back<C: ConnectionIdParser>(
-    alloc: Global,
-    ids: (ConnectionId, ConnectionId),
-    version: u32,
-    behind: &[u8],
-    parser: &C,
-    versions: &[u32],
-    grease: bool,
-) -> Result<PartialDecode, PacketDecodeError>
-    requires some { version ≢ 0 }
-    requires known { Contains versions.now version }
-    ensures back { IfOk result (λ x. x.head ≡ ProtectedHeader.Retry ids.0 ids.1 version) }
-    ensures refused { IfErr result (λ e. e ≡ PacketDecodeError.OutOfMemory) }
-{
-    laws::written();
-    let (dst_cid, src_cid) = ids;
-    let _dst = dst_cid.as_slice();
-    let _src = src_cid.as_slice();
-    let header = Header::Retry {
-        dst_cid,
-        src_cid,
-        version,
-    };
-    let Some(datagram) = datagram_of(alloc, &header, behind) else {
-        return Err(PacketDecodeError::OutOfMemory);
-    };
-    cut_alone(datagram, parser, versions, grease)
-}
-
-/// The same for a version negotiation. The caller must give the first byte without its highest bit; it must have the
-/// fixed bit, 0x40, unless that may be clear.
-pub fn negotiation_read_back<C: ConnectionIdParser>(
-    alloc: Global,
-    random: u8,
-    ids: (ConnectionId, ConnectionId),
-    behind: &[u8],
-    parser: &C,
-    versions: &[u32],
-    grease: bool,
-) -> Result<PartialDecode, PacketDecodeError>
-    requires low { random < 128 }
-    requires fixed { IsTrue grease ⊎ (64 ≤ random) }
-    ensures back { IfOk result (λ x. x.head ≡ ProtectedHeader.VersionNegotiate random ids.0 ids.1) }
-    ensures refused { IfErr result (λ e. e ≡ PacketDecodeError.OutOfMemory) }
-{
-    laws::written();
-    let (dst_cid, src_cid) = ids;
-    let _dst = dst_cid.as_slice();
-    let _src = src_cid.as_slice();
-    let header = Header::VersionNegotiate {
-        random,
-        src_cid,
-        dst_cid,
-    };
-    let Some(datagram) = datagram_of(alloc, &header, behind) else {
-        return Err(PacketDecodeError::OutOfMemory);
-    };
-    cut_alone(datagram, parser, versions, grease)
 }
 
 /// Cuts two datagrams of the same bytes, and answers whether both packets have the same length: they have, unless

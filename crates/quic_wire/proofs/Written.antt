@@ -1,6 +1,6 @@
 -- What is written, and headers that are read back.
 use Rattle.std.proofs.Common.{◌≡◌, ℕ, ◌+◌, List, [], ◌++◌, length, Option, None, Result, Ok, refl, sym, ap, ◌∙◌, subst, arith, append_assoc, length-append}
-use Rattle.std.specs.Prelude.{MatchOption, OnOk, Err, ⊥}
+use Rattle.std.specs.Prelude.{MatchOption, OnOk, Err}
 use Rattle.std.proofs.lemmas.List.{append-nil}
 use Rattle.quic_header_decode.specs.Grammar.{CutAnswer, HeaderAt}
 use Rattle.quic_header_decode.specs.Headers.{IsWithoutNumber}

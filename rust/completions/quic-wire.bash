@@ -10,10 +10,10 @@ _quic_wire_words() {
         --versions) echo '1 6b3343cf 1,6b3343cf' ;;
         *)
             case $1 in
-                frames) echo '--json --color --strict' ;;
-                datagram) echo '--json --color --cid-len --versions --grease' ;;
-                params) echo '--json --color --side' ;;
-                *) echo '--json --color --strict --cid-len --versions --grease --side --help --version' ;;
+                frames) echo '--base64 --json --color --strict' ;;
+                datagram) echo '--base64 --json --color --cid-len --versions --grease' ;;
+                params) echo '--base64 --json --color --side' ;;
+                *) echo '--base64 --json --color --strict --cid-len --versions --grease --side --help --version' ;;
             esac
             ;;
     esac

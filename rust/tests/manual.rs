@@ -16,7 +16,7 @@ fn help() -> String {
 
 // The names after a mark, as `json` is after `--` in `--json`.
 fn names<'a>(text: &'a str, mark: &str) -> BTreeSet<&'a str> {
-    let is_of_name = |c: char| c.is_ascii_lowercase() || c == '-';
+    let is_of_name = |c: char| c.is_ascii_lowercase() || c.is_ascii_digit() || c == '-';
     let ends = text.match_indices(mark).map(|(begin, _)| &text[begin + mark.len()..]);
     let names = ends.map(|rest| &rest[..rest.find(|c| !is_of_name(c)).unwrap_or(rest.len())]);
     names.filter(|name| name.starts_with(|c: char| c.is_ascii_lowercase())).collect()

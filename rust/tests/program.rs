@@ -4,8 +4,6 @@ use std::fs;
 use std::io::{BufRead, BufReader, Write};
 use std::process::{Command, Stdio};
 
-const NO_BYTES: &str = "not hexadecimal, nor a dump as xxd, hexdump -C or od -t x1 prints it";
-
 fn run(arguments: &[&str], input: &[u8]) -> (String, String, i32) {
     let mut command = Command::new(env!("CARGO_BIN_EXE_quic-wire"));
     command.args(arguments).stdin(Stdio::piped()).stdout(Stdio::piped()).stderr(Stdio::piped());
@@ -66,7 +64,7 @@ fn every_field_of_a_frame_is_printed() {
         ),
         ("21", "error invalid frame ID in <unknown 21>"),
         ("", "error packet payload is empty"),
-        ("0", &format!("error {NO_BYTES}")),
+        ("0", "error an odd number of digits, 1, in column 1"),
     ];
     let input: String = rows.iter().map(|(line, _)| format!("{line}\n")).collect();
     let all: Vec<_> = rows.iter().enumerate().map(|(i, (_, answer))| format!("{}: {answer}", i + 1)).collect();
@@ -191,7 +189,7 @@ fn files_and_dumps_are_named() {
         format!("{one}:1: 1..16 PADDING count=15"),
         format!("{one}:1: 16..17 HANDSHAKE_DONE"),
         format!("{one}:3: 0..1 PING"),
-        format!("{two}:1: error {NO_BYTES}"),
+        format!("{two}:1: error not hexadecimal: 'z' in column 1"),
     ];
     assert_eq!((text.lines().collect::<Vec<_>>(), status), (all.iter().map(String::as_str).collect(), 1));
 }
@@ -257,7 +255,7 @@ fn as_shown(mode: &str, input: &str, answer: &str) -> String {
         }
         last = number;
         match (mode, text.strip_prefix("error ")) {
-            (_, Some(NO_BYTES)) => shown.push_str("error not hexadecimal\n"),
+            (_, Some(error)) if error.contains(" in column ") => shown.push_str("error not hexadecimal\n"),
             ("datagram", Some(error)) => shown.push_str(&no_packet(error)),
             (_, Some(error)) => shown.push_str(&format!("error {error}\n")),
             ("frames", None) => shown.push_str(&frame(text, lines[number - 1])),
@@ -399,5 +397,6 @@ fn bytes_that_are_no_text_are_answered() {
     }
     let (text, _, status) = run(&["frames"], &bytes);
     assert_eq!(status, 1);
-    assert_eq!(text.lines().count(), 257);
+    // A comment is left out; `(` and `)`, `,` and `-`, `[` to `]`, `{` to `}` are read as one.
+    assert_eq!(text.lines().count(), 257 - 1 - 1 - 1 - 2 - 2);
 }

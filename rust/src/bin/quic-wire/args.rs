@@ -1,5 +1,6 @@
 //! What the program is called with.
 use crate::colour::When;
+use crate::input::Plain;
 use quic_wire::packet::DEFAULT_SUPPORTED_VERSIONS;
 use quic_wire::{Side, MAX_CID_SIZE};
 use std::ffi::{OsStr, OsString};
@@ -16,17 +17,23 @@ MODE is what a line is:
   datagram    a datagram as it is sent: its packets, as far as their headers are readable
   params      a list of transport parameters
 
-Without FILE, and for -, standard input is read. A line is hexadecimal, in which spaces, tabs, commas, colons and 0x
-may stand. Lines of a dump are put together to what was dumped; they are known by the offset in front of them:
+Without FILE, and for -, standard input is read. A line is hexadecimal, in which spaces, tabs, commas, colons, quotes,
+0x and \\x may stand, or base64 (--base64). Lists as in C, Rust, Python and JSON go over several lines, b'..' is read
+as Python and Rust print it, comments are left out. Lines of a dump are put together to what was dumped; they are
+known by the offset in front of them:
   00000010: 0102 ..    `xxd`
+  \t0x0010:  0102 ..   `tcpdump -x`, `tcpdump -X`
   00000010  01 02 ..   `hexdump -C`
+  0010  01 02 ..       Wireshark (Copy, as a Hex Dump), `tshark -x`
   000010 01 02 ..      `od -A x -t x1` or, with text, `od -A x -t x1z`
   0000020 01 02 ..     `od -t x1`: seven octal digits
+`xxd -e`, and `hexdump` without -C, swap bytes and are refused.
 A blank line ends a dump, as its last offset does. Each line of output begins with the number of the line that it
 belongs to, and is written before the next one is read.
 
 options:
   --color WHEN         always, never or auto: on a terminal, unless NO_COLOR is set or TERM is dumb; by default auto
+  --base64             lines are base64
   --json               an object of JSON in each line, for other programs; it has no colours
   --strict             of frames: a type counts in its shortest encoding alone
   --cid-len N          of datagram: how many bytes the ids of short headers have, 0 to 20; by default 0
@@ -49,6 +56,7 @@ pub struct Args {
     pub mode: Mode,
     pub json: bool,
     pub colours: When,
+    pub plain: Plain,
     pub files: Vec<OsString>,
 }
 
@@ -68,6 +76,7 @@ pub struct Datagrams {
 #[derive(Default)]
 struct Options {
     json: bool,
+    base64: bool,
     colours: When,
     strict: bool,
     grease: bool,
@@ -97,7 +106,8 @@ pub fn parse(words: impl Iterator<Item = OsString>) -> Result<Call, String> {
         files.push("-".into());
     }
     let mode = mode.ok_or("what is a line: frames, datagram or params?")?;
-    Ok(Call::Show(Args { json: options.json, colours: options.colours, mode: options.mode(&mode)?, files }))
+    let plain = if options.base64 { Plain::Base64 } else { Plain::Hexadecimal };
+    Ok(Call::Show(Args { json: options.json, colours: options.colours, plain, mode: options.mode(&mode)?, files }))
 }
 
 impl Options {
@@ -108,6 +118,7 @@ impl Options {
         };
         let flag = match name {
             "--json" => Some(&mut self.json),
+            "--base64" => Some(&mut self.base64),
             "--strict" => Some(&mut self.strict),
             "--grease" => Some(&mut self.grease),
             _ => None,

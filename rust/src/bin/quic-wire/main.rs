@@ -7,6 +7,7 @@ mod frames;
 mod input;
 mod output;
 mod params;
+mod plain;
 
 use args::{Args, Call, Mode};
 use input::{Piece, Pieces};
@@ -77,7 +78,7 @@ enum Failure {
 
 // Answers each piece before the next one is waited for.
 fn show_all(args: &Args, source: impl BufRead, output: &mut Output<impl Write>) -> Result<(), Failure> {
-    for piece in Pieces::new(source) {
+    for piece in Pieces::new(source, args.plain) {
         let Piece { line, bytes } = piece.map_err(Failure::Reading)?;
         output.set_line(line);
         let written = match (&args.mode, bytes) {

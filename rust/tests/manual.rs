@@ -43,7 +43,11 @@ fn the_same_options_are_named_everywhere() {
 #[test]
 fn the_same_values_are_named_everywhere() {
     let help = help();
-    for word in ["frames", "datagram", "params", "client", "server", "always", "never", "auto", "6b3343cf"] {
+    let words = [
+        "frames", "canon", "datagram", "params", "number", "ranges", "client", "server", "always", "never", "auto",
+        "6b3343cf",
+    ];
+    for word in words {
         for (name, text) in [("help", &help[..]), ("manual", MANUAL), ("bash", BASH), ("zsh", ZSH), ("fish", FISH)] {
             let has = text.split(|c: char| !c.is_ascii_alphanumeric()).any(|part| part == word);
             assert!(has, "{name}: {word}");

@@ -22,6 +22,8 @@ pub enum Plain {
     #[default]
     Hexadecimal,
     Base64,
+    /// Numbers that a mode reads itself.
+    Decimal,
 }
 
 // Lines of a list, the number of the first, and how many of its brackets aren't closed.
@@ -112,8 +114,8 @@ impl<R: BufRead> Pieces<R> {
             return Ok(None);
         }
         let was_behind_dump = mem::take(&mut self.is_behind_dump);
-        if self.plain == Plain::Base64 {
-            return Ok(Some(piece(self.line, &text, plain::base64(&text)?)));
+        if self.plain != Plain::Hexadecimal {
+            return self.other_line(text);
         }
         if let Some(first) = Line::read(&text)?.filter(Line::begins_dump) {
             let is_whole = first.is_last;
@@ -131,6 +133,16 @@ impl<R: BufRead> Pieces<R> {
         }
         let list = List { line: self.line, open: plain::open_brackets(0, &text), text };
         self.list_or_piece(list)
+    }
+
+    // A line that is no hexadecimal.
+    fn other_line(&mut self, mut text: Vec<u8>) -> io::Result<Option<Piece>> {
+        if self.plain == Plain::Base64 {
+            return Ok(Some(piece(self.line, &text, plain::base64(&text)?)));
+        }
+        let has_comment = plain::blank_comments(&mut text);
+        let is_left_out = has_comment && text.trim_ascii().is_empty();
+        Ok((!is_left_out).then_some(Piece { line: self.line, bytes: Ok(text) }))
     }
 
     // A line behind those of a list.

@@ -101,7 +101,8 @@ fn a_version_negotiation_needs_no_fixed_bit() {
     let with_bit = negotiation.replacen('8', "c", 1);
     assert_eq!(lines(&["datagram"], &with_bit), [format!("1: {versions}")]);
     // In another version the bit means what that says (RFC 8999, section 5.1).
-    assert!(lines(&["datagram"], "8000000009 01aa 00 00")[0].starts_with("1: error at 0: unsupported version 9 "));
+    let other = "1: error at 0: unsupported version 9 dst=aa src=- fixed_bit=false field=\"Version\" field_at=1 ";
+    assert!(lines(&["datagram"], "8000000009 01aa 00 00")[0].starts_with(other));
 }
 
 // What is asked for above the memory that there is ends with a sentence and 3.

@@ -44,7 +44,8 @@ pub fn show(datagram: &[u8], how: &Datagrams, ids: &mut Ids, output: &mut Output
         let places = match HeaderPlaces::read(rest, cid_len, &how.versions) {
             Err(error) if !is_clear || matches!(error, HeaderError::UnsupportedVersion(_)) => {
                 let fault = fault::of_header(rest, begin, cid_len, &error);
-                let fields = [reported(&error, rest, begin), fault].concat();
+                let fixed_bit = is_clear.then_some(("fixed_bit", Flag(false)));
+                let fields = [&reported(&error, rest, begin), fixed_bit.as_slice(), &fault].concat();
                 return output.error(&error.to_string(), Some(begin), &fields);
             }
             Ok(places) if !is_clear || is_negotiation(&places) => places,

@@ -115,3 +115,38 @@ fn lacking_memory_is_said() {
     assert_eq!(String::from_utf8_lossy(&output.stderr), "quic-wire: -: out of memory\n");
     assert_eq!((output.status.code(), output.stdout.len()), (Some(3), 0));
 }
+
+// An Initial as tshark 4.0.17 and tcpdump 4.99.3 print it, with the headers in front.
+#[test]
+fn packets_of_captures_are_cut_to_their_datagrams() {
+    let tshark = "\
+        Frame (94 bytes):\n\
+        0000  00 00 00 00 00 00 00 00 00 00 00 00 08 00 45 00   ..............E.\n\
+        0010  00 50 00 00 40 00 40 11 3c 9b 7f 00 00 01 7f 00   .P..@.@.<.......\n\
+        0020  00 01 5f 72 82 cf 00 3c fe 4f c7 00 00 00 01 00   .._r...<.O......\n\
+        0030  12 54 6f 6f 67 26 d4 fd b1 de bd f7 56 09 ae d9   .Toog&......V...\n\
+        0040  47 8c c4 00 80 00 00 16 ef 1c f6 07 84 45 61 45   G............EaE\n\
+        0050  f7 4f 7d 1b d7 7b 9b 08 38 7a e3 0d 0f 7d         .O}..{..8z...}\n";
+    let tcpdump = "\
+        02:40:52.790300 IP 127.0.0.1.24434 > 127.0.0.1.33487: UDP, length 52\n\
+        \t0x0000:  4500 0050 0000 4000 4011 3c9b 7f00 0001  E..P..@.@.<.....\n\
+        \t0x0010:  7f00 0001 5f72 82cf 003c fe4f c700 0000  ...._r...<.O....\n\
+        \t0x0020:  0100 1254 6f6f 6726 d4fd b1de bdf7 5609  ...Toog&......V.\n\
+        \t0x0030:  aed9 478c c400 8000 0016 ef1c f607 8445  ..G............E\n\
+        \t0x0040:  6145 f74f 7d1b d77b 9b08 387a e30d 0f7d  aE.O}..{..8z...}\n";
+    for (dump, front) in [(tshark, 42), (tcpdump, 28)] {
+        let read = lines(&["datagram"], dump);
+        assert_eq!(read[0], format!("2: 0..{front} udp from=127.0.0.1:24434 to=127.0.0.1:33487"));
+        assert!(read[1].starts_with(&format!("2: {front}..{} initial dst=- src=546f", front + 52)), "{read:?}");
+        assert!(read[1].ends_with(&format!(" len=22 number_at={}", front + 30)) && read.len() == 2, "{read:?}");
+        assert!(lines(&["frames"], dump)[0].starts_with("2: error a packet with its headers of IP"));
+    }
+    let ipv6 = "6000 0000 000d 1120 2001 0db8 0000 0000 0000 0000 0000 0001 2001 0db8 0000 0000 0000 0000 0000 0002 \
+                01bb c350 000d e1dc 41aa bbcc 00";
+    let all =
+        ["1: 0..48 udp from=[2001:db8::1]:443 to=[2001:db8::2]:50000", "1: 48..53 short dst=- spin=false number_at=49"];
+    assert_eq!(lines(&["datagram"], ipv6), all);
+    let tcp = "4500 002d 1234 0000 ff06 9594 0a00 0001 0a00 0002 01bb c350 0000 0000 0000 0000 5000 2000 b95a 0000 \
+               41aa bbcc 00";
+    assert_eq!(lines(&["datagram"], tcp), ["1: error a packet of IP without UDP"]);
+}

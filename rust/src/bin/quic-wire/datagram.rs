@@ -1,6 +1,7 @@
 //! The packets of datagrams.
 use crate::args::Datagrams;
 use crate::fault;
+use crate::link::{self, Packet};
 use crate::output::{Field, Output, Value};
 use quic_wire::packet::{HeaderError, HeaderPlaces, LongType, ProtectedHeader};
 use quic_wire::ConnectionId;
@@ -34,9 +35,27 @@ impl Ids {
     }
 }
 
-/// Prints the packets of a datagram, and learns the ids in them.
-pub fn show(datagram: &[u8], how: &Datagrams, ids: &mut Ids, output: &mut Output<impl Write>) -> io::Result<()> {
-    let (mut begin, mut before) = (0, None);
+/// Prints the packets of a datagram, and learns the ids in them. A capture has the headers of IP and UDP before it.
+pub fn show(bytes: &[u8], how: &Datagrams, ids: &mut Ids, output: &mut Output<impl Write>) -> io::Result<()> {
+    match link::packet(bytes) {
+        Some(Packet { udp: Some((payload, from, to)) }) => {
+            let fields = [("from", Value::Word(from.to_string().into())), ("to", Value::Word(to.to_string().into()))];
+            output.item(0..payload.start, ("packet", "udp"), &fields, &[])?;
+            show_packets(&bytes[..payload.end], payload.start, how, ids, output)
+        }
+        Some(Packet { udp: None }) => output.error("a packet of IP without UDP", None, &[]),
+        None => show_packets(bytes, 0, how, ids, output),
+    }
+}
+
+fn show_packets(
+    datagram: &[u8],
+    mut begin: usize,
+    how: &Datagrams,
+    ids: &mut Ids,
+    output: &mut Output<impl Write>,
+) -> io::Result<()> {
+    let mut before = None;
     loop {
         let rest = &datagram[begin..];
         let cid_len = how.cid_len.unwrap_or_else(|| ids.len_in(rest, before));

@@ -32,7 +32,8 @@ known by the offset in front of them:
   0010  01 02 ..       Wireshark (Copy, as a Hex Dump), `tshark -x`
   000010 01 02 ..      `od -A x -t x1` or, with text, `od -A x -t x1z`
   0000020 01 02 ..     `od -t x1`: seven octal digits
-`xxd -e`, and `hexdump` without -C, swap bytes and are refused.
+`xxd -e`, and `hexdump` without -C, swap bytes and are refused. A datagram may have its headers of Ethernet, IP and
+UDP in front, as captures print them.
 A blank line ends a dump, as its last offset does. Each line of output begins with the number of the line that it
 belongs to, and is written before the next one is read.
 

@@ -8,6 +8,7 @@ mod fault;
 mod frames;
 mod help;
 mod input;
+mod link;
 mod number;
 mod output;
 mod params;
@@ -28,6 +29,8 @@ use std::process::ExitCode;
 const REFUSED: u8 = 1;
 const WRONG_CALL: u8 = 2;
 const FAILED: u8 = 3;
+
+const WHOLE_PACKET: &str = "a packet with its headers of IP, and no payload of QUIC; the mode datagram reads it";
 
 fn main() -> ExitCode {
     match args::parse(std::env::args_os().skip(1)) {
@@ -97,6 +100,9 @@ fn show_all(args: &Args, source: impl BufRead, output: &mut Output<impl Write>) 
         output.set_line(line);
         let written = match (&args.mode, bytes) {
             (_, Err(what)) => output.error(&what, None, &[]),
+            (Mode::Frames { .. } | Mode::Canon, Ok(bytes)) if link::packet(&bytes).is_some() => {
+                output.error(WHOLE_PACKET, None, &[])
+            }
             (Mode::Frames { strict }, Ok(bytes)) => frames::show(&bytes, *strict, output),
             (Mode::Canon, Ok(bytes)) => canon::show(&bytes, output),
             (Mode::Datagram(how), Ok(bytes)) => datagram::show(&bytes, how, &mut ids, output),

@@ -68,48 +68,25 @@ fn an_error_of_a_packet_names_its_field() {
     }
 }
 
+// A list, where the parameter at fault begins, what is said of it, the parameter, why, and the section.
+const PARAMETERS: [(&str, usize, &str, &str, &str, &str); 8] = [
+    ("0a0115", 0, "illegal value", "ack_delay_exponent id=10 value=15", "=a number of at most 20", "18.2"),
+    ("010100 0b0480004000", 3, "illegal value", "max_ack_delay id=11 value=80004000", "=a number below 2^14", "18.2"),
+    ("030244af", 0, "illegal value", "max_udp_payload_size id=3 value=44af", "=a number of 1200 or more", "18.2"),
+    ("0e0101", 0, "illegal value", "active_connection_id_limit id=14 value=01", "=a number of 2 or more", "18.2"),
+    ("0c0100", 0, "malformed", "disable_active_migration id=12 value=00", "=no bytes", "18.2"),
+    ("0202aabb", 0, "malformed", "stateless_reset_token id=2 value=aabb", "=16 bytes", "18.2"),
+    ("010100 1100 010100", 5, "malformed", "max_idle_timeout id=1 value=00", "it is there twice", "7.4"),
+    ("010100 0105", 3, "malformed", "max_idle_timeout id=1", "it is cut off", "18"),
+];
+
 #[test]
 fn an_error_of_parameters_names_the_parameter() {
-    let wanted = |what| format!("wanted=\"{what}\" why=\"its value isn't what it must be\"");
-    let rows = [
-        ("0a0115", 0, "illegal value", "ack_delay_exponent id=10 value=15", wanted("a number of at most 20"), "18.2"),
-        (
-            "010100 0b0480004000",
-            3,
-            "illegal value",
-            "max_ack_delay id=11 value=80004000",
-            wanted("a number below 2^14"),
-            "18.2",
-        ),
-        (
-            "030244af",
-            0,
-            "illegal value",
-            "max_udp_payload_size id=3 value=44af",
-            wanted("a number of 1200 or more"),
-            "18.2",
-        ),
-        (
-            "0e0101",
-            0,
-            "illegal value",
-            "active_connection_id_limit id=14 value=01",
-            wanted("a number of 2 or more"),
-            "18.2",
-        ),
-        ("0c0100", 0, "malformed", "disable_active_migration id=12 value=00", wanted("no bytes"), "18.2"),
-        ("0202aabb", 0, "malformed", "stateless_reset_token id=2 value=aabb", wanted("16 bytes"), "18.2"),
-        (
-            "010100 1100 010100",
-            5,
-            "malformed",
-            "max_idle_timeout id=1 value=00",
-            "why=\"it is there twice\"".into(),
-            "7.4",
-        ),
-        ("010100 0105", 3, "malformed", "max_idle_timeout id=1", "why=\"it is cut off\"".into(), "18"),
-    ];
-    for (list, at, what, parameter, why, section) in rows {
+    for (list, at, what, parameter, why, section) in PARAMETERS {
+        let why = match why.strip_prefix('=') {
+            Some(wanted) => format!("wanted=\"{wanted}\" why=\"its value isn't what it must be\""),
+            None => format!("why=\"{why}\""),
+        };
         let error = format!(
             "1: error at {at}: {what} parameter={parameter} {why} {PARAMETER} section=\"RFC 9000, section {section}\""
         );

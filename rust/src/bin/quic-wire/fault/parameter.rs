@@ -158,3 +158,17 @@ fn of_entry(list: &[u8], side: Side, entry: &Entry, known: &Parameter) -> Vec<Fi
     fields.extend(closed(Code::TRANSPORT_PARAMETER_ERROR, section));
     fields
 }
+
+#[cfg(test)]
+mod tests {
+    use super::*;
+    use quic_wire::transport_parameters;
+
+    #[test]
+    fn the_table_has_the_parameters_that_the_library_knows() {
+        for id in (0..0x1_0000).chain([MIN_ACK_DELAY]) {
+            let is_known = transport_parameters::Entry { id, value: &[] }.is_known();
+            assert_eq!(known(id).is_some(), is_known, "{id:#x}");
+        }
+    }
+}

@@ -3,6 +3,8 @@
  * line before it reads the next: where a read fails, lines before it are
  * printed.  Each line's bytes are in a block of exactly their length, so that a
  * sanitizer or valgrind sees each byte that is read past it. */
+/* For SIGPIPE. */
+#define _POSIX_C_SOURCE 200809L
 #include <inttypes.h>
 #include <signal.h>
 #include <stdio.h>

@@ -3,6 +3,7 @@ import os
 import random
 import re
 import subprocess
+import sys
 
 MUTATED = 10000
 SEED = 9000
@@ -24,12 +25,17 @@ def read_lines(path):
         return file.read().splitlines()
 
 
+def lines_of(top, form):
+    """The lines of quic_replay's list, and the inputs of the test vectors."""
+    told = subprocess.run(
+        [sys.executable, f"{top}/vectors/inputs.py", form], capture_output=True, text=True, check=True
+    ).stdout
+    return read_lines(f"{top}/crates/quic_replay/data/{form.removesuffix('s')}s.in") + told.splitlines()
+
+
 def stored(top):
     """The lists of the repository, each with a command."""
-    data = f"{top}/crates/quic_replay/data"
-    payloads = read_lines(f"{data}/payloads.in")
-    datagrams = read_lines(f"{data}/datagrams.in")
-    params = read_lines(f"{data}/params.in")
+    payloads, datagrams, params = (lines_of(top, form) for form in ("payload", "datagram", "params"))
     lists = {"frames": payloads, "strict": payloads}
     for length in (0, 8, 20):
         lists[f"datagram {length}"] = datagrams

@@ -1,5 +1,5 @@
 -- The data of the STREAMs that came.
-use Rattle.std.proofs.Common.{◌≡◌, ℕ, ◌+◌, ◌-◌, ◌^◌, min, None, List, [], ◌∷◌, ◌++◌, length, false, refl, ap, ◌∙◌, arith}
+use Rattle.std.proofs.Common.{◌≡◌, ℕ, ◌+◌, ◌-◌, ◌^◌, min, List, [], ◌∷◌, ◌++◌, length, false, refl, ap, ◌∙◌, arith}
 use Rattle.std.proofs.lemmas.List.Sums.{sum_by_push}
 use Rattle.quic_callers.specs.Data.{data_len, stream_len, streams_len}
 use Rattle.quic_frames.proofs.Turns.{HasRead, has_read_none, has_read_more, has_read_all}

@@ -1,6 +1,5 @@
 -- The error of a payload, as it is reported.
-use Rattle.std.proofs.Common.{Option, None, false, ℕ, List, subst, inr}
-use Rattle.std.specs.Prelude.{◌≡◌}
+use Rattle.std.proofs.Common.{false, ℕ, List, subst, inr}
 use Rattle.quic_callers.specs.Reported.{IsReported}
 use Rattle.quic_errors.specs.Codes.{IsErrorOf}
 use Rattle.quic_errors.specs.declared.transport_error.Error.{Error}

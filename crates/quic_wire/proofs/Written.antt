@@ -6,7 +6,9 @@ use Rattle.quic_header_decode.specs.Grammar.{CutAnswer, HeaderAt}
 use Rattle.quic_header_decode.specs.Headers.{IsWithoutNumber}
 use Rattle.quic_header_decode.specs.Datagram.{CutPacket}
 use Rattle.quic_header_decode.specs.Reading.{DecodeOptions, len_in}
-use Rattle.quic_header_decode.specs.Refusal.{Refusal}
+use Rattle.quic_header_decode.specs.Refusal.{Refusal, RefusesHeader, refusal_of}
+use Rattle.quic_header_decode.specs.declared.decode_error.PacketDecodeError.{PacketDecodeError}
+use Rattle.quic_header_decode.specs.declared.decode_error.PacketDecodeError.TheVariants as error
 use Rattle.quic_header_decode.specs.declared.protected.ProtectedHeader.{ProtectedHeader}
 use Rattle.quic_header_decode.specs.declared.protected.ProtectedHeader.TheVariants as protected
 use Rattle.quic_header_encode.specs.Writing.{header_bytes}
@@ -46,11 +48,12 @@ Again options = (header : Header) (rest : List ℕ) → IsPlainInRange options h
     → (read : ProtectedHeader) × IsWithoutNumber read header
     × HeaderAt options (length (header_bytes header ++ rest)) (header_bytes header ++ rest) read rest
 
-pub plain_cut : (options : DecodeOptions) (bytes : List ℕ) (packet : CutPacket) → Again options
-    → ReturnsOne (CutAnswer options bytes) (λ answer. answer ≡ Ok (packet.head, packet.header_end, length packet.bytes))
-    → (header : Header) (rest : List ℕ) → bytes ≡ header_bytes header ++ rest → IsPlainInRange options header
-    → IsWithoutNumber packet.head header
-plain_cut options bytes packet again gives header rest text range =
+-- the one answer for a datagram that begins with such a header
+pub plain_answer : (options : DecodeOptions) (bytes : List ℕ) → Again options → (header : Header) (rest : List ℕ)
+    → bytes ≡ header_bytes header ++ rest → IsPlainInRange options header
+    → (read : ProtectedHeader) × IsWithoutNumber read header
+    × CutAnswer options bytes (Ok (read, length (header_bytes header), length bytes))
+plain_answer options bytes again header rest text range =
     let written : List ℕ = header_bytes header in
     let back = again header rest range in
     let at : HeaderAt options (length bytes) bytes back.0 rest =
@@ -59,13 +62,38 @@ plain_cut options bytes packet again gives header rest text range =
     (λ len. length bytes ≡ length written + len) =
     subst (λ (o : Option ℕ). MatchOption o (length bytes ≡ length bytes) (λ len. length bytes ≡ length written + len))
     (sym (lacks_length back.0 header back.1)) refl in
-    let cut : CutAnswer options bytes (Ok (back.0, length written, length bytes)) =
-    (rest, at, omega (arith, ap length text, length-append written rest), end, omega arith) in
-    let same : (let r : Result (ProtectedHeader × ℕ × ℕ) Refusal = Ok (back.0, length written, length bytes) in r)
+    (back.0, back.1, (rest, at, omega (arith, ap length text, length-append written rest), end, omega arith))
+
+pub plain_cut : (options : DecodeOptions) (bytes : List ℕ) (packet : CutPacket) → Again options
+    → ReturnsOne (CutAnswer options bytes) (λ answer. answer ≡ Ok (packet.head, packet.header_end, length packet.bytes))
+    → (header : Header) (rest : List ℕ) → bytes ≡ header_bytes header ++ rest → IsPlainInRange options header
+    → IsWithoutNumber packet.head header
+plain_cut options bytes packet again gives header rest text range =
+    let back = plain_answer options bytes again header rest text range in
+    let same : (let r : Result (ProtectedHeader × ℕ × ℕ) Refusal = Ok (back.0, length (header_bytes header), length bytes) in r)
     ≡ Ok (packet.head, packet.header_end, length packet.bytes) =
-    gives.one.only (Ok (back.0, length written, length bytes)) cut ∙ gives.returned in
-    let parts : (let p : ProtectedHeader × ℕ × ℕ = (back.0, length written, length bytes) in p)
+    gives.one.only (Ok (back.0, length (header_bytes header), length bytes)) back.2 ∙ gives.returned in
+    let parts : (let p : ProtectedHeader × ℕ × ℕ = (back.0, length (header_bytes header), length bytes) in p)
     ≡ (packet.head, packet.header_end, length packet.bytes) =
     cc in
     let head : back.0 ≡ packet.head = ap (λ (p : ProtectedHeader × ℕ × ℕ). p.0) parts in
     subst (λ (h : ProtectedHeader). IsWithoutNumber h header) head back.1
+
+refused : (options : DecodeOptions) (bytes : List ℕ) (e : Refusal) (read : ProtectedHeader × ℕ × ℕ)
+    → ReturnsOne (CutAnswer options bytes) (λ answer. answer ≡ Err e) → CutAnswer options bytes (Ok read) → ⊥
+refused options bytes e read gives cut =
+    let same : (let r : Result (ProtectedHeader × ℕ × ℕ) Refusal = Ok read in r) ≡ Err e =
+    gives.one.only (Ok read) cut ∙ gives.returned in
+    absurd cc
+
+pub plain_refused : (options : DecodeOptions) (bytes : List ℕ) (e : PacketDecodeError) → Again options
+    → ReturnsOne (CutAnswer options bytes) (RefusesHeader e)
+    → (header : Header) (rest : List ℕ) → bytes ≡ header_bytes header ++ rest → IsPlainInRange options header
+    → e ≡ error.OutOfMemory
+plain_refused options bytes error.OutOfMemory again gives header rest text range = refl
+plain_refused options bytes (error.InvalidHeader reason) again gives header rest text range =
+    let back = plain_answer options bytes again header rest text range in
+    absurd (refused options bytes (refusal_of (error.InvalidHeader reason)) _ gives back.2)
+plain_refused options bytes (error.UnsupportedVersion src dst version) again gives header rest text range =
+    let back = plain_answer options bytes again header rest text range in
+    absurd (refused options bytes (refusal_of (error.UnsupportedVersion src dst version)) _ gives back.2)

@@ -206,16 +206,17 @@ fn are_typed(frames: &[Frame<'_>])
     }
 }
 
-/// Cuts a datagram that begins with a written Retry or version negotiation: its header is what was written.
+/// Cuts a datagram that begins with a written Retry or version negotiation: its header is what was written, and the only
+/// error is that memory ran out.
 pub fn cut_plain<P: ConnectionIdParser>(
     datagram: BytesMut,
     parser: &P,
     versions: &[u32],
     grease: bool,
 ) -> Result<PartialDecode, PacketDecodeError>
-    ensures { IfOk result (λ x. (header : Header) (rest : List ℕ) → datagram.items ≡ header_bytes header ++ rest
+    ensures { (header : Header) (rest : List ℕ) → datagram.items ≡ header_bytes header ++ rest
         → IsPlainInRange (read_by (P.parsed parser.now) versions.now grease) header
-        → IsWithoutNumber x.head header) }
+        → MatchResult result (λ x. IsWithoutNumber x.head header) (λ e. e ≡ PacketDecodeError.OutOfMemory) }
 {
     headers_again();
     match cut_first(datagram, parser, versions, grease) {

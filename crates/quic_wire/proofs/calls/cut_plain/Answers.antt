@@ -1,8 +1,13 @@
 use Rattle.quic_header_decode.specs.Reading.{read_by}
-use Rattle.quic_wire.proofs.Written.{plain_cut}
+use Rattle.quic_wire.proofs.Written.{plain_cut, plain_refused}
 use Rattle.quic_wire.proofs.calls.cut_plain.Goals as goal
 
 pub returns-in-Ok : goal.returns-in-Ok
 returns-in-Ok g c =
     let options = read_by (g.P.ConnectionIdParser.parsed c.args.parser.now) c.args.versions.now c.args.grease in
     plain_cut options c.args.datagram.items c.in-Ok.packet (c.headers_again.ensures.plain options) c.in-Ok.ensures.one
+
+pub returns-in-Err : goal.returns-in-Err
+returns-in-Err g c =
+    let options = read_by (g.P.ConnectionIdParser.parsed c.args.parser.now) c.args.versions.now c.args.grease in
+    plain_refused options c.args.datagram.items c.in-Err.e (c.headers_again.ensures.plain options) c.in-Err.ensures.one

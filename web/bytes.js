@@ -1,5 +1,7 @@
 // Bytes out of pasted text: hexadecimal with or without separators, dumps with offsets, base64.
 
+import { fromDecimals, fromLiteral, isHeading, refusalOf, withoutNames } from "./written.js";
+
 const HEX_DIGITS = /^[0-9a-f]*$/i;
 // What may be between digits: blanks, the signs of lists in source code, 0x and \x.
 const SEPARATORS = /0x|\\x|[\s:,;{}()[\]"']+/gi;
@@ -118,9 +120,10 @@ function dumpsWithBase(lines, base) {
   let isLikeBefore = false;
   for (const [at, text] of lines.entries()) {
     const last = dumps[dumps.length - 1];
-    if (text.trim() === "" || (last && LIKE_BEFORE.test(text))) {
-      isBehindBlank ||= text.trim() === "";
-      isLikeBefore ||= text.trim() !== "";
+    const isBlank = text.trim() === "" || isHeading(text);
+    if (isBlank || (last && LIKE_BEFORE.test(text))) {
+      isBehindBlank ||= isBlank;
+      isLikeBefore ||= !isBlank;
       continue;
     }
     const line = dumpLine(text, base);
@@ -172,7 +175,12 @@ function fault(text, digits) {
 
 // Returns the bytes and how they were written, or what is wrong.
 export function readText(text) {
-  const digits = text.replace(SEPARATORS, "");
+  const refusal = refusalOf(text);
+  if (refusal) {
+    return { bytes: null, form: null, fault: refusal };
+  }
+  const listed = fromLiteral(text) ?? fromDecimals(withoutNames(text));
+  const digits = withoutNames(text).replace(SEPARATORS, "");
   const isHex = HEX_DIGITS.test(digits);
   if (/[\n:]|\s{2}/.test(text) && digits !== "") {
     const dumps = readDumps(text);
@@ -181,10 +189,13 @@ export function readText(text) {
       return { bytes, form, fault: null };
     }
   }
-  if (isHex && digits.length % 2 === 0) {
+  if (listed) {
+    return { bytes: listed, form: "a list of bytes", fault: null };
+  }
+  if (isHex && digits.length % 2 === 0 && (digits !== "" || !BASE64.test(text.trim()))) {
     return { bytes: fromHex(digits), form: "hexadecimal", fault: null };
   }
-  if (!isHex && BASE64.test(text.trim())) {
+  if ((!isHex || digits === "") && BASE64.test(text.trim())) {
     const bytes = fromBase64(text);
     if (bytes) {
       return { bytes, form: "base64", fault: null };

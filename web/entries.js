@@ -2,6 +2,7 @@
 // or is a log whose lines have bytes in them.
 
 import { readDumps, readText } from "./bytes.js";
+import { refusalOf } from "./written.js";
 
 // A line of a log is looked at for pairs of digits in a row; what is shorter than this is a time, a length or the like.
 const LOG_RUN = /(?<![0-9a-z_])(?:0x)?((?:[0-9a-f]{2}[ :]?)*[0-9a-f]{2})(?![0-9a-z_])/gi;
@@ -90,6 +91,9 @@ function isOne(one, several, lines, filled) {
 // The inputs in a text. |lines| says whether its lines belong together ("one") or not ("each"), or is "auto". Returned
 // are the inputs, how many lines have none, whether the lines can be taken both ways, and how they were.
 export function readEntries(text, lines = "auto") {
+  if (refusalOf(text)) {
+    return { entries: [{ ...readText(text), line: 1 }], left: 0, both: false, lines: "one" };
+  }
   const filled = text.includes("\n") ? filledLines(text) : [{ text, line: 1 }];
   const dumps = filled.length > 1 ? readDumps(text) : null;
   if (dumps && dumps.length > 1) {

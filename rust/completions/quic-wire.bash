@@ -10,10 +10,15 @@ _quic_wire_words() {
         --versions) echo '1 6b3343cf 1,6b3343cf' ;;
         *)
             case $1 in
-                frames) echo '--json --color --strict' ;;
-                datagram) echo '--json --color --cid-len --versions --grease' ;;
-                params) echo '--json --color --side' ;;
-                *) echo '--json --color --strict --cid-len --versions --grease --side --help --version' ;;
+                frames) echo '--base64 --json --color --strict' ;;
+                datagram) echo '--base64 --json --color --cid-len --versions --grease' ;;
+                params) echo '--base64 --json --color --side' ;;
+                number) echo '--base64 --json --color --largest' ;;
+                canon | ranges) echo '--base64 --json --color' ;;
+                *)
+                    echo '--base64 --json --color --strict --cid-len --versions --grease --side --largest'
+                    echo '--help --version'
+                    ;;
             esac
             ;;
     esac
@@ -29,7 +34,7 @@ _quic_wire() {
     fi
     for word in "${COMP_WORDS[@]:1:COMP_CWORD-1}"; do
         case $word in
-            frames | datagram | params) mode=$word && break ;;
+            frames | canon | datagram | params | number | ranges) mode=$word && break ;;
         esac
     done
     case $before,$current in
@@ -38,7 +43,7 @@ _quic_wire() {
             ;;
         *)
             if [ -z "$mode" ]; then
-                mapfile -t COMPREPLY < <(compgen -W 'frames datagram params' -- "$current")
+                mapfile -t COMPREPLY < <(compgen -W 'frames canon datagram params number ranges' -- "$current")
             else
                 compopt -o filenames 2>/dev/null
                 mapfile -t COMPREPLY < <(compgen -f -- "$current")

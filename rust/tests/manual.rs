@@ -16,7 +16,7 @@ fn help() -> String {
 
 // The names after a mark, as `json` is after `--` in `--json`.
 fn names<'a>(text: &'a str, mark: &str) -> BTreeSet<&'a str> {
-    let is_of_name = |c: char| c.is_ascii_lowercase() || c == '-';
+    let is_of_name = |c: char| c.is_ascii_lowercase() || c.is_ascii_digit() || c == '-';
     let ends = text.match_indices(mark).map(|(begin, _)| &text[begin + mark.len()..]);
     let names = ends.map(|rest| &rest[..rest.find(|c| !is_of_name(c)).unwrap_or(rest.len())]);
     names.filter(|name| name.starts_with(|c: char| c.is_ascii_lowercase())).collect()
@@ -43,7 +43,11 @@ fn the_same_options_are_named_everywhere() {
 #[test]
 fn the_same_values_are_named_everywhere() {
     let help = help();
-    for word in ["frames", "datagram", "params", "client", "server", "always", "never", "auto", "6b3343cf"] {
+    let words = [
+        "frames", "canon", "datagram", "params", "number", "ranges", "client", "server", "always", "never", "auto",
+        "6b3343cf",
+    ];
+    for word in words {
         for (name, text) in [("help", &help[..]), ("manual", MANUAL), ("bash", BASH), ("zsh", ZSH), ("fish", FISH)] {
             let has = text.split(|c: char| !c.is_ascii_alphanumeric()).any(|part| part == word);
             assert!(has, "{name}: {word}");

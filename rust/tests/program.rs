@@ -1,28 +1,11 @@
 //! The program `quic-wire`: what it prints, and that it reads what `quic-show` reads.
 #![cfg(feature = "std")]
+mod common;
+
+use common::{lines, run};
 use std::fs;
 use std::io::{BufRead, BufReader, Write};
 use std::process::{Command, Stdio};
-
-const NO_BYTES: &str = "not hexadecimal, nor a dump as xxd, hexdump -C or od -t x1 prints it";
-
-fn run(arguments: &[&str], input: &[u8]) -> (String, String, i32) {
-    let mut command = Command::new(env!("CARGO_BIN_EXE_quic-wire"));
-    command.args(arguments).stdin(Stdio::piped()).stdout(Stdio::piped()).stderr(Stdio::piped());
-    let mut child = command.spawn().unwrap();
-    let mut stdin = child.stdin.take().unwrap();
-    let input = input.to_vec();
-    // A program that stops reading is no failure of the test.
-    let writer = std::thread::spawn(move || stdin.write_all(&input).is_ok());
-    let output = child.wait_with_output().unwrap();
-    writer.join().unwrap();
-    let text = |bytes| String::from_utf8(bytes).unwrap();
-    (text(output.stdout), text(output.stderr), output.status.code().unwrap())
-}
-
-fn lines(arguments: &[&str], input: &str) -> Vec<String> {
-    run(arguments, input.as_bytes()).0.lines().map(String::from).collect()
-}
 
 #[test]
 fn every_field_of_a_frame_is_printed() {
@@ -64,9 +47,7 @@ fn every_field_of_a_frame_is_printed() {
             "0..9 ACK_FREQUENCY sequence=42 ack_eliciting_threshold=20 request_max_ack_delay=50000 \
              reordering_threshold=1",
         ),
-        ("21", "error invalid frame ID in <unknown 21>"),
-        ("", "error packet payload is empty"),
-        ("0", &format!("error {NO_BYTES}")),
+        ("0", "error an odd number of digits, 1, in column 1"),
     ];
     let input: String = rows.iter().map(|(line, _)| format!("{line}\n")).collect();
     let all: Vec<_> = rows.iter().enumerate().map(|(i, (_, answer))| format!("{}: {answer}", i + 1)).collect();
@@ -82,23 +63,24 @@ fn other_programs_read_objects() {
             r#"{"line":1,"start":1,"end":6,"type":"STREAM","id":4,"offset":0,"fin":false,"len":1,"data":"61","#,
             r#""raw_type":14}"#,
         ),
-        r#"{"line":1,"offset":6,"error":"frame type not in shortest form in PING"}"#,
+        concat!(
+            r#"{"line":1,"offset":6,"error":"frame type not in shortest form in PING","field":"Frame Type","#,
+            r#""field_at":6,"close_code":10,"close_name":"PROTOCOL_VIOLATION","section":"RFC 9000, section 12.4"}"#,
+        ),
         concat!(
             r#"{"line":2,"start":0,"end":4,"type":"APPLICATION_CLOSE","error_code":5,"reason":"\"","#,
             r#""reason_bytes":"22","raw_type":29}"#,
         ),
     ];
     assert_eq!((text.lines().collect::<Vec<_>>(), status), (objects.to_vec(), 1));
-    let list = "0105\n04010911040000000101\n";
-    let object = r#"{"line":2,"initial_max_data":9,"unknown":[{"id":17,"value":"00000001"}],"order":[4,17]}"#;
-    let reported = lines(&["params", "--json", "--side=server"], list);
-    assert_eq!(reported, [r#"{"line":1,"error":"malformed"}"#, r#"{"line":2,"error":"malformed"}"#]);
-    assert_eq!(lines(&["params", "--json"], &list.replace("0101\n", "01\n"))[1], object);
+    let list = "04010911040000000101\n";
+    let object = r#"{"line":1,"initial_max_data":9,"unknown":[{"id":17,"value":"00000001"}],"order":[4,17]}"#;
+    assert_eq!(lines(&["params", "--json"], &list.replace("0101\n", "01\n")), [object]);
     assert_eq!(lines(&["params"], "040109\n"), ["1: initial_max_data=9", "1: order=4"]);
 }
 
 #[test]
-fn packets_are_printed_with_what_a_refusal_tells() {
+fn every_field_of_a_packet_is_printed() {
     let rows = [
         (
             "c0000000010806b858ec6f80452b0002aabb4003010203",
@@ -106,13 +88,7 @@ fn packets_are_printed_with_what_a_refusal_tells() {
         ),
         ("c00000000001aa01bb00000001", "0..13 version-negotiation dst=aa src=bb versions=00000001"),
         ("f00000000101aa00ffff", "0..10 retry dst=aa src=- version=00000001 rest=ffff"),
-        (
-            "e00000000101aa00400a01",
-            "error packet too short to contain payload length dst=aa src=- version=00000001 len=10 number_at=10",
-        ),
-        ("c000000009020102030405ff", "error unsupported version 9 dst=0102 src=0405ff"),
         ("61aabb", "0..3 short dst=- spin=true number_at=1"),
-        ("21aabb", "error fixed bit unset"),
     ];
     let input: String = rows.iter().map(|(line, _)| format!("{line}\n")).collect();
     let all: Vec<_> = rows.iter().enumerate().map(|(i, (_, answer))| format!("{}: {answer}", i + 1)).collect();
@@ -127,25 +103,32 @@ fn packets_are_printed_with_what_a_refusal_tells() {
 
 #[test]
 fn calls_end_with_their_status() {
-    for wrong in [
-        &[][..],
-        &["frame"],
-        &["frames", "--grease"],
-        &["params", "--cid-len=1"],
-        &["datagram", "--cid-len", "21"],
-        &["datagram", "--cid-len", "+1"],
-        &["datagram", "--versions", "0"],
-        &["datagram", "--versions", "1,,2"],
-        &["params", "--side", "peer"],
-        &["params", "--side"],
-        &["frames", "--json=1"],
-        &["frames", "--color=yes"],
-        &["frames", "--color"],
-        &["frames", "-x"],
+    for (wrong, what) in [
+        (&[][..], "no mode is given; it is one of frames, canon, datagram, params, number, ranges"),
+        (&["frame"], "there is no mode \"frame\"; did you mean frames?"),
+        (&["dataram"], "there is no mode \"dataram\"; did you mean datagram?"),
+        (&["quux"], "there is no mode \"quux\""),
+        (&["frames", "--grease"], "--grease is an option of datagram, not of frames"),
+        (&["params", "--cid-len=1"], "--cid-len is an option of datagram, not of params"),
+        (&["canon", "--strict"], "--strict is an option of frames, not of canon"),
+        (&["datagram", "--cid-len", "21"], "an id has 0 to 20 bytes, not \"21\""),
+        (&["datagram", "--cid-len", "+1"], "an id has 0 to 20 bytes, not \"+1\""),
+        (&["datagram", "--cid-len"], "--cid-len wants a value: how many bytes an id has, 0 to 20"),
+        (&["datagram", "--versions", "0"], "a version is a hexadecimal number of at most 8 digits and not 0"),
+        (&["datagram", "--versions", "1,,2"], "a version is a hexadecimal number of at most 8 digits and not 0"),
+        (&["datagram", "--vers", "1"], "there is no option --vers; did you mean --version?"),
+        (&["params", "--side", "clint"], "a side is client or server, not \"clint\"; did you mean client?"),
+        (&["params", "--side"], "--side wants a value: client or server"),
+        (&["params", "--sdie=client"], "there is no option --sdie; did you mean --side?"),
+        (&["number", "--largest", "-1"], "a packet number is below 2^62 - 1"),
+        (&["frames", "--json=1"], "--json has no value"),
+        (&["frames", "--color=alwys"], "colours are always, never or auto, not \"alwys\"; did you mean always?"),
+        (&["frames", "--color"], "--color wants a value: always, never or auto"),
+        (&["frames", "-x"], "there is no option -x"),
     ] {
         let (out, err, status) = run(wrong, b"01\n");
         assert_eq!((out.as_str(), status), ("", 2), "{wrong:?}");
-        assert!(err.starts_with("quic-wire: ") && err.contains("usage: quic-wire"), "{err}");
+        assert!(err.starts_with(&format!("quic-wire: {what}")) && err.contains("usage: quic-wire"), "{err}");
     }
     let (out, err, status) = run(&["frames", "--", "-nothing-"], b"");
     assert_eq!((out.as_str(), status), ("", 3));
@@ -184,6 +167,11 @@ fn files_and_dumps_are_named() {
     fs::write(&two, "zz\n").unwrap();
     let names = [one.to_str().unwrap(), two.to_str().unwrap()];
     let (text, _, status) = run(&["frames", names[0], names[1]], b"");
+    // One that isn't there doesn't keep it from the others.
+    let missing = folder.join("missing");
+    let (same, said, failed) = run(&["frames", missing.to_str().unwrap(), names[0], names[1]], b"");
+    assert_eq!((&same, failed), (&text, 3));
+    assert!(said.starts_with(&format!("quic-wire: {}: ", missing.display())), "{said}");
     fs::remove_dir_all(&folder).unwrap();
     let [one, two] = names;
     let all = [
@@ -191,7 +179,7 @@ fn files_and_dumps_are_named() {
         format!("{one}:1: 1..16 PADDING count=15"),
         format!("{one}:1: 16..17 HANDSHAKE_DONE"),
         format!("{one}:3: 0..1 PING"),
-        format!("{two}:1: error {NO_BYTES}"),
+        format!("{two}:1: error not hexadecimal: 'z' in column 1"),
     ];
     assert_eq!((text.lines().collect::<Vec<_>>(), status), (all.iter().map(String::as_str).collect(), 1));
 }
@@ -231,9 +219,9 @@ fn dumps_of_programs_are_read_as_one() {
 #[test]
 fn colours_are_asked_for() {
     let coloured = "\x1b[2m1:\x1b[0m \x1b[33m0..2\x1b[0m \x1b[1;32mMAX_DATA\x1b[0m \x1b[36mlimit\x1b[0m=5";
-    let error = "\x1b[2m2:\x1b[0m \x1b[1;31merror unexpected end in MAX_DATA\x1b[0m";
-    let plain = ["1: 0..2 MAX_DATA limit=5", "2: error unexpected end in MAX_DATA"];
-    let input = "1005\n10\n";
+    let error = "\x1b[2m2:\x1b[0m \x1b[1;31merror not hexadecimal: 'z' in column 1\x1b[0m";
+    let plain = ["1: 0..2 MAX_DATA limit=5", "2: error not hexadecimal: 'z' in column 1"];
+    let input = "1005\nzz\n";
     assert_eq!(lines(&["frames", "--color=always"], input), [coloured, error]);
     for way in [&["frames"][..], &["frames", "--color=auto"], &["frames", "--color", "never"]] {
         assert_eq!(lines(way, input), plain);
@@ -256,11 +244,13 @@ fn as_shown(mode: &str, input: &str, answer: &str) -> String {
             shown.push_str(&params.end());
         }
         last = number;
-        match (mode, text.strip_prefix("error ")) {
-            (_, Some(NO_BYTES)) => shown.push_str("error not hexadecimal\n"),
-            ("datagram", Some(error)) => shown.push_str(&no_packet(error)),
-            (_, Some(error)) => shown.push_str(&format!("error {error}\n")),
+        let error = text.strip_prefix("error ");
+        match (mode, error.map(|error| error.strip_prefix("at ").map_or(error, |at| at.split_once(": ").unwrap().1))) {
+            (_, Some(error)) if error.contains(" in column ") => shown.push_str("error not hexadecimal\n"),
+            ("datagram", Some(error)) => shown.push_str(&no_packet(text, error, lines[number - 1])),
+            (_, Some(error)) => shown.push_str(&format!("error {}\n", reason(error))),
             ("frames", None) => shown.push_str(&frame(text, lines[number - 1])),
+            ("datagram", None) if text.contains(" fixed_bit=false ") => shown.push_str("error fixed bit unset\n"),
             ("datagram", None) => shown.push_str(&packet(text)),
             _ => params.field(text),
         }
@@ -290,10 +280,21 @@ fn frame(text: &str, line: &str) -> String {
     shown
 }
 
-// `quic-show` refuses an id of more than 20 bytes in any version.
-fn no_packet(error: &str) -> String {
-    let reason = error.split(" dst=").next().unwrap();
+// What an error says before its fields.
+fn reason(error: &str) -> &str {
+    let end = error.find('=').map_or(error.len(), |equals| error[..equals].rfind(' ').unwrap());
+    &error[..end]
+}
+
+// `quic-show` looks at the fixed bit of any version, and refuses an id of more than 20 bytes in any.
+fn no_packet(text: &str, error: &str, line: &str) -> String {
+    let reason = reason(error);
+    let at: usize = text.strip_prefix("error at ").unwrap().split(':').next().unwrap().parse().unwrap();
+    let first = || u8::from_str_radix(&line[2 * at..2 * at + 2], 16).unwrap();
     let has_long_id = || field(error, "dst").len().max(field(error, "src").len()) > 40;
+    if reason.starts_with("unsupported version") && first() & 0x40 == 0 {
+        return "error fixed bit unset\n".into();
+    }
     if reason.starts_with("unsupported version") && has_long_id() {
         return "error malformed cid\n".into();
     }
@@ -369,7 +370,7 @@ fn lists_are_read_as_quic_show_reads_them() {
     for (list, mode, arguments) in [
         ("frames", "frames", vec!["frames"]),
         ("strict", "frames", vec!["frames", "--strict"]),
-        ("datagram-0", "datagram", vec!["datagram"]),
+        ("datagram-0", "datagram", vec!["datagram", "--cid-len=0"]),
         ("datagram-8", "datagram", vec!["datagram", "--cid-len", "8"]),
         ("datagram-20", "datagram", vec!["datagram", "--cid-len=20"]),
         ("params-client", "params", vec!["params", "--side", "client"]),
@@ -399,5 +400,6 @@ fn bytes_that_are_no_text_are_answered() {
     }
     let (text, _, status) = run(&["frames"], &bytes);
     assert_eq!(status, 1);
-    assert_eq!(text.lines().count(), 257);
+    // A comment is left out; `(` and `)`, `,` and `-`, `[` to `]`, `{` to `}` are read as one.
+    assert_eq!(text.lines().count(), 257 - 1 - 1 - 1 - 2 - 2);
 }

@@ -115,7 +115,10 @@ def packet(item):
 def datagram(items):
     read, error = [], None
     for item in items:
-        if "unsupported version" in item.get("error", "") and "dst" in item:
+        # The program shows with this field what `Packets` of the crate refuses.
+        if item.get("fixed_bit") is False:
+            error = {"offset": item.get("offset", item.get("start"))}
+        elif "unsupported version" in item.get("error", "") and "dst" in item:
             read.append({"type": "unknown version", "dcid": item["dst"], "scid": item["src"]})
         elif "error" in item:
             error = item

@@ -1,44 +1,10 @@
 //! What the program is called with.
 use crate::colour::When;
+use crate::help::HELP;
+use crate::input::Plain;
 use quic_wire::packet::DEFAULT_SUPPORTED_VERSIONS;
-use quic_wire::{Side, MAX_CID_SIZE};
+use quic_wire::{varint, Side, MAX_CID_SIZE};
 use std::ffi::{OsStr, OsString};
-
-pub const USAGE: &str = "usage: quic-wire frames|datagram|params [OPTION..] [FILE..]";
-
-const HELP: &str = "\
-Prints what the bytes of QUIC say, versions 1 and 2.
-
-usage: quic-wire MODE [OPTION..] [FILE..]
-
-MODE is what a line is:
-  frames      the payload of a packet without protection: its frames
-  datagram    a datagram as it is sent: its packets, as far as their headers are readable
-  params      a list of transport parameters
-
-Without FILE, and for -, standard input is read. A line is hexadecimal, in which spaces, tabs, commas, colons and 0x
-may stand. Lines of a dump are put together to what was dumped; they are known by the offset in front of them:
-  00000010: 0102 ..    `xxd`
-  00000010  01 02 ..   `hexdump -C`
-  000010 01 02 ..      `od -A x -t x1` or, with text, `od -A x -t x1z`
-  0000020 01 02 ..     `od -t x1`: seven octal digits
-A blank line ends a dump, as its last offset does. Each line of output begins with the number of the line that it
-belongs to, and is written before the next one is read.
-
-options:
-  --color WHEN         always, never or auto: on a terminal, unless NO_COLOR is set or TERM is dumb; by default auto
-  --json               an object of JSON in each line, for other programs; it has no colours
-  --strict             of frames: a type counts in its shortest encoding alone
-  --cid-len N          of datagram: how many bytes the ids of short headers have, 0 to 20; by default 0
-  --versions LIST      of datagram: the versions that are read, in hexadecimal with commas between them;
-                       by default 1, the drafts 29 to 34, and 2 (6b3343cf)
-  --grease             of datagram: the fixed bit may be clear (RFC 9287)
-  --side client|server of params: the side that reads the list; by default the client, who takes all of them
-  -h, --help; -V, --version
-
-It ends with 0 where every line was read, 1 where an error was printed, 2 for a wrong call, and 3 where reading or
-writing failed.
-";
 
 pub enum Call {
     Show(Args),
@@ -49,31 +15,67 @@ pub struct Args {
     pub mode: Mode,
     pub json: bool,
     pub colours: When,
+    pub plain: Plain,
     pub files: Vec<OsString>,
 }
 
 pub enum Mode {
     Frames { strict: bool },
+    Canon,
     Datagram(Datagrams),
     Params { side: Side },
+    Number { largest: Option<u64> },
+    Ranges,
 }
 
 pub struct Datagrams {
-    pub cid_len: usize,
+    /// By the ids of long headers where it isn't given.
+    pub cid_len: Option<usize>,
     pub versions: Vec<u32>,
     pub grease: bool,
 }
+
+const MODES: [&str; 6] = ["frames", "canon", "datagram", "params", "number", "ranges"];
+
+// An option: what its value is, if it has one, and the only mode that it is of.
+struct Known {
+    name: &'static str,
+    value: Option<&'static str>,
+    mode: Option<&'static str>,
+}
+
+const fn known(name: &'static str, value: Option<&'static str>, mode: Option<&'static str>) -> Known {
+    Known { name, value, mode }
+}
+
+const OPTIONS: [Known; 11] = [
+    known("--help", None, None),
+    known("--version", None, None),
+    known("--json", None, None),
+    known("--base64", None, None),
+    known("--color", Some("always, never or auto"), None),
+    known("--strict", None, Some("frames")),
+    known("--cid-len", Some("how many bytes an id has, 0 to 20"), Some("datagram")),
+    known("--versions", Some("versions in hexadecimal, with commas between them"), Some("datagram")),
+    known("--grease", None, Some("datagram")),
+    known("--side", Some("client or server"), Some("params")),
+    known("--largest", Some("the largest packet number that was received"), Some("number")),
+];
 
 // What options say.
 #[derive(Default)]
 struct Options {
     json: bool,
+    base64: bool,
     colours: When,
     strict: bool,
     grease: bool,
     cid_len: Option<usize>,
     versions: Option<Vec<u32>>,
     side: Option<Side>,
+    largest: Option<u64>,
+    // Those that are of one mode.
+    of_modes: Vec<&'static Known>,
 }
 
 pub fn parse(words: impl Iterator<Item = OsString>) -> Result<Call, String> {
@@ -96,64 +98,85 @@ pub fn parse(words: impl Iterator<Item = OsString>) -> Result<Call, String> {
     if files.is_empty() {
         files.push("-".into());
     }
-    let mode = mode.ok_or("what is a line: frames, datagram or params?")?;
-    Ok(Call::Show(Args { json: options.json, colours: options.colours, mode: options.mode(&mode)?, files }))
+    let mode = mode.ok_or_else(|| format!("no mode is given; it is one of {}", MODES.join(", ")))?;
+    let (json, colours, base64) = (options.json, options.colours, options.base64);
+    let mode = options.mode(&mode)?;
+    let plain = match mode {
+        Mode::Ranges => Plain::Decimal,
+        _ if base64 => Plain::Base64,
+        _ => Plain::Hexadecimal,
+    };
+    Ok(Call::Show(Args { mode, json, colours, plain, files }))
 }
 
 impl Options {
     fn take(&mut self, word: &str, rest: &mut impl Iterator<Item = OsString>) -> Result<(), String> {
-        let (name, mut given) = match word.split_once('=') {
+        let (name, given) = match word.split_once('=') {
             Some((name, value)) => (name, Some(value.to_string())),
             None => (word, None),
         };
-        let flag = match name {
-            "--json" => Some(&mut self.json),
-            "--strict" => Some(&mut self.strict),
-            "--grease" => Some(&mut self.grease),
-            _ => None,
+        let Some(option) = OPTIONS.iter().find(|option| option.name == name) else {
+            return Err(format!(
+                "there is no option {name}{}",
+                nearest(name, OPTIONS.iter().map(|option| option.name))
+            ));
         };
-        if let (Some(flag), None) = (flag, &given) {
-            *flag = true;
-            return Ok(());
+        if option.mode.is_some() {
+            self.of_modes.push(option);
         }
-        let mut value = || {
-            let next = given.take().or_else(|| rest.next().and_then(|word| word.into_string().ok()));
-            next.ok_or_else(|| format!("{name} wants a value"))
+        let value = match (option.value, given) {
+            (None, Some(_)) => return Err(format!("{name} has no value")),
+            (None, None) => String::new(),
+            (Some(_), Some(value)) => value,
+            (Some(what), None) => rest
+                .next()
+                .and_then(|word| word.into_string().ok())
+                .ok_or_else(|| format!("{name} wants a value: {what}"))?,
         };
+        self.set(name, &value)
+    }
+
+    fn set(&mut self, name: &str, value: &str) -> Result<(), String> {
         match name {
-            "--color" => self.colours = when(&value()?)?,
-            "--cid-len" => self.cid_len = Some(cid_len(&value()?)?),
-            "--versions" => self.versions = Some(versions(&value()?)?),
-            "--side" => self.side = Some(side(&value()?)?),
-            _ => return Err(format!("no such option: {word}")),
+            "--json" => self.json = true,
+            "--base64" => self.base64 = true,
+            "--strict" => self.strict = true,
+            "--grease" => self.grease = true,
+            "--color" => self.colours = when(value)?,
+            "--cid-len" => self.cid_len = Some(cid_len(value)?),
+            "--versions" => self.versions = Some(versions(value)?),
+            "--side" => self.side = Some(side(value)?),
+            _ => self.largest = Some(largest(value)?),
         }
         Ok(())
     }
 
     fn mode(self, name: &OsStr) -> Result<Mode, String> {
-        let is_datagram = self.grease || self.cid_len.is_some() || self.versions.is_some();
-        let (mode, others) = match name.to_str() {
-            Some("frames") => (Mode::Frames { strict: self.strict }, is_datagram || self.side.is_some()),
-            Some("datagram") => {
-                let versions = self.versions.unwrap_or_else(|| DEFAULT_SUPPORTED_VERSIONS.to_vec());
-                let cid_len = self.cid_len.unwrap_or(0);
-                let how = Datagrams { cid_len, versions, grease: self.grease };
-                (Mode::Datagram(how), self.strict || self.side.is_some())
-            }
-            Some("params") => (Mode::Params { side: self.side.unwrap_or(Side::Client) }, self.strict || is_datagram),
-            _ => return Err(format!("no such mode: {}", name.to_string_lossy())),
-        };
-        if others {
-            return Err(format!("{} has no such option; see --help", name.to_string_lossy()));
+        let text = name.to_string_lossy();
+        if let Some(other) = self.of_modes.iter().find(|option| option.mode != Some(&*text) && MODES.contains(&&*text))
+        {
+            return Err(format!("{} is an option of {}, not of {text}", other.name, other.mode.unwrap_or_default()));
         }
-        Ok(mode)
+        Ok(match &*text {
+            "frames" => Mode::Frames { strict: self.strict },
+            "canon" => Mode::Canon,
+            "datagram" => Mode::Datagram(Datagrams {
+                cid_len: self.cid_len,
+                versions: self.versions.unwrap_or_else(|| DEFAULT_SUPPORTED_VERSIONS.to_vec()),
+                grease: self.grease,
+            }),
+            "params" => Mode::Params { side: self.side.unwrap_or(Side::Client) },
+            "number" => Mode::Number { largest: self.largest },
+            "ranges" => Mode::Ranges,
+            _ => return Err(format!("there is no mode {text:?}{}", nearest(&text, MODES))),
+        })
     }
 }
 
 fn cid_len(text: &str) -> Result<usize, String> {
     let digits = text.len() <= 2 && text.bytes().all(|byte| byte.is_ascii_digit());
     let len = text.parse().ok().filter(|len| digits && *len <= MAX_CID_SIZE);
-    len.ok_or_else(|| format!("an id has 0 to {MAX_CID_SIZE} bytes, not {text}"))
+    len.ok_or_else(|| format!("an id has 0 to {MAX_CID_SIZE} bytes, not {text:?}"))
 }
 
 fn versions(text: &str) -> Result<Vec<u32>, String> {
@@ -161,16 +184,28 @@ fn versions(text: &str) -> Result<Vec<u32>, String> {
         let digits = word.strip_prefix("0x").unwrap_or(word);
         let is_plain = digits.bytes().all(|byte| byte.is_ascii_hexdigit());
         let number = u32::from_str_radix(digits, 16).ok().filter(|number| is_plain && *number != 0);
-        number.ok_or_else(|| format!("no version: {word}"))
+        number.ok_or_else(|| format!("a version is a hexadecimal number of at most 8 digits and not 0, not {word:?}"))
     };
     text.split(',').map(|word| version(word.trim())).collect()
+}
+
+fn largest(text: &str) -> Result<u64, String> {
+    let number = match text.strip_prefix("0x") {
+        Some(digits) => u64::from_str_radix(digits, 16),
+        None => text.parse(),
+    };
+    let is_plain = text.bytes().all(|byte| byte.is_ascii_alphanumeric());
+    let number = number.ok().filter(|number| is_plain && *number < varint::MAX);
+    number.ok_or_else(|| {
+        format!("a packet number is below 2^62 - 1, with 0x in front where it is hexadecimal, not {text:?}")
+    })
 }
 
 fn side(text: &str) -> Result<Side, String> {
     match text {
         "client" => Ok(Side::Client),
         "server" => Ok(Side::Server),
-        _ => Err(format!("a side is client or server, not {text}")),
+        _ => Err(format!("a side is client or server, not {text:?}{}", nearest(text, ["client", "server"]))),
     }
 }
 
@@ -179,6 +214,33 @@ fn when(text: &str) -> Result<When, String> {
         "always" => Ok(When::Always),
         "never" => Ok(When::Never),
         "auto" => Ok(When::Auto),
-        _ => Err(format!("colours are always, never or auto, not {text}")),
+        _ => {
+            let nearest = nearest(text, ["always", "never", "auto"]);
+            Err(format!("colours are always, never or auto, not {text:?}{nearest}"))
+        }
     }
+}
+
+// Which word may be meant, as the end of a sentence: one that begins so, or the nearest.
+fn nearest<'a>(word: &str, words: impl IntoIterator<Item = &'a str> + Clone) -> String {
+    let mut all = words.clone().into_iter();
+    let longer = all.find(|other| word.trim_matches('-').len() > 1 && other.starts_with(word));
+    let near = words.into_iter().map(|other| (changes(word, other), other)).min();
+    let near = near.filter(|(changes, _)| *changes <= 1 + word.len() / 4).map(|(_, other)| other);
+    longer.or(near).map_or(String::new(), |other| format!("; did you mean {other}?"))
+}
+
+// How many characters are put in, taken out or changed between two words: their Levenshtein distance.
+fn changes(word: &str, other: &str) -> usize {
+    let mut row: Vec<usize> = (0..=other.chars().count()).collect();
+    for (i, c) in word.chars().enumerate() {
+        let mut corner = i;
+        row[0] = i + 1;
+        for (j, d) in other.chars().enumerate() {
+            let changed = corner + usize::from(c != d);
+            corner = row[j + 1];
+            row[j + 1] = changed.min(row[j] + 1).min(corner + 1);
+        }
+    }
+    row[other.chars().count()]
 }

@@ -1,50 +1,115 @@
 //! The packets of datagrams.
 use crate::args::Datagrams;
+use crate::fault;
+use crate::link::{self, Packet};
 use crate::output::{Field, Output, Value};
 use quic_wire::packet::{HeaderError, HeaderPlaces, LongType, ProtectedHeader};
+use quic_wire::ConnectionId;
+use std::collections::VecDeque;
 use std::io::{self, Write};
-use Value::{Bytes, Flag, Number, Version, Versions};
+use Value::{Flag, Number, Version, Versions};
 
-pub fn show(datagram: &[u8], how: &Datagrams, output: &mut Output<impl Write>) -> io::Result<()> {
-    let mut begin = 0;
-    loop {
-        let rest = &datagram[begin..];
-        if !how.grease && rest.first().is_some_and(|first| first & 0x40 == 0) {
-            return output.error("fixed bit unset", Some(begin));
+// How many ids are kept: those that came last.
+const MOST_IDS: usize = 256;
+const NEGOTIATION: &str = "RFC 9000, section 17.2.1, leaves this bit unused; quinn-proto 0.11 refuses the packet";
+
+/// The ids that endpoints gave in long headers for packets that are sent to them.
+#[derive(Default)]
+pub struct Ids(VecDeque<ConnectionId>);
+
+impl Ids {
+    fn learn(&mut self, id: &[u8]) {
+        let Some(id) = ConnectionId::new(id).filter(|id| !self.0.contains(id)) else { return };
+        if self.0.len() == MOST_IDS {
+            self.0.pop_front();
         }
-        match HeaderPlaces::read(rest, how.cid_len, &how.versions) {
-            Ok(places) => {
-                let (name, fields) = fields(&places, &rest[..places.end()], begin);
-                let first = [("first", Number(places.first().into()))];
-                output.item(begin..begin + places.end(), ("packet", name), &fields, &first)?;
-                begin += places.end();
-            }
-            Err(error) => return output.error_with(&error.to_string(), Some(begin), &reported(&error, rest, begin)),
-        }
-        if begin == datagram.len() {
-            return Ok(());
-        }
+        self.0.push_back(id);
+    }
+
+    // How long the id of a short header is: as that of the packet before it in its datagram, which is the same id (RFC
+    // 9000, section 12.2), or the longest known one that it begins with.
+    fn len_in(&self, packet: &[u8], before: Option<&[u8]>) -> usize {
+        let begins = |id: &[u8]| packet.get(1..).is_some_and(|rest| rest.starts_with(id));
+        let known = self.0.iter().filter(|id| begins(id)).map(|id| id.len()).max();
+        before.filter(|id| begins(id)).map(<[u8]>::len).or(known).unwrap_or(0)
     }
 }
 
+/// Prints the packets of a datagram, and learns the ids in them. A capture has the headers of IP and UDP before it.
+pub fn show(bytes: &[u8], how: &Datagrams, ids: &mut Ids, output: &mut Output<impl Write>) -> io::Result<()> {
+    match link::packet(bytes) {
+        Some(Packet { udp: Some((payload, from, to)) }) => {
+            let fields = [("from", Value::Word(from.to_string().into())), ("to", Value::Word(to.to_string().into()))];
+            output.item(0..payload.start, ("packet", "udp"), &fields, &[])?;
+            show_packets(&bytes[..payload.end], payload.start, how, ids, output)
+        }
+        Some(Packet { udp: None }) => output.error("a packet of IP without UDP", None, &[]),
+        None => show_packets(bytes, 0, how, ids, output),
+    }
+}
+
+fn show_packets(
+    datagram: &[u8],
+    mut begin: usize,
+    how: &Datagrams,
+    ids: &mut Ids,
+    output: &mut Output<impl Write>,
+) -> io::Result<()> {
+    let mut before = None;
+    loop {
+        let rest = &datagram[begin..];
+        let cid_len = how.cid_len.unwrap_or_else(|| ids.len_in(rest, before));
+        let is_clear = !how.grease && rest.first().is_some_and(|first| first & 0x40 == 0);
+        let places = match HeaderPlaces::read(rest, cid_len, &how.versions) {
+            Err(error) if !is_clear || matches!(error, HeaderError::UnsupportedVersion(_)) => {
+                let fault = fault::of_header(rest, begin, cid_len, &error);
+                let fixed_bit = is_clear.then_some(("fixed_bit", Flag(false)));
+                let fields = [&reported(&error, rest, begin), fixed_bit.as_slice(), &fault].concat();
+                return output.error(&error.to_string(), Some(begin), &fields);
+            }
+            Ok(places) if !is_clear || is_negotiation(&places) => places,
+            _ => return output.error("fixed bit unset", Some(begin), &fault::of_fixed_bit(rest, begin)),
+        };
+        let end = begin + places.end();
+        let (name, mut fields) = fields(&places, &datagram[begin..end], begin);
+        if is_clear {
+            fields.extend([("fixed_bit", Flag(false)), ("note", Value::sentence(NEGOTIATION))]);
+        }
+        let first = [("first", Number(places.first().into()))];
+        output.item(begin..end, ("packet", name), &fields, &first)?;
+        if !places.is_short() {
+            ids.learn(places.src_cid(rest));
+            before = Some(places.dst_cid(rest));
+        }
+        if end == datagram.len() {
+            return Ok(());
+        }
+        begin = end;
+    }
+}
+
+fn is_negotiation(places: &HeaderPlaces) -> bool {
+    !places.is_short() && places.version() == 0
+}
+
 // What a refusal tells of the header.
-fn reported(error: &HeaderError, rest: &[u8], begin: usize) -> Vec<Field> {
+fn reported<'a>(error: &HeaderError, rest: &'a [u8], begin: usize) -> Vec<Field<'a>> {
     match error {
         HeaderError::UnsupportedVersion(places) => {
-            vec![("dst", Bytes(places.dst_cid(rest).into())), ("src", Bytes(places.src_cid(rest).into()))]
+            vec![("dst", Value::bytes(places.dst_cid(rest))), ("src", Value::bytes(places.src_cid(rest)))]
         }
         HeaderError::CutOff(places) => fields(places, rest, begin).1,
         HeaderError::InvalidHeader(_) => vec![],
     }
 }
 
-fn fields(places: &HeaderPlaces, packet: &[u8], begin: usize) -> (&'static str, Vec<Field>) {
+fn fields<'a>(places: &HeaderPlaces, packet: &'a [u8], begin: usize) -> (&'static str, Vec<Field<'a>>) {
     let number_at = ("number_at", Number((begin + places.header_end()) as u64));
-    let ids = |dst: &[u8], src: &[u8]| vec![("dst", Bytes(dst.into())), ("src", Bytes(src.into()))];
+    let ids = |dst: &'a [u8], src: &'a [u8]| vec![("dst", Value::bytes(dst)), ("src", Value::bytes(src))];
     match places.header(packet) {
         ProtectedHeader::Initial { dst_cid, src_cid, token_pos, len, version } => {
             let token_at = ("token_at", Number((begin + token_pos.start) as u64));
-            let token = ("token", Bytes(packet[token_pos].into()));
+            let token = ("token", Value::bytes(&packet[token_pos]));
             let more = [("version", Version(version)), token_at, token, ("len", Number(len)), number_at];
             ("initial", [&ids(dst_cid, src_cid)[..], &more].concat())
         }
@@ -57,18 +122,18 @@ fn fields(places: &HeaderPlaces, packet: &[u8], begin: usize) -> (&'static str, 
             )
         }
         ProtectedHeader::Retry { dst_cid, src_cid, version } => {
-            let rest = packet[places.header_end()..].into();
+            let rest = &packet[places.header_end()..];
             let more = match places.retry(packet) {
-                Some((token, tag)) => vec![("token", Bytes(token.into())), ("tag", Bytes(tag.to_vec()))],
-                None => vec![("rest", Bytes(rest))],
+                Some((token, tag)) => vec![("token", Value::bytes(token)), ("tag", Value::few(*tag))],
+                None => vec![("rest", Value::bytes(rest))],
             };
             ("retry", [&ids(dst_cid, src_cid)[..], &[("version", Version(version))], &more].concat())
         }
         ProtectedHeader::Short { spin, dst_cid } => {
-            ("short", vec![("dst", Bytes(dst_cid.into())), ("spin", Flag(spin)), number_at])
+            ("short", vec![("dst", Value::bytes(dst_cid)), ("spin", Flag(spin)), number_at])
         }
         ProtectedHeader::VersionNegotiate { dst_cid, src_cid, .. } => {
-            let versions = places.versions(packet).collect();
+            let versions = &packet[places.header_end()..];
             ("version-negotiation", [&ids(dst_cid, src_cid)[..], &[("versions", Versions(versions))]].concat())
         }
     }

@@ -1,9 +1,10 @@
 //! The frames of payloads.
+use crate::fault;
 use crate::output::{Field, Output, Value};
 use quic_wire::frame::{Ack, ApplicationClose, Close, ConnectionClose, Entry, Frame, Iter, NewConnectionId};
 use quic_wire::varint;
 use std::io::{self, Write};
-use Value::{Bytes, Flag, Number, Ranges, Text, Word};
+use Value::{Flag, Number, Ranges, Text};
 
 // How many frames are read with one call.
 const ENTRIES: usize = 64;
@@ -12,13 +13,16 @@ pub fn show(payload: &[u8], strict: bool, output: &mut Output<impl Write>) -> io
     let begun = if strict { Iter::strict(payload) } else { Iter::new(payload) };
     let mut frames = match begun {
         Ok(frames) => frames,
-        Err(empty) => return output.error(&empty.to_string(), Some(0)),
+        Err(empty) => return output.error(&empty.to_string(), Some(0), &fault::of_empty_payload()),
     };
     let mut entries = [Entry::default(); ENTRIES];
     while let Some(batch) = frames.fill(&mut entries) {
         let batch = match batch {
             Ok(batch) => batch,
-            Err(invalid) => return output.error(&invalid.to_string(), Some(frames.offset())),
+            Err(invalid) => {
+                let at = frames.offset();
+                return output.error(&invalid.to_string(), Some(at), &fault::of_frame(payload, at, &invalid));
+            }
         };
         for (place, frame) in batch {
             let bytes = &payload[place.clone()];
@@ -42,7 +46,7 @@ fn padding(mut run: &[u8]) -> u64 {
     count
 }
 
-fn fields(frame: &Frame<'_>) -> Vec<Field> {
+fn fields<'a>(frame: &Frame<'a>) -> Vec<Field<'a>> {
     match *frame {
         Frame::Padding | Frame::Ping | Frame::ImmediateAck | Frame::HandshakeDone => vec![],
         Frame::Ack(ack) => ack_fields(&ack),
@@ -51,7 +55,7 @@ fn fields(frame: &Frame<'_>) -> Vec<Field> {
         }
         Frame::StopSending(s) => numbers([("id", s.id.into()), ("error_code", s.error_code)]),
         Frame::Crypto(c) => [vec![("offset", Number(c.offset))], data(c.data)].concat(),
-        Frame::NewToken(t) => vec![("token", Bytes(t.token.into()))],
+        Frame::NewToken(t) => vec![("token", Value::bytes(t.token))],
         Frame::Stream(s) => {
             let front = vec![("id", Number(s.id.into())), ("offset", Number(s.offset)), ("fin", Flag(s.fin))];
             [front, data(s.data)].concat()
@@ -60,12 +64,12 @@ fn fields(frame: &Frame<'_>) -> Vec<Field> {
         Frame::MaxStreamData { id, offset } | Frame::StreamDataBlocked { id, offset } => {
             numbers([("id", id.into()), ("offset", offset)])
         }
-        Frame::MaxStreams { dir, count } => vec![("dir", Word(dir.to_string())), ("count", Number(count))],
-        Frame::StreamsBlocked { dir, limit } => vec![("dir", Word(dir.to_string())), ("limit", Number(limit))],
+        Frame::MaxStreams { dir, count } => vec![("dir", word(dir)), ("count", Number(count))],
+        Frame::StreamsBlocked { dir, limit } => vec![("dir", word(dir)), ("limit", Number(limit))],
         Frame::DataBlocked { offset } => numbers([("offset", offset)]),
         Frame::NewConnectionId(n) => new_id_fields(&n),
         Frame::RetireConnectionId { sequence } => numbers([("sequence", sequence)]),
-        Frame::PathChallenge(data) | Frame::PathResponse(data) => vec![("data", Bytes(data.to_be_bytes().to_vec()))],
+        Frame::PathChallenge(data) | Frame::PathResponse(data) => vec![("data", Value::few(data.to_be_bytes()))],
         Frame::Close(Close::Connection(close)) => connection_fields(&close),
         Frame::Close(Close::Application(close)) => application_fields(&close),
         Frame::Datagram(d) => data(d.data),
@@ -78,45 +82,47 @@ fn fields(frame: &Frame<'_>) -> Vec<Field> {
     }
 }
 
-fn numbers<const N: usize>(fields: [(&'static str, u64); N]) -> Vec<Field> {
+fn word(name: impl ToString) -> Value<'static> {
+    Value::Word(name.to_string().into())
+}
+
+fn numbers<'a, const N: usize>(fields: [(&'static str, u64); N]) -> Vec<Field<'a>> {
     fields.map(|(name, number)| (name, Number(number))).to_vec()
 }
 
-fn new_id_fields(n: &NewConnectionId<'_>) -> Vec<Field> {
+fn new_id_fields<'a>(n: &NewConnectionId<'a>) -> Vec<Field<'a>> {
     let front = numbers([("sequence", n.sequence), ("retire_prior_to", n.retire_prior_to)]);
-    let ids = [("id", Bytes(n.id.into())), ("reset_token", Bytes(n.reset_token.to_vec()))];
+    let ids = [("id", Value::bytes(n.id)), ("reset_token", Value::few(n.reset_token))];
     [&front[..], &ids].concat()
 }
 
-fn data(bytes: &[u8]) -> Vec<Field> {
-    vec![("len", Number(bytes.len() as u64)), ("data", Bytes(bytes.into()))]
+fn data(bytes: &[u8]) -> Vec<Field<'_>> {
+    vec![("len", Number(bytes.len() as u64)), ("data", Value::bytes(bytes))]
 }
 
-fn ack_fields(ack: &Ack<'_>) -> Vec<Field> {
-    let ranges = ack.iter().map(|range| (*range.start(), *range.end())).collect();
-    let mut fields =
-        vec![("largest", Number(ack.largest())), ("delay", Number(ack.delay())), ("ranges", Ranges(ranges))];
+fn ack_fields<'a>(ack: &Ack<'a>) -> Vec<Field<'a>> {
+    let mut fields = numbers([("largest", ack.largest()), ("delay", ack.delay())]);
+    fields.push(("ranges", Ranges(*ack)));
     if let Some(ecn) = ack.ecn() {
         fields.extend([("ect0", Number(ecn.ect0)), ("ect1", Number(ecn.ect1)), ("ce", Number(ecn.ce))]);
     }
     fields
 }
 
-fn reason(bytes: &[u8]) -> [Field; 2] {
-    [("reason", Text(bytes.into())), ("reason_bytes", Bytes(bytes.into()))]
+fn reason(bytes: &[u8]) -> [Field<'_>; 2] {
+    [("reason", Text(bytes)), ("reason_bytes", Value::bytes(bytes))]
 }
 
-fn connection_fields(close: &ConnectionClose<'_>) -> Vec<Field> {
-    let mut fields =
-        vec![("error_code", Number(close.error_code.into())), ("error_name", Word(close.error_code.to_string()))];
+fn connection_fields<'a>(close: &ConnectionClose<'a>) -> Vec<Field<'a>> {
+    let mut fields = vec![("error_code", Number(close.error_code.into())), ("error_name", word(close.error_code))];
     if let Some(ty) = close.frame_type {
-        fields.extend([("frame_type", Number(ty.into())), ("frame_name", Word(ty.to_string()))]);
+        fields.extend([("frame_type", Number(ty.into())), ("frame_name", word(ty))]);
     }
     fields.extend(reason(close.reason));
     fields
 }
 
-fn application_fields(close: &ApplicationClose<'_>) -> Vec<Field> {
+fn application_fields<'a>(close: &ApplicationClose<'a>) -> Vec<Field<'a>> {
     let mut fields = vec![("error_code", Number(close.error_code))];
     fields.extend(reason(close.reason));
     fields

@@ -1,8 +1,12 @@
-//! Lines of hexadecimal, and dumps.
+//! What is to be read as one, out of lines.
 use crate::dump::{self, Dump, Line, Step};
+use crate::plain::{self, Fault};
 use std::io::{self, BufRead};
+use std::mem;
 
-const NEITHER: &str = "not hexadecimal, nor a dump as xxd, hexdump -C or od -t x1 prints it";
+const BAD_DUMP: &str = "an offset, and no bytes behind it as xxd or tcpdump print them";
+const UTF_16: &str = "the text is UTF-16, and UTF-8 is read";
+const OPEN: &str = "a bracket is not closed";
 
 /// What is to be read as one, and the line that it begins with.
 #[derive(Debug, PartialEq)]
@@ -12,32 +16,66 @@ pub struct Piece {
     pub bytes: Result<Vec<u8>, String>,
 }
 
+/// How plain lines are read.
+#[derive(Clone, Copy, Default, PartialEq)]
+pub enum Plain {
+    #[default]
+    Hexadecimal,
+    Base64,
+    /// Numbers that a mode reads itself.
+    Decimal,
+}
+
+// Lines of a list, the number of the first, and how many of its brackets aren't closed.
+struct List {
+    line: usize,
+    text: Vec<u8>,
+    open: usize,
+}
+
 /// The pieces of a source, each as soon as it is whole.
 pub struct Pieces<R> {
     source: R,
+    plain: Plain,
     line: usize,
     dump: Option<Dump>,
+    // Lines of a list that isn't whole.
+    list: Option<List>,
     // Whether a dump ended with the line before, but for blank ones.
     is_behind_dump: bool,
     // What was read beyond a dump.
     next: Option<Piece>,
+    is_ended: bool,
 }
 
 impl<R: BufRead> Pieces<R> {
-    pub fn new(source: R) -> Self {
-        Pieces { source, line: 0, dump: None, is_behind_dump: false, next: None }
+    pub fn new(source: R, plain: Plain) -> Self {
+        let (dump, list, next) = (None, None, None);
+        Pieces { source, plain, line: 0, dump, list, is_behind_dump: false, next, is_ended: false }
     }
 
     // The next line without its end.
     fn read_line(&mut self) -> io::Result<Option<Vec<u8>>> {
         let mut line = Vec::new();
-        if self.source.read_until(b'\n', &mut line)? == 0 {
-            return Ok(None);
+        loop {
+            let read = match self.source.fill_buf() {
+                Err(error) if error.kind() == io::ErrorKind::Interrupted => continue,
+                read => read?,
+            };
+            let end = read.iter().position(|byte| *byte == b'\n');
+            let part = &read[..end.unwrap_or(read.len())];
+            line.try_reserve(part.len())?;
+            line.extend_from_slice(part);
+            let (len, is_end) = (part.len(), read.is_empty());
+            self.source.consume(len + usize::from(end.is_some()));
+            if is_end && line.is_empty() {
+                return Ok(None);
+            }
+            if is_end || end.is_some() {
+                break;
+            }
         }
         self.line += 1;
-        if line.ends_with(b"\n") {
-            line.pop();
-        }
         if line.ends_with(b"\r") {
             line.pop();
         }
@@ -45,42 +83,123 @@ impl<R: BufRead> Pieces<R> {
     }
 
     // What is whole once a line is read.
-    fn take(&mut self, text: &[u8]) -> Option<Piece> {
-        let step = self.dump.as_mut().map(|dump| dump.take(self.line, text));
+    fn take(&mut self, mut text: Vec<u8>) -> io::Result<Option<Piece>> {
+        if self.line == 1 && text.starts_with(b"\xef\xbb\xbf") {
+            text.drain(..3);
+        }
+        if self.line == 1 && (text.starts_with(b"\xff\xfe") || text.starts_with(b"\xfe\xff")) {
+            self.is_ended = true;
+            return Ok(Some(Piece { line: 1, bytes: Err(UTF_16.into()) }));
+        }
+        if let Some(list) = self.list.take() {
+            return self.go_on(list, text);
+        }
+        let step = match &mut self.dump {
+            Some(dump) => Some(dump.take(self.line, &text)?),
+            None => None,
+        };
         match step {
-            Some(Step::GoesOn) => return None,
-            Some(Step::Ends) => return self.finish(),
+            Some(Step::GoesOn) => return Ok(None),
+            Some(Step::Ends) => return Ok(self.finish_dump()),
             Some(Step::Another) | None => {}
         }
-        let Some(before) = self.finish() else { return self.begin(text) };
-        self.next = self.begin(text);
-        Some(before)
+        let Some(before) = self.finish_dump() else { return self.begin(text) };
+        self.next = self.begin(text)?;
+        Ok(Some(before))
     }
 
     // A line after what is whole.
-    fn begin(&mut self, text: &[u8]) -> Option<Piece> {
+    fn begin(&mut self, mut text: Vec<u8>) -> io::Result<Option<Piece>> {
         if self.is_behind_dump && text.trim_ascii().is_empty() {
-            return None;
+            return Ok(None);
         }
-        self.is_behind_dump = false;
-        let read = Line::read(text).filter(Line::begins_dump);
-        let Some(first) = read else {
-            let bytes = if dump::has_xxd_offset(text) { None } else { unhex(text) };
-            return Some(Piece { line: self.line, bytes: bytes.ok_or_else(|| NEITHER.into()) });
-        };
-        let is_whole = first.is_last;
-        self.dump = Some(Dump::new(self.line, first));
-        if is_whole {
-            self.finish()
-        } else {
-            None
+        let was_behind_dump = mem::take(&mut self.is_behind_dump);
+        if self.plain != Plain::Hexadecimal {
+            return self.other_line(text);
         }
+        if let Some(first) = Line::read(&text)?.filter(Line::begins_dump) {
+            let is_whole = first.is_last;
+            self.dump = Some(Dump::new(self.line, first));
+            return Ok(if is_whole { self.finish_dump() } else { None });
+        }
+        if dump::has_offset(&text) {
+            return Ok(Some(Piece { line: self.line, bytes: Err(BAD_DUMP.into()) }));
+        }
+        let has_comment = !plain::is_literal(&text) && plain::blank_comments(&mut text);
+        let is_left_out = has_comment && text.trim_ascii().is_empty();
+        if is_left_out || plain::is_length(&text) {
+            self.is_behind_dump = was_behind_dump || !has_comment;
+            return Ok(None);
+        }
+        let list = List { line: self.line, open: plain::open_brackets(0, &text), text };
+        self.list_or_piece(list)
     }
 
-    fn finish(&mut self) -> Option<Piece> {
+    // A line that is no hexadecimal.
+    fn other_line(&mut self, mut text: Vec<u8>) -> io::Result<Option<Piece>> {
+        if self.plain == Plain::Base64 {
+            return Ok(Some(piece(self.line, &text, plain::base64(&text)?)));
+        }
+        let has_comment = plain::blank_comments(&mut text);
+        let is_left_out = has_comment && text.trim_ascii().is_empty();
+        Ok((!is_left_out).then_some(Piece { line: self.line, bytes: Ok(text) }))
+    }
+
+    // A line behind those of a list.
+    fn go_on(&mut self, mut list: List, mut text: Vec<u8>) -> io::Result<Option<Piece>> {
+        if text.trim_ascii().is_empty() {
+            return list.end().map(Some);
+        }
+        plain::blank_comments(&mut text);
+        list.open = plain::open_brackets(list.open, &text);
+        list.text.try_reserve(1 + text.len())?;
+        list.text.push(b'\n');
+        list.text.extend(text);
+        self.list_or_piece(list)
+    }
+
+    // What a list or a line is, if it doesn't go on in the next line.
+    fn list_or_piece(&mut self, list: List) -> io::Result<Option<Piece>> {
+        if (list.open > 0 || list.text.trim_ascii_end().ends_with(b",")) && !plain::is_literal(&list.text) {
+            self.list = Some(list);
+            return Ok(None);
+        }
+        let read = plain::read(&list.text)?;
+        if read.is_err() && dump::is_heading(&list.text) {
+            self.is_behind_dump = true;
+            return Ok(None);
+        }
+        Ok(Some(piece(list.line, &list.text, read)))
+    }
+
+    fn finish_dump(&mut self) -> Option<Piece> {
         let dump = self.dump.take()?;
         self.is_behind_dump = true;
         Some(dump.finish())
+    }
+
+    // What is whole at the end.
+    fn finish(&mut self) -> io::Result<Option<Piece>> {
+        match self.list.take() {
+            Some(list) => list.end().map(Some),
+            None => Ok(self.finish_dump()),
+        }
+    }
+
+    fn read_piece(&mut self) -> io::Result<Option<Piece>> {
+        if let Some(piece) = self.next.take() {
+            return Ok(Some(piece));
+        }
+        while !self.is_ended {
+            let read = match self.read_line()? {
+                Some(line) => self.take(line)?,
+                None => return self.finish(),
+            };
+            if read.is_some() {
+                return Ok(read);
+            }
+        }
+        Ok(None)
     }
 }
 
@@ -88,41 +207,43 @@ impl<R: BufRead> Iterator for Pieces<R> {
     type Item = io::Result<Piece>;
 
     fn next(&mut self) -> Option<Self::Item> {
-        if let Some(piece) = self.next.take() {
-            return Some(Ok(piece));
-        }
-        loop {
-            match self.read_line() {
-                Ok(Some(line)) => {
-                    if let Some(piece) = self.take(&line) {
-                        return Some(Ok(piece));
-                    }
-                }
-                Ok(None) => return self.finish().map(Ok),
-                Err(error) => return Some(Err(error)),
-            }
+        self.read_piece().transpose()
+    }
+}
+
+impl List {
+    // The list, where a blank line ends it, or the end of all.
+    fn end(self) -> io::Result<Piece> {
+        let List { line, text, open } = self;
+        match open {
+            0 => Ok(piece(line, &text, plain::read(&text)?)),
+            _ => Ok(Piece { line, bytes: Err(OPEN.into()) }),
         }
     }
 }
 
-/// Digits by twos, with spaces, tabs, commas and colons between them, and 0x before them.
-pub fn unhex(line: &[u8]) -> Option<Vec<u8>> {
-    let mut bytes = Vec::with_capacity(line.len() / 2);
-    for word in line.split(|byte| b" \t,:".contains(byte)).filter(|word| !word.is_empty()) {
-        let digits = word.strip_prefix(b"0x").or_else(|| word.strip_prefix(b"0X")).unwrap_or(word);
-        let pairs = digits.chunks_exact(2);
-        if !pairs.remainder().is_empty() || digits.is_empty() {
-            return None;
+// With where in the lines something is wrong.
+fn piece(line: usize, text: &[u8], read: plain::Read) -> Piece {
+    let bytes = read.map_err(|Fault { what, at }| {
+        let (before, hint) = (&text[..at], hint(text));
+        let begin = before.iter().rposition(|byte| *byte == b'\n').map_or(0, |end| end + 1);
+        // A character has one byte that isn't `10......`.
+        let column = 1 + before[begin..].iter().filter(|byte| **byte & 0xc0 != 0x80).count();
+        match before.iter().filter(|byte| **byte == b'\n').count() {
+            0 => format!("{what} in column {column}{hint}"),
+            below => format!("{what} in line {}, column {column}{hint}", line + below),
         }
-        for pair in pairs {
-            bytes.push((digit(pair[0])? << 4) | digit(pair[1])?);
-        }
-    }
-    Some(bytes)
+    });
+    Piece { line, bytes }
 }
 
-fn digit(byte: u8) -> Option<u8> {
-    char::from(byte).to_digit(16).map(|digit| digit as u8)
+// What may be meant by a line that isn't hexadecimal.
+fn hint(text: &[u8]) -> &'static str {
+    let is_base64 = text.len() >= 8 && text.len() % 4 == 0 && !text.contains(&b' ');
+    match is_base64 && matches!(plain::base64(text), Ok(Ok(_))) {
+        true => "; base64 is read with --base64",
+        false => "",
+    }
 }
 
 #[cfg(test)]

@@ -1,65 +1,74 @@
 //! The program `quic-wire`: what the bytes of QUIC say, from lines of hexadecimal or dumps.
 mod args;
+mod canon;
 mod colour;
 mod datagram;
 mod dump;
+mod fault;
 mod frames;
+mod help;
 mod input;
+mod link;
+mod number;
 mod output;
 mod params;
+mod plain;
+mod ranges;
 
 use args::{Args, Call, Mode};
+use datagram::Ids;
 use input::{Piece, Pieces};
 use output::{Look, Output};
+use std::ffi::OsStr;
+use std::fmt::Display;
 use std::fs::File;
-use std::io::{self, BufRead, BufReader, Write};
+use std::io::{self, BufRead, BufReader, BufWriter, ErrorKind, Write};
 use std::process::ExitCode;
 
-// Some line was refused; the call is wrong; reading or writing failed. As of `quic-show`.
+// Some line was refused; the call is wrong; reading, writing or memory failed. As of `quic-show`.
 const REFUSED: u8 = 1;
 const WRONG_CALL: u8 = 2;
 const FAILED: u8 = 3;
 
+const WHOLE_PACKET: &str = "a packet with its headers of IP, and no payload of QUIC; the mode datagram reads it";
+
 fn main() -> ExitCode {
     match args::parse(std::env::args_os().skip(1)) {
         Ok(Call::Show(args)) => show(&args),
-        Ok(Call::Print(text)) => finish(io::stdout().write_all(text.as_bytes()), true),
+        Ok(Call::Print(text)) => status(io::stdout().write_all(text.as_bytes()), true),
         Err(what) => {
-            // Nothing is left to be done where this fails.
-            let _ = writeln!(io::stderr(), "quic-wire: {what}\n{}", args::USAGE);
+            say(format_args!("{what}\n{}\n--help says more", help::USAGE));
             ExitCode::from(WRONG_CALL)
         }
     }
 }
 
+// A line on standard error. Nothing is left to be done where that fails.
+fn say(what: impl Display) {
+    let _ = writeln!(io::stderr(), "quic-wire: {what}");
+}
+
 fn show(args: &Args) -> ExitCode {
-    let mut output = Output::new(io::stdout().lock(), look(args));
-    let mut answer = Ok(());
+    let mut output = Output::new(BufWriter::new(io::stdout().lock()), look(args));
+    let mut are_read = true;
     for file in &args.files {
         if args.files.len() > 1 {
             output.set_file(file.to_string_lossy().into_owned());
         }
-        answer = if file == "-" {
-            show_all(args, io::stdin().lock(), &mut output)
-        } else {
-            match File::open(file) {
-                Ok(opened) => show_all(args, BufReader::new(opened), &mut output),
-                Err(error) => Err(Failure::Reading(error)),
+        match show_file(args, file, &mut output) {
+            Err(Failure::Reading(error)) => {
+                are_read = false;
+                say(format_args!("{}: {error}", file.to_string_lossy()));
             }
-        };
-        if let Err(Failure::Reading(error)) = &answer {
-            let _ = writeln!(io::stderr(), "quic-wire: {}: {error}", file.to_string_lossy());
-            return ExitCode::from(FAILED);
-        }
-        if answer.is_err() {
-            break;
+            Err(Failure::Writing(error)) => return status(Err(error), output.is_clean()),
+            Ok(()) => {}
         }
     }
-    let written = match answer {
-        Err(Failure::Writing(error)) => Err(error),
-        _ => Ok(()),
-    };
-    finish(written, output.is_clean())
+    if are_read {
+        status(Ok(()), output.is_clean())
+    } else {
+        ExitCode::from(FAILED)
+    }
 }
 
 fn look(args: &Args) -> Look {
@@ -71,31 +80,49 @@ fn look(args: &Args) -> Look {
 }
 
 enum Failure {
+    /// Of one file; others may be read.
     Reading(io::Error),
     Writing(io::Error),
 }
 
+fn show_file(args: &Args, file: &OsStr, output: &mut Output<impl Write>) -> Result<(), Failure> {
+    if file == "-" {
+        return show_all(args, io::stdin().lock(), output);
+    }
+    show_all(args, BufReader::new(File::open(file).map_err(Failure::Reading)?), output)
+}
+
 // Answers each piece before the next one is waited for.
 fn show_all(args: &Args, source: impl BufRead, output: &mut Output<impl Write>) -> Result<(), Failure> {
-    for piece in Pieces::new(source) {
+    let mut ids = Ids::default();
+    for piece in Pieces::new(source, args.plain) {
         let Piece { line, bytes } = piece.map_err(Failure::Reading)?;
         output.set_line(line);
         let written = match (&args.mode, bytes) {
-            (_, Err(what)) => output.error(&what, None),
+            (_, Err(what)) => output.error(&what, None, &[]),
+            (Mode::Frames { .. } | Mode::Canon, Ok(bytes)) if link::packet(&bytes).is_some() => {
+                output.error(WHOLE_PACKET, None, &[])
+            }
             (Mode::Frames { strict }, Ok(bytes)) => frames::show(&bytes, *strict, output),
-            (Mode::Datagram(how), Ok(bytes)) => datagram::show(&bytes, how, output),
+            (Mode::Canon, Ok(bytes)) => canon::show(&bytes, output),
+            (Mode::Datagram(how), Ok(bytes)) => datagram::show(&bytes, how, &mut ids, output),
             (Mode::Params { side }, Ok(bytes)) => params::show(&bytes, *side, output),
+            (Mode::Number { largest }, Ok(bytes)) => number::show(&bytes, *largest, output),
+            (Mode::Ranges, Ok(line)) => ranges::show(&line, output),
         };
-        written.and_then(|()| output.flush()).map_err(Failure::Writing)?;
+        written.and_then(|()| output.flush()).map_err(|error| match error.kind() {
+            ErrorKind::OutOfMemory => Failure::Reading(error),
+            _ => Failure::Writing(error),
+        })?;
     }
     Ok(())
 }
 
 // Who reads no more, as `head` does, is no error.
-fn finish(written: io::Result<()>, is_clean: bool) -> ExitCode {
+fn status(written: io::Result<()>, is_clean: bool) -> ExitCode {
     match written {
-        Err(error) if error.kind() != io::ErrorKind::BrokenPipe => {
-            let _ = writeln!(io::stderr(), "quic-wire: write failed: {error}");
+        Err(error) if error.kind() != ErrorKind::BrokenPipe => {
+            say(format_args!("write failed: {error}"));
             ExitCode::from(FAILED)
         }
         _ => ExitCode::from(if is_clean { 0 } else { REFUSED }),

@@ -1,32 +1,33 @@
 //! Lists of transport parameters.
-use crate::output::{Field, Output, Value};
-use quic_wire::transport_parameters::{self, PreferredAddress, TransportParameters};
+use crate::fault;
+use crate::output::{unknown, Field, Output, Value};
+use quic_wire::transport_parameters::{Error, PreferredAddress, TransportParameters};
 use quic_wire::{ConnectionId, Side};
 use std::io::{self, Write};
-use Value::{Bytes, Entries, Flag, Number, Numbers, Word};
+use Value::{Flag, Ids, Number, Unknown, Word};
 
 pub fn show(list: &[u8], side: Side, output: &mut Output<impl Write>) -> io::Result<()> {
     let read = match TransportParameters::read(side, list) {
         Ok(read) => read,
-        Err(transport_parameters::Error::IllegalValue) => return output.error("illegal value", None),
-        Err(transport_parameters::Error::Malformed) => return output.error("malformed", None),
+        Err(error) => {
+            let what = if error == Error::IllegalValue { "illegal value" } else { "malformed" };
+            let (at, fields) = fault::of_parameters(list, side, error);
+            return output.error(what, at, &fields);
+        }
     };
-    let all = || transport_parameters::entries(list).flatten();
-    let unknown: Vec<_> =
-        all().filter(|entry| !entry.is_known()).map(|entry| (entry.id, entry.value.to_vec())).collect();
     let mut fields = fields(&read);
-    if !unknown.is_empty() {
-        fields.push(("unknown", Entries(unknown)));
+    if unknown(list).next().is_some() {
+        fields.push(("unknown", Unknown(list)));
     }
-    fields.push(("order", Numbers(all().map(|entry| entry.id).collect())));
+    fields.push(("order", Ids(list)));
     output.fields(&fields, &[])
 }
 
 // What differs from its default.
-fn fields(p: &TransportParameters) -> Vec<Field> {
-    let id = |name, id: Option<ConnectionId>| id.map(|id| (name, Bytes(id.to_vec())));
+fn fields(p: &TransportParameters) -> Vec<Field<'static>> {
+    let id = |name, id: Option<ConnectionId>| id.map(|id| (name, Value::few(&*id)));
     let mut fields = numbers(p);
-    fields.extend(p.stateless_reset_token.map(|token| ("stateless_reset_token", Bytes(token.to_vec()))));
+    fields.extend(p.stateless_reset_token.map(|token| ("stateless_reset_token", Value::few(token))));
     fields.extend(p.disable_active_migration.then_some(("disable_active_migration", Flag(true))));
     fields.extend(p.max_datagram_frame_size.map(|size| ("max_datagram_frame_size", Number(size))));
     fields.extend(p.preferred_address.iter().flat_map(address));
@@ -38,7 +39,7 @@ fn fields(p: &TransportParameters) -> Vec<Field> {
     fields
 }
 
-fn numbers(p: &TransportParameters) -> Vec<Field> {
+fn numbers(p: &TransportParameters) -> Vec<Field<'static>> {
     let all = |p: &TransportParameters| {
         [
             ("max_idle_timeout", p.max_idle_timeout),
@@ -61,11 +62,11 @@ fn numbers(p: &TransportParameters) -> Vec<Field> {
     all(p).into_iter().zip(by_default).filter_map(differs).collect()
 }
 
-fn address(a: &PreferredAddress) -> Vec<Field> {
+fn address(a: &PreferredAddress) -> Vec<Field<'static>> {
     let mut fields = Vec::new();
-    fields.extend(a.address_v4.map(|address| ("preferred_address_v4", Word(address.to_string()))));
-    fields.extend(a.address_v6.map(|address| ("preferred_address_v6", Word(address.to_string()))));
-    fields.push(("preferred_address_cid", Bytes(a.connection_id.to_vec())));
-    fields.push(("preferred_address_token", Bytes(a.stateless_reset_token.to_vec())));
+    fields.extend(a.address_v4.map(|address| ("preferred_address_v4", Word(address.to_string().into()))));
+    fields.extend(a.address_v6.map(|address| ("preferred_address_v6", Word(address.to_string().into()))));
+    fields.push(("preferred_address_cid", Value::few(&*a.connection_id)));
+    fields.push(("preferred_address_token", Value::few(a.stateless_reset_token)));
     fields
 }

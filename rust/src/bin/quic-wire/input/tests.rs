@@ -3,7 +3,9 @@ use super::*;
 
 // The first line of each piece, with its bytes or its error.
 fn pieces(text: &str) -> Vec<(usize, Result<Vec<u8>, String>)> {
-    Pieces::new(text.as_bytes()).map(|piece| piece.map(|piece| (piece.line, piece.bytes)).unwrap()).collect()
+    Pieces::new(text.as_bytes(), Plain::default())
+        .map(|piece| piece.map(|piece| (piece.line, piece.bytes)).unwrap())
+        .collect()
 }
 
 fn errors(text: &str) -> Vec<(usize, String)> {
@@ -20,8 +22,18 @@ fn lines_are_hexadecimal() {
     let all = [(1, vec![10, 255]), (2, vec![10, 255, 1]), (3, vec![10, 255]), (4, vec![])];
     let (read, refused) = answers.split_at(4);
     assert_eq!(read, all.map(|(line, bytes)| (line, Ok(bytes))));
-    let neither = |line| (line, Err(NEITHER.to_string()));
-    assert_eq!(refused, [neither(5), neither(6), neither(7), neither(8), (9, Ok(vec![10, 255]))]);
+    let odd = |line, count| (line, Err(format!("an odd number of digits, {count}, in column 1")));
+    let no_digit = |line, c| (line, Err(format!("not hexadecimal: '{c}' in column 1")));
+    assert_eq!(
+        refused,
+        [
+            odd(5, 1),
+            no_digit(6, 'z'),
+            (7, Err("no digits behind 0x in column 1".into())),
+            no_digit(8, '+'),
+            (9, Ok(vec![10, 255]))
+        ]
+    );
 }
 
 #[test]
@@ -98,9 +110,16 @@ fn blank_lines_end_dumps() {
 fn a_dump_begins_at_the_front_unless_it_has_text() {
     assert_eq!(pieces("000040 01 02"), [(1, Ok(vec![0, 0, 0x40, 1, 2]))]);
     assert_eq!(pieces("40000a 00 01 61"), [(1, Ok(vec![0x40, 0, 10, 0, 1, 0x61]))]);
-    assert_eq!(pieces("00000040  01 02"), [(1, Ok(vec![0, 0, 0, 0x40, 1, 2]))]);
     assert_eq!(pieces("00000000  0102"), [(1, Ok(vec![0, 0, 0, 0, 1, 2]))]);
-    for dump in ["000040 01 02  >..<\n000042", "00000040  01 02  |..|\n00000042", "0000100 01 02\n0000102"] {
+    for dump in [
+        "000040 01 02  >..<\n000042",
+        "00000040  01 02  |..|\n00000042",
+        "00000040  01 02",
+        "0000100 01 02\n0000102",
+        "0010  01 02",
+        "0040   01 02   ..",
+        "0x0010:  0102",
+    ] {
         assert_eq!(pieces(dump), [(1, Ok(vec![1, 2]))], "{dump}");
     }
 }
@@ -124,19 +143,20 @@ fn dumps_that_do_not_go_on_are_refused_once() {
 
 #[test]
 fn other_dumps_are_refused() {
-    for line in [
-        "00000000: 01010000 10110010 11001101 01010001 01101110 01110100  ABCDEF",
-        "0000000 b250 51cd 746e aee0",
-        "0000000 131120 050715",
-        "0000000 01 ,, 02",
-        "0000008 01",
-        "*",
-        "0000000",
-        "00000000: 5",
-        "+0000000: 05",
-        "unsigned char a[] = {",
+    for (line, what) in [
+        ("00000000: 01010000 10110010 11001101 01010001 01101110 01110100  ABCDEF", "xxd -b"),
+        ("0000000 b250 51cd 746e aee0", "hexdump without -C"),
+        ("0000000 131120 050715", "units"),
+        ("0000000 01 ,, 02", "an odd number of digits, 7, in column 1"),
+        ("*", "'*' in column 1"),
+        ("0000000", "an odd number of digits, 7, in column 1"),
+        ("00000000: 5", "an offset"),
+        ("+0000000: 05", "'+' in column 1"),
+        ("unsigned char a[] = {", "a bracket is not closed"),
+        ("40 00\t\u{17c}40", "'\u{17c}' in column 7"),
     ] {
-        assert_eq!(errors(line), [(1, NEITHER.to_string())], "{line}");
+        let all = errors(line);
+        assert!(all.len() == 1 && all[0].0 == 1 && all[0].1.contains(what), "{line}: {all:?}");
     }
     let ends = "ffffffffffffffff: 01  .\nfffffffffffffff0: 02  .\n";
     assert_eq!(pieces(ends), [(1, Ok(vec![1])), (2, Ok(vec![2]))]);

@@ -1,0 +1,80 @@
+//! At which field reading failed, and what an endpoint does then.
+mod frame;
+mod packet;
+mod parameter;
+
+use crate::output::{Field, Value};
+pub use frame::{of_empty_payload, of_frame};
+pub use packet::{of_fixed_bit, of_header};
+pub use parameter::of_parameters;
+use quic_wire::transport_error::Code;
+use quic_wire::varint;
+
+/// A field that is cut off or has a value that it may not have.
+#[derive(Clone, Copy, Debug, PartialEq)]
+pub struct Place {
+    /// Its name in the RFC.
+    pub field: &'static str,
+    /// Where it begins.
+    pub at: usize,
+}
+
+impl Place {
+    // The field and its place, behind what is in front of the bytes.
+    fn fields(self, front: usize) -> [Field<'static>; 2] {
+        [("field", Value::Text(self.field.as_bytes())), ("field_at", Value::Number((front + self.at) as u64))]
+    }
+}
+
+// The code to close with, and which section says so.
+fn closed(code: Code, section: &'static str) -> [Field<'static>; 3] {
+    [
+        ("close_code", Value::Number(code.into())),
+        ("close_name", Value::Word(code.to_string().into())),
+        ("section", Value::sentence(section)),
+    ]
+}
+
+/// Fields that are read one behind the other, up to the one at fault.
+struct Walk<'a> {
+    bytes: &'a [u8],
+    at: usize,
+}
+
+impl<'a> Walk<'a> {
+    fn new(bytes: &'a [u8]) -> Self {
+        Walk { bytes, at: 0 }
+    }
+
+    fn place(&self, field: &'static str) -> Place {
+        Place { field, at: self.at }
+    }
+
+    /// A number of variable length (RFC 9000, section 16).
+    fn number(&mut self, field: &'static str) -> Result<u64, Place> {
+        let (number, len) = varint::read(&self.bytes[self.at..]).ok_or(self.place(field))?;
+        self.at += len;
+        Ok(number)
+    }
+
+    fn take(&mut self, field: &'static str, len: u64) -> Result<&'a [u8], Place> {
+        let len = usize::try_from(len).map_err(|_| self.place(field))?;
+        let taken = self.bytes[self.at..].get(..len).ok_or(self.place(field))?;
+        self.at += len;
+        Ok(taken)
+    }
+
+    fn byte(&mut self, field: &'static str) -> Result<u8, Place> {
+        self.take(field, 1).map(|byte| byte[0])
+    }
+
+    /// Bytes behind their length.
+    fn counted(&mut self, len: &'static str, field: &'static str) -> Result<(), Place> {
+        let len = self.number(len)?;
+        self.take(field, len).map(|_| ())
+    }
+
+    fn numbers<const N: usize>(&mut self, fields: [&'static str; N]) -> Result<(), Place> {
+        fields.into_iter().try_for_each(|field| self.number(field).map(|_| ()))
+    }
+}

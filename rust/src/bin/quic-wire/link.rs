@@ -1,0 +1,91 @@
+//! Packets as captures have them, with the headers of the link, of IP and of UDP in front of the datagram.
+use std::net::{IpAddr, Ipv4Addr, Ipv6Addr, SocketAddr};
+use std::ops::Range;
+
+// How many bytes a link puts in front: none, the loopback of BSD, Ethernet without and with a tag, Linux's cooked ones.
+const LINKS: [usize; 6] = [0, 4, 14, 18, 16, 20];
+// How many bytes Ethernet may have put behind, since it sends 46 at least.
+const MOST_PADDING: usize = 46;
+const UDP: u8 = 17;
+const UDP_HEADER: usize = 8;
+
+/// A packet of IP.
+#[derive(Debug, PartialEq)]
+pub struct Packet {
+    /// Where what UDP carries is, and from where to where it is sent; `None` if another protocol has it.
+    pub udp: Option<(Range<usize>, SocketAddr, SocketAddr)>,
+}
+
+/// The packet of IP that bytes are. All of its lengths must fit, so that hardly any datagram of QUIC looks like one.
+pub fn packet(bytes: &[u8]) -> Option<Packet> {
+    LINKS.iter().find_map(|link| {
+        let ip = bytes.get(*link..)?;
+        let (end, transport, protocol, from, to) = match ip.first()? >> 4 {
+            4 => ipv4(ip)?,
+            6 => ipv6(ip)?,
+            _ => return None,
+        };
+        if end > ip.len() || ip.len() - end > if *link == 0 { 0 } else { MOST_PADDING } {
+            return None;
+        }
+        let udp = ip.get(transport..end)?;
+        let (Some(from_port), Some(to_port), Some(len)) = (number(udp, 0), number(udp, 2), number(udp, 4)) else {
+            return None;
+        };
+        match protocol {
+            UDP if usize::from(len) == udp.len() && udp.len() >= UDP_HEADER => {
+                let payload = link + transport + UDP_HEADER..link + end;
+                Some(Packet { udp: Some((payload, (from, from_port).into(), (to, to_port).into())) })
+            }
+            UDP => None,
+            _ => Some(Packet { udp: None }),
+        }
+    })
+}
+
+fn number(bytes: &[u8], at: usize) -> Option<u16> {
+    Some(u16::from_be_bytes(bytes.get(at..at + 2)?.try_into().ok()?))
+}
+
+// Where a packet ends, where what it carries begins, its protocol and addresses.
+type Header = (usize, usize, u8, IpAddr, IpAddr);
+
+// RFC 791, of a packet in one piece.
+fn ipv4(ip: &[u8]) -> Option<Header> {
+    let header: &[u8; 20] = ip.first_chunk()?;
+    let len = usize::from(header[0] & 0x0f) * 4;
+    let is_whole = len >= header.len() && number(header, 6)? & 0x3fff == 0;
+    let address = |at: usize| Some(Ipv4Addr::from(<[u8; 4]>::try_from(&header[at..at + 4]).ok()?).into());
+    is_whole.then_some((usize::from(number(header, 2)?), len, header[9], address(12)?, address(16)?))
+}
+
+// RFC 8200, without headers of extensions.
+fn ipv6(ip: &[u8]) -> Option<Header> {
+    let header: &[u8; 40] = ip.first_chunk()?;
+    let address = |at: usize| Some(Ipv6Addr::from(<[u8; 16]>::try_from(&header[at..at + 16]).ok()?).into());
+    Some((40 + usize::from(number(header, 4)?), 40, header[6], address(8)?, address(24)?))
+}
+
+#[cfg(test)]
+mod tests {
+    use super::*;
+
+    // RFC 791 and RFC 768: whatever is cut off or changed of a packet, it is none or nothing is read outside of it.
+    #[test]
+    fn a_packet_fits_in_all_of_its_lengths() {
+        let mut bytes = vec![0x45, 0, 0, 30, 0, 0, 0x40, 0, 64, UDP, 0, 0, 10, 0, 0, 1, 10, 0, 0, 2];
+        bytes.extend([1, 187, 4, 210, 0, 10, 0, 0, 0x41, 0x42]);
+        let read = Packet { udp: Some((28..30, ([10, 0, 0, 1], 443).into(), ([10, 0, 0, 2], 1234).into())) };
+        assert_eq!(packet(&bytes), Some(read));
+        for len in 0..bytes.len() {
+            assert_eq!(packet(&bytes[..len]), None, "{len}");
+        }
+        for (at, change) in [(0, 0x46), (0, 0x65), (3, 31), (6, 0x20), (25, 9)] {
+            let mut other = bytes.clone();
+            other[at] = change;
+            assert_eq!(packet(&other), None, "{at}");
+        }
+        let ethernet = [&[0; 14][..], &bytes, &[0; 16]].concat();
+        assert_eq!(packet(&ethernet).and_then(|packet| packet.udp).map(|udp| udp.0), Some(42..44));
+    }
+}

@@ -1,0 +1,43 @@
+//! Numbers of variable length (RFC 9000, section 16), and truncated packet numbers (section 17.1).
+use crate::output::{Output, Value};
+use quic_wire::packet::PacketNumber;
+use quic_wire::varint;
+use std::io::{self, Write};
+use Value::Number;
+
+/// Prints the numbers that bytes are, or the packet number of which they are the end, by the largest received one.
+pub fn show(bytes: &[u8], largest: Option<u64>, output: &mut Output<impl Write>) -> io::Result<()> {
+    match largest {
+        Some(largest) => show_packet_number(bytes, largest, output),
+        None => show_numbers(bytes, output),
+    }
+}
+
+fn show_numbers(bytes: &[u8], output: &mut Output<impl Write>) -> io::Result<()> {
+    let mut at = 0;
+    while at < bytes.len() {
+        let Some((number, len)) = varint::read(&bytes[at..]) else {
+            let section = [("section", Value::sentence("RFC 9000, section 16"))];
+            return output.error("unexpected end in a number of variable length", Some(at), &section);
+        };
+        let shortest = varint::len(number).unwrap_or(len);
+        let fields = [("value", Number(number)), ("shortest_len", Number(shortest as u64))];
+        output.item(at..at + len, ("kind", "NUMBER"), &fields, &[])?;
+        at += len;
+    }
+    Ok(())
+}
+
+fn show_packet_number(bytes: &[u8], largest: u64, output: &mut Output<impl Write>) -> io::Result<()> {
+    let written = bytes.iter().take(4).fold(0, |sum, byte| (sum << 8) | u64::from(*byte));
+    match PacketNumber::expand(written, bytes.len(), largest + 1) {
+        Some(number) => {
+            let fields = [("value", Number(number)), ("written", Number(written))];
+            output.item(0..bytes.len(), ("kind", "PACKET_NUMBER"), &fields, &[])
+        }
+        None => {
+            let section = [("section", Value::sentence("RFC 9000, section 17.1"))];
+            output.error("a packet number has 1 to 4 bytes", Some(0), &section)
+        }
+    }
+}

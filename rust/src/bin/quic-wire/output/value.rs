@@ -1,0 +1,166 @@
+//! What the fields of a line hold. They borrow what may be long.
+use quic_wire::frame::Ack;
+use quic_wire::transport_parameters::{entries, Entry};
+use std::borrow::Cow;
+use std::fmt::{self, Display, Formatter, Write};
+
+/// The value of a field.
+#[derive(Clone)]
+pub enum Value<'a> {
+    Number(u64),
+    Flag(bool),
+    Word(Cow<'a, str>),
+    Bytes(Cow<'a, [u8]>),
+    /// What may be no UTF-8, in quotes.
+    Text(&'a [u8]),
+    Version(u32),
+    /// Versions of four bytes each.
+    Versions(&'a [u8]),
+    /// The numbers that an ACK acknowledges, each range from its least to its greatest.
+    Ranges(Ack<'a>),
+    /// Ranges of numbers, the same way.
+    Runs(Vec<(u64, u64)>),
+    /// Of a list of transport parameters the numbers of all.
+    Ids(&'a [u8]),
+    /// Of a list of transport parameters those without a name.
+    Unknown(&'a [u8]),
+}
+
+pub type Field<'a> = (&'static str, Value<'a>);
+
+impl<'a> Value<'a> {
+    /// Bytes that are lent.
+    pub fn bytes(bytes: &'a [u8]) -> Self {
+        Value::Bytes(Cow::Borrowed(bytes))
+    }
+
+    /// A few bytes.
+    pub fn few(bytes: impl Into<Vec<u8>>) -> Self {
+        Value::Bytes(Cow::Owned(bytes.into()))
+    }
+
+    /// A sentence, in quotes for people.
+    pub fn sentence(text: &'a str) -> Self {
+        Value::Text(text.as_bytes())
+    }
+}
+
+/// The parameters without a name in a list.
+pub fn unknown(list: &[u8]) -> impl Iterator<Item = Entry<'_>> {
+    entries(list).flatten().filter(|entry| !entry.is_known())
+}
+
+// Bytes in hexadecimal.
+struct Hex<'a>(&'a [u8]);
+
+impl Display for Hex<'_> {
+    fn fmt(&self, f: &mut Formatter<'_>) -> fmt::Result {
+        self.0.iter().try_for_each(|byte| write!(f, "{byte:02x}"))
+    }
+}
+
+// Items with commas between them.
+fn list<T>(
+    f: &mut Formatter<'_>,
+    items: impl IntoIterator<Item = T>,
+    show: impl Fn(&mut Formatter<'_>, T) -> fmt::Result,
+) -> fmt::Result {
+    for (i, item) in items.into_iter().enumerate() {
+        if i > 0 {
+            f.write_char(',')?;
+        }
+        show(f, item)?;
+    }
+    Ok(())
+}
+
+fn versions(bytes: &[u8]) -> impl Iterator<Item = Hex<'_>> {
+    bytes.chunks_exact(4).map(Hex)
+}
+
+fn ids(list: &[u8]) -> impl Iterator<Item = u64> + '_ {
+    entries(list).flatten().map(|entry| entry.id)
+}
+
+fn ranges<'a>(ack: &Ack<'a>) -> impl Iterator<Item = (u64, u64)> + 'a {
+    ack.iter().map(|range| (*range.start(), *range.end()))
+}
+
+impl Display for Value<'_> {
+    fn fmt(&self, f: &mut Formatter<'_>) -> fmt::Result {
+        let range = |f: &mut Formatter<'_>, (least, greatest): (u64, u64)| write!(f, "{least}-{greatest}");
+        match self {
+            Value::Number(number) => number.fmt(f),
+            Value::Flag(flag) => flag.fmt(f),
+            Value::Word(word) => f.write_str(word),
+            Value::Bytes(bytes) if bytes.is_empty() => f.write_char('-'),
+            Value::Bytes(bytes) => Hex(bytes).fmt(f),
+            Value::Text(text) => spelled(f, text, |f, c| match c {
+                '\'' => f.write_char(c),
+                _ => c.escape_debug().fmt(f),
+            }),
+            Value::Version(version) => write!(f, "{version:08x}"),
+            Value::Versions(bytes) => list(f, versions(bytes), |f, version| version.fmt(f)),
+            Value::Ranges(ack) => list(f, ranges(ack), range),
+            Value::Runs(runs) => list(f, runs.iter().copied(), range),
+            Value::Ids(entries) => list(f, ids(entries), |f, id| id.fmt(f)),
+            Value::Unknown(entries) => {
+                list(f, unknown(entries), |f, entry| write!(f, "{:#x}:{}", entry.id, Hex(entry.value)))
+            }
+        }
+    }
+}
+
+/// A value as JSON.
+pub struct Json<'a>(pub &'a Value<'a>);
+
+impl Display for Json<'_> {
+    fn fmt(&self, f: &mut Formatter<'_>) -> fmt::Result {
+        let range = |f: &mut Formatter<'_>, (least, greatest): (u64, u64)| write!(f, "[{least},{greatest}]");
+        match self.0 {
+            Value::Number(number) => return number.fmt(f),
+            Value::Flag(flag) => return flag.fmt(f),
+            Value::Word(word) => return Quoted(word.as_bytes()).fmt(f),
+            Value::Bytes(bytes) => return write!(f, "\"{}\"", Hex(bytes)),
+            Value::Text(text) => return Quoted(text).fmt(f),
+            Value::Version(version) => return write!(f, "\"{version:08x}\""),
+            _ => f.write_char('[')?,
+        }
+        match self.0 {
+            Value::Versions(bytes) => list(f, versions(bytes), |f, version| write!(f, "\"{version}\"")),
+            Value::Ranges(ack) => list(f, ranges(ack), range),
+            Value::Runs(runs) => list(f, runs.iter().copied(), range),
+            Value::Ids(entries) => list(f, ids(entries), |f, id| id.fmt(f)),
+            Value::Unknown(entries) => list(f, unknown(entries), |f, entry| {
+                write!(f, "{{\"id\":{},\"value\":\"{}\"}}", entry.id, Hex(entry.value))
+            }),
+            _ => Ok(()),
+        }?;
+        f.write_char(']')
+    }
+}
+
+/// A string of JSON.
+pub struct Quoted<'a>(pub &'a [u8]);
+
+impl Display for Quoted<'_> {
+    fn fmt(&self, f: &mut Formatter<'_>) -> fmt::Result {
+        spelled(f, self.0, |f, c| match c {
+            '"' | '\\' => write!(f, "\\{c}"),
+            _ if c.is_control() => write!(f, "\\u{:04x}", u32::from(c)),
+            _ => f.write_char(c),
+        })
+    }
+}
+
+// A text in quotes, with U+FFFD for what isn't UTF-8.
+fn spelled(f: &mut Formatter<'_>, text: &[u8], spell: impl Fn(&mut Formatter<'_>, char) -> fmt::Result) -> fmt::Result {
+    f.write_char('"')?;
+    for chunk in text.utf8_chunks() {
+        chunk.valid().chars().try_for_each(|c| spell(f, c))?;
+        if !chunk.invalid().is_empty() {
+            spell(f, char::REPLACEMENT_CHARACTER)?;
+        }
+    }
+    f.write_char('"')
+}

@@ -1,0 +1,65 @@
+//! Sets of packet numbers, in decimal.
+use crate::output::{Output, Value};
+use quic_wire::frame::Ack;
+use quic_wire::range_set::{self, Run};
+use quic_wire::varint;
+use std::io::{self, Write};
+use std::ops::Range;
+use Value::Number;
+
+/// Prints the set of the numbers and ranges in a line, and an ACK of it.
+pub fn show(line: &[u8], output: &mut Output<impl Write>) -> io::Result<()> {
+    let is_blank = |byte: &u8| b" \t,;[]{}()".contains(byte);
+    let words = || line.split(is_blank).filter(|word| !word.is_empty());
+    let mut runs = Vec::new();
+    runs.try_reserve_exact(words().count())?;
+    runs.resize(words().count(), Run::default());
+    let mut count = 0;
+    for word in words() {
+        let inserted = range(word).map(|range| range_set::insert(&mut runs, &mut count, range));
+        if !matches!(inserted, Some(Ok(_))) {
+            let what = format!("no packet number or range of them below 2^62: {:?}", String::from_utf8_lossy(word));
+            return output.error(&what, None, &[]);
+        }
+    }
+    runs.truncate(count);
+    show_set(&runs, output)
+}
+
+fn show_set(runs: &[Run], output: &mut Output<impl Write>) -> io::Result<()> {
+    let Some(last) = runs.last() else { return output.error("no packet number", None, &[]) };
+    let mut ranges = Vec::new();
+    ranges.try_reserve_exact(runs.len())?;
+    ranges.extend(runs.iter().rev().map(|run| (run.start, run.end - 1)));
+    let mut ack = Vec::new();
+    // A type, four numbers, and two for each range.
+    ack.try_reserve_exact(8 * (2 * runs.len() + 4))?;
+    ack.resize(8 * (2 * runs.len() + 4), 0);
+    let len = match Ack::encode(0, runs, None, &mut ack[..]) {
+        Ok(len) => len,
+        Err(error) => return output.error(&error.to_string(), None, &[]),
+    };
+    let fields = [
+        ("largest", Number(last.end - 1)),
+        ("count", Number(runs.iter().map(|run| run.end - run.start).sum())),
+        ("ranges", Value::Runs(ranges)),
+        ("ack", Value::bytes(&ack[..len])),
+    ];
+    output.fields(&fields, &[])
+}
+
+// A number, both ends of a range as `1-3`, or a range without its end as `1..4`.
+fn range(word: &[u8]) -> Option<Range<u64>> {
+    let word = std::str::from_utf8(word).ok()?;
+    let number = |text: &str| {
+        let is_plain = text.bytes().all(|byte| byte.is_ascii_digit());
+        text.parse().ok().filter(|number| is_plain && *number <= varint::MAX)
+    };
+    let range = if let Some((first, end)) = word.split_once("..") {
+        number(first)?..number(end)?
+    } else {
+        let (first, last) = word.split_once('-').unwrap_or((word, word));
+        number(first)?..number(last)? + 1
+    };
+    (range.start < range.end).then_some(range)
+}

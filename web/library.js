@@ -242,8 +242,8 @@ export class Library {
     }
     const spoken = this.speak(versions);
     const answer = this.call(
-      "header_read", this.at(this.input + offset), BigInt(this.length - offset), idLength, this.at(this.versions), spoken,
-      this.at(this.header.place),
+      "header_read", this.at(this.input + offset), BigInt(this.length - offset), idLength, this.at(this.versions),
+      spoken, this.at(this.header.place),
     );
     if (answer < OK) {
       throw new Error(`quic_wire_header_read_ answered ${answer}`);

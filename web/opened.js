@@ -105,7 +105,7 @@ export class Opened {
     const isShort = sample.length < SAMPLE_LENGTH;
     note.replaceChildren(...faults.map((fault) => element("strong", "fault", `${fault}. `)), isShort
       ? "The packet is too short for a sample." : "The mask is what the cipher of the header makes of the sample ",
-    ...(isShort ? [] : [element("code", "", toHex(sample)), `, bytes ${begin} to ${begin + SAMPLE_LENGTH - 1}.`]));
+    ...(isShort ? [] : [element("code", "", toHex(sample)), `, ${begin}..${begin + SAMPLE_LENGTH}.`]));
   }
 
   // Reads what was pasted for a packet.

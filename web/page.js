@@ -22,7 +22,7 @@ import { count } from "./walk.js";
 // In milliseconds.
 const LINK_DELAY = 300;
 const SHOWN_FOR = 3000;
-const NOT_COPIED = "It is the page’s address";
+const NOT_COPIED = "Not copied; it is in the address bar";
 
 const byId = (id) => document.getElementById(id);
 const narrow = window.matchMedia("(max-width: 60rem)");
@@ -135,7 +135,7 @@ class Page {
     const { state } = this.form;
     const isLength = Number.isInteger(state.idLength) && state.idLength >= 0 && state.idLength <= 20;
     this.chosen = isLength ? state : { ...state, idLength: DEFAULT_STATE.idLength };
-    this.found = readEntries(state.text, state.lines);
+    this.found = { ...readEntries(state.text, state.lines), isBlank: state.text.trim() === "" };
     this.form.at = Math.min(state.at, this.found.entries.length - 1);
     byId("entries").hidden = this.found.entries.length < 2;
     this.list.show(byId("entries").hidden ? [] : this.found.entries, this.form.at);
@@ -314,7 +314,8 @@ async function begin() {
   } catch (error) {
     const status = byId("status");
     status.className = "status bad";
-    status.textContent = `The library, WebAssembly with a 64-bit memory, does not start in this browser: ${error}`;
+    status.textContent = "The library does not start in this browser. It needs WebAssembly with a 64-bit memory, which "
+      + `Chromium, Chrome and Edge have from 133 on and Firefox from 134 on. ${error}`;
     document.documentElement.dataset.state = "failed";
     throw error;
   }

@@ -77,7 +77,7 @@ class Chromium(Browser):
     """Chromium, through Debian's chromium-driver."""
 
     name = "Chromium"
-    COMMANDS = {"navigate": "url", "run": "execute/sync", "act": "actions"}
+    COMMANDS = {"navigate": "url", "run": "execute/sync", "act": "actions", "print": "print"}
 
     def __init__(self):
         self.profile = tempfile.mkdtemp()
@@ -141,6 +141,9 @@ class Chromium(Browser):
         self.devtools("Emulation.setDeviceMetricsOverride", width=width, height=height, mobile=is_phone,
                       deviceScaleFactor=2 if is_phone else 1)
 
+    def width(self, width):
+        self.devtools("Emulation.setDeviceMetricsOverride", width=width, height=900, mobile=False, deviceScaleFactor=1)
+
     def media(self, **features):
         """What the system is set to prefer: prefers-color-scheme, forced-colors, prefers-reduced-motion."""
         self.devtools("Emulation.setEmulatedMedia",
@@ -184,7 +187,10 @@ class Firefox(Browser):
         ("forced-colors", "active"): ("browser.display.document_color_use", 2),
         ("prefers-reduced-motion", "reduce"): ("ui.prefersReducedMotion", 1),
     }
-    COMMANDS = {"navigate": "WebDriver:Navigate", "run": "WebDriver:ExecuteScript", "act": "WebDriver:PerformActions"}
+    COMMANDS = {"navigate": "WebDriver:Navigate", "run": "WebDriver:ExecuteScript", "act": "WebDriver:PerformActions",
+                "print": "WebDriver:Print"}
+    # No window is narrower.
+    LEAST = 500
 
     def __init__(self):
         self.profile = tempfile.mkdtemp()
@@ -262,12 +268,19 @@ class Firefox(Browser):
         for feature in features.items():
             self.inside("Services.prefs.setIntPref(...arguments);", *self.MEDIA[feature])
 
+    def width(self, width):
+        """Makes the page so wide, in pixels of its own: a window that can't be so narrow is wider, and zoomed."""
+        factor = 2 if width < self.LEAST else 1
+        self.zoom(factor)
+        self.command("WebDriver:SetWindowRect", {"width": factor * width, "height": factor * 900})
+
     def zoom(self, factor):
         """Zooms the page."""
         self.inside("window.gBrowser.selectedBrowser.fullZoom = arguments[0];", factor)
 
     def unshape(self):
         self.zoom(1)
+        self.command("WebDriver:SetWindowRect", {"width": 1280, "height": 1000})
         self.media()
 
     def close(self):

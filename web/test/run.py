@@ -15,12 +15,13 @@ import agree
 import inputs
 import lists
 import looks
+import paper
 import sizes
 import structs
 import tools
 import use
 from browser import Chromium, Failed, Firefox
-from common import STATUS
+from common import STATUS, same
 
 PICTURES = [
     ("web-payload.png", 1280, 1180, "light", "", "#grid [data-place='12']"),
@@ -92,6 +93,8 @@ def says_its_commit(browser, top):
     built = browser.run("return document.getElementById('built').textContent")
     if done.returncode == 0 and done.stdout.strip() not in built:
         raise Failed(f"the page says of itself: {built}")
+    told = ["was not told" in built, "prover had shown" in built]
+    same(sorted(told), [False, True], f"what is said of the module's proof: {built}")
 
 
 def features(browser, host):
@@ -122,12 +125,15 @@ def times(browser, host):
 
 
 def appearances(browser, host):
-    """Contrasts in both schemes, zoom, what the system prefers; widths and a screen reader's tree in Chromium."""
+    """Contrasts in both schemes, widths, paper, zoom, what the system prefers; phones and a screen reader's tree in
+    Chromium."""
     address = f"{host}/index.html"
     for scheme in ("light", "dark"):
         browser.media(**{"prefers-color-scheme": scheme})
         least, count = looks.contrast(browser, address)
         print(f"  {scheme}: a contrast of {least:.1f} or more in {count} states", flush=True)
+    print(f"  {paper.widths(browser, address)} pages at {len(paper.WIDTHS)} widths: nothing is cut", flush=True)
+    print(f"  on paper every row, in {paper.on_paper(browser, address)} colours", flush=True)
     looks.zoom(browser, address)
     looks.forced_colors(browser, address)
     looks.motion(browser, address)

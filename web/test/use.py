@@ -101,6 +101,8 @@ def pointer(browser, address):
     browser.point(*browser.run(CENTER, "#grid [data-place='4']"))
     now = browser.run(ACTIVE)
     same((now["lit"], now["field"]), ("616263", "Stream Data“abc”3..6"), "a byte under the pointer")
+    if "3 bytes, 3..6" not in now["inspector"]:
+        raise Failed(f"the range of what is lit: {now['inspector']}")
     browser.point(*browser.run(CENTER, "#outline [data-field='2'] .name"))
     now = browser.run(ACTIVE)
     same((now["lit"], now["field"]), ("03", "Length32..3"), "a field under the pointer")

@@ -172,6 +172,9 @@ function fault(text, digits) {
 
 // Returns the bytes and how they were written, or what is wrong.
 export function readText(text) {
+  if (text.length % 2 === 0 && HEX_DIGITS.test(text)) {
+    return { bytes: fromHex(text), form: "hexadecimal", fault: null };
+  }
   const digits = text.replace(SEPARATORS, "");
   const isHex = HEX_DIGITS.test(digits);
   if (/[\n:]|\s{2}/.test(text) && digits !== "") {

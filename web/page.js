@@ -2,7 +2,7 @@
 
 import { Beside } from "./beside.js";
 import { fromBase64, toHex } from "./bytes.js";
-import { readEntries } from "./entries.js";
+import { entriesOf, readEntries } from "./entries.js";
 import { EXAMPLES } from "./examples.js";
 import { Form } from "./form.js";
 import { inspect } from "./inspector.js";
@@ -15,13 +15,15 @@ import { pictureOf, saveText } from "./picture.js";
 import { printInto } from "./printed.js";
 import { readBytes } from "./reading.js";
 import { element } from "./rows.js";
-import { showStatus, summaryOf } from "./status.js";
+import { showReading, showStatus, summaryOf } from "./status.js";
 import { Views } from "./views.js";
 import { count } from "./walk.js";
 
 // In milliseconds.
 const LINK_DELAY = 300;
 const SHOWN_FOR = 3000;
+// A text of more characters than these is read step by step, between which the browser does what else it has to.
+const MOST_AT_ONCE = 1 << 18;
 const NOT_COPIED = "Not copied; it is in the address bar";
 
 const byId = (id) => document.getElementById(id);
@@ -59,7 +61,7 @@ class Page {
   constructor([library, besideLibrary, listLibrary, payloadLibrary]) {
     this.library = library;
     this.besideLibrary = besideLibrary;
-    this.form = new Form(byId("form"), byId("other-input"));
+    this.form = new Form(byId("form"), byId("other-input"), byId("held"));
     this.reading = null;
     const inspector = byId("inspector");
     this.views = new Views(byId("grid"), byId("outline"), (spot) => this.lit(spot));
@@ -80,13 +82,14 @@ class Page {
   start() {
     const form = byId("form");
     form.addEventListener("input", (event) => this.input(event.target));
+    byId("input").addEventListener("paste", (event) => this.paste(event));
     form.addEventListener("submit", (event) => event.preventDefault());
     byId("other-input").addEventListener("input", () => this.update());
     byId("clear").addEventListener("click", () => this.take({ ...this.form.state, text: "", ...NOTHING_FURTHER }));
     byId("link").addEventListener("click", () => this.copyLink());
     byId("save").addEventListener("click", () => this.save());
     byId("text").addEventListener("toggle", () => this.print());
-    narrow.addEventListener("change", () => this.show());
+    narrow.addEventListener("change", () => this.again());
     window.addEventListener("hashchange", () => this.follow());
     for (const { name, ...example } of EXAMPLES) {
       const button = element("button", "plain", name);
@@ -99,19 +102,27 @@ class Page {
     this.fragment = window.location.hash.slice(1);
     this.form.state = this.fragment ? stateOf(this.fragment) : { ...DEFAULT_STATE, mode, text };
     this.update();
-    document.documentElement.dataset.state = "ready";
   }
 
   // ---- the form
 
   input(target) {
     if (target.name === "input") {
+      this.form.text = target.value;
       this.form.forget();
     } else if (target.name === "joined") {
       this.form.forget();
       this.form.lines = target.checked ? "one" : "each";
     }
     this.update();
+  }
+
+  paste(event) {
+    if (this.form.paste(event.clipboardData.getData("text/plain"))) {
+      event.preventDefault();
+      this.form.forget();
+      this.update();
+    }
   }
 
   take(state) {
@@ -133,29 +144,57 @@ class Page {
 
   update() {
     const { state } = this.form;
+    this.go(this.steps(state), state.text.length);
+  }
+
+  // Takes steps, all at once where there are few characters, else each as a task of its own.
+  go(steps, characters) {
+    this.going = steps;
+    if (characters <= MOST_AT_ONCE) {
+      while (!steps.next().done) { /* the next one */ }
+      document.documentElement.dataset.state = "ready";
+      return;
+    }
+    const step = () => {
+      if (this.going === steps) {
+        if (steps.next().done) {
+          document.documentElement.dataset.state = "ready";
+        } else {
+          setTimeout(step);
+        }
+      }
+    };
+    document.documentElement.dataset.state = "reading";
+    showReading(byId("status"), characters);
+    requestAnimationFrame(() => setTimeout(step));
+  }
+
+  *steps(state) {
     const isLength = Number.isInteger(state.idLength) && state.idLength >= 0 && state.idLength <= 20;
     this.chosen = isLength ? state : { ...state, idLength: DEFAULT_STATE.idLength };
-    this.found = { ...readEntries(state.text, state.lines), isBlank: state.text.trim() === "" };
+    this.found = { ...(yield* entriesOf(state.text, state.lines)), isBlank: state.text.trim() === "" };
+    yield;
     this.form.at = Math.min(state.at, this.found.entries.length - 1);
     byId("entries").hidden = this.found.entries.length < 2;
     this.list.show(byId("entries").hidden ? [] : this.found.entries, this.form.at);
-    this.read();
+    yield* this.read();
   }
 
   // Reads the input that was chosen.
-  read() {
+  *read() {
     const { bytes, fault } = this.found.entries[this.form.at];
     this.form.mark(!fault, this.found);
     this.reading = bytes && readBytes(this.library, bytes, this.chosen);
+    yield;
     this.later();
-    this.show();
+    yield* this.show();
   }
 
   // Shows another one of the inputs.
   choose(at) {
     this.form.at = at;
     this.form.opened = {};
-    this.read();
+    this.go(this.read(), this.found.entries[at].bytes?.length ?? 0);
   }
 
   openedChanged() {
@@ -204,7 +243,14 @@ class Page {
 
   // ---- showing
 
-  show() {
+  // Shows the reading anew, unless one is under way.
+  again() {
+    if (document.documentElement.dataset.state === "ready") {
+      this.go(this.show(), 0);
+    }
+  }
+
+  *show() {
     const { reading } = this;
     byId("views").hidden = reading === null || reading.bytes.length === 0;
     byId("keys").hidden = byId("views").hidden;
@@ -214,7 +260,9 @@ class Page {
       byId("items-title").textContent = { frame: "Frames", packet: "Packets", parameter: "Parameters" }[reading.unit];
       this.views.show(reading, columns());
     }
+    yield;
     this.showBeside();
+    yield;
     this.opened.show(reading?.unit === "packet" ? reading : null, columns(), this.form.opened);
     if (reading?.unit === "packet") {
       this.views.outline.refresh();
@@ -259,9 +307,10 @@ class Page {
     }
     const reading = readBytes(this.besideLibrary, bytes, this.chosen);
     this.other.show(reading, columns(), false);
-    const { count: here, rightCount: there } = this.other.comparison;
+    const { count: here, rightCount: there, isRough } = this.other.comparison;
+    const differ = `${count(here, "byte")} of the first and ${there} of this one`;
     byId("other-note").textContent = `${summaryOf(reading).text}. ${here + there === 0 ? "The same bytes."
-      : `${count(here, "byte")} of the first and ${there} of this one differ.`}`;
+      : isRough ? `Too many changes to find each: ${differ} are in parts that differ.` : `${differ} differ.`}`;
   }
 
   showShortest() {

@@ -30,6 +30,12 @@ function whichText({ entries, left }, at) {
   return entries.length > 1 ? ` Input ${at + 1} of ${entries.length}.${without}` : without;
 }
 
+// Says that a long text is being read.
+export function showReading(box, characters) {
+  box.className = "status";
+  box.replaceChildren(`Reading ${characters} characters …`);
+}
+
 // |reading| is null where the chosen input is no bytes; |go| goes to a place.
 export function showStatus(box, reading, found, at, go) {
   const { fault, form } = found.entries[at];

@@ -23,7 +23,7 @@ for (let value = 0; value < 16; value += 1) {
 }
 
 // The bytes of an even number of digits.
-function fromHex(digits) {
+export function fromHex(digits) {
   const bytes = new Uint8Array(digits.length / 2);
   for (let place = 0; place < bytes.length; place += 1) {
     bytes[place] = 16 * DIGIT[digits.charCodeAt(2 * place)] + DIGIT[digits.charCodeAt(2 * place + 1)];

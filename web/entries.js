@@ -117,7 +117,8 @@ function isOne(one, several, lines, filled) {
 }
 
 // The inputs in a text, with pauses. |lines| says whether its lines belong together ("one") or not ("each"), or is
-// "auto". Returned are the inputs, how many lines have none, whether the lines can be taken both ways, and how they were.
+// "auto". Returned are the inputs, how many lines have none, whether the lines can be taken both ways, and how they
+// were.
 export function* entriesOf(text, lines) {
   const filled = text.includes("\n") ? filledLines(text) : [{ text, line: 1 }];
   const dumps = filled.length > 1 ? readDumps(text) : null;

@@ -9,10 +9,11 @@ const BEGINNING = 1 << 14;
 
 export class Form {
   // |held| says of a text that the box has its beginning alone.
-  constructor(form, other, held) {
+  constructor(form, other, held, firstId) {
     this.form = form;
     this.other = other;
     this.note = held;
+    this.firstId = firstId;
     // The whole of such a text, or null.
     this.whole = null;
     // What has no control: which of several inputs is shown, and what packets are opened by.
@@ -33,6 +34,7 @@ export class Form {
       side: elements.side.value, versions: versionsOf(elements.versions.value) ?? VERSIONS,
       grease: elements.grease.checked, text: this.text, lines: this.lines, at: this.at,
       compare: elements.compare.checked, other: this.other.value, opened: this.opened,
+      firstId: this.firstId.value,
     };
   }
 
@@ -47,6 +49,7 @@ export class Form {
     this.text = state.text;
     elements.compare.checked = state.compare;
     this.other.value = state.other;
+    this.firstId.value = state.firstId;
     this.lines = state.lines;
     this.at = state.at;
     this.opened = { ...state.opened };
@@ -65,8 +68,8 @@ export class Form {
     }
     input.readOnly = isLong;
     this.note.hidden = !isLong;
-    this.note.textContent = isLong ? `The box shows the first ${BEGINNING} of ${text.length} characters, all of which are `
-      + "read. Clear it, or paste another text, to go on." : "";
+    this.note.textContent = isLong ? `The box shows the first ${BEGINNING} of ${text.length} characters, all of which `
+      + "are read. Clear it, or paste another text, to go on." : "";
   }
 
   // Takes a text that is pasted where the box would not have it all. Returns whether it did.

@@ -1,7 +1,7 @@
 // The page: it reads the form, has the bytes read, and shows what they are.
 
 import { Beside } from "./beside.js";
-import { fromBase64, toHex } from "./bytes.js";
+import { fromBase64, fromHex, readText, toHex } from "./bytes.js";
 import { entriesOf, readEntries } from "./entries.js";
 import { EXAMPLES } from "./examples.js";
 import { Form } from "./form.js";
@@ -9,6 +9,7 @@ import { inspect } from "./inspector.js";
 import { Library } from "./library.js";
 import { DEFAULT_STATE, fragmentOf, isLinked, stateOf } from "./link.js";
 import { EntryList } from "./list.js";
+import { INITIAL } from "./names.js";
 import { Opened } from "./opened.js";
 import { linesOf } from "./outline.js";
 import { pictureOf, saveText } from "./picture.js";
@@ -22,6 +23,8 @@ import { count } from "./walk.js";
 // In milliseconds.
 const LINK_DELAY = 300;
 const SHOWN_FOR = 3000;
+// So many inputs, and packets of each, are looked at for ids.
+const MOST_LOOKED_AT = 32;
 // A text of more characters than these is read step by step, between which the browser does what else it has to.
 const MOST_AT_ONCE = 1 << 18;
 const NOT_COPIED = "Not copied; it is in the address bar";
@@ -61,7 +64,7 @@ class Page {
   constructor([library, besideLibrary, listLibrary, payloadLibrary]) {
     this.library = library;
     this.besideLibrary = besideLibrary;
-    this.form = new Form(byId("form"), byId("other-input"), byId("held"));
+    this.form = new Form(byId("form"), byId("other-input"), byId("held"), byId("first-id"));
     this.reading = null;
     const inspector = byId("inspector");
     this.views = new Views(byId("grid"), byId("outline"), (spot) => this.lit(spot));
@@ -76,6 +79,7 @@ class Page {
     };
     this.opened = new Opened(payloadLibrary, boxes, {
       lit: (reading, spot) => inspect(inspector, reading, spot), changed: () => this.openedChanged(),
+      ids: () => this.knownIds(listLibrary),
     });
   }
 
@@ -85,6 +89,7 @@ class Page {
     byId("input").addEventListener("paste", (event) => this.paste(event));
     form.addEventListener("submit", (event) => event.preventDefault());
     byId("other-input").addEventListener("input", () => this.update());
+    byId("first-id").addEventListener("input", () => this.update());
     byId("clear").addEventListener("click", () => this.take({ ...this.form.state, text: "", ...NOTHING_FURTHER }));
     byId("link").addEventListener("click", () => this.copyLink());
     byId("save").addEventListener("click", () => this.save());
@@ -201,6 +206,23 @@ class Page {
     this.views.outline.refresh();
     this.views.light();
     this.later();
+  }
+
+  // Ids from which keys of Initial packets may follow: the one that was written, then the destination ids of Initial
+  // packets in all inputs, as far as they are looked at.
+  knownIds(library) {
+    const { bytes } = readText(byId("first-id").value);
+    const ids = new Set(bytes?.length > 0 ? [toHex(bytes)] : []);
+    for (const entry of this.found.entries.slice(0, MOST_LOOKED_AT)) {
+      const reading = entry.bytes && readBytes(library, entry.bytes, this.chosen);
+      for (let index = 0; reading && index < Math.min(reading.whole, MOST_LOOKED_AT); index += 1) {
+        const { kind, dcid, dcidlen } = reading.packet(index);
+        if (kind === INITIAL) {
+          ids.add(toHex(entry.bytes.subarray(dcid, dcid + dcidlen)));
+        }
+      }
+    }
+    return [...ids].map(fromHex);
   }
 
   // Writes the link once nothing has changed for a while.
@@ -355,7 +377,7 @@ class Page {
   }
 }
 
-const NOTHING_FURTHER = { lines: "auto", at: 0, compare: false, other: "", opened: {} };
+const NOTHING_FURTHER = { lines: "auto", at: 0, compare: false, other: "", opened: {}, firstId: "" };
 
 async function begin() {
   try {

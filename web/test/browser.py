@@ -16,6 +16,9 @@ ENTER, TAB = "\ue007", "\ue004"
 LEFT, UP, RIGHT, DOWN = "\ue012", "\ue013", "\ue014", "\ue015"
 HOME, END, PAGE_DOWN, CONTROL = "\ue011", "\ue010", "\ue00f", "\ue009"
 
+# A name of this machine from which pages are not trusted, as from another one without TLS.
+ELSEWHERE = "page.test"
+
 # How long a state is polled for before the test fails, in seconds.
 PATIENCE = 60
 
@@ -99,7 +102,8 @@ class Chromium(Browser):
         if self.base is None:
             raise Failed("chromedriver does not start")
         words = ["--headless=new", "--disable-gpu", f"--user-data-dir={self.profile}", "--window-size=1280,1000",
-                 "--force-device-scale-factor=1", "--hide-scrollbars"]
+                 "--force-device-scale-factor=1", "--hide-scrollbars",
+                 f"--host-resolver-rules=MAP {ELSEWHERE} 127.0.0.1"]
         if os.geteuid() == 0:
             words.append("--no-sandbox")
         options = {"args": words, "binary": shutil.which("chromium")}
@@ -179,6 +183,7 @@ class Firefox(Browser):
         ("browser.download.folderList", "2"), ("browser.download.alwaysOpenPanel", "false"),
         ("browser.helperApps.neverAsk.saveToDisk", '"image/svg+xml"'),
         ("browser.download.always_ask_before_handling_new_types", "false"),
+        ("network.dns.localDomains", f'"{ELSEWHERE}"'),
     ]
     # What the preferences of Firefox call what a system prefers.
     MEDIA = {

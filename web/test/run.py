@@ -12,6 +12,7 @@ import sys
 import threading
 
 import agree
+import initials
 import inputs
 import lists
 import looks
@@ -20,7 +21,7 @@ import sizes
 import structs
 import tools
 import use
-from browser import Chromium, Failed, Firefox
+from browser import Chromium, ELSEWHERE, Failed, Firefox
 from common import STATUS, same
 
 PICTURES = [
@@ -97,9 +98,12 @@ def says_its_commit(browser, top):
     same(sorted(told), [False, True], f"what is said of the module's proof: {built}")
 
 
-def features(browser, host):
+def features(browser, host, top):
     """What the page does beyond reading one input."""
     address = f"{host}/index.html"
+    print(f"  {initials.opened(browser, address, top)} Initial packets of RFC 9001 and 9369, as they are and changed")
+    initials.without_ciphers(browser, address.replace("127.0.0.1", ELSEWHERE))
+    print("  without ciphers the page says so")
     print(f"  {tools.opened(browser, address)} packets of RFC 9001 are opened")
     print(f"  {tools.compared(browser, address)} pairs of inputs are compared")
     tools.picture(browser, address)
@@ -174,7 +178,7 @@ def try_browser(kind, words, host, groups):
     try:
         print(f"{browser.name} {browser.version}", flush=True)
         pages(browser, host, words)
-        features(browser, host)
+        features(browser, host, words.top)
         appearances(browser, host)
         times(browser, host)
         all_lists(browser, host, words.quic_show, groups)

@@ -97,10 +97,11 @@ def shown(browser, address, size, bound):
 
 
 def long_texts(browser, address, bound):
-    """Texts of 5 MB keep the page busy for no more than so many milliseconds at a time. Returns the longest of these."""
+    """Texts of 5 MB keep the page busy for no more than so many milliseconds at a time. Returns the longest time."""
     longest = 0
     frames = "0a0004616263644001"
-    for what, unit, form in (("one line", frames, "hexadecimal."), ("lines", f"{frames * 4}\n", "hexadecimal."),
+    for what, unit, form in (("one line", frames, "hexadecimal."),
+                             ("lines", f"{frames * 4}\n", "hexadecimal."),
                              ("a log", f"10:00 sent {frames * 4}\n", "in a line of a log. Input 1 of")):
         for left in reversed(range(TRIES)):
             browser.go(f"{address}#read=frames&hex=01")

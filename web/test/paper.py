@@ -77,7 +77,7 @@ def turned_page(browser):
 # ---- on paper
 
 # The colours that bytes have, as an SVG or a PDF has them, and the rows that were there for the printer.
-PRINTED = """const context = document.createElement("canvas").getContext("2d");
+PRINTED = """const context = document.createElement("canvas").getContext("2d", { willReadFrequently: true });
     const found = new Set();
     for (const cell of document.querySelectorAll("#grid .byte:not(.lit-item, .lit-field)")) {
       context.fillStyle = getComputedStyle(cell).backgroundColor;

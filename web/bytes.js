@@ -25,7 +25,7 @@ for (let value = 0; value < 16; value += 1) {
 }
 
 // The bytes of an even number of digits.
-function fromHex(digits) {
+export function fromHex(digits) {
   const bytes = new Uint8Array(digits.length / 2);
   for (let place = 0; place < bytes.length; place += 1) {
     bytes[place] = 16 * DIGIT[digits.charCodeAt(2 * place)] + DIGIT[digits.charCodeAt(2 * place + 1)];
@@ -175,6 +175,9 @@ function fault(text, digits) {
 
 // Returns the bytes and how they were written, or what is wrong.
 export function readText(text) {
+  if (text.length % 2 === 0 && HEX_DIGITS.test(text)) {
+    return { bytes: fromHex(text), form: "hexadecimal", fault: null };
+  }
   const refusal = refusalOf(text);
   if (refusal) {
     return { bytes: null, form: null, fault: refusal };

@@ -57,6 +57,14 @@ function wayBack(before, left, right) {
   return pairs.reverse();
 }
 
+function onesIn(marks) {
+  let sum = 0;
+  for (let place = 0; place < marks.length; place += 1) {
+    sum += marks[place];
+  }
+  return sum;
+}
+
 export class Comparison {
   // Where |isPaired|, each item is compared with the one of the same index, as in a shortest form.
   constructor(left, right, isPaired) {
@@ -66,21 +74,26 @@ export class Comparison {
     this.leftDiffers = new Uint8Array(left.bytes.length).fill(1);
     this.rightDiffers = new Uint8Array(right.bytes.length).fill(1);
     this.places = new Int32Array(left.bytes.length).fill(-1);
+    // Whether a search was given up, so that bytes count as changed that may be the same.
+    this.isRough = false;
     if (isPaired && left.count === right.count) {
       for (let item = 0; item < left.count; item += 1) {
         this.compareBytes(left.begin(item), left.end(item), right.begin(item), right.end(item));
       }
     } else if (!this.compareBytes(0, left.bytes.length, 0, right.bytes.length)) {
+      this.isRough = false;
       this.compareItems();
     }
-    this.count = this.leftDiffers.reduce((sum, one) => sum + one, 0);
-    this.rightCount = this.rightDiffers.reduce((sum, one) => sum + one, 0);
+    this.count = onesIn(this.leftDiffers);
+    this.rightCount = onesIn(this.rightDiffers);
   }
 
   // Items that are the same on both sides, and in the gaps between them bytes.
   compareItems() {
     const { left, right } = this;
-    const pairs = samePlaces(left.count, right.count, (a, b) => this.isSameItem(a, b)) ?? [];
+    const found = samePlaces(left.count, right.count, (a, b) => this.isSameItem(a, b));
+    const pairs = found ?? [];
+    this.isRough = found === null;
     let [fromLeft, fromRight] = [0, 0];
     for (const [a, b] of pairs) {
       this.compareBytes(fromLeft, left.begin(a), fromRight, right.begin(b));
@@ -115,18 +128,32 @@ export class Comparison {
 
   // Compares bytes, and returns false where there are too many changes.
   compareBytes(left, leftEnd, right, rightEnd) {
-    const isSame = (a, b) => this.left.bytes[left + a] === this.right.bytes[right + b];
-    let [lefts, rights] = [leftEnd - left, rightEnd - right];
+    const [lefts, rights] = [this.left.bytes, this.right.bytes];
+    const most = Math.min(leftEnd - left, rightEnd - right);
     let end = 0;
-    while (end < lefts && end < rights && isSame(lefts - 1 - end, rights - 1 - end)) {
+    while (end < most && lefts[leftEnd - 1 - end] === rights[rightEnd - 1 - end]) {
       end += 1;
     }
     this.match(leftEnd - end, rightEnd - end, end);
-    [lefts, rights] = [lefts - end, rights - end];
-    const pairs = lefts > 0 && rights > 0 ? samePlaces(lefts, rights, isSame) : [];
+    let begin = 0;
+    while (begin < most - end && lefts[left + begin] === rights[right + begin]) {
+      begin += 1;
+    }
+    this.match(left, right, begin);
+    return this.search(left + begin, leftEnd - end, right + begin, rightEnd - end);
+  }
+
+  // Compares bytes of which neither the first nor the last ones are the same.
+  search(left, leftEnd, right, rightEnd) {
+    if (left === leftEnd || right === rightEnd) {
+      return true;
+    }
+    const isSame = (a, b) => this.left.bytes[left + a] === this.right.bytes[right + b];
+    const pairs = samePlaces(leftEnd - left, rightEnd - right, isSame);
     for (const [a, b] of pairs ?? []) {
       this.match(left + a, right + b, 1);
     }
+    this.isRough ||= pairs === null;
     return pairs !== null;
   }
 

@@ -8,6 +8,8 @@ import { refusalOf } from "./written.js";
 const LOG_RUN = /(?<![0-9a-z_])(?:0x)?((?:[0-9a-f]{2}[ :]?)*[0-9a-f]{2})(?![0-9a-z_])/gi;
 const LOG_DIGITS = 8;
 const IN_LOG = "hexadecimal in a line of a log";
+// So many lines are read before a pause.
+const LINES_AT_ONCE = 4096;
 // The end of a line that goes on in the next one, in source code.
 const GOES_ON = /[,\\({[]\s*$/;
 
@@ -56,23 +58,50 @@ function runOf({ text, line }) {
   return longest.length >= LOG_DIGITS ? { ...readText(longest), form: IN_LOG, line } : null;
 }
 
+// What |map| makes of lines, with pauses.
+function* mapped(lines, map) {
+  const all = [];
+  for (const line of lines) {
+    all.push(map(line));
+    if (all.length % LINES_AT_ONCE === 0) {
+      yield;
+    }
+  }
+  return all;
+}
+
+// Texts as bytes, with pauses; null where one of them is none.
+function* readAll(texts) {
+  const entries = [];
+  for (const text of texts) {
+    const entry = read(text);
+    if (!isBytes(entry)) {
+      return null;
+    }
+    entries.push(entry);
+    if (entries.length % LINES_AT_ONCE === 0) {
+      yield;
+    }
+  }
+  return entries;
+}
+
 // Blocks between empty lines, each of them one input or one for each of its lines; or null where one is no bytes.
-function readBlocks(lines) {
-  const entries = blocksOf(lines).flatMap((block) => {
+function* readBlocks(lines) {
+  return yield* readAll(blocksOf(lines).flatMap((block) => {
     const inner = filledLines(block.text).map((one) => ({ ...one, line: block.line + one.line - 1 }));
-    return inner.length === 1 || isWrapped(inner) ? [read(block)] : inner.map(read);
-  });
-  return entries.every(isBytes) ? entries : null;
+    return inner.length === 1 || isWrapped(inner) ? [block] : inner;
+  }));
 }
 
 // The inputs in lines that are apart, as far as they are bytes.
-function apart(lines) {
-  const blocks = readBlocks(lines);
+function* apart(lines) {
+  const blocks = yield* readBlocks(lines);
   if (blocks && blocks.length > 1) {
     return blocks;
   }
-  const each = lines.map(read);
-  return each.every(isBytes) ? each : lines.map(runOf).filter((entry) => entry !== null);
+  const each = yield* readAll(lines);
+  return each ?? (yield* mapped(lines, runOf)).filter((entry) => entry !== null);
 }
 
 // Whether lines that can be taken both ways look like one input.
@@ -88,9 +117,10 @@ function isOne(one, several, lines, filled) {
   return one.bytes !== null && (several.length < 2 || lines === "one" || (lines === "auto" && looksWhole(filled)));
 }
 
-// The inputs in a text. |lines| says whether its lines belong together ("one") or not ("each"), or is "auto". Returned
-// are the inputs, how many lines have none, whether the lines can be taken both ways, and how they were.
-export function readEntries(text, lines = "auto") {
+// The inputs in a text, with pauses. |lines| says whether its lines belong together ("one") or not ("each"), or is
+// "auto". Returned are the inputs, how many lines have none, whether the lines can be taken both ways, and how they
+// were.
+export function* entriesOf(text, lines) {
   if (refusalOf(text)) {
     return { entries: [{ ...readText(text), line: 1 }], left: 0, both: false, lines: "one" };
   }
@@ -99,16 +129,29 @@ export function readEntries(text, lines = "auto") {
   if (dumps && dumps.length > 1) {
     return { entries: dumps, left: 0, both: false, lines: "each" };
   }
+  yield;
   const one = { ...readText(text), line: 1 };
+  yield;
   if (dumps || (filled.length < 2 && one.bytes)) {
     return { entries: [one], left: 0, both: false, lines: "one" };
   }
-  const several = apart(filled);
+  const several = yield* apart(filled);
   const both = one.bytes !== null && several.length > 1;
   if (filled.length < 2 ? several.length === 0 : isOne(one, several, lines, filled)) {
     return { entries: [one], left: 0, both, lines: "one" };
   }
-  const entries = several.length > 0 ? several : filled.map(read);
+  const entries = several.length > 0 ? several : yield* mapped(filled, read);
   const left = entries[0].form === IN_LOG ? filled.length - entries.length : 0;
   return { entries, left, both, lines: "each" };
+}
+
+// The same without pauses.
+export function readEntries(text, lines = "auto") {
+  const steps = entriesOf(text, lines);
+  for (;;) {
+    const { done, value } = steps.next();
+    if (done) {
+      return value;
+    }
+  }
 }

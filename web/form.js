@@ -3,10 +3,19 @@
 import { versionsOf, versionsText } from "./link.js";
 import { VERSIONS } from "./names.js";
 
+// Of a text of more characters than these the box has the beginning alone, since browsers take seconds to lay it out.
+const MOST_IN_BOX = 1 << 18;
+const BEGINNING = 1 << 14;
+
 export class Form {
-  constructor(form, other) {
+  // |held| says of a text that the box has its beginning alone.
+  constructor(form, other, held, firstId) {
     this.form = form;
     this.other = other;
+    this.note = held;
+    this.firstId = firstId;
+    // The whole of such a text, or null.
+    this.whole = null;
     // What has no control: which of several inputs is shown, and what packets are opened by.
     this.at = 0;
     this.opened = {};
@@ -23,8 +32,9 @@ export class Form {
     return {
       mode: elements.mode.value, strict: elements.strict.checked, idLength: Number(elements.idLength.value),
       side: elements.side.value, versions: versionsOf(elements.versions.value) ?? VERSIONS,
-      grease: elements.grease.checked, text: elements.input.value, lines: this.lines, at: this.at,
+      grease: elements.grease.checked, text: this.text, lines: this.lines, at: this.at,
       compare: elements.compare.checked, other: this.other.value, opened: this.opened,
+      firstId: this.firstId.value,
     };
   }
 
@@ -36,12 +46,41 @@ export class Form {
     elements.side.value = state.side;
     elements.versions.value = versionsText(state.versions);
     elements.grease.checked = state.grease;
-    elements.input.value = state.text;
+    this.text = state.text;
     elements.compare.checked = state.compare;
     this.other.value = state.other;
+    this.firstId.value = state.firstId;
     this.lines = state.lines;
     this.at = state.at;
     this.opened = { ...state.opened };
+  }
+
+  get text() {
+    return this.whole ?? this.elements.input.value;
+  }
+
+  set text(text) {
+    const { input } = this.elements;
+    const isLong = text.length > MOST_IN_BOX;
+    this.whole = isLong ? text : null;
+    if (isLong || input.value !== text) {
+      input.value = isLong ? text.slice(0, BEGINNING) : text;
+    }
+    input.readOnly = isLong;
+    this.note.hidden = !isLong;
+    this.note.textContent = isLong ? `The box shows the first ${BEGINNING} of ${text.length} characters, all of which `
+      + "are read. Clear it, or paste another text, to go on." : "";
+  }
+
+  // Takes a text that is pasted where the box would not have it all. Returns whether it did.
+  paste(text) {
+    const { value, selectionStart, selectionEnd } = this.elements.input;
+    if (this.whole === null && value.length + text.length <= MOST_IN_BOX) {
+      return false;
+    }
+    const isWhole = this.whole !== null;
+    this.text = isWhole ? text : value.slice(0, selectionStart) + text + value.slice(selectionEnd);
+    return true;
   }
 
   // Forgets the choice that was made for another text.

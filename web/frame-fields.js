@@ -155,7 +155,7 @@ const BEHIND_TYPE = {
   0x04: (walk) => {
     stream(walk);
     walk.varint("Application Protocol Error Code", showApplicationCode);
-    walk.varint("Final Size", (size) => `${size} bytes`);
+    walk.varint("Final Size", (size) => count(size, "byte"));
   },
   0x05: (walk) => {
     stream(walk);
@@ -167,17 +167,17 @@ const BEHIND_TYPE = {
   },
   0x07: (walk) => counted(walk, "Token Length", "Token", {}),
   0x08: streamFields,
-  0x10: (walk) => walk.varint("Maximum Data", (limit) => `${limit} bytes`),
+  0x10: (walk) => walk.varint("Maximum Data", (limit) => count(limit, "byte")),
   0x11: (walk) => {
     stream(walk);
-    walk.varint("Maximum Stream Data", (limit) => `${limit} bytes`);
+    walk.varint("Maximum Stream Data", (limit) => count(limit, "byte"));
   },
   0x12: (walk) => walk.varint("Maximum Streams"),
   0x13: (walk) => walk.varint("Maximum Streams"),
-  0x14: (walk) => walk.varint("Maximum Data", (limit) => `${limit} bytes`),
+  0x14: (walk) => walk.varint("Maximum Data", (limit) => count(limit, "byte")),
   0x15: (walk) => {
     stream(walk);
-    walk.varint("Maximum Stream Data", (limit) => `${limit} bytes`);
+    walk.varint("Maximum Stream Data", (limit) => count(limit, "byte"));
   },
   0x16: (walk) => walk.varint("Maximum Streams"),
   0x17: (walk) => walk.varint("Maximum Streams"),

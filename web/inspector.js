@@ -5,17 +5,11 @@ import { linesOf } from "./outline.js";
 import { rangesText } from "./reading.js";
 import { sectionOf } from "./rfc.js";
 import { element } from "./rows.js";
-import { bytesText } from "./walk.js";
+import { bytesText, count } from "./walk.js";
 
 const FULL_BYTES = 256;
 
-function placeText(begin, end) {
-  const length = end - begin;
-  if (length === 0) {
-    return `no byte, at ${begin}`;
-  }
-  return length === 1 ? `byte ${begin}` : `${length} bytes, ${begin} to ${end - 1}`;
-}
+const placeText = (begin, end) => `${count(end - begin, "byte")}, ${begin}..${end}`;
 
 // The value of a field in full, as far as a few lines hold it.
 function valueOf(field, bytes) {

@@ -1,5 +1,5 @@
-// The structs of c/include/quic_wire.h as they lie in the module's memory, whose pointers and sizes have 64 bits. No other file
-// knows where a field stands. scripts/test-web compares this table with what layout.c prints of the header.
+// The structs of c/include/quic_wire.h as they lie in the module's memory, whose pointers and sizes have 64 bits. No
+// other file knows where a field stands. scripts/test-web compares this table with what layout.c prints of the header.
 
 // Of each struct its size, and of each field its offset and how many bytes it has, an array's all.
 export const LAYOUT = {

@@ -14,6 +14,18 @@ const PAGE = 65536;
 
 const aligned = (place) => (place + 15) & ~15;
 
+// Grows a memory whose addresses have 64 bits by so many pages: a BigInt, which engines as old as node 20 don't take.
+function growBy(memory, pages) {
+  try {
+    memory.grow(BigInt(pages));
+  } catch (error) {
+    if (!(error instanceof TypeError)) {
+      throw error;
+    }
+    memory.grow(pages);
+  }
+}
+
 // A list of numbers below 2^32 that grows.
 export class Words {
   constructor() {
@@ -73,7 +85,7 @@ export class Library {
   reserve(end) {
     const missing = end - this.memory.buffer.byteLength;
     if (missing > 0) {
-      this.memory.grow(BigInt(Math.ceil(missing / PAGE)));
+      growBy(this.memory, Math.ceil(missing / PAGE));
     }
   }
 
@@ -230,8 +242,8 @@ export class Library {
     }
     const spoken = this.speak(versions);
     const answer = this.call(
-      "header_read", this.at(this.input + offset), BigInt(this.length - offset), idLength, this.at(this.versions), spoken,
-      this.at(this.header.place),
+      "header_read", this.at(this.input + offset), BigInt(this.length - offset), idLength, this.at(this.versions),
+      spoken, this.at(this.header.place),
     );
     if (answer < OK) {
       throw new Error(`quic_wire_header_read_ answered ${answer}`);

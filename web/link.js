@@ -10,8 +10,8 @@ const MAX_ID_LENGTH = 20;
 export const DEFAULT_STATE = {
   mode: "frames", strict: false, idLength: 8, side: "client", versions: VERSIONS, grease: false, text: "",
   // How lines are taken, which of the inputs is shown, whether another one is beside it and which, and of packets,
-  // by their index, what they are opened by.
-  lines: "auto", at: 0, compare: false, other: "", opened: {},
+  // by their index, what they are opened by; and the id from which keys of Initial packets follow.
+  lines: "auto", at: 0, compare: false, other: "", opened: {}, firstId: "",
 };
 // Between the digits of two inputs, and of what a packet is opened by.
 const BETWEEN = ".";
@@ -49,13 +49,16 @@ function choiceWords(words, state) {
 }
 
 // What is shown beside the input, and what packets are opened by.
-function furtherWords(words, { mode, compare, other, opened }) {
+function furtherWords(words, { mode, compare, other, opened, firstId }) {
   if (compare) {
     words.set("with", toHex(readText(other).bytes ?? []));
   }
   for (const [index, { mask, plain }] of mode === "datagram" ? Object.entries(opened) : []) {
     const digits = [mask, plain].map((text) => toHex(readText(text).bytes ?? []));
     words.append("open", [index, ...digits].join(BETWEEN));
+  }
+  if (mode === "datagram" && readText(firstId).bytes?.length > 0) {
+    words.set("first", toHex(readText(firstId).bytes));
   }
 }
 
@@ -116,5 +119,6 @@ export function stateOf(fragment) {
   state.compare = words.has("with");
   state.other = words.get("with") ?? "";
   state.opened = openedOf(words);
+  state.firstId = words.get("first") ?? "";
   return state;
 }

@@ -4,6 +4,8 @@ import { toHex } from "./bytes.js";
 import { element, Rows } from "./rows.js";
 
 const SHOWN_DIGITS = 64;
+// So many inputs may wrap where what is said of them is long.
+const WRAPPED_ENTRIES = 100;
 
 export class EntryList {
   // |on| has summary(entry), which says what an input is and whether it has an error, and select(index).
@@ -13,7 +15,7 @@ export class EntryList {
     this.entries = [];
     this.at = 0;
     this.summaries = new Map();
-    this.rows = new Rows(box, (index) => this.line(index));
+    this.rows = new Rows(box, (index) => this.line(index), WRAPPED_ENTRIES);
     box.addEventListener("click", (event) => this.click(event));
     box.addEventListener("keydown", (event) => this.key(event));
   }

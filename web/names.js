@@ -170,6 +170,17 @@ const PARAMETERS = new Map([
   [0x2ab2n, ["grease_quic_bit", "flag", "", "signal"]],
   [0xff04de1bn, ["min_ack_delay", "number", "µs", "ack"]],
 ]);
+// What their values are bound to (RFC 9000, section 18.2; of min_ack_delay the ACK frequency extension).
+const ALLOWED = new Map([
+  [0x03n, "1200 or more"], [0x08n, "no more than 2^60"], [0x09n, "no more than 2^60"], [0x0an, "no more than 20"],
+  [0x0bn, "less than 2^14"], [0x0en, "2 or more"], [0xff04de1bn, "no more than max_ack_delay"],
+]);
+
+// What the values of a parameter are bound to, or nothing.
+export function allowedOf(id) {
+  return ALLOWED.get(id) ?? "";
+}
+
 export const MAX_ACK_DELAY = 0x0bn;
 export const MIN_ACK_DELAY = 0xff04de1bn;
 

@@ -1,8 +1,9 @@
-// Packets of a datagram that are opened by what the caller pastes: the mask of the header, and the plain payload. The
-// page has no keys and no ciphers.
+// Packets of a datagram that are opened: Initial packets by the page itself, others by what the caller pastes, the mask
+// of the header and the plain payload.
 
 import { readText, toHex } from "./bytes.js";
-import { packetName, RETRY, typeName, VERSION_NEGOTIATION } from "./names.js";
+import { hasCiphers, hasInitialKeys, NO_CIPHERS, openInitial } from "./initial.js";
+import { INITIAL, packetName, RETRY, typeName, VERSION_NEGOTIATION } from "./names.js";
 import { readBytes } from "./reading.js";
 import { element } from "./rows.js";
 import { spotIn, Views } from "./views.js";
@@ -37,7 +38,8 @@ function input(tag, name, label, value) {
 }
 
 export class Opened {
-  // |on| has lit(reading, spot), for what is lit in the payload, and changed(), for packets that say more now.
+  // |on| has lit(reading, spot), for what is lit in the payload, changed(), for packets that say more now, and ids(),
+  // the ids from which keys of Initial packets may follow, besides a packet's own.
   constructor(library, boxes, on) {
     this.library = library;
     this.boxes = boxes;
@@ -71,6 +73,45 @@ export class Opened {
       this.open(index);
     }
     this.view(this.viewed);
+    this.openInitials();
+  }
+
+  // Opens Initial packets for which nothing was pasted, in the order in which they are.
+  async openInitials() {
+    const { reading } = this;
+    for (const [index, one] of Object.entries(this.notes)) {
+      const isInitial = one.packet.kind === INITIAL && hasInitialKeys(one.packet.version);
+      if (isInitial && !this.saved[index]) {
+        one.own = hasCiphers() ? "" : NO_CIPHERS;
+        const { bytes } = reading;
+        const own = bytes.slice(one.packet.dcid, one.packet.dcid + one.packet.dcidlen);
+        const found = hasCiphers() && await openInitial(bytes, one.packet, [own, ...this.on.ids()],
+          (mask) => (this.reading === reading ? reading.library.unprotect(one.packet, mask) : null));
+        if (this.reading !== reading || this.notes[index] !== one || this.saved[index]) {
+          return;
+        }
+        this.openedByPage(Number(index), found);
+      }
+    }
+  }
+
+  // Says of an Initial packet how it was opened, or that it was not.
+  openedByPage(index, found) {
+    const one = this.notes[index];
+    if (!found) {
+      one.own ||= "Neither its own id nor another that is known opens it: the keys of a connection’s Initial packets "
+        + "follow from the destination id of the client’s first one. ";
+      this.say(index, []);
+      return;
+    }
+    one.own = `Opened as the ${found.side}’s, with keys from the id ${toHex(found.id) || "without a byte"}. `;
+    one.fields[0].value = toHex(found.mask);
+    one.fields[1].value = toHex(found.plain);
+    const { viewed } = this;
+    this.open(index);
+    this.view(viewed < 0 ? this.viewed : viewed);
+    this.boxes.details.open = true;
+    this.on.changed();
   }
 
   // What is asked of one packet.
@@ -86,10 +127,11 @@ export class Opened {
     }
     form.append(element("legend", "", `${packetName(packet.kind)}, ${packet.begin}..${packet.end}`),
       ...fields.map(({ box }) => box), note);
-    this.notes[index] = { note, packet, fields: fields.map(({ field }) => field) };
+    this.notes[index] = { note, packet, fields: fields.map(({ field }) => field), own: "" };
     this.say(index, []);
     form.addEventListener("input", () => {
       this.saved[index] = { mask: fields[0].field.value, plain: fields[1].field.value };
+      this.notes[index].own = "";
       this.open(index);
       this.view(this.viewed);
       this.on.changed();
@@ -99,13 +141,13 @@ export class Opened {
 
   // Says of which bytes the mask is made, and what is wrong.
   say(index, faults) {
-    const { note, packet } = this.notes[index];
+    const { note, packet, own } = this.notes[index];
     const begin = packet.number + 4;
     const sample = this.reading.bytes.subarray(begin, Math.min(begin + SAMPLE_LENGTH, packet.end));
     const isShort = sample.length < SAMPLE_LENGTH;
-    note.replaceChildren(...faults.map((fault) => element("strong", "fault", `${fault}. `)), isShort
+    note.replaceChildren(...faults.map((fault) => element("strong", "fault", `${fault}. `)), own, isShort
       ? "The packet is too short for a sample." : "The mask is what the cipher of the header makes of the sample ",
-    ...(isShort ? [] : [element("code", "", toHex(sample)), `, bytes ${begin} to ${begin + SAMPLE_LENGTH - 1}.`]));
+    ...(isShort ? [] : [element("code", "", toHex(sample)), `, ${begin}..${begin + SAMPLE_LENGTH}.`]));
   }
 
   // Reads what was pasted for a packet.

@@ -6,6 +6,8 @@ import { stripOf } from "./strip.js";
 // So many items are open at first, if each has no more lines than that.
 const OPEN_ITEMS = 200;
 const OPEN_LINES = 64;
+// So many lines wrap where they are long; of more of them each is cut where it is longer than the tree is wide.
+const WRAPPED_LINES = 500;
 
 // The lines under an item: its fields, the ranges of an ACK, the frames of an opened packet.
 export function linesOf(item) {
@@ -27,7 +29,7 @@ export class Outline {
     // The items that are open, by their index, and how many lines come before the first, the second, ... of them.
     this.open = [];
     this.before = [];
-    this.rows = new Rows(box, (index) => this.line(index));
+    this.rows = new Rows(box, (index) => this.line(index), WRAPPED_LINES);
     box.addEventListener("pointerover", (event) => this.over(event));
     box.addEventListener("pointerleave", () => on.hover(-1, -1));
     box.addEventListener("click", (event) => this.click(event));

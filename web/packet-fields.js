@@ -58,7 +58,7 @@ function protectedFields(walk, kind) {
   if (kind === INITIAL) {
     walk.take("Token", walk.varint("Token Length"));
   }
-  const length = walk.varint("Length", (value) => `${value} bytes`);
+  const length = walk.varint("Length", (value) => count(value, "byte"));
   walk.take("Packet Number and Packet Payload, protected", length, { opaque: true });
 }
 

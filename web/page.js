@@ -1,28 +1,33 @@
 // The page: it reads the form, has the bytes read, and shows what they are.
 
 import { Beside } from "./beside.js";
-import { fromBase64, toHex } from "./bytes.js";
-import { readEntries } from "./entries.js";
+import { fromBase64, fromHex, readText, toHex } from "./bytes.js";
+import { entriesOf, readEntries } from "./entries.js";
 import { EXAMPLES } from "./examples.js";
 import { Form } from "./form.js";
 import { inspect } from "./inspector.js";
 import { Library } from "./library.js";
 import { DEFAULT_STATE, fragmentOf, isLinked, stateOf } from "./link.js";
 import { EntryList } from "./list.js";
+import { INITIAL } from "./names.js";
 import { Opened } from "./opened.js";
 import { linesOf } from "./outline.js";
 import { pictureOf, saveText } from "./picture.js";
 import { printInto } from "./printed.js";
 import { readBytes } from "./reading.js";
 import { element } from "./rows.js";
-import { showStatus, summaryOf } from "./status.js";
+import { showReading, showStatus, summaryOf } from "./status.js";
 import { Views } from "./views.js";
 import { count } from "./walk.js";
 
 // In milliseconds.
 const LINK_DELAY = 300;
 const SHOWN_FOR = 3000;
-const NOT_COPIED = "It is the page’s address";
+// So many inputs, and packets of each, are looked at for ids.
+const MOST_LOOKED_AT = 32;
+// A text of more characters than these is read step by step, between which the browser does what else it has to.
+const MOST_AT_ONCE = 1 << 18;
+const NOT_COPIED = "Not copied; it is in the address bar";
 
 const byId = (id) => document.getElementById(id);
 const narrow = window.matchMedia("(max-width: 60rem)");
@@ -59,7 +64,7 @@ class Page {
   constructor([library, besideLibrary, listLibrary, payloadLibrary]) {
     this.library = library;
     this.besideLibrary = besideLibrary;
-    this.form = new Form(byId("form"), byId("other-input"));
+    this.form = new Form(byId("form"), byId("other-input"), byId("held"), byId("first-id"));
     this.reading = null;
     const inspector = byId("inspector");
     this.views = new Views(byId("grid"), byId("outline"), (spot) => this.lit(spot));
@@ -74,19 +79,22 @@ class Page {
     };
     this.opened = new Opened(payloadLibrary, boxes, {
       lit: (reading, spot) => inspect(inspector, reading, spot), changed: () => this.openedChanged(),
+      ids: () => this.knownIds(listLibrary),
     });
   }
 
   start() {
     const form = byId("form");
     form.addEventListener("input", (event) => this.input(event.target));
+    byId("input").addEventListener("paste", (event) => this.paste(event));
     form.addEventListener("submit", (event) => event.preventDefault());
     byId("other-input").addEventListener("input", () => this.update());
+    byId("first-id").addEventListener("input", () => this.update());
     byId("clear").addEventListener("click", () => this.take({ ...this.form.state, text: "", ...NOTHING_FURTHER }));
     byId("link").addEventListener("click", () => this.copyLink());
     byId("save").addEventListener("click", () => this.save());
     byId("text").addEventListener("toggle", () => this.print());
-    narrow.addEventListener("change", () => this.show());
+    narrow.addEventListener("change", () => this.again());
     window.addEventListener("hashchange", () => this.follow());
     for (const { name, ...example } of EXAMPLES) {
       const button = element("button", "plain", name);
@@ -99,19 +107,27 @@ class Page {
     this.fragment = window.location.hash.slice(1);
     this.form.state = this.fragment ? stateOf(this.fragment) : { ...DEFAULT_STATE, mode, text };
     this.update();
-    document.documentElement.dataset.state = "ready";
   }
 
   // ---- the form
 
   input(target) {
     if (target.name === "input") {
+      this.form.text = target.value;
       this.form.forget();
     } else if (target.name === "joined") {
       this.form.forget();
       this.form.lines = target.checked ? "one" : "each";
     }
     this.update();
+  }
+
+  paste(event) {
+    if (this.form.paste(event.clipboardData.getData("text/plain"))) {
+      event.preventDefault();
+      this.form.forget();
+      this.update();
+    }
   }
 
   take(state) {
@@ -133,35 +149,80 @@ class Page {
 
   update() {
     const { state } = this.form;
+    this.go(this.steps(state), state.text.length);
+  }
+
+  // Takes steps, all at once where there are few characters, else each as a task of its own.
+  go(steps, characters) {
+    this.going = steps;
+    if (characters <= MOST_AT_ONCE) {
+      while (!steps.next().done) { /* the next one */ }
+      document.documentElement.dataset.state = "ready";
+      return;
+    }
+    const step = () => {
+      if (this.going === steps) {
+        if (steps.next().done) {
+          document.documentElement.dataset.state = "ready";
+        } else {
+          setTimeout(step);
+        }
+      }
+    };
+    document.documentElement.dataset.state = "reading";
+    showReading(byId("status"), characters);
+    requestAnimationFrame(() => setTimeout(step));
+  }
+
+  *steps(state) {
     const isLength = Number.isInteger(state.idLength) && state.idLength >= 0 && state.idLength <= 20;
     this.chosen = isLength ? state : { ...state, idLength: DEFAULT_STATE.idLength };
-    this.found = readEntries(state.text, state.lines);
+    this.found = { ...(yield* entriesOf(state.text, state.lines)), isBlank: state.text.trim() === "" };
+    yield;
     this.form.at = Math.min(state.at, this.found.entries.length - 1);
     byId("entries").hidden = this.found.entries.length < 2;
     this.list.show(byId("entries").hidden ? [] : this.found.entries, this.form.at);
-    this.read();
+    yield* this.read();
   }
 
   // Reads the input that was chosen.
-  read() {
+  *read() {
     const { bytes, fault } = this.found.entries[this.form.at];
     this.form.mark(!fault, this.found);
     this.reading = bytes && readBytes(this.library, bytes, this.chosen);
+    yield;
     this.later();
-    this.show();
+    yield* this.show();
   }
 
   // Shows another one of the inputs.
   choose(at) {
     this.form.at = at;
     this.form.opened = {};
-    this.read();
+    this.go(this.read(), this.found.entries[at].bytes?.length ?? 0);
   }
 
   openedChanged() {
     this.views.outline.refresh();
     this.views.light();
     this.later();
+  }
+
+  // Ids from which keys of Initial packets may follow: the one that was written, then the destination ids of Initial
+  // packets in all inputs, as far as they are looked at.
+  knownIds(library) {
+    const { bytes } = readText(byId("first-id").value);
+    const ids = new Set(bytes?.length > 0 ? [toHex(bytes)] : []);
+    for (const entry of this.found.entries.slice(0, MOST_LOOKED_AT)) {
+      const reading = entry.bytes && readBytes(library, entry.bytes, this.chosen);
+      for (let index = 0; reading && index < Math.min(reading.whole, MOST_LOOKED_AT); index += 1) {
+        const { kind, dcid, dcidlen } = reading.packet(index);
+        if (kind === INITIAL) {
+          ids.add(toHex(entry.bytes.subarray(dcid, dcid + dcidlen)));
+        }
+      }
+    }
+    return [...ids].map(fromHex);
   }
 
   // Writes the link once nothing has changed for a while.
@@ -204,7 +265,14 @@ class Page {
 
   // ---- showing
 
-  show() {
+  // Shows the reading anew, unless one is under way.
+  again() {
+    if (document.documentElement.dataset.state === "ready") {
+      this.go(this.show(), 0);
+    }
+  }
+
+  *show() {
     const { reading } = this;
     byId("views").hidden = reading === null || reading.bytes.length === 0;
     byId("keys").hidden = byId("views").hidden;
@@ -214,7 +282,9 @@ class Page {
       byId("items-title").textContent = { frame: "Frames", packet: "Packets", parameter: "Parameters" }[reading.unit];
       this.views.show(reading, columns());
     }
+    yield;
     this.showBeside();
+    yield;
     this.opened.show(reading?.unit === "packet" ? reading : null, columns(), this.form.opened);
     if (reading?.unit === "packet") {
       this.views.outline.refresh();
@@ -259,9 +329,10 @@ class Page {
     }
     const reading = readBytes(this.besideLibrary, bytes, this.chosen);
     this.other.show(reading, columns(), false);
-    const { count: here, rightCount: there } = this.other.comparison;
+    const { count: here, rightCount: there, isRough } = this.other.comparison;
+    const differ = `${count(here, "byte")} of the first and ${there} of this one`;
     byId("other-note").textContent = `${summaryOf(reading).text}. ${here + there === 0 ? "The same bytes."
-      : `${count(here, "byte")} of the first and ${there} of this one differ.`}`;
+      : isRough ? `Too many changes to find each: ${differ} are in parts that differ.` : `${differ} differ.`}`;
   }
 
   showShortest() {
@@ -306,7 +377,7 @@ class Page {
   }
 }
 
-const NOTHING_FURTHER = { lines: "auto", at: 0, compare: false, other: "", opened: {} };
+const NOTHING_FURTHER = { lines: "auto", at: 0, compare: false, other: "", opened: {}, firstId: "" };
 
 async function begin() {
   try {
@@ -314,7 +385,8 @@ async function begin() {
   } catch (error) {
     const status = byId("status");
     status.className = "status bad";
-    status.textContent = `The library, WebAssembly with a 64-bit memory, does not start in this browser: ${error}`;
+    status.textContent = "The library does not start in this browser. It needs WebAssembly with a 64-bit memory, which "
+      + `Chromium, Chrome and Edge have from 133 on and Firefox from 134 on. ${error}`;
     document.documentElement.dataset.state = "failed";
     throw error;
   }

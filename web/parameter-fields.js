@@ -27,8 +27,14 @@ function addressFields(walk) {
   walk.take("Stateless Reset Token", TOKEN_LENGTH);
 }
 
+// A number with its unit, of which there may be one.
+function withUnit(number, unit) {
+  const one = unit.endsWith("ms") || !unit.endsWith("s") ? unit : unit.slice(0, -1);
+  return `${number} ${number === 1n ? one : unit}`.trim();
+}
+
 function numberField(walk, unit) {
-  const value = walk.varint("Value", (number) => `${number}${unit && ` ${unit}`}`);
+  const value = walk.varint("Value", (number) => withUnit(number, unit));
   if (value !== null && walk.left > 0) {
     walk.rest("behind the value", { fault: true });
   }

@@ -5,9 +5,9 @@
 import { agrees, frameFields, frameSummary, paddingRun } from "./frame-fields.js";
 import { Words } from "./library.js";
 import {
-  ACK, FRAME_REASONS, frameName, frameTone, MAX_ACK_DELAY, MIN_ACK_DELAY, PACKET_REASONS, PACKET_UNSUPPORTED_VERSION,
-  packetName, packetTone, PADDING, parameterOf, PARAMS_MALFORMED, PARAMS_REASONS, REASON_END, REASON_LONG_TYPE,
-  REASON_TYPE, typeName,
+  ACK, allowedOf, FRAME_REASONS, frameName, frameTone, MAX_ACK_DELAY, MIN_ACK_DELAY, PACKET_REASONS,
+  PACKET_UNSUPPORTED_VERSION, packetName, packetTone, PADDING, parameterOf, PARAMS_MALFORMED, PARAMS_REASONS,
+  REASON_END, REASON_LONG_TYPE, REASON_TYPE, typeName,
 } from "./names.js";
 import { openedFields, packetAgrees, packetFields, packetSummary } from "./packet-fields.js";
 import { nextEntry, parameterFields, parameterSummary } from "./parameter-fields.js";
@@ -308,8 +308,11 @@ class ParamsReading extends Reading {
   describe(reason) {
     const begin = this.begins[this.refused];
     this.reason = reason;
+    const { walk, id } = parameterFields(this.bytes, begin);
+    const fault = this.faultOf(walk);
     return {
-      place: this.faultOf(parameterFields(this.bytes, begin).walk)?.begin ?? begin, reason: PARAMS_REASONS[reason],
+      place: fault?.begin ?? begin, reason: PARAMS_REASONS[reason],
+      allowed: fault?.name === "Value" && fault.number !== undefined ? allowedOf(id) : "",
       code: "TRANSPORT_PARAMETER_ERROR (0x08)", section: "RFC 9000, section 7.4",
     };
   }

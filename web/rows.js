@@ -1,8 +1,11 @@
-// A list of many rows of one height in a box that scrolls: only those that can be seen are drawn.
+// A list of rows in a box that scrolls. Rows of one height are drawn as far as they can be seen; so few that all are
+// drawn at once may be of any height, and wrap. A mark at the end of the box says how many rows are below it.
 
 // Browsers draw no element that is much higher, in pixels.
 const MAX_HEIGHT = 8_000_000;
 const BEYOND = 6;
+// So many rows are printed.
+const MOST_PRINTED = 5000;
 
 export function element(tag, className, text) {
   const made = document.createElement(tag);
@@ -16,22 +19,34 @@ export function element(tag, className, text) {
 }
 
 export class Rows {
-  // |draw| makes the element of a row.
-  constructor(box, draw) {
+  // |draw| makes the element of a row. Up to |mostFlowing| rows are all drawn.
+  constructor(box, draw, mostFlowing = 0) {
     this.box = box;
     this.draw = draw;
+    this.mostFlowing = mostFlowing;
     this.count = 0;
     this.drawn = [0, 0];
+    this.isPrinting = false;
     this.sizer = element("div", "sizer");
     this.layer = element("div", "layer");
     for (const wrapper of [this.sizer, this.layer]) {
       wrapper.setAttribute("role", "presentation");
     }
+    this.mark = element("div", "more");
+    this.mark.setAttribute("aria-hidden", true);
     this.sizer.append(this.layer);
     box.classList.add("rows");
-    box.append(this.sizer);
+    box.append(this.sizer, this.mark);
     box.addEventListener("scroll", () => this.refreshSoon(), { passive: true });
+    this.mark.addEventListener("click", (event) => this.turnPage(event));
     new ResizeObserver(() => this.refresh(false)).observe(box);
+    window.addEventListener("beforeprint", () => this.print(true));
+    window.addEventListener("afterprint", () => this.print(false));
+  }
+
+  // Whether all rows are drawn, one below the other.
+  get isFlowing() {
+    return this.isPrinting || this.count <= this.mostFlowing;
   }
 
   // The height of a row in pixels, as the style sheet has it.
@@ -44,13 +59,28 @@ export class Rows {
   setCount(count) {
     this.count = count;
     this.layer.replaceChildren();
-    if (count > 0) {
+    this.box.classList.toggle("flowing", this.isFlowing);
+    if (count > 0 && !this.isFlowing) {
       this.measure();
     }
-    const whole = count * (this.height ?? 0);
-    this.sizer.style.height = `${Math.min(whole, MAX_HEIGHT)}px`;
+    this.size();
     this.box.scrollTop = 0;
     this.refresh(true);
+  }
+
+  size() {
+    const whole = this.count * (this.height ?? 0);
+    this.sizer.style.height = this.isFlowing ? "" : `${Math.min(whole, MAX_HEIGHT)}px`;
+  }
+
+  // Draws all rows for the printer, or again those that can be seen.
+  print(isPrinting) {
+    const { scrollTop } = this.box;
+    this.isPrinting = isPrinting;
+    this.box.classList.toggle("flowing", this.isFlowing);
+    this.size();
+    this.refresh(true);
+    this.box.scrollTop = scrollTop;
   }
 
   // How many rows one scrolled pixel passes.
@@ -72,8 +102,23 @@ export class Rows {
   refresh(isAnew) {
     if (this.count === 0) {
       this.drawn = [0, 0];
-      return;
+    } else if (this.isFlowing) {
+      this.refreshAll(isAnew);
+    } else {
+      this.refreshSeen(isAnew);
     }
+    this.markMore();
+  }
+
+  refreshAll(isAnew) {
+    if (isAnew) {
+      this.drawn = [0, Math.min(this.count, this.isPrinting ? MOST_PRINTED : this.count)];
+      this.layer.replaceChildren(...Array.from({ length: this.drawn[1] }, (_, index) => this.draw(index)));
+      this.layer.style.transform = "";
+    }
+  }
+
+  refreshSeen(isAnew) {
     const top = this.box.scrollTop * this.density;
     const first = Math.max(0, Math.floor(top) - BEYOND);
     const last = Math.min(this.count, Math.ceil(top + this.box.clientHeight / this.height) + BEYOND);
@@ -89,9 +134,41 @@ export class Rows {
     this.layer.style.transform = `translateY(${this.box.scrollTop - (top - first) * this.height}px)`;
   }
 
+  // How many rows end above the lower end of what is seen.
+  get seen() {
+    if (!this.isFlowing) {
+      const below = this.box.scrollTop * this.density + this.box.clientHeight / this.height;
+      return Math.min(this.count, Math.floor(below));
+    }
+    const { children } = this.layer;
+    const view = this.box.scrollTop + this.box.clientHeight;
+    let seen = this.drawn[1];
+    while (seen > 0 && children[seen - 1].offsetTop + children[seen - 1].offsetHeight > view + 1) {
+      seen -= 1;
+    }
+    return seen;
+  }
+
+  // Says how many rows are below the last one that is seen, or of those that are printed.
+  markMore() {
+    const isAtEnd = this.box.scrollTop + this.box.clientHeight >= this.box.scrollHeight - 1;
+    const more = this.isPrinting ? this.count - this.drawn[1] : isAtEnd ? 0 : this.count - this.seen;
+    this.mark.hidden = more <= 0;
+    this.mark.textContent = `▾ ${more} more ${more === 1 ? "row" : "rows"}`;
+  }
+
+  turnPage(event) {
+    event.stopPropagation();
+    this.box.scrollTop += this.box.clientHeight - this.mark.offsetHeight - (this.height ?? 0);
+  }
+
   // Scrolls until a row is in the box: no further than that if it is the next one, else until it is in the middle.
   reveal(index) {
-    const view = this.box.clientHeight / this.height;
+    if (this.isFlowing) {
+      this.revealDrawn(this.layer.children[index]);
+      return;
+    }
+    const view = (this.box.clientHeight - this.mark.offsetHeight) / this.height;
     const top = this.box.scrollTop * this.density;
     let wanted = top;
     if (index < top) {
@@ -105,8 +182,24 @@ export class Rows {
     }
   }
 
+  revealDrawn(row) {
+    if (!row) {
+      return;
+    }
+    const { box } = this;
+    const view = box.clientHeight - this.mark.offsetHeight;
+    const [top, bottom] = [row.offsetTop, row.offsetTop + row.offsetHeight];
+    if (top < box.scrollTop) {
+      box.scrollTop = bottom > box.scrollTop - row.offsetHeight ? top : top - view / 2;
+    } else if (bottom > box.scrollTop + view) {
+      box.scrollTop = top < box.scrollTop + view + row.offsetHeight ? bottom - view : top - view / 2;
+    }
+    this.markMore();
+  }
+
   // How many rows are seen at once.
   get page() {
-    return Math.max(1, Math.floor(this.box.clientHeight / this.height) - 1);
+    const height = this.isFlowing ? this.sizer.offsetHeight / Math.max(1, this.count) : this.height;
+    return Math.max(1, Math.floor(this.box.clientHeight / height) - 1);
   }
 }

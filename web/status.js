@@ -4,10 +4,11 @@ import { typeName } from "./names.js";
 import { element } from "./rows.js";
 import { count } from "./walk.js";
 
-function errorText({ place, reason, type, version, code, section }) {
+function errorText({ place, reason, type, version, allowed, code, section }) {
   const what = (type ?? null) === null ? "" : ` in ${typeName(type)}`;
   const which = (version ?? null) === null ? "" : ` ${version.toString(16)}`;
   const text = [element("strong", "", `Error at byte ${place}: ${reason}${which}${what}.`)];
+  text.push(allowed ? ` Allowed is ${allowed}.` : "");
   text.push(code ? ` ${code}, ${section}. ` : ` ${section[0].toUpperCase()}${section.slice(1)}. `);
   return text;
 }
@@ -29,6 +30,12 @@ function whichText({ entries, left }, at) {
   return entries.length > 1 ? ` Input ${at + 1} of ${entries.length}.${without}` : without;
 }
 
+// Says that a long text is being read.
+export function showReading(box, characters) {
+  box.className = "status";
+  box.replaceChildren(`Reading ${characters} characters …`);
+}
+
 // |reading| is null where the chosen input is no bytes; |go| goes to a place.
 export function showStatus(box, reading, found, at, go) {
   const { fault, form } = found.entries[at];
@@ -36,6 +43,11 @@ export function showStatus(box, reading, found, at, go) {
   const which = whichText(found, at);
   if (fault) {
     box.replaceChildren(element("strong", "", "No bytes"), `: ${fault}.${which}`);
+    return;
+  }
+  if (found.isBlank) {
+    box.className = "status";
+    box.replaceChildren("Nothing to read yet: paste bytes above, or try one of the examples.");
     return;
   }
   const bytes = count(reading.bytes.length, "byte");

@@ -18,10 +18,20 @@ const VERSIONS = [1, 0xff00001d, 0xff00001e, 0xff00001f, 0xff000020, 0xff000021,
 const base = Number(wire.__heap_base.value);
 const at = { state: base, out: base + 64, versions: base + 384, bytes: base + 512 };
 
+// Pages are counted by a BigInt, which engines as old as node 20 don't take.
+function grow(pages) {
+    try {
+        wire.memory.grow(BigInt(pages));
+    } catch (error) {
+        if (!(error instanceof TypeError)) throw error;
+        wire.memory.grow(pages);
+    }
+}
+
 // Copies bytes to where a line's stand, with room for as many behind them, and gives a view of all memory.
 function give(bytes) {
     const missing = at.bytes + 2 * bytes.length - wire.memory.buffer.byteLength;
-    if (missing > 0) wire.memory.grow(BigInt(Math.ceil(missing / 65536)));
+    if (missing > 0) grow(Math.ceil(missing / 65536));
     new Uint8Array(wire.memory.buffer).set(bytes, at.bytes);
     return new DataView(wire.memory.buffer);
 }

@@ -166,16 +166,6 @@ function unprotect(library, bytes, context) {
   return context.largest === "-" ? valid(`${hex([first])} ${number} ${opened.number}`) : "valid";
 }
 
-// The memory's growth in pages is a BigInt, which node 20 doesn't take yet.
-const { grow } = WebAssembly.Memory.prototype;
-WebAssembly.Memory.prototype.grow = function growBy(pages) {
-  try {
-    return grow.call(this, pages);
-  } catch {
-    return grow.call(this, Number(pages));
-  }
-};
-
 const CALLS = { payload, datagram, params: parameters, shortest, unprotect };
 
 const [library] = await Library.load(fs.readFileSync(process.argv[2]), 1);

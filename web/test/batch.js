@@ -100,8 +100,10 @@ function faults(line, printed, canon) {
     found.push(`items ${whole}`);
   }
   const error = /^error (.*)$/m.exec(printed);
-  const isReported = !error || status.textContent.includes(`: ${error[1]}.`);
-  if (Boolean(error) !== status.classList.contains("bad") || !isReported) {
+  // An empty box is no input, though an empty payload is one that has an error.
+  const isBad = Boolean(error) && line !== "";
+  const isReported = !isBad || status.textContent.includes(`: ${error[1]}.`);
+  if (isBad !== status.classList.contains("bad") || !isReported) {
     found.push(`status ${status.textContent}`);
   }
   if (items.some((item) => item.isError) && !document.querySelector("#outline .field.fault")) {

@@ -16,6 +16,9 @@ ENTER, TAB = "\ue007", "\ue004"
 LEFT, UP, RIGHT, DOWN = "\ue012", "\ue013", "\ue014", "\ue015"
 HOME, END, PAGE_DOWN, CONTROL = "\ue011", "\ue010", "\ue00f", "\ue009"
 
+# A name of this machine from which pages are not trusted, as from another one without TLS.
+ELSEWHERE = "page.test"
+
 # How long a state is polled for before the test fails, in seconds.
 PATIENCE = 60
 
@@ -77,7 +80,7 @@ class Chromium(Browser):
     """Chromium, through Debian's chromium-driver."""
 
     name = "Chromium"
-    COMMANDS = {"navigate": "url", "run": "execute/sync", "act": "actions"}
+    COMMANDS = {"navigate": "url", "run": "execute/sync", "act": "actions", "print": "print"}
 
     def __init__(self):
         self.profile = tempfile.mkdtemp()
@@ -99,7 +102,8 @@ class Chromium(Browser):
         if self.base is None:
             raise Failed("chromedriver does not start")
         words = ["--headless=new", "--disable-gpu", f"--user-data-dir={self.profile}", "--window-size=1280,1000",
-                 "--force-device-scale-factor=1", "--hide-scrollbars"]
+                 "--force-device-scale-factor=1", "--hide-scrollbars",
+                 f"--host-resolver-rules=MAP {ELSEWHERE} 127.0.0.1"]
         if os.geteuid() == 0:
             words.append("--no-sandbox")
         options = {"args": words, "binary": shutil.which("chromium")}
@@ -141,6 +145,9 @@ class Chromium(Browser):
         self.devtools("Emulation.setDeviceMetricsOverride", width=width, height=height, mobile=is_phone,
                       deviceScaleFactor=2 if is_phone else 1)
 
+    def width(self, width):
+        self.devtools("Emulation.setDeviceMetricsOverride", width=width, height=900, mobile=False, deviceScaleFactor=1)
+
     def media(self, **features):
         """What the system is set to prefer: prefers-color-scheme, forced-colors, prefers-reduced-motion."""
         self.devtools("Emulation.setEmulatedMedia",
@@ -176,6 +183,7 @@ class Firefox(Browser):
         ("browser.download.folderList", "2"), ("browser.download.alwaysOpenPanel", "false"),
         ("browser.helperApps.neverAsk.saveToDisk", '"image/svg+xml"'),
         ("browser.download.always_ask_before_handling_new_types", "false"),
+        ("network.dns.localDomains", f'"{ELSEWHERE}"'),
     ]
     # What the preferences of Firefox call what a system prefers.
     MEDIA = {
@@ -184,7 +192,10 @@ class Firefox(Browser):
         ("forced-colors", "active"): ("browser.display.document_color_use", 2),
         ("prefers-reduced-motion", "reduce"): ("ui.prefersReducedMotion", 1),
     }
-    COMMANDS = {"navigate": "WebDriver:Navigate", "run": "WebDriver:ExecuteScript", "act": "WebDriver:PerformActions"}
+    COMMANDS = {"navigate": "WebDriver:Navigate", "run": "WebDriver:ExecuteScript", "act": "WebDriver:PerformActions",
+                "print": "WebDriver:Print"}
+    # No window is narrower.
+    LEAST = 500
 
     def __init__(self):
         self.profile = tempfile.mkdtemp()
@@ -262,12 +273,19 @@ class Firefox(Browser):
         for feature in features.items():
             self.inside("Services.prefs.setIntPref(...arguments);", *self.MEDIA[feature])
 
+    def width(self, width):
+        """Makes the page so wide, in pixels of its own: a window that can't be so narrow is wider, and zoomed."""
+        factor = 2 if width < self.LEAST else 1
+        self.zoom(factor)
+        self.command("WebDriver:SetWindowRect", {"width": factor * width, "height": factor * 900})
+
     def zoom(self, factor):
         """Zooms the page."""
         self.inside("window.gBrowser.selectedBrowser.fullZoom = arguments[0];", factor)
 
     def unshape(self):
         self.zoom(1)
+        self.command("WebDriver:SetWindowRect", {"width": 1280, "height": 1000})
         self.media()
 
     def close(self):

@@ -19,7 +19,17 @@ FAULTY = {
 }
 
 
+def no_input(browser):
+    """An empty box is no error, whatever it would be read as."""
+    for mode in ("frames", "datagram", "params"):
+        for text in ("", " \n"):
+            set_form(browser, {"mode": mode}, text)
+            same(browser.run(STATUS), "Nothing to read yet: paste bytes above, or try one of the examples.", "no input")
+            same(browser.run("return document.getElementById('status').className"), "status", "no input")
+
+
 def ways_to_write(browser):
+    no_input(browser)
     set_form(browser, {"mode": "frames", "strict": False}, "")
     for text in WRITTEN:
         browser.run(SET_INPUT, text)
@@ -112,12 +122,14 @@ CHOICES = [
     ({"mode": "datagram", "idLength": 1, "grease": False}, "000102", "fixed bit unset"),
     ({"mode": "datagram", "idLength": 1, "grease": True}, "000102", "1 packet in 3 bytes"),
     ({"mode": "datagram", "idLength": 4, "grease": True}, "000102", "packet too small"),
+    # RFC 9000, section 18.2: values below 2 are invalid.
+    ({"mode": "params", "side": "client"}, "0e0101", "illegal value. Allowed is 2 or more."),
 ]
 STRIP = "return document.querySelector('#outline svg').getAttribute('aria-label')"
 
 
 def choices(browser, address):
-    """Versions, the fixed bit and lengths of ids count; the strip says what it draws."""
+    """Versions, the fixed bit and lengths of ids count, bounds are named; the strip says what it draws."""
     browser.go(f"{address}#read=datagram")
     for form, text, want in CHOICES:
         set_form(browser, form, text)
@@ -185,5 +197,5 @@ def copied_link(browser, address):
         same(len(browser.run("return location.hash")) > 2 * 65536, size == 65536, f"a link of {size} bytes")
         text = browser.until("const { textContent } = document.getElementById('link');"
                              "return textContent !== 'Copy link' && textContent", "what the button says")
-        if text not in (want, "It is the page’s address"):
+        if text not in (want, "Not copied; it is in the address bar"):
             raise Failed(f"the button says {text!r}")

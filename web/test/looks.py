@@ -3,8 +3,8 @@ from browser import Failed
 from common import click_example, same, set_field, set_form, source, turn
 
 CONTRAST = source("contrast.js")
-EXAMPLES = ["a payload", "a payload with an error", "a datagram of three packets", "a packet to open", "a log",
-            "a server’s transport parameters"]
+EXAMPLES = ["a payload", "a payload with an error", "a datagram of three packets", "a client’s Initial",
+            "a server’s Initial", "a Retry", "a packet to open", "a log", "a server’s transport parameters"]
 POINT = "document.querySelector(arguments[0])?.click();"
 CENTER_OF = """const [selector] = arguments; const element = document.querySelector(selector);
     if (!element) { return null; }

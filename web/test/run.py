@@ -12,15 +12,17 @@ import sys
 import threading
 
 import agree
+import initials
 import inputs
 import lists
 import looks
+import paper
 import sizes
 import structs
 import tools
 import use
-from browser import Chromium, Failed, Firefox
-from common import STATUS
+from browser import Chromium, ELSEWHERE, Failed, Firefox
+from common import STATUS, same
 
 PICTURES = [
     ("web-payload.png", 1280, 1180, "light", "", "#grid [data-place='12']"),
@@ -92,11 +94,16 @@ def says_its_commit(browser, top):
     built = browser.run("return document.getElementById('built').textContent")
     if done.returncode == 0 and done.stdout.strip() not in built:
         raise Failed(f"the page says of itself: {built}")
+    told = ["was not told" in built, "prover had shown" in built]
+    same(sorted(told), [False, True], f"what is said of the module's proof: {built}")
 
 
-def features(browser, host):
+def features(browser, host, top):
     """What the page does beyond reading one input."""
     address = f"{host}/index.html"
+    print(f"  {initials.opened(browser, address, top)} Initial packets of RFC 9001 and 9369, as they are and changed")
+    initials.without_ciphers(browser, address.replace("127.0.0.1", ELSEWHERE))
+    print("  without ciphers the page says so")
     print(f"  {tools.opened(browser, address)} packets of RFC 9001 are opened")
     print(f"  {tools.compared(browser, address)} pairs of inputs are compared")
     tools.picture(browser, address)
@@ -113,6 +120,7 @@ def times(browser, host):
         took, what = sizes.shown(browser, address, size, bound)
         listed = sizes.listed(browser, address, size, bound)
         print(f"  {size} bytes: at most {took:.0f} ms ({what}), a log in {listed:.0f} ms", flush=True)
+    print(f"  texts of 5 MB: busy for {sizes.long_texts(browser, address, 3000):.0f} ms at a time", flush=True)
     if isinstance(browser, Chromium):
         browser.slow(6)
         took, what = sizes.shown(browser, address, 65536, 2000)
@@ -122,12 +130,15 @@ def times(browser, host):
 
 
 def appearances(browser, host):
-    """Contrasts in both schemes, zoom, what the system prefers; widths and a screen reader's tree in Chromium."""
+    """Contrasts in both schemes, widths, paper, zoom, what the system prefers; phones and a screen reader's tree in
+    Chromium."""
     address = f"{host}/index.html"
     for scheme in ("light", "dark"):
         browser.media(**{"prefers-color-scheme": scheme})
         least, count = looks.contrast(browser, address)
         print(f"  {scheme}: a contrast of {least:.1f} or more in {count} states", flush=True)
+    print(f"  {paper.widths(browser, address)} pages at {len(paper.WIDTHS)} widths: nothing is cut", flush=True)
+    print(f"  on paper every row, in {paper.on_paper(browser, address)} colours", flush=True)
     looks.zoom(browser, address)
     looks.forced_colors(browser, address)
     looks.motion(browser, address)
@@ -167,7 +178,7 @@ def try_browser(kind, words, host, groups):
     try:
         print(f"{browser.name} {browser.version}", flush=True)
         pages(browser, host, words)
-        features(browser, host)
+        features(browser, host, words.top)
         appearances(browser, host)
         times(browser, host)
         all_lists(browser, host, words.quic_show, groups)

@@ -14,7 +14,29 @@ TIMED = """const [text] = arguments; window.took = null;
     const begin = performance.now();
     input.value = text;
     input.dispatchEvent(new Event("input", { bubbles: true }));
-    requestAnimationFrame(() => setTimeout(() => { window.took = performance.now() - begin; }, 0));"""
+    const drawn = () => {
+      if (document.documentElement.dataset.state === "ready") { window.took = performance.now() - begin; }
+      else { look(); }
+    };
+    const look = () => requestAnimationFrame(() => setTimeout(drawn, 0));
+    look();"""
+
+# Sets an input while a timer ticks: the longest that it had to wait, and how much of the text the box then has.
+TICKING = """const [text] = arguments; window.waited = null;
+    const input = document.getElementById("input");
+    let last = performance.now();
+    let most = 0;
+    const timer = setInterval(() => {
+      most = Math.max(most, performance.now() - last);
+      last = performance.now();
+      if (document.documentElement.dataset.state === "ready") {
+        clearInterval(timer);
+        window.waited = [most, input.value.length, input.readOnly, document.getElementById("held").hidden];
+      }
+    }, 5);
+    input.value = text;
+    input.dispatchEvent(new Event("input", { bubbles: true }));"""
+LONG = 5_000_000
 
 
 def large(size, seed):
@@ -72,6 +94,49 @@ def shown(browser, address, size, bound):
         if f"..{len(data)}" not in browser.run(ACTIVE)["label"]:
             raise Failed(f"the last line of {what}: {browser.run(ACTIVE)['label']}")
     return longest
+
+
+def long_texts(browser, address, bound):
+    """Texts of 5 MB keep the page busy for no more than so many milliseconds at a time. Returns the longest time."""
+    longest = 0
+    frames = "0a0004616263644001"
+    for what, unit, form in (("one line", frames, "hexadecimal."),
+                             ("lines", f"{frames * 4}\n", "hexadecimal."),
+                             ("a log", f"10:00 sent {frames * 4}\n", "in a line of a log. Input 1 of")):
+        for left in reversed(range(TRIES)):
+            browser.go(f"{address}#read=frames&hex=01")
+            browser.run(TICKING, unit * (LONG // len(unit)))
+            waited, shown_part, is_locked, is_silent = browser.until("return window.waited", f"{what} of 5 MB")
+            if waited <= bound or left == 0:
+                break
+        if waited > bound:
+            raise Failed(f"{what} of 5 MB: busy for {waited:.0f} ms")
+        same((shown_part < LONG, is_locked, is_silent), (True, True, False), f"the box with {what} of 5 MB")
+        if form not in browser.run(STATUS):
+            raise Failed(f"{what} of 5 MB: {browser.run(STATUS)}")
+        longest = max(longest, waited)
+    browser.run("document.getElementById('clear').click()")
+    box = "const { value, readOnly } = document.getElementById('input'); return [value, readOnly]"
+    same(browser.run(box), ["", False], "the box once it is cleared")
+    pasted(browser, address)
+    return longest
+
+
+def pasted(browser, address):
+    """What is pasted by keys takes the same way: some short text, then one that the box can't have all of."""
+    copy = """const from = document.createElement("textarea"); from.id = "from"; from.value = arguments[0];
+        document.body.append(from); from.focus();"""
+    for size in (1000, 200_000):
+        browser.send("navigate", {"url": "about:blank"})
+        browser.go(f"{address}#read=frames&hex=")
+        browser.run(copy, "01" * size)
+        browser.keys("a", held=(CONTROL,))
+        browser.keys("c", held=(CONTROL,))
+        browser.run("document.getElementById('from').remove(); document.getElementById('input').focus()")
+        browser.keys("v", held=(CONTROL,))
+        browser.until("return document.getElementById('status').textContent.startsWith(arguments[0])",
+                      f"{size} bytes that are pasted", f"{size} frames in {size} bytes")
+        same(browser.run("return document.getElementById('input').readOnly"), size > 100_000, f"{size} bytes pasted")
 
 
 def listed(browser, address, size, bound):

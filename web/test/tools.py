@@ -48,7 +48,8 @@ def opened(browser, address):
                             ".map((one) => one.textContent)")
         same(names, inner, f"the payload of {datagram}")
         wanted = f"hex={datagram}&open=0.{mask.replace(' ', '')}.{payload}"
-        link = browser.until("return location.hash.endsWith(arguments[0]) && location.href", "a link that opens", wanted)
+        link = browser.until("return location.hash.endsWith(arguments[0]) && location.href", "a link that opens",
+                             wanted)
         browser.send("navigate", {"url": "about:blank"})
         browser.go(link)
         same(dict(browser.run(LINES, "#outline")), found, f"the link {link}")

@@ -16,10 +16,11 @@ def keyboard(browser, address):
     """A walk with no pointer: from the field of bytes to the grid, along it, to the tree and back."""
     browser.go(f"{address}#read=frames&hex=0205190002" "0a0003616263" "0161")
     browser.run("document.getElementById('input').focus()")
-    order = stops(browser, 13)
+    order = stops(browser, 16)
     same(order, ["strict", "compare", "clear", "link", "a payload", "a payload with an error",
-                 "a datagram of three packets", "a packet to open", "a log", "a server’s transport parameters",
-                 "Show it", "save", "grid"], "the order of tabs")
+                 "a datagram of three packets", "a client’s Initial", "a server’s Initial", "a Retry",
+                 "a packet to open", "a log", "a server’s transport parameters", "Show it", "save", "grid"],
+         "the order of tabs")
     browser.keys(RIGHT)
     same(browser.run(ACTIVE)["label"], "byte 0, 02, Type of ACK", "the first byte")
     browser.keys(RIGHT)
@@ -73,6 +74,8 @@ def all_by_keyboard(browser, address):
     until_focus(browser, "SUMMARY")
     browser.keys(ENTER)
     same(browser.run("return document.getElementById('open').open"), True, "the panel is open")
+    browser.keys(TAB)
+    same(browser.run("return document.activeElement.id"), "first-id", "the id behind the panel's title")
     for field, text in (("mask", "aefefe7d03"), ("plain", "01")):
         browser.keys(TAB)
         same(browser.run("return document.activeElement.dataset.name"), field, "the fields of a packet")
@@ -101,6 +104,8 @@ def pointer(browser, address):
     browser.point(*browser.run(CENTER, "#grid [data-place='4']"))
     now = browser.run(ACTIVE)
     same((now["lit"], now["field"]), ("616263", "Stream Data“abc”3..6"), "a byte under the pointer")
+    if "3 bytes, 3..6" not in now["inspector"]:
+        raise Failed(f"the range of what is lit: {now['inspector']}")
     browser.point(*browser.run(CENTER, "#outline [data-field='2'] .name"))
     now = browser.run(ACTIVE)
     same((now["lit"], now["field"]), ("03", "Length32..3"), "a field under the pointer")

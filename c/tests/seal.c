@@ -1,0 +1,104 @@
+/* seal < payloads > capture: seals each payload, a line of hexadecimal, as the
+ * Initial packet with which a client begins a connection of its own, and writes
+ * the packets as a capture file, for c/examples/wireshark.c.  The packet of the
+ * first line has the source port 20000, and so on: ports below are those of
+ * other protocols, for which Wireshark takes some packets. */
+#include <stdio.h>
+#include <stdlib.h>
+#include <string.h>
+
+#include "../examples/initial_keys.h"
+#include "quic_wire.h"
+
+enum {
+  MOST = 16000,
+  ID = 8,
+  IP = 20,
+  UDP = 8,
+  RAW_IP = 101,
+  FIRST_PORT = 20000
+};
+
+static void check(int is_so, const char *what) {
+  if (!is_so) {
+    fprintf(stderr, "seal: %s\n", what);
+    exit(1);
+  }
+}
+
+static void two_bytes(uint8_t *to, size_t value) {
+  to[0] = (uint8_t)(value >> 8);
+  to[1] = (uint8_t)value;
+}
+
+/* The words of a capture file are those of the machine. */
+static void write_words(const uint32_t *words, size_t count) {
+  check(fwrite(words, 4, count, stdout) == count, "not written");
+}
+
+/* Seals a payload of a connection.  Returns how long the packet is. */
+static size_t seal(unsigned connection, const uint8_t *payload, size_t len,
+                   uint8_t *packet, size_t room) {
+  const quic_wire_header_fields fields = {QUIC_WIRE_INITIAL, 0, 0, 4, 2, 0};
+  uint8_t id[ID] = {0x83, 0x94, 0xc8, 0xf0}, mask[5];
+  quic_wire_header_fields all = fields;
+  size_t begin, place, end;
+  int64_t written;
+  keys k;
+  all.version = VERSION_1;
+  all.number = 0;
+  all.numberlen = 4;
+  all.lengthlen = 2;
+  two_bytes(id + ID - 2, connection);
+  written =
+      quic_wire_header_write(&all, id, ID, NULL, 0, NULL, 0, packet, room);
+  check(written > 0, "no header");
+  begin = (size_t)written;
+  place = begin - all.numberlen;
+  end = begin + len + TAG;
+  check(end <= room && !quic_wire_set_len(packet, end, place, all.lengthlen),
+        "too long");
+  memcpy(packet + begin, payload, len);
+  k = initial_keys(VERSION_1, QUIC_WIRE_CLIENT, id, ID);
+  crypt_payload(&k, 1, all.number, packet, begin, packet + begin, len,
+                packet + begin);
+  make_mask(&k, quic_wire_sample(packet, end, place, SAMPLE), mask);
+  check(quic_wire_protect(packet, end, place, mask) > 0, "not protected");
+  return end;
+}
+
+/* Writes a packet as UDP's over IPv4, as a record of the capture. */
+static void write_record(unsigned connection, uint8_t *datagram, size_t len) {
+  const uint32_t head[] = {connection, 0, (uint32_t)(IP + UDP + len),
+                           (uint32_t)(IP + UDP + len)};
+  static const uint8_t ip[IP] = {0x45, 0, 0,  0, 0, 0, 0,  0, 64, 17,
+                                 0,    0, 10, 0, 0, 1, 10, 0, 0,  2};
+  memcpy(datagram, ip, IP);
+  two_bytes(datagram + 2, IP + UDP + len);
+  two_bytes(datagram + IP, FIRST_PORT + connection);
+  two_bytes(datagram + IP + 2, 443);
+  two_bytes(datagram + IP + 4, UDP + len);
+  two_bytes(datagram + IP + 6, 0);
+  write_words(head, 4);
+  check(fwrite(datagram, 1, IP + UDP + len, stdout) == IP + UDP + len,
+        "not written");
+}
+
+int main(void) {
+  const uint32_t head[] = {0xa1b2c3d4, 0x00040002, 0, 0, 65535, RAW_IP};
+  static char line[2 * MOST + 2];
+  static uint8_t payload[MOST], datagram[IP + UDP + MOST + 64];
+  unsigned connection = 0, byte;
+  check(quic_wire_check_linked() == 0, "another library is linked");
+  write_words(head, 6);
+  while (fgets(line, sizeof line, stdin)) {
+    size_t len = 0;
+    while (len < MOST && sscanf(line + 2 * len, "%2x", &byte) == 1)
+      payload[len++] = (uint8_t)byte;
+    write_record(connection, datagram,
+                 seal(connection, payload, len, datagram + IP + UDP,
+                      sizeof datagram - IP - UDP));
+    connection++;
+  }
+  return 0;
+}

@@ -1,5 +1,6 @@
 //! Prints the types of a payload's frames, and its error. Of the repository's crates it names `quic_wire` alone.
 #![tactic(auto)]
+
 ghost use Rattle.quic_wire.specs.One.{ReturnsOne};
 ghost use Rattle.quic_wire.specs.Payload.{IsReadingOf};
 ghost use Rattle.quic_wire.specs.Reading.{IsReturnedAs};

@@ -2,8 +2,8 @@
 use bytes::BytesMut;
 use quic_checks::Checks;
 use quic_wire::calls::{
-    PayloadError, cut_first, cut_plain, frames_read_back, is_lost, parameters_read_back, read_parameters, read_payload,
-    shorten, write_payload,
+    PayloadError, cut_first, cut_plain, frames_read_back, is_lost, parameters_read_back,
+    read_parameters, read_payload, shorten, write_payload,
 };
 use quic_wire::frame::Frame;
 use quic_wire::ids::Side;
@@ -98,8 +98,14 @@ fn parameters_are_read_back(rt: HostRuntime) -> Result<(), Fail> {
     greased.grease_transport_parameter = Some(ReservedTransportParameter::new(0, b"\xaa\xbb"));
     if greased.in_range(Side::Client) {
         let mut out = Vec::new(rt.alloc());
-        checks.same(parameters_read_back(Side::Client, &greased, &mut out), Ok(params));
-        checks.same(out.as_slice(), b"\x01\x04\x80\x00\x75\x30\x1b\x02\xaa\xbb".as_slice());
+        checks.same(
+            parameters_read_back(Side::Client, &greased, &mut out),
+            Ok(params),
+        );
+        checks.same(
+            out.as_slice(),
+            b"\x01\x04\x80\x00\x75\x30\x1b\x02\xaa\xbb".as_slice(),
+        );
     }
     checks.verdict()
 }

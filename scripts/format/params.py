@@ -42,7 +42,7 @@ BOUNDS = {
 def identifiers():
     """The parameters: name, number, kind, whether once."""
     for name, text in clauses(TABLE, "row_of").items():
-        found = matched("row <index> <number> <kind..> <once>", text)
+        found = matched("parameter <index> <number> <kind..> <once>", text)
         if not found or found["once"] not in ("true", "false"):
             fail(f"row {name} in crates/{TABLE}.antt", text)
         if listed(clauses(TABLE, "ids")[""], "ids")[found["index"]:][:1] != [name]:

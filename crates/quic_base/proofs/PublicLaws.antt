@@ -1,5 +1,5 @@
 -- The laws of numbers and ids that proofs of the crates above cite. All other files here are this crate's own.
-use Rattle.std.proofs.Common.{◌≡◌, ℕ, ◌+◌, ◌*◌, ◌<◌, ◌≤◌, ◌^◌, List, ◌++◌, length, None, Some, Result, Ok, OnErr, IfOk}
+use Rattle.std.proofs.Common.{◌≡◌, ℕ, ◌+◌, ◌*◌, ◌<◌, ◌≤◌, ◌^◌, List, ◌∷◌, ◌++◌, length, None, Some, Result, Ok, OnErr, IfOk}
 use Rattle.std.specs.Net.Addr.{ipv4_octets, ipv6_octets}
 use Rattle.std.specs.declared.net.ipv4_addr.Ipv4Addr.{Ipv4Addr}
 use Rattle.std.specs.declared.net.ipv6_addr.Ipv6Addr.{Ipv6Addr}
@@ -74,6 +74,9 @@ shortest_encodes = encodings.shortest_encodes
 pub length-short : (v : ℕ) → length (shortest_varint v) ≡ size v
 length-short = encodings.length-short
 
+pub size_small : (v : ℕ) → size v ≤ 8
+size_small = encodings.size_small
+
 -- no encoding begins another, and none encodes two numbers
 pub encodes_unique : (v u : ℕ) (b c r s : List ℕ) → b ++ r ≡ c ++ s → Encodes v b → Encodes u c
     → (v ≡ u) × (b ≡ c) × (r ≡ s)
@@ -95,6 +98,12 @@ number_taken = readings.number_taken
 
 pub number_again : (n : ℕ) (front rest : List ℕ) → Encodes n front → number_at (front ++ rest) ≡ Some (n, rest)
 number_again = readings.number_again
+
+pub found_taken : (n : ℕ) (bytes rest : List ℕ) → Takes (Encodes n) bytes rest → number_at bytes ≡ Some (n, rest)
+found_taken = readings.found_taken
+
+pub short_found : (n : ℕ) (rest : List ℕ) → n < 64 → number_at (n ∷ rest) ≡ Some (n, rest)
+short_found = readings.short_found
 
 -- where reading finds none, no front is an encoding, and the other way round
 pub none_found : (bytes : List ℕ) → number_at bytes ≡ None → (v : ℕ) → NoFront (Encodes v) bytes

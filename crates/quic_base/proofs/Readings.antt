@@ -8,6 +8,7 @@ use Rattle.quic_base.specs.Codec.{Takes, NoFront}
 use Rattle.quic_base.specs.Varint.{Encodes}
 use Rattle.quic_base.specs.Reading.{number_at}
 use Rattle.quic_base.proofs.Numbers.{num_below, cons_bytes, front_bytes}
+use Rattle.quic_base.proofs.Encodings.{takes_one}
 
 -- how many bytes follow the first, and how large the number can be
 record IsWidth (tag more : ℕ) : Type 0 where
@@ -112,3 +113,16 @@ no_number bytes fits none = no_number_in bytes (number_at bytes) refl fits none
 pub none_found : (bytes : List ℕ) → number_at bytes ≡ None → (v : ℕ) → NoFront (Encodes v) bytes
 none_found bytes e v b s split p =
     absurd (let h = number_again v b s p in let g : number_at (b ++ s) ≡ None = ap number_at (sym split) ∙ e in cc)
+
+-- what was taken is found
+pub found_taken : (n : ℕ) (bytes rest : List ℕ) → Takes (Encodes n) bytes rest → number_at bytes ≡ Some (n, rest)
+found_taken n bytes rest t = ap number_at t.split ∙ number_again n t.front rest t.is
+
+-- a byte below 64 is a number
+pub short_taken : (n : ℕ) (rest : List ℕ) → n < 64 → Takes (Encodes n) (n ∷ rest) rest
+short_taken n rest lt = takes_one (n ∷ rest) rest n refl (omega arith) lt refl
+
+pub short_found : (n : ℕ) (rest : List ℕ) → n < 64 → number_at (n ∷ rest) ≡ Some (n, rest)
+short_found n rest lt = found_taken n (n ∷ rest) rest (short_taken n rest lt)
+
+pub ruleset found = (found_taken, no_number, short_taken, short_found)

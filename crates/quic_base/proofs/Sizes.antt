@@ -33,15 +33,15 @@ size_of_bit bit = if nat_lt bit 6 then 1 else if nat_lt bit 14 then 2 else if na
 abbrev table : List ℕ
 table =
     1 ∷ 1 ∷ 1 ∷ 1 ∷ 1 ∷ 1 ∷ 2 ∷ 2 ∷ 2 ∷ 2 ∷ 2 ∷ 2 ∷ 2 ∷ 2 ∷ 4 ∷ 4 ∷ 4 ∷ 4 ∷ 4 ∷ 4 ∷ 4 ∷ 4 ∷ 4 ∷ 4 ∷ 4 ∷ 4 ∷ 4 ∷ 4 ∷ 4
-    ∷ 4 ∷ 8 ∷ 8 ∷ 8 ∷ 8 ∷ 8 ∷ 8 ∷ 8 ∷ 8 ∷ 8 ∷ 8 ∷ 8 ∷ 8 ∷ 8 ∷ 8 ∷ 8 ∷ 8 ∷ 8 ∷ 8 ∷ 8 ∷ 8 ∷ 8 ∷ 8 ∷ 8 ∷ 8 ∷ 8 ∷ 8 ∷ 8
-    ∷ 8 ∷ 8 ∷ 8 ∷ 8 ∷ 8 ∷ []
+    ∷ 4 ∷ 8 ∷ 8 ∷ 8 ∷ 8 ∷ 8 ∷ 8 ∷ 8 ∷ 8 ∷ 8 ∷ 8 ∷ 8 ∷ 8 ∷ 8 ∷ 8 ∷ 8 ∷ 8 ∷ 8 ∷ 8 ∷ 8 ∷ 8 ∷ 8 ∷ 8 ∷ 8 ∷ 8 ∷ 8 ∷ 8 ∷ 8 ∷ 8
+    ∷ 8 ∷ 8 ∷ 8 ∷ 8 ∷ 8 ∷ 8 ∷ []
 
 is_right : ℕ → Bool
 is_right bit = eqb (slice_index_or table bit 0) (size_of_bit bit)
 
-in_table : (bit : ℕ) → bit < 62 → slice_index_or table bit 0 ≡ size_of_bit bit
+in_table : (bit : ℕ) → bit < 64 → slice_index_or table bit 0 ≡ size_of_bit bit
 unfolding all_below is_right
-in_table bit lt = eqb-true _ _ (each_below 62 is_right refl bit lt)
+in_table bit lt = eqb-true _ _ (each_below 64 is_right refl bit lt)
 
 below_bit : (bit n k : ℕ) → n < 2 ^ suc bit → bit < k → n < 2 ^ k
 below_bit bit n k high lt =
@@ -49,9 +49,6 @@ below_bit bit n k high lt =
 
 from_bit : (bit n k : ℕ) → 2 ^ bit ≤ n → k ≤ bit → 2 ^ k ≤ n
 from_bit bit n k low le = omega (arith, low, pow-le-pow_right {n = 2} (omega arith) {i = k} {j = bit} le)
-
-low_bit : (bit n : ℕ) → 2 ^ bit ≤ n → n < 2 ^ 62 → bit < 62
-low_bit bit n low small = grind (arith, from_bit bit n 62 low)
 
 by_bit : (bit n : ℕ) → 2 ^ bit ≤ n → n < 2 ^ suc bit → size_of_bit bit ≡ size n
 unfolding size
@@ -75,19 +72,15 @@ same_size n = grind (arith, nat_tests, le_or_l n 1, or_lt 6 n 1, or_lt 14 n 1, o
 -- A number's size as the table has it at its highest bit.
 pub record IsInTable (n zeros : ℕ) : Type 0 where
   pub few : zeros ≤ 63
-  pub within : 63 - zeros < 62
   pub size : slice_index_or table (63 - zeros) 0 ≡ size n
 
-pub by_highest_bit : (n : ℕ) → n < 2 ^ 62 → IsInTable n (count_leading_zeros 64 (bit_or n 1))
+pub by_highest_bit : (n : ℕ) → n < 2 ^ 64 → IsInTable n (count_leading_zeros 64 (bit_or n 1))
 by_highest_bit n small =
-    let fits = or_lt 62 n 1 small (omega arith) in
-    let some = le_or_r n 1 in
-    let top = leading_top 64 (bit_or n 1) (omega (arith, some)) (omega (arith, fits)) in
+    let fits = or_lt 64 n 1 small (omega arith) in
+    let top = leading_top 64 (bit_or n 1) (omega (arith, le_or_r n 1)) fits in
     let bit = top.0 in
-    let bit_fits = low_bit bit (bit_or n 1) top.2 fits in
     let is : 63 - count_leading_zeros 64 (bit_or n 1) ≡ bit = omega (arith, top.1) in
     record {
       few = omega (arith, top.1);
-      within = omega (arith, is, bit_fits);
-      size = ap (λ (k : ℕ). slice_index_or table k 0) is ∙ in_table bit bit_fits ∙ by_bit bit (bit_or n 1) top.2 top.3 ∙ same_size n;
+      size = ap (λ (k : ℕ). slice_index_or table k 0) is ∙ in_table bit (omega (arith, top.1)) ∙ by_bit bit (bit_or n 1) top.2 top.3 ∙ same_size n;
     }

@@ -1,10 +1,11 @@
 //! Integers of variable length (RFC 9000, section 16).
-ghost use Rattle.std.specs.Prelude.{◌≡◌, ◌+◌, ◌<◌, ◌≤◌, ◌^◌, ◌++◌, List, ℕ, Ok, Some, drop, take, length, IfOk, IfSome, MatchOption, OnErr, OnOk};
+ghost use Rattle.std.specs.Prelude.{◌≡◌, ◌+◌, ◌<◌, ◌≤◌, ◌^◌, ◌++◌, List, ℕ, Ok, Some, drop, take, length, IfOk, MatchResult, OnErr, OnOk};
 ghost use Rattle.std.specs.Fmt.{decimal};
 ghost use Rattle.quic_base.specs.Codec.{Takes, NoFront, IsBegun, KeepsRoom};
+ghost use Rattle.quic_base.specs.Reading.{Finds, number_at};
 ghost use Rattle.quic_base.specs.Varint.{Encodes, IsBounded, shortest_varint, size};
 
-use crate::coding::{self, Codec, NoRoom, UnexpectedEnd, first_byte, get_array};
+use crate::coding::{self, Codec, NoRoom, UnexpectedEnd, first_byte, get_array, store_array};
 use bytes::{Buf, BufMut};
 use std::fmt;
 use std::marker::Model;
@@ -75,19 +76,29 @@ impl VarInt {
     pub const fn size(self) -> usize
         ensures { result ≡ size self }
     {
-        let highest = 63 - (self.0 | 1).leading_zeros();
-        SIZES[highest as usize] as usize
+        var_size(self.0)
     }
 }
 
-// The size in bytes of the shortest encoding of a number, by its highest bit, from 0 to 61.
-const SIZES: [u8; 62] = [
+// The size in bytes of the shortest encoding of a number, by its highest bit.
+const SIZES: [u8; 64] = [
     1, 1, 1, 1, 1, 1, 2, 2, 2, 2, 2, 2, 2, 2, 4, 4, 4, 4, 4, 4, 4, 4, 4, 4, 4, 4, 4, 4, 4, 4, 8, 8,
-    8, 8, 8, 8, 8, 8, 8, 8, 8, 8, 8, 8, 8, 8, 8, 8, 8, 8, 8, 8, 8, 8, 8, 8, 8, 8, 8, 8, 8, 8,
+    8, 8, 8, 8, 8, 8, 8, 8, 8, 8, 8, 8, 8, 8, 8, 8, 8, 8, 8, 8, 8, 8, 8, 8, 8, 8, 8, 8, 8, 8, 8, 8,
 ];
 
 // The longest encoding has eight bytes (RFC 9000, section 16).
 const _: () = prove!(VarInt::MAX_SIZE == 8);
+
+/// The length in bytes of the shortest encoding of a number: 1, 2, 4 or 8. It is 8 from 2^62 on too, where there is no
+/// encoding.
+#[inline(always)]
+pub const fn var_size(n: u64) -> usize
+    ensures value { result ≡ size n }
+    ensures small { result ≤ 8 }
+{
+    let highest = 63 - (n | 1).leading_zeros();
+    SIZES[highest as usize] as usize
+}
 
 /// The default is 0.
 impl Default for VarInt {
@@ -178,6 +189,11 @@ impl fmt::Debug for VarInt {
     }
 }
 
+// What the two highest bits of an encoding of two, four and eight bytes, 1, 2 and 3, add to its number.
+const IN_TWO: u16 = 1 << 14;
+const IN_FOUR: u32 = 2 << 30;
+const IN_EIGHT: u64 = 3 << 62;
+
 // The number that a varint at the front encodes, in any width: one look at the first byte, and one
 // load of the whole width.
 #[inline(always)]
@@ -198,17 +214,17 @@ fn read_number<B: Buf>(buf: &mut B) -> coding::Result<u64>
         }
         0x40..=0x7f => {
             if let Ok(bytes) = get_array(buf) {
-                return Ok(u64::from(u16::from_be_bytes(bytes) - (1 << 14)));
+                return Ok(u64::from(u16::from_be_bytes(bytes) - IN_TWO));
             }
         }
         0x80..=0xbf => {
             if let Ok(bytes) = get_array(buf) {
-                return Ok(u64::from(u32::from_be_bytes(bytes) - (2 << 30)));
+                return Ok(u64::from(u32::from_be_bytes(bytes) - IN_FOUR));
             }
         }
         0xc0..=0xff => {
             if let Ok(bytes) = get_array(buf) {
-                return Ok(u64::from_be_bytes(bytes) - (3 << 62));
+                return Ok(u64::from_be_bytes(bytes) - IN_EIGHT);
             }
         }
     }
@@ -217,19 +233,19 @@ fn read_number<B: Buf>(buf: &mut B) -> coding::Result<u64>
 }
 
 /// The number that a varint at the front of the bytes encodes, in any width, and what follows it (RFC 9000, section
-/// 16). Answers `None` exactly if the bytes end before it does. It is inlined into its caller, so that no slice is
-/// kept in memory for it.
+/// 16). Answers `UnexpectedEnd` exactly if the bytes end before it does. It is inlined into its caller, so that no slice
+/// is kept in memory for it: one branch for each width.
 #[inline(always)]
-pub fn split_var(bytes: &[u8]) -> Option<(u64, &[u8])>
-    ensures read { MatchOption result ((v : ℕ) → NoFront (Encodes v) bytes.now)
-        (λ x. Takes (Encodes x.0) bytes.now x.1.now) }
-    ensures bound { IfSome result (λ x. x.0 < 2 ^ 62) }
+#[tactic(auto, using(crate::proofs::Readings::found))]
+pub fn split_var(bytes: &[u8]) -> coding::Result<(u64, &[u8])>
+    ensures read { MatchResult result (λ x. Takes (Encodes x.0) bytes.now x.1.now)
+        (λ _. (v : ℕ) → NoFront (Encodes v) bytes.now) }
+    ensures found { Finds (λ x. (x.0, x.1.now)) result (number_at bytes.now) }
+    ensures bound { IfOk result (λ x. x.0 < 2 ^ 62) }
 {
     let mut rest = bytes;
-    match read_number(&mut rest) {
-        Ok(number) => Some((number, rest)),
-        Err(_) => None,
-    }
+    let number = read_number(&mut rest)?;
+    Ok((number, rest))
 }
 
 // The number at the front of eight bytes, and how many of them encode it. Its two width bits determine by how
@@ -248,16 +264,71 @@ fn number_of_word(front: &[u8; 8]) -> (u64, usize)
 /// The same by one load of eight bytes, if so many remain: no branch depends on the width. It is for numbers whose
 /// widths can't be predicted; if most have one width, `split_var` is faster.
 #[inline(always)]
-pub fn split_var_by_word(bytes: &[u8]) -> Option<(u64, &[u8])>
-    ensures read { MatchOption result ((v : ℕ) → NoFront (Encodes v) bytes.now)
-        (λ x. Takes (Encodes x.0) bytes.now x.1.now) }
-    ensures bound { IfSome result (λ x. x.0 < 2 ^ 62) }
+#[tactic(auto, using(crate::proofs::Words::takes_slice))]
+pub fn split_var_by_word(bytes: &[u8]) -> coding::Result<(u64, &[u8])>
+    ensures read { MatchResult result (λ x. Takes (Encodes x.0) bytes.now x.1.now)
+        (λ _. (v : ℕ) → NoFront (Encodes v) bytes.now) }
+    ensures found { Finds (λ x. (x.0, x.1.now)) result (number_at bytes.now) }
+    ensures bound { IfOk result (λ x. x.0 < 2 ^ 62) }
 {
     let Some(front) = bytes.first_chunk::<8>() else {
         return split_var(bytes);
     };
     let (number, width) = number_of_word(front);
-    Some((number, &bytes[width..]))
+    Ok((number, &bytes[width..]))
+}
+
+/// The same for numbers of which nearly all have one byte: reading such a one is inlined into the caller, and others are
+/// read by a call.
+#[inline(always)]
+#[tactic(auto, using(crate::proofs::Readings::found))]
+pub fn split_var_mostly_one_byte(bytes: &[u8]) -> coding::Result<(u64, &[u8])>
+    ensures read { MatchResult result (λ x. Takes (Encodes x.0) bytes.now x.1.now)
+        (λ _. (v : ℕ) → NoFront (Encodes v) bytes.now) }
+    ensures found { Finds (λ x. (x.0, x.1.now)) result (number_at bytes.now) }
+    ensures bound { IfOk result (λ x. x.0 < 2 ^ 62) }
+{
+    if let Some((first, rest)) = bytes.split_first() {
+        if *first < 64 {
+            return Ok((u64::from(*first), rest));
+        }
+    }
+    split_var_by_call(bytes)
+}
+
+// The same by a call, for whatever width.
+#[inline]
+fn split_var_by_call(bytes: &[u8]) -> coding::Result<(u64, &[u8])>
+    ensures read { MatchResult result (λ x. Takes (Encodes x.0) bytes.now x.1.now)
+        (λ _. (v : ℕ) → NoFront (Encodes v) bytes.now) }
+    ensures found { Finds (λ x. (x.0, x.1.now)) result (number_at bytes.now) }
+    ensures bound { IfOk result (λ x. x.0 < 2 ^ 62) }
+{
+    split_var_by_word(bytes)
+}
+
+/// Stores a number in its shortest encoding over the bytes at a place (RFC 9000, section 16), and answers where it ends.
+/// The caller must ensure that it is below 2^62, and that there are as many bytes. Other bytes don't change.
+#[inline(always)]
+#[tactic(auto, unfolding(crate::specs::Varint::shortest_varint, crate::specs::Varint::size, crate::specs::Number::bytes_of))]
+pub fn store_var(bytes: &mut [u8], at: usize, n: u64) -> usize
+    requires numeric { n < 2 ^ 62 }
+    requires room { at + size n ≤ length bytes.old }
+    ensures end { result ≡ at + size n }
+    ensures near { result ≤ at + 8 }
+    ensures front { take result bytes.new ≡ take at bytes.old ++ shortest_varint n }
+    ensures back { drop result bytes.new ≡ drop result bytes.old }
+    ensures len { length bytes.new ≡ length bytes.old }
+{
+    if n < 1 << 6 {
+        store_array(bytes, at, [n as u8])
+    } else if n < 1 << 14 {
+        store_array(bytes, at, (IN_TWO + n as u16).to_be_bytes())
+    } else if n < 1 << 30 {
+        store_array(bytes, at, (IN_FOUR + n as u32).to_be_bytes())
+    } else {
+        store_array(bytes, at, (IN_EIGHT + n).to_be_bytes())
+    }
 }
 
 /// All four widths are read, the shortest is written. If the first byte is there and others are missing, `decode`
@@ -295,11 +366,11 @@ impl Codec for VarInt {
         if x < 1 << 6 {
             buf.put_u8(x as u8).map_err(|_| NoRoom)
         } else if x < 1 << 14 {
-            buf.put_u16((1 << 14) + x as u16).map_err(|_| NoRoom)
+            buf.put_u16(IN_TWO + x as u16).map_err(|_| NoRoom)
         } else if x < 1 << 30 {
-            buf.put_u32((2 << 30) + x as u32).map_err(|_| NoRoom)
+            buf.put_u32(IN_FOUR + x as u32).map_err(|_| NoRoom)
         } else {
-            buf.put_u64((3 << 62) + x).map_err(|_| NoRoom)
+            buf.put_u64(IN_EIGHT + x).map_err(|_| NoRoom)
         }
     }
 }

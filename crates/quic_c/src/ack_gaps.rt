@@ -8,7 +8,8 @@ ghost use Rattle.quic_c.specs.AckGaps.{ack_bytes, ack_described, behind_type, co
 
 use crate::words::{CFrame, CGap};
 use quic_base::coding::store_array;
-use quic_frame_fields::frame::write::{numbers_len, size_of};
+use quic_base::varint::var_size;
+use quic_frame_fields::frame::write::numbers_len;
 
 // The type, which depends on whether there are counts.
 #[inline(always)]
@@ -73,7 +74,7 @@ fn gaps_len(low: u64, gaps: &[CGap]) -> usize
 {
     let mut len = 0;
     for gap in gaps {
-        len += size_of(gap.gap) + size_of(gap.len);
+        len += var_size(gap.gap) + var_size(gap.len);
     }
     len
 }

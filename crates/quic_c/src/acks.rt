@@ -73,13 +73,13 @@ fn split_front(bytes: &[u8]) -> Option<(u64, &[u8])>
     ensures begins { IfSome result (λ x. BeginsAsAck bytes.now x.0 x.1.now) }
     ensures bound { IfSome result (λ x. x.0 < 2 ^ 62) }
 {
-    let (ty, behind_type) = split_var(bytes)?;
+    let (ty, behind_type) = split_var(bytes).ok()?;
     if ty != 2 {
         return None;
     }
-    let (largest, behind_largest) = split_var(behind_type)?;
-    let (_, behind_delay) = split_var(behind_largest)?;
-    let (_, blocks) = split_var(behind_delay)?;
+    let (largest, behind_largest) = split_var(behind_type).ok()?;
+    let (_, behind_delay) = split_var(behind_largest).ok()?;
+    let (_, blocks) = split_var(behind_delay).ok()?;
     Some((largest, blocks))
 }
 

@@ -12,26 +12,8 @@ use crate::frames::{is_unknown, show_invalid, type_read, unknown};
 use crate::show::{parts_of, show};
 use crate::words::{CFrame, CGap};
 use quic_base::coding::are_bytes;
-use quic_base::varint::split_var;
-use quic_frame_fields::frame::fault::Fault;
+use quic_base::varint::split_var_mostly_one_byte;
 use quic_frames::frame::{Ack, Frame, Iter};
-
-// A number of any width and what follows it, made for numbers most of which have one byte, and inlined into the caller.
-#[inline(always)]
-#[tactic(auto, using(quic_frame_fields::proofs::Gaps::one_at, quic_frame_fields::proofs::Varints::slices))]
-fn number(bytes: &[u8]) -> Result<(u64, &[u8]), Fault>
-    ensures { Gives (λ x. (x.0, x.1.now)) result (varint_at bytes.now) }
-{
-    if let Some((first, rest)) = bytes.split_first() {
-        if *first < 64 {
-            return Ok((u64::from(*first), rest));
-        }
-    }
-    match split_var(bytes) {
-        Some(read) => Ok(read),
-        None => Err(Fault::UnexpectedEnd),
-    }
-}
 
 // Fills entries with the ranges below another one, as gap and length: how many, and whether none is left.
 #[inline(always)]
@@ -45,10 +27,10 @@ fn fill_gaps(blocks: &[u8], gaps: &mut [CGap]) -> (usize, bool)
     let mut left = blocks;
     let mut count = 0;
     while count < gaps.len() && !left.is_empty() {
-        let Ok((gap, behind)) = number(left) else {
+        let Ok((gap, behind)) = split_var_mostly_one_byte(left) else {
             unreachable!()
         };
-        let Ok((len, rest)) = number(behind) else {
+        let Ok((len, rest)) = split_var_mostly_one_byte(behind) else {
             unreachable!()
         };
         gaps[count] = CGap { gap, len };
@@ -75,7 +57,7 @@ fn show_ack(words: CFrame, ack: &Ack<'_>, gaps: &mut [CGap]) -> CFrame
 {
     let blocks = ack.additional();
     are_bytes(blocks);
-    let Ok((first, below)) = number(blocks) else {
+    let Ok((first, below)) = split_var_mostly_one_byte(blocks) else {
         unreachable!()
     };
     let (count, is_whole) = fill_gaps(below, gaps);

@@ -6,7 +6,7 @@ ghost use Rattle.quic_crypto.specs.PacketNumbers.{Expands, SizeFor};
 ghost use Rattle.quic_c_headers.specs.Numbers.{least_width, encoding_in, CanExpand, CanEncode, IsWidth};
 
 use quic_base::coding::store_array;
-use quic_base::varint::split_var;
+use quic_base::varint::{split_var, var_size};
 use quic_crypto::packet_number::PacketNumber;
 
 /// Reads the number at the front of the bytes (RFC 9000, section 16), and answers how many bytes it takes; 0 exactly if
@@ -18,27 +18,11 @@ pub extern "C" fn quic_wire_varint_read_(bytes: &[u8], value: &mut u64) -> usize
     ensures none { result ≡ 0 → ((v : ℕ) → NoFront (Encodes v) bytes.now) × (value.new ≡ value.old) }
 {
     match split_var(bytes) {
-        Some((number, rest)) => {
+        Ok((number, rest)) => {
             *value = number;
             bytes.len() - rest.len()
         }
-        None => 0,
-    }
-}
-
-// The shortest width of a number's encoding.
-#[inline(always)]
-fn least_width(value: u64) -> usize
-    ensures { result ≡ least_width value }
-{
-    if value < 1 << 6 {
-        1
-    } else if value < 1 << 14 {
-        2
-    } else if value < 1 << 30 {
-        4
-    } else {
-        8
+        Err(_) => 0,
     }
 }
 
@@ -75,7 +59,7 @@ pub extern "C" fn quic_wire_varint_write_(value: u64, width: u32, dest: &mut [u8
     ensures none { result ≡ 0 → (n : ℕ) → CanEncode value width (length dest.old) n → ⊥ }
     ensures same { (0 < result) ⊎ (dest.new ≡ dest.old) }
 {
-    let least = least_width(value);
+    let least = var_size(value);
     let width = if width == 0 { least } else { width as usize };
     if value >= 1 << 62 || width < least || dest.len() < width {
         return 0;

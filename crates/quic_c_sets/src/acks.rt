@@ -10,7 +10,8 @@ ghost use Rattle.quic_c_sets.specs.Sets.{first_runs, range_of, runs_of};
 
 use crate::places::is_set;
 use crate::words::CRange;
-use quic_frame_fields::frame::write::{numbers_len, size_of};
+use quic_base::varint::var_size;
+use quic_frame_fields::frame::write::numbers_len;
 use quic_frame_fields::frame::write_into::numbers_at;
 
 // Whether each number has an encoding.
@@ -68,7 +69,7 @@ fn below_len(above: CRange, runs: &[CRange]) -> usize
         let run = runs[left];
         let gap = above.start - run.end - 1;
         let block = run.end - 1 - run.start;
-        len += size_of(gap) + size_of(block);
+        len += var_size(gap) + var_size(block);
         above = run;
     }
     len

@@ -5,13 +5,13 @@ use Rattle.std.proofs.lemmas.Bool.Decides.{nat_tests}
 use Rattle.std.proofs.lemmas.List.{length-append, length-drop, append-nil, take-append-drop}
 use Rattle.quic_base.specs.Number.{AreBytes}
 use Rattle.quic_base.specs.Varint.{Encodes, shortest_varint, size}
-use Rattle.quic_base.proofs.PublicLaws.{back_bytes, length-short, short_least, shortest_encodes}
+use Rattle.quic_base.proofs.PublicLaws.{back_bytes, length-short, short_least}
 use Rattle.quic_frame_fields.specs.declared.frame.fault.Fault.{Fault}
 use Rattle.quic_frame_fields.specs.Reading.{varint_at}
 use Rattle.quic_base.specs.Writing.{Writes}
 use Rattle.quic_frame_fields.specs.Numbers.{AreEncoded, shortest_varints}
 use Rattle.quic_frame_fields.proofs.Steps.{ok_is, ok_is_not_err}
-use Rattle.quic_frame_fields.proofs.Varints.{varint_takes, varint_again, varint_some}
+use Rattle.quic_frame_fields.proofs.Varints.{varint_takes, varint_again, varint_some, one_at}
 use Rattle.quic_base.proofs.Encoders.{Wrote, wrote_more, writes_within}
 use Rattle.quic_frame_fields.proofs.Numbers.{all_short-at, take_whole}
 
@@ -134,14 +134,6 @@ read_as P Q rest ns f r =
 one_size : (n : ℕ) → n < 64 → size n ≡ 1
 unfolding size
 one_size n lt = grind (arith, nat_tests)
-
-one_short : (n : ℕ) → n < 64 → shortest_varint n ≡ n ∷ []
-unfolding shortest_varint
-one_short n lt = grind (arith, nat_tests)
-
-one_at : (n : ℕ) (rest : List ℕ) → n < 64 → varint_at (n ∷ rest) ≡ Ok (n, rest)
-one_at n rest lt =
-    varint_again n (n ∷ []) rest (subst (Encodes n) (one_short n lt) (shortest_encodes n (omega (arith, lt))))
 
 pub ones_counted : (k : ℕ) (rest : List ℕ) (count total count' total' : ℕ) (ns : List ℕ) → AreBytes rest
     → k ≤ length rest → ((i : ℕ) → i < k → get_or rest i 0 < 64) → count' ≡ count + k → total' ≡ total + k

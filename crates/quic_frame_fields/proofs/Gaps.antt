@@ -1,9 +1,10 @@
 -- Ranges of an ACK one after the other, as a loop reads them.
 use Rattle.std.proofs.Common.{◌≡◌, ℕ, suc, ◌-◌, ◌+◌, ◌/◌, ◌%◌, ◌≤◌, ◌<◌, List, ◌∷◌, Result, Ok, Err, refl, sym, ap, ◌∙◌, arith, rules, nat_lt, false}
 use Rattle.std.proofs.lemmas.Bool.Decides.{nat_tests}
-use Rattle.quic_base.specs.Reading.{◌>>=◌, number_at}
+use Rattle.quic_base.specs.Reading.{◌>>=◌}
 use Rattle.quic_frame_fields.specs.declared.frame.fault.Fault.{Fault}
-use Rattle.quic_frame_fields.specs.Reading.{varint_at, block_at, gap_at, range_at, below_at}
+use Rattle.quic_frame_fields.specs.Reading.{block_at, gap_at, range_at, below_at}
+use Rattle.quic_frame_fields.proofs.Varints.{one_at}
 
 abbrev as_range : ℕ → ℕ × List ℕ → (ℕ × ℕ) × List ℕ
 as_range high block = ((block.0, high), block.1)
@@ -49,13 +50,6 @@ is_done left low bytes total le so_far =
     let k : left ≡ 0 = omega arith in
     let one : below_at left low bytes ≡ Ok bytes = rw k refl in
     sym so_far ∙ one
-
-pub one_at : (n : ℕ) (rest : List ℕ) → n < 64 → varint_at (n ∷ rest) ≡ Ok (n, rest)
-unfolding varint_at number_at
-one_at n rest lt =
-    let q : n / 64 ≡ 0 = omega arith in
-    let r : n % 64 ≡ n = omega arith in
-    rw (q, r) search rules
 
 -- a block and a gap of one byte each
 pub short_block : (greatest n : ℕ) (rest : List ℕ) → n < 64 → n ≤ greatest

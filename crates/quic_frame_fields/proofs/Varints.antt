@@ -1,13 +1,12 @@
 -- Numbers of any width, as the readers of this crate tell them.
-use Rattle.std.proofs.Common.{◌≡◌, ℕ, ◌<◌, List, ◌++◌, length, Option, None, Some, Ok, Err, ap, ◌∙◌}
+use Rattle.std.proofs.Common.{◌≡◌, ℕ, ◌<◌, List, ◌∷◌, ◌++◌, length, Option, None, Some, Ok, Err, ap}
 use Rattle.quic_base.specs.Number.{AreBytes}
 use Rattle.quic_base.specs.Codec.{Takes}
 use Rattle.quic_base.specs.Varint.{Encodes}
 use Rattle.quic_base.specs.Reading.{number_at}
-use Rattle.quic_base.proofs.PublicLaws.{number_taken, number_again, no_number, encoded_bound}
+use Rattle.quic_base.proofs.PublicLaws.{number_taken, number_again, short_found, encoded_bound}
 use Rattle.quic_frame_fields.specs.declared.frame.fault.Fault.{Fault}
 use Rattle.quic_frame_fields.specs.declared.frame.fault.Fault.TheVariants.{UnexpectedEnd}
-use Rattle.quic_frame_fields.specs.Field.{NoNumber}
 use Rattle.quic_frame_fields.specs.Reading.{or_end, varint_at}
 
 or_end_ok : (found : Option (ℕ × List ℕ)) (x : ℕ × List ℕ) → or_end found ≡ Ok x → found ≡ Some x
@@ -34,12 +33,14 @@ varint_fails bytes e h = or_end_err (number_at bytes) e h
 pub varint_some : (n : ℕ) (bytes : List ℕ) → Encodes n bytes → 0 < length bytes
 varint_some n bytes s = (encoded_bound n bytes s).1
 
--- what a decoder over a slice took is what reading gives
-pub varint_read : (n : ℕ) (bytes rest : List ℕ) → Takes (Encodes n) bytes rest → varint_at bytes ≡ Ok (n, rest)
-varint_read n bytes rest t = ap varint_at t.split ∙ varint_again n t.front rest t.is
-
-pub varint_cut : (bytes : List ℕ) → AreBytes bytes → NoNumber bytes → varint_at bytes ≡ Err UnexpectedEnd
+-- what was found at the front is what reading gives
+pub varint_found : (bytes : List ℕ) (x : ℕ × List ℕ) → number_at bytes ≡ Some x → varint_at bytes ≡ Ok x
 unfolding varint_at
-varint_cut bytes fits none = ap or_end (no_number bytes fits none)
+varint_found bytes x e = ap or_end e
 
-pub ruleset slices = (varint_read, varint_cut)
+pub varint_none : (bytes : List ℕ) → number_at bytes ≡ None → varint_at bytes ≡ Err UnexpectedEnd
+unfolding varint_at
+varint_none bytes e = ap or_end e
+
+pub one_at : (n : ℕ) (rest : List ℕ) → n < 64 → varint_at (n ∷ rest) ≡ Ok (n, rest)
+one_at n rest lt = varint_found (n ∷ rest) (n, rest) (short_found n rest lt)

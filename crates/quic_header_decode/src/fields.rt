@@ -97,9 +97,7 @@ pub(crate) fn read_var(bytes: &[u8], place: &mut usize) -> Option<u64>
     ensures read { Reads result (drop place.new bytes.now) (number_at (drop place.old bytes.now)) }
 {
     let rest = left(bytes, *place);
-    let Some((number, after)) = split_var_by_word(rest) else {
-        return None;
-    };
+    let (number, after) = split_var_by_word(rest).ok()?;
     pass(bytes, place, rest.len() - after.len());
     Some(number)
 }

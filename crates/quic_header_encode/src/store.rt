@@ -11,6 +11,7 @@ use crate::fields::{store_bytes, store_ends, store_id, store_number};
 use crate::long_type::HeaderKind;
 use quic_base::coding::store_array;
 use quic_base::ids::ConnectionId;
+use quic_base::varint::{store_var, var_size};
 use quic_crypto::packet_number::PacketNumber;
 
 /// An id that is written.
@@ -215,27 +216,6 @@ fn store_some<const SHORT: bool>(out: &mut [u8], at: usize, bytes: &[u8]) -> usi
     }
 }
 
-// Stores a number of 2^6 or more in its shortest encoding, and answers where it ends.
-#[inline(always)]
-#[tactic(auto, unfolding(quic_base::specs::Varint::shortest_varint, quic_base::specs::Varint::size, quic_base::specs::Number::bytes_of))]
-fn store_var(out: &mut [u8], at: usize, n: u64) -> usize
-    requires large { 2 ^ 6 ≤ n }
-    requires numeric { n < 2 ^ 62 }
-    requires room { at + size n ≤ length out.old }
-    ensures end { result ≡ at + size n }
-    ensures front { take result out.new ≡ take at out.old ++ shortest_varint n }
-    ensures back { drop result out.new ≡ drop result out.old }
-    ensures len { length out.new ≡ length out.old }
-{
-    if n < 1 << 14 {
-        store_array(out, at, ((1 << 14) + n as u16).to_be_bytes())
-    } else if n < 1 << 30 {
-        store_array(out, at, ((2 << 30) + n as u32).to_be_bytes())
-    } else {
-        store_array(out, at, ((3 << 62) + n).to_be_bytes())
-    }
-}
-
 // Stores a token whose length takes more than a byte.
 #[inline(never)]
 fn store_long_token(out: &mut [u8], at: usize, token: &[u8]) -> usize
@@ -304,7 +284,7 @@ impl<I: StoredId> HeaderRef<'_, I> {
         match self.kind {
             HeaderKind::Short => 1 + self.dst_cid.len() + self.number.len(),
             HeaderKind::Initial => {
-                let token = var_len(self.token.len() as u64) + self.token.len();
+                let token = var_size(self.token.len() as u64) + self.token.len();
                 7 + self.dst_cid.len()
                     + self.src_cid.len()
                     + token
@@ -410,26 +390,6 @@ impl<I: StoredId> HeaderRef<'_, I> {
             }
             _ => self.store_long::<SHORT_TOKEN>(out),
         }
-    }
-}
-
-// How many bytes the shortest encoding of a number takes.
-#[inline(always)]
-#[tactic(auto, unfolding(quic_base::specs::Varint::size))]
-fn var_len(n: u64) -> usize
-    requires { n < 2 ^ 62 }
-    ensures value { result ≡ size n }
-    ensures low { 1 ≤ result }
-    ensures high { result ≤ 8 }
-{
-    if n < 1 << 6 {
-        1
-    } else if n < 1 << 14 {
-        2
-    } else if n < 1 << 30 {
-        4
-    } else {
-        8
     }
 }
 

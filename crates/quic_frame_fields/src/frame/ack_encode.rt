@@ -14,6 +14,7 @@ use super::ack::{Ack, EcnCounts};
 use super::write;
 use bytes::BufMut;
 use quic_base::coding::NoRoom;
+use quic_base::varint::store_var;
 use quic_ranges::range_set::{ArrayRangeSet, Iter, RangeSet};
 use std::ops::Range;
 
@@ -122,8 +123,8 @@ fn store_two(chunk: &mut [u8; CHUNK], at: usize, gap: u64, len: u64) -> usize
     ensures near { result ≤ CHUNK }
     ensures front { take result chunk.new ≡ take at chunk.old ++ shortest_varints (gap ∷ len ∷ []) }
 {
-    let at = write::store_number(chunk, at, gap);
-    write::store_number(chunk, at, len)
+    let at = store_var(chunk, at, gap);
+    store_var(chunk, at, len)
 }
 
 // Appends the first bytes of the chunk, which hold numbers already, and then the runs below another one, the greatest

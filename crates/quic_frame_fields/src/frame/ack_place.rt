@@ -4,7 +4,8 @@ ghost use Rattle.quic_frame_fields.specs.AckPlace.{ack_at, BeginsWithAck};
 ghost use Rattle.quic_frame_fields.specs.Reading.{Gives};
 
 use super::fault::Fault;
-use super::field::{blocks, varint};
+use super::field::blocks;
+use quic_base::varint::{split_var_by_word, split_var_mostly_one_byte};
 
 /// The greatest number of the ACK that the bytes begin with, the bytes of its blocks, and what follows these. `None`
 /// exactly if the type is another one, a number up to there is missing or cut off, or a block or a gap is too large.
@@ -22,17 +23,17 @@ pub fn split_ack(bytes: &[u8]) -> Option<(u64, &[u8], &[u8])>
 }
 
 // The same, or the reason why no ACK can be read.
-#[tactic(auto, unfolding(crate::specs::AckPlace::ack_at))]
+#[tactic(auto, unfolding(crate::specs::AckPlace::ack_at, crate::specs::Reading::varint_at))]
 fn read_ack(bytes: &[u8]) -> Result<(u64, &[u8], &[u8]), Fault>
     ensures gives { Gives (λ x. (x.0, x.1.now, x.2.now)) result (ack_at bytes.now) }
     ensures bound { IfOk result (λ x. x.0 < 2 ^ 62) }
 {
-    let (ty, behind_type) = varint(bytes)?;
+    let (ty, behind_type) = split_var_mostly_one_byte(bytes)?;
     if ty != 2 && ty != 3 {
         return Err(Fault::InvalidFrameId);
     }
-    let (largest, behind_largest) = varint(behind_type)?;
-    let (_, behind_delay) = varint(behind_largest)?;
+    let (largest, behind_largest) = split_var_by_word(behind_type)?;
+    let (_, behind_delay) = split_var_by_word(behind_largest)?;
     let (blocks, rest) = blocks(largest, behind_delay)?;
     Ok((largest, blocks, rest))
 }

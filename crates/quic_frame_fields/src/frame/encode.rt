@@ -14,7 +14,7 @@ use super::{
 };
 use bytes::BufMut;
 use quic_base::coding::NoRoom;
-use quic_base::varint::VarInt;
+use quic_base::varint::{VarInt, var_size};
 
 impl ResetStream {
     /// Appends the frame. Answers `NoRoom` only if the spare room is less than that: the buffer then keeps its
@@ -114,7 +114,7 @@ impl NewToken<'_> {
         requires { length self.now.token.now < 2 ^ 62 }
         ensures { (last : Bool) → result ≡ length (shortest_frame last (token_meaning self.now)) }
     {
-        1 + write::size_of(self.token.len() as u64) + self.token.len()
+        1 + var_size(self.token.len() as u64) + self.token.len()
     }
 }
 
@@ -182,8 +182,8 @@ impl ConnectionClose<'_> {
         ensures { result ≡ least_room (closes.Connection self.now) }
     {
         let code = code_room(VarInt::from_u64_unchecked(self.error_code.into()));
-        let ty = write::size_of(type_or_zero(self.frame_type));
-        1 + code + ty + write::size_of(self.reason.len() as u64)
+        let ty = var_size(type_or_zero(self.frame_type));
+        1 + code + ty + var_size(self.reason.len() as u64)
     }
 
     /// Appends the frame, as `ResetStream::encode` does, with as much of the reason as leaves the frame
@@ -232,7 +232,7 @@ impl ApplicationClose<'_> {
         requires { length self.now.reason.now < 2 ^ 62 }
         ensures { result ≡ least_room (closes.Application self.now) }
     {
-        1 + code_room(self.error_code) + write::size_of(self.reason.len() as u64)
+        1 + code_room(self.error_code) + var_size(self.reason.len() as u64)
     }
 
     /// Appends the frame, as `ConnectionClose::encode` does.

@@ -1,5 +1,8 @@
 //! Why a frame could not be read.
 ghost use Rattle.std.specs.Prelude.{◌≡◌};
+ghost use Rattle.quic_frame_fields.specs.declared.frame.fault.Fault.TheVariants as faults;
+
+use quic_base::coding::UnexpectedEnd;
 
 /// Why a frame could not be read.
 #[derive(Clone, Copy, Debug, PartialEq, Eq)]
@@ -12,6 +15,15 @@ pub enum Fault {
     Malformed,
     /// The type is not in its shortest encoding, where it must be.
     LongType,
+}
+
+/// Bytes that end within a number.
+impl From<UnexpectedEnd> for Fault {
+    ghost from_gives = { λ _ fault. fault ≡ faults.UnexpectedEnd };
+
+    fn from(_end: UnexpectedEnd) -> Fault {
+        Fault::UnexpectedEnd
+    }
 }
 
 impl Fault {

@@ -7,58 +7,16 @@ ghost use Rattle.quic_frame_fields.specs.Reading.{Gives, varint_at, block_at, ga
 ghost use Rattle.quic_frame_fields.specs.Refusal.{AreNoBlocks};
 
 use super::fault::Fault;
-use quic_base::varint::{split_var, split_var_by_word};
-
-/// A number of any width, below 2^62, and what follows it.
-#[inline]
-#[tactic(auto, using(crate::proofs::Varints::slices))]
-pub fn varint(bytes: &[u8]) -> Result<(u64, &[u8]), Fault>
-    ensures gives { Gives (λ x. (x.0, x.1.now)) result (varint_at bytes.now) }
-    ensures bound { IfOk result (λ x. x.0 < 2 ^ 62) }
-{
-    match split_var_by_word(bytes) {
-        Some(read) => Ok(read),
-        None => Err(Fault::UnexpectedEnd),
-    }
-}
-
-// The same, inlined into the caller, for fields of which most have one width.
-#[inline(always)]
-#[tactic(auto, using(crate::proofs::Varints::slices))]
-fn varint_inline(bytes: &[u8]) -> Result<(u64, &[u8]), Fault>
-    ensures gives { Gives (λ x. (x.0, x.1.now)) result (varint_at bytes.now) }
-    ensures bound { IfOk result (λ x. x.0 < 2 ^ 62) }
-{
-    match split_var(bytes) {
-        Some(read) => Ok(read),
-        None => Err(Fault::UnexpectedEnd),
-    }
-}
-
-/// A number of any width, below 2^62, and what follows it, made for numbers of which nearly all have one byte: reading
-/// such a one is inlined into the caller.
-#[inline(always)]
-#[tactic(auto, using(crate::proofs::Gaps::one_at))]
-pub fn varint_mostly_one_byte(bytes: &[u8]) -> Result<(u64, &[u8]), Fault>
-    ensures gives { Gives (λ x. (x.0, x.1.now)) result (varint_at bytes.now) }
-    ensures bound { IfOk result (λ x. x.0 < 2 ^ 62) }
-{
-    if let Some((first, rest)) = bytes.split_first() {
-        if *first < 64 {
-            return Ok((u64::from(*first), rest));
-        }
-    }
-    varint(bytes)
-}
+use quic_base::varint::{split_var, split_var_mostly_one_byte};
 
 // The least number of a block of an ACK that ends at `greatest`, and what follows the block.
 #[inline(always)]
-#[tactic(auto, unfolding(crate::specs::Reading::block_at))]
+#[tactic(auto, unfolding(crate::specs::Reading::varint_at, crate::specs::Reading::block_at))]
 fn block(greatest: u64, bytes: &[u8]) -> Result<(u64, &[u8]), Fault>
     ensures gives { Gives (λ x. (x.0, x.1.now)) result (block_at greatest bytes.now) }
     ensures bytes { AreBytes bytes.now }
 {
-    let (n, rest) = varint_mostly_one_byte(bytes)?;
+    let (n, rest) = split_var_mostly_one_byte(bytes)?;
     if n > greatest {
         return Err(Fault::Malformed);
     }
@@ -67,12 +25,12 @@ fn block(greatest: u64, bytes: &[u8]) -> Result<(u64, &[u8]), Fault>
 
 // The same, inlined into the caller, whatever width its number has.
 #[inline(always)]
-#[tactic(auto, unfolding(crate::specs::Reading::block_at))]
+#[tactic(auto, unfolding(crate::specs::Reading::varint_at, crate::specs::Reading::block_at))]
 fn near_block(greatest: u64, bytes: &[u8]) -> Result<(u64, &[u8]), Fault>
     ensures gives { Gives (λ x. (x.0, x.1.now)) result (block_at greatest bytes.now) }
     ensures bytes { AreBytes bytes.now }
 {
-    let (length, rest) = varint_inline(bytes)?;
+    let (length, rest) = split_var(bytes)?;
     if length > greatest {
         return Err(Fault::Malformed);
     }
@@ -81,12 +39,12 @@ fn near_block(greatest: u64, bytes: &[u8]) -> Result<(u64, &[u8]), Fault>
 
 // The greatest number of the range below a gap, which begins below `low`, and what follows the gap.
 #[inline(always)]
-#[tactic(auto, unfolding(crate::specs::Reading::gap_at))]
+#[tactic(auto, unfolding(crate::specs::Reading::varint_at, crate::specs::Reading::gap_at))]
 fn gap(low: u64, bytes: &[u8]) -> Result<(u64, &[u8]), Fault>
     ensures gives { Gives (λ x. (x.0, x.1.now)) result (gap_at low bytes.now) }
     ensures bytes { AreBytes bytes.now }
 {
-    let (n, rest) = varint_inline(bytes)?;
+    let (n, rest) = split_var(bytes)?;
     if low < 2 || n > low - 2 {
         return Err(Fault::Malformed);
     }
@@ -209,10 +167,10 @@ fn wide_front(low: u64, front: &[u8; 16]) -> Option<(u64, usize)>
     if (front[0] < 64) & (front[1] < 64) {
         return None;
     }
-    let Ok((between, rest)) = varint_inline(front) else {
+    let Ok((between, rest)) = split_var(front) else {
         return None;
     };
-    let Ok((length, rest)) = varint_inline(rest) else {
+    let Ok((length, rest)) = split_var(rest) else {
         return None;
     };
     let all = between + 2 + length;
@@ -270,13 +228,13 @@ fn each_below(count: u64, low: u64, bytes: &[u8]) -> Result<&[u8], Fault>
 /// The ranges of an ACK: the bytes of their blocks and gaps, after the count of those below the first; and what follows
 /// them.
 #[inline(always)]
-#[tactic(auto, unfolding(crate::specs::Reading::blocks_at, crate::specs::Reading::after_blocks))]
+#[tactic(auto, unfolding(crate::specs::Reading::varint_at, crate::specs::Reading::blocks_at, crate::specs::Reading::after_blocks))]
 pub fn blocks(greatest: u64, bytes: &[u8]) -> Result<(&[u8], &[u8]), Fault>
     ensures gives { Gives (λ x. (x.0.now, x.1.now)) result (blocks_at greatest bytes.now) }
     ensures valid { IfOk result (λ x. IsBlocks greatest x.0.now) }
     ensures encoded { IfOk result (λ x. (ranges : List (ℕ × ℕ)) × AreBlocks greatest ranges x.0.now) }
 {
-    let (count, bytes) = varint_mostly_one_byte(bytes)?;
+    let (count, bytes) = split_var_mostly_one_byte(bytes)?;
     let (low, rest) = block(greatest, bytes)?;
     let rest = below(count, low, rest)?;
     Ok(bytes.split_at(bytes.len() - rest.len()))

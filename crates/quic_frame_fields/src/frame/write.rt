@@ -6,36 +6,13 @@ ghost use Rattle.quic_base.specs.Number.{AreBytes};
 ghost use Rattle.quic_base.specs.Writing.{WritesTo};
 ghost use Rattle.quic_frame_fields.specs.Numbers.{AreNumeric, AreEncoded, shortest_varints};
 
-use super::field;
 use bytes::BufMut;
-use quic_base::coding::{BufMutExt, NoRoom, store_array};
+use quic_base::coding::{BufMutExt, NoRoom};
 use quic_base::ids::ConnectionId;
-use quic_base::varint::VarInt;
+use quic_base::varint::{split_var_by_word, store_var, var_size};
 
 // The size of the array that numbers are written into: five of them, each by a store of at most eight bytes.
 pub(super) const HEADER_ROOM: usize = 40;
-
-// Stores a number in its shortest encoding at a place, and answers where it ends.
-#[inline(always)]
-#[tactic(auto, unfolding(quic_base::specs::Varint::shortest_varint, quic_base::specs::Varint::size, quic_base::specs::Number::bytes_of))]
-pub(super) fn store_number(dest: &mut [u8], at: usize, n: u64) -> usize
-    requires numeric { n < 2 ^ 62 }
-    requires room { at + 8 ≤ length dest.old }
-    ensures end { result ≡ at + length (shortest_varint n) }
-    ensures near { result ≤ at + 8 }
-    ensures front { take result dest.new ≡ take at dest.old ++ shortest_varint n }
-    ensures len { length dest.new ≡ length dest.old }
-{
-    if n < 1 << 6 {
-        store_array(dest, at, [n as u8])
-    } else if n < 1 << 14 {
-        store_array(dest, at, ((1 << 14) + n as u16).to_be_bytes())
-    } else if n < 1 << 30 {
-        store_array(dest, at, ((2 << 30) + n as u32).to_be_bytes())
-    } else {
-        store_array(dest, at, ((3 << 62) + n).to_be_bytes())
-    }
-}
 
 // Stores numbers, one after the other, and answers where they end.
 #[inline(always)]
@@ -48,7 +25,7 @@ pub(super) fn store_numbers(dest: &mut [u8], numbers: &[u64]) -> usize
 {
     let mut at = 0;
     for number in numbers {
-        at = store_number(dest, at, *number);
+        at = store_var(dest, at, *number);
     }
     at
 }
@@ -95,17 +72,6 @@ pub fn id_and_bytes<B: BufMut>(out: &mut B, id: &ConnectionId, tail: &[u8]) -> R
     bytes(out, tail)
 }
 
-/// The length of the shortest encoding of a number.
-#[inline(always)]
-#[tactic(auto, using(crate::proofs::Encoding::size_small))]
-pub fn size_of(n: u64) -> usize
-    requires { n < 2 ^ 62 }
-    ensures value { result ≡ size n }
-    ensures small { result ≤ 8 }
-{
-    VarInt::from_u64_unchecked(n).size()
-}
-
 /// Appends the numbers that the bytes encode, in their shortest encodings, in the same way. The caller must know how
 /// many bytes these have: if the given bytes are as many, they are the shortest already, and are copied.
 pub fn shortened<B: BufMut>(out: &mut B, encoded: &[u8], len: u64) -> Result<(), NoRoom>
@@ -126,7 +92,7 @@ fn each_shortened<B: BufMut>(out: &mut B, encoded: &[u8]) -> Result<(), NoRoom>
         → WritesTo B.written B.spare (shortest_varints ns) out.old out.new result }
 {
     let mut rest = encoded;
-    while let Ok((number, after)) = field::varint(rest) {
+    while let Ok((number, after)) = split_var_by_word(rest) {
         out.write_var(number)?;
         rest = after;
     }
@@ -158,11 +124,11 @@ pub fn count_and_len(encoded: &[u8]) -> (u64, u64)
     let mut rest = encoded;
     loop {
         let n = ones(rest);
-        let Ok((number, after)) = field::varint(&rest[n..]) else {
+        let Ok((number, after)) = split_var_by_word(&rest[n..]) else {
             return ((count + n) as u64, (len + n) as u64);
         };
         count += n + 1;
-        len += n + size_of(number);
+        len += n + var_size(number);
         rest = after;
     }
 }
@@ -176,7 +142,7 @@ pub fn numbers_len(numbers: &[u64]) -> u128
 {
     let mut total = 0;
     for number in numbers {
-        total += size_of(*number);
+        total += var_size(*number);
     }
     total as u128
 }

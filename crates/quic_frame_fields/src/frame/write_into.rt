@@ -7,8 +7,9 @@ ghost use Rattle.quic_frame_fields.specs.Sets.{AreCounts, IsAckInRange, count_nu
 ghost use Rattle.quic_frame_fields.specs.Shortest.{shortest_frame, stream_header};
 
 use super::ack_encode::header_of;
-use super::write::{HEADER_ROOM, count_and_len, store_number, store_numbers};
-use super::{Ack, EcnCounts, FrameType, Stream, field};
+use super::write::{HEADER_ROOM, count_and_len, store_numbers};
+use super::{Ack, EcnCounts, FrameType, Stream};
+use quic_base::varint::{split_var_by_word, store_var};
 
 /// Stores at most five numbers in their shortest encodings at the front of the slice, and answers how many bytes they
 /// have. If the slice is shorter, and only then, it doesn't change, and the error is how many bytes are needed. The
@@ -200,10 +201,8 @@ fn store_each(dest: &mut [u8], at: usize, encoded: &[u8], len: usize) -> usize
 {
     let mut at = at;
     let mut rest = encoded;
-    while let Ok((number, after)) = field::varint(rest) {
-        let mut short = [0; 8];
-        let end = store_number(&mut short, 0, number);
-        at = store_bytes(dest, at, &short[..end]);
+    while let Ok((number, after)) = split_var_by_word(rest) {
+        at = store_var(dest, at, number);
         rest = after;
     }
     at

@@ -16,6 +16,7 @@ use super::{
 use bytes::BufMut;
 use quic_base::coding::NoRoom;
 use quic_base::ids::Dir;
+use quic_base::varint::var_size;
 use quic_frame_fields::frame::ack_encode::{ack_len, encode_ack};
 use quic_frame_fields::frame::encode::type_or_zero;
 use quic_frame_fields::frame::stream_meta::encode_header;
@@ -179,7 +180,7 @@ fn stream_len(stream: &Stream<'_>, last: bool) -> u128
     let length = stream.bytes.len();
     let offset_len = size_unless(stream.offset == 0, stream.offset);
     let length_len = size_unless(last, length as u64);
-    let header_len = 1 + write::size_of(stream.id.into()) + offset_len + length_len;
+    let header_len = 1 + var_size(stream.id.into()) + offset_len + length_len;
     header_len as u128 + length as u128
 }
 
@@ -189,7 +190,7 @@ fn size_unless(is_left_out: bool, n: u64) -> usize
     ensures value { result ≡ (if is_left_out then 0 else size n) }
     ensures small { result ≤ 8 }
 {
-    if is_left_out { 0 } else { write::size_of(n) }
+    if is_left_out { 0 } else { var_size(n) }
 }
 
 // How many bytes `encode_datagram` appends.

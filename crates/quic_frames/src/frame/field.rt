@@ -8,7 +8,6 @@ use quic_base::coding::Codec;
 use quic_base::ids::{MAX_CID_SIZE, RESET_TOKEN_SIZE};
 use quic_base::varint::split_var_by_word;
 use quic_frame_fields::frame::fault::Fault;
-use quic_frame_fields::frame::field::varint;
 
 // The first `n` bytes, and what follows them.
 #[inline]
@@ -23,37 +22,23 @@ fn bytes_of(n: u64, bytes: &[u8]) -> Result<(&[u8], &[u8]), Fault>
     Ok(bytes.split_at(n as usize))
 }
 
-/// A number of any width. Reading it is inlined into the caller, as for the fields of a STREAM, since most frames are
-/// STREAMs.
-#[inline(always)]
-#[tactic(auto, using(quic_frame_fields::proofs::Varints::slices))]
-pub(super) fn varint_by_word(bytes: &[u8]) -> Result<(u64, &[u8]), Fault>
-    ensures gives { Gives (λ x. (x.0, x.1.now)) result (varint_at bytes.now) }
-    ensures bound { IfOk result (λ x. x.0 < 2 ^ 62) }
-{
-    match split_var_by_word(bytes) {
-        Some(read) => Ok(read),
-        None => Err(Fault::UnexpectedEnd),
-    }
-}
-
 /// A number and that many bytes, and what follows them.
 #[inline]
-#[tactic(auto, unfolding(quic_frame_fields::specs::Reading::counted_at))]
+#[tactic(auto, unfolding(quic_frame_fields::specs::Reading::counted_at, quic_frame_fields::specs::Reading::varint_at))]
 pub(super) fn counted(bytes: &[u8]) -> Result<(&[u8], &[u8]), Fault>
     ensures { Gives (λ x. (x.0.now, x.1.now)) result (counted_at bytes.now) }
 {
-    let (n, rest) = varint(bytes)?;
+    let (n, rest) = split_var_by_word(bytes)?;
     bytes_of(n, rest)
 }
 
 // The same, inlined into the caller.
 #[inline(always)]
-#[tactic(auto, unfolding(quic_frame_fields::specs::Reading::counted_at))]
+#[tactic(auto, unfolding(quic_frame_fields::specs::Reading::counted_at, quic_frame_fields::specs::Reading::varint_at))]
 fn near_counted(bytes: &[u8]) -> Result<(&[u8], &[u8]), Fault>
     ensures { Gives (λ x. (x.0.now, x.1.now)) result (counted_at bytes.now) }
 {
-    let (n, rest) = varint_by_word(bytes)?;
+    let (n, rest) = split_var_by_word(bytes)?;
     bytes_of(n, rest)
 }
 
@@ -64,7 +49,7 @@ pub(super) fn offset(is_written: bool, bytes: &[u8]) -> Result<(u64, &[u8]), Fau
         → Gives (λ x. (Number x.0 ∷ [], x.1.now)) result (field_at (offset_field is_written) before bytes.now) }
 {
     if is_written {
-        varint_by_word(bytes)
+        Ok(split_var_by_word(bytes)?)
     } else {
         Ok((0, bytes))
     }
@@ -130,8 +115,6 @@ pub(super) fn eight(bytes: &[u8]) -> Result<(u64, &[u8]), Fault>
     ensures { Gives (λ x. (x.0, x.1.now)) result (eight_at bytes.now) }
 {
     let mut rest = bytes;
-    match u64::decode(&mut rest) {
-        Ok(n) => Ok((n, rest)),
-        Err(_) => Err(Fault::UnexpectedEnd),
-    }
+    let n = u64::decode(&mut rest)?;
+    Ok((n, rest))
 }

@@ -6,9 +6,8 @@ ghost use Rattle.quic_frames.specs.Found.{GivesFound};
 
 use super::reading::read_frame;
 use super::{Frame, FrameType, InvalidFrame};
+use quic_base::varint::{split_var_mostly_one_byte, var_size};
 use quic_frame_fields::frame::fault::Fault;
-use quic_frame_fields::frame::field::varint_mostly_one_byte;
-use quic_frame_fields::frame::write;
 
 /// The frame at the front of some bytes.
 #[derive(Drop)]
@@ -32,7 +31,7 @@ pub(super) fn read_typed_frame(
     ensures gives { GivesFound bytes.now result (found_at strict last_type bytes.now) }
     ensures bytes { AreBytes bytes.now }
 {
-    let Ok((number, rest)) = varint_mostly_one_byte(bytes) else {
+    let Ok((number, rest)) = split_var_mostly_one_byte(bytes) else {
         return Err(InvalidFrame {
             ty: last_type,
             reason: Fault::UnexpectedEnd.reason(),
@@ -59,5 +58,5 @@ pub(super) fn read_typed_frame(
 fn is_long(strict: bool, ty: FrameType, width: usize) -> bool
     ensures { result ≡ is_long_type strict ty width }
 {
-    strict && width != write::size_of(ty.into_inner())
+    strict && width != var_size(ty.into_inner())
 }

@@ -13,28 +13,28 @@ use super::{
 };
 use crate::transport_error::Code;
 use quic_base::ids::{ConnectionId, Dir, ResetToken, StreamId};
-use quic_base::varint::VarInt;
+use quic_base::varint::{VarInt, split_var_by_word, split_var_mostly_one_byte};
 use quic_frame_fields::frame::fault::Fault;
-use quic_frame_fields::frame::field::{blocks, varint, varint_mostly_one_byte};
+use quic_frame_fields::frame::field::blocks;
 
 // An ACK, with counts or without. Both are read by one body, so that reading a frame stays small enough to go into
 // its callers.
-#[tactic(auto, unfolding(quic_frame_fields::specs::Reading::row_at))]
+#[tactic(auto, unfolding(quic_frame_fields::specs::Reading::row_at, quic_frame_fields::specs::Reading::varint_at))]
 #[inline(always)]
 fn read_ack(has_counts: bool, bytes: &[u8]) -> Result<(Frame<'_>, &[u8]), Fault>
     ensures { GivesFrame (λ rest. rest.now) bytes.now result
         (row_at (if has_counts then table.ack_ecn_row else table.ack_row) bytes.now) }
 {
-    let (largest, rest) = field::varint_by_word(bytes)?;
-    let (delay, rest) = field::varint_by_word(rest)?;
+    let (largest, rest) = split_var_by_word(bytes)?;
+    let (delay, rest) = split_var_by_word(rest)?;
     let (blocks, rest) = blocks(largest, rest)?;
     if !has_counts {
         let ack = Ack::of_blocks(largest, delay, blocks, None);
         return Ok((Frame::Ack(ack), rest));
     }
-    let (ect0, rest) = varint_mostly_one_byte(rest)?;
-    let (ect1, rest) = varint_mostly_one_byte(rest)?;
-    let (ce, rest) = varint_mostly_one_byte(rest)?;
+    let (ect0, rest) = split_var_mostly_one_byte(rest)?;
+    let (ect1, rest) = split_var_mostly_one_byte(rest)?;
+    let (ce, rest) = split_var_mostly_one_byte(rest)?;
     let ecn = EcnCounts { ect0, ect1, ce };
     let ack = Ack::of_blocks(largest, delay, blocks, Some(ecn));
     Ok((Frame::Ack(ack), rest))
@@ -42,15 +42,15 @@ fn read_ack(has_counts: bool, bytes: &[u8]) -> Result<(Frame<'_>, &[u8]), Fault>
 
 // The end of a stream by its sender. It is read by a call that gives no whole frame: so reading a frame stays small
 // enough to go into its callers, and no frame is made ready for the call to fill.
-#[tactic(auto, unfolding(quic_frame_fields::specs::Reading::row_at))]
+#[tactic(auto, unfolding(quic_frame_fields::specs::Reading::row_at, quic_frame_fields::specs::Reading::varint_at))]
 #[inline(never)]
 fn reset_stream(bytes: &[u8]) -> Result<(ResetStream, &[u8]), Fault>
     ensures { Gives (λ x. (meaning_of (frames.ResetStream x.0), x.1.now)) result
         (row_at table.reset_stream_row bytes.now) }
 {
-    let (id, rest) = varint(bytes)?;
-    let (error_code, rest) = varint(rest)?;
-    let (final_offset, rest) = varint(rest)?;
+    let (id, rest) = split_var_mostly_one_byte(bytes)?;
+    let (error_code, rest) = split_var_mostly_one_byte(rest)?;
+    let (final_offset, rest) = split_var_mostly_one_byte(rest)?;
     let reset = ResetStream {
         id: StreamId::from(VarInt::from_u64_unchecked(id)),
         error_code: VarInt::from_u64_unchecked(error_code),
@@ -63,21 +63,19 @@ fn reset_stream(bytes: &[u8]) -> Result<(ResetStream, &[u8]), Fault>
 fn read_reset_stream(bytes: &[u8]) -> Result<(Frame<'_>, &[u8]), Fault>
     ensures { GivesFrame (λ rest. rest.now) bytes.now result (row_at table.reset_stream_row bytes.now) }
 {
-    match reset_stream(bytes) {
-        Ok((reset, rest)) => Ok((Frame::ResetStream(reset), rest)),
-        Err(fault) => Err(fault),
-    }
+    let (reset, rest) = reset_stream(bytes)?;
+    Ok((Frame::ResetStream(reset), rest))
 }
 
 // The end of a stream by its receiver, read by a call for the same reasons.
-#[tactic(auto, unfolding(quic_frame_fields::specs::Reading::row_at))]
+#[tactic(auto, unfolding(quic_frame_fields::specs::Reading::row_at, quic_frame_fields::specs::Reading::varint_at))]
 #[inline(never)]
 fn stop_sending(bytes: &[u8]) -> Result<(StopSending, &[u8]), Fault>
     ensures { Gives (λ x. (meaning_of (frames.StopSending x.0), x.1.now)) result
         (row_at table.stop_sending_row bytes.now) }
 {
-    let (id, rest) = varint(bytes)?;
-    let (error_code, rest) = varint(rest)?;
+    let (id, rest) = split_var_mostly_one_byte(bytes)?;
+    let (error_code, rest) = split_var_mostly_one_byte(rest)?;
     let stop = StopSending {
         id: StreamId::from(VarInt::from_u64_unchecked(id)),
         error_code: VarInt::from_u64_unchecked(error_code),
@@ -89,23 +87,21 @@ fn stop_sending(bytes: &[u8]) -> Result<(StopSending, &[u8]), Fault>
 fn read_stop_sending(bytes: &[u8]) -> Result<(Frame<'_>, &[u8]), Fault>
     ensures { GivesFrame (λ rest. rest.now) bytes.now result (row_at table.stop_sending_row bytes.now) }
 {
-    match stop_sending(bytes) {
-        Ok((stop, rest)) => Ok((Frame::StopSending(stop), rest)),
-        Err(fault) => Err(fault),
-    }
+    let (stop, rest) = stop_sending(bytes)?;
+    Ok((Frame::StopSending(stop), rest))
 }
 
-#[tactic(auto, unfolding(quic_frame_fields::specs::Reading::row_at))]
+#[tactic(auto, unfolding(quic_frame_fields::specs::Reading::row_at, quic_frame_fields::specs::Reading::varint_at))]
 #[inline(always)]
 fn read_crypto(bytes: &[u8]) -> Result<(Frame<'_>, &[u8]), Fault>
     ensures { GivesFrame (λ rest. rest.now) bytes.now result (row_at table.crypto_row bytes.now) }
 {
-    let (offset, rest) = varint(bytes)?;
+    let (offset, rest) = split_var_mostly_one_byte(bytes)?;
     let (bytes, rest) = field::counted(rest)?;
     Ok((Frame::Crypto(Crypto { offset, bytes }), rest))
 }
 
-#[tactic(auto, unfolding(quic_frame_fields::specs::Reading::row_at))]
+#[tactic(auto, unfolding(quic_frame_fields::specs::Reading::row_at, quic_frame_fields::specs::Reading::varint_at))]
 #[inline(always)]
 fn read_new_token(bytes: &[u8]) -> Result<(Frame<'_>, &[u8]), Fault>
     ensures { GivesFrame (λ rest. rest.now) bytes.now result (row_at table.new_token_row bytes.now) }
@@ -114,7 +110,7 @@ fn read_new_token(bytes: &[u8]) -> Result<(Frame<'_>, &[u8]), Fault>
     Ok((Frame::NewToken(NewToken { token }), rest))
 }
 
-#[tactic(auto, unfolding(quic_frame_fields::specs::Reading::row_at))]
+#[tactic(auto, unfolding(quic_frame_fields::specs::Reading::row_at, quic_frame_fields::specs::Reading::varint_at))]
 #[inline(always)]
 fn read_stream(
     has_offset: bool,
@@ -125,7 +121,7 @@ fn read_stream(
     ensures { GivesFrame (λ rest. rest.now) bytes.now result
         (row_at (table.stream_row has_offset has_length fin) bytes.now) }
 {
-    let (id, rest) = field::varint_by_word(bytes)?;
+    let (id, rest) = split_var_by_word(bytes)?;
     let (offset, rest) = field::offset(has_offset, rest)?;
     let (bytes, rest) = field::near_data(has_length, rest)?;
     let stream = Stream {
@@ -139,16 +135,16 @@ fn read_stream(
 
 // The limits of a peer, and what tells that one of them was reached. All begin with a number, which is read by one
 // body and by a call, so that reading a frame stays small enough to go into its callers.
-#[tactic(auto, unfolding(quic_frame_fields::specs::Reading::frame_at, quic_frame_fields::specs::Reading::row_at))]
+#[tactic(auto, unfolding(quic_frame_fields::specs::Reading::frame_at, quic_frame_fields::specs::Reading::row_at, quic_frame_fields::specs::Reading::varint_at))]
 #[inline(always)]
 fn read_limit(ty: u64, bytes: &[u8]) -> Result<(Frame<'_>, &[u8]), Fault>
     requires limit { (0x10 ≤ ty) × (ty ≤ 0x17) }
     ensures { GivesFrame (λ rest. rest.now) bytes.now result (frame_at ty bytes.now) }
 {
-    let (first, rest) = varint(bytes)?;
+    let (first, rest) = split_var_mostly_one_byte(bytes)?;
     let number = VarInt::from_u64_unchecked(first);
     if ty == 0x11 || ty == 0x15 {
-        let (offset, rest) = varint(rest)?;
+        let (offset, rest) = split_var_mostly_one_byte(rest)?;
         let id = StreamId::from(number);
         if ty == 0x11 {
             return Ok((Frame::MaxStreamData { id, offset }, rest));
@@ -176,14 +172,14 @@ fn id_of(bytes: &[u8]) -> ConnectionId
 }
 
 // Another id, read by a call for the same reasons.
-#[tactic(auto, unfolding(quic_frame_fields::specs::Reading::row_at))]
+#[tactic(auto, unfolding(quic_frame_fields::specs::Reading::row_at, quic_frame_fields::specs::Reading::varint_at))]
 #[inline(never)]
 fn new_connection_id(bytes: &[u8]) -> Result<(NewConnectionId, &[u8]), Fault>
     ensures { Gives (λ x. (meaning_of (frames.NewConnectionId x.0), x.1.now)) result
         (row_at table.new_connection_id_row bytes.now) }
 {
-    let (sequence, rest) = varint_mostly_one_byte(bytes)?;
-    let (retire_prior_to, rest) = varint_mostly_one_byte(rest)?;
+    let (sequence, rest) = split_var_mostly_one_byte(bytes)?;
+    let (retire_prior_to, rest) = split_var_mostly_one_byte(rest)?;
     if retire_prior_to > sequence {
         return Err(Fault::Malformed);
     }
@@ -202,24 +198,22 @@ fn new_connection_id(bytes: &[u8]) -> Result<(NewConnectionId, &[u8]), Fault>
 fn read_new_connection_id(bytes: &[u8]) -> Result<(Frame<'_>, &[u8]), Fault>
     ensures { GivesFrame (λ rest. rest.now) bytes.now result (row_at table.new_connection_id_row bytes.now) }
 {
-    match new_connection_id(bytes) {
-        Ok((issued, rest)) => Ok((Frame::NewConnectionId(issued), rest)),
-        Err(fault) => Err(fault),
-    }
+    let (issued, rest) = new_connection_id(bytes)?;
+    Ok((Frame::NewConnectionId(issued), rest))
 }
 
-#[tactic(auto, unfolding(quic_frame_fields::specs::Reading::row_at))]
+#[tactic(auto, unfolding(quic_frame_fields::specs::Reading::row_at, quic_frame_fields::specs::Reading::varint_at))]
 #[inline(always)]
 fn read_retire_connection_id(bytes: &[u8]) -> Result<(Frame<'_>, &[u8]), Fault>
     ensures { GivesFrame (λ rest. rest.now) bytes.now result
         (row_at table.retire_connection_id_row bytes.now) }
 {
-    let (sequence, rest) = varint(bytes)?;
+    let (sequence, rest) = split_var_mostly_one_byte(bytes)?;
     Ok((Frame::RetireConnectionId { sequence }, rest))
 }
 
 // The eight bytes of a path, there or back.
-#[tactic(auto, unfolding(quic_frame_fields::specs::Reading::frame_at, quic_frame_fields::specs::Reading::row_at))]
+#[tactic(auto, unfolding(quic_frame_fields::specs::Reading::frame_at, quic_frame_fields::specs::Reading::row_at, quic_frame_fields::specs::Reading::varint_at))]
 #[inline(always)]
 fn read_path(ty: u64, bytes: &[u8]) -> Result<(Frame<'_>, &[u8]), Fault>
     requires either { (0x1a ≤ ty) × (ty ≤ 0x1b) }
@@ -234,14 +228,14 @@ fn read_path(ty: u64, bytes: &[u8]) -> Result<(Frame<'_>, &[u8]), Fault>
 
 // A close by the transport or by the application: both begin with an error code and end with a reason phrase. It is
 // read by a call, so that reading a frame stays small enough to go into its callers.
-#[tactic(auto, unfolding(quic_frame_fields::specs::Reading::frame_at, quic_frame_fields::specs::Reading::row_at))]
+#[tactic(auto, unfolding(quic_frame_fields::specs::Reading::frame_at, quic_frame_fields::specs::Reading::row_at, quic_frame_fields::specs::Reading::varint_at))]
 #[inline(never)]
 fn close(ty: u64, bytes: &[u8]) -> Result<(Close<'_>, &[u8]), Fault>
     requires either { (0x1c ≤ ty) × (ty ≤ 0x1d) }
     ensures gives { Gives (λ x. (meaning_of (frames.Close x.0), x.1.now)) result (frame_at ty bytes.now) }
     ensures apart { IfOk result (λ x. HasNoTypeZero (frames.Close x.0)) }
 {
-    let (error_code, rest) = varint(bytes)?;
+    let (error_code, rest) = split_var_mostly_one_byte(bytes)?;
     if ty == 0x1d {
         let (reason, rest) = field::counted(rest)?;
         let close = ApplicationClose {
@@ -250,7 +244,7 @@ fn close(ty: u64, bytes: &[u8]) -> Result<(Close<'_>, &[u8]), Fault>
         };
         return Ok((Close::Application(close), rest));
     }
-    let (ty, rest) = varint(rest)?;
+    let (ty, rest) = split_var_mostly_one_byte(rest)?;
     let (reason, rest) = field::counted(rest)?;
     let close = ConnectionClose {
         error_code: Code::of(error_code),
@@ -265,13 +259,11 @@ fn read_close(ty: u64, bytes: &[u8]) -> Result<(Frame<'_>, &[u8]), Fault>
     requires either { (0x1c ≤ ty) × (ty ≤ 0x1d) }
     ensures { GivesFrame (λ rest. rest.now) bytes.now result (frame_at ty bytes.now) }
 {
-    match close(ty, bytes) {
-        Ok((close, rest)) => Ok((Frame::Close(close), rest)),
-        Err(fault) => Err(fault),
-    }
+    let (close, rest) = close(ty, bytes)?;
+    Ok((Frame::Close(close), rest))
 }
 
-#[tactic(auto, unfolding(quic_frame_fields::specs::Reading::row_at))]
+#[tactic(auto, unfolding(quic_frame_fields::specs::Reading::row_at, quic_frame_fields::specs::Reading::varint_at))]
 #[inline(always)]
 fn read_datagram(has_length: bool, bytes: &[u8]) -> Result<(Frame<'_>, &[u8]), Fault>
     ensures { GivesFrame (λ rest. rest.now) bytes.now result (row_at (table.datagram_row has_length) bytes.now) }
@@ -281,16 +273,16 @@ fn read_datagram(has_length: bool, bytes: &[u8]) -> Result<(Frame<'_>, &[u8]), F
 }
 
 // How often acknowledgements are wanted, read by a call for the same reason.
-#[tactic(auto, unfolding(quic_frame_fields::specs::Reading::row_at))]
+#[tactic(auto, unfolding(quic_frame_fields::specs::Reading::row_at, quic_frame_fields::specs::Reading::varint_at))]
 #[inline(never)]
 fn ack_frequency(bytes: &[u8]) -> Result<(AckFrequency, &[u8]), Fault>
     ensures { Gives (λ x. (meaning_of (frames.AckFrequency x.0), x.1.now)) result
         (row_at table.ack_frequency_row bytes.now) }
 {
-    let (sequence, rest) = field::varint_by_word(bytes)?;
-    let (threshold, rest) = field::varint_by_word(rest)?;
-    let (delay, rest) = field::varint_by_word(rest)?;
-    let (reordering, rest) = field::varint_by_word(rest)?;
+    let (sequence, rest) = split_var_by_word(bytes)?;
+    let (threshold, rest) = split_var_by_word(rest)?;
+    let (delay, rest) = split_var_by_word(rest)?;
+    let (reordering, rest) = split_var_by_word(rest)?;
     let frequency = AckFrequency {
         sequence: VarInt::from_u64_unchecked(sequence),
         ack_eliciting_threshold: VarInt::from_u64_unchecked(threshold),
@@ -304,14 +296,12 @@ fn ack_frequency(bytes: &[u8]) -> Result<(AckFrequency, &[u8]), Fault>
 fn read_ack_frequency(bytes: &[u8]) -> Result<(Frame<'_>, &[u8]), Fault>
     ensures { GivesFrame (λ rest. rest.now) bytes.now result (row_at table.ack_frequency_row bytes.now) }
 {
-    match ack_frequency(bytes) {
-        Ok((frequency, rest)) => Ok((Frame::AckFrequency(frequency), rest)),
-        Err(fault) => Err(fault),
-    }
+    let (frequency, rest) = ack_frequency(bytes)?;
+    Ok((Frame::AckFrequency(frequency), rest))
 }
 
 /// The frame of this type whose fields begin here, and what follows it.
-#[tactic(auto, unfolding(quic_frame_fields::specs::Reading::frame_at, quic_frame_fields::specs::Reading::row_at))]
+#[tactic(auto, unfolding(quic_frame_fields::specs::Reading::frame_at, quic_frame_fields::specs::Reading::row_at, quic_frame_fields::specs::Reading::varint_at))]
 #[inline(always)]
 pub(super) fn read_frame(ty: u64, bytes: &[u8]) -> Result<(Frame<'_>, &[u8]), Fault>
     ensures { GivesFrame (λ rest. rest.now) bytes.now result (frame_at ty bytes.now) }

@@ -44,6 +44,7 @@ fn near_counted(bytes: &[u8]) -> Result<(&[u8], &[u8]), Fault>
 
 /// The offset of a STREAM, 0 if it is left out, and what follows it.
 #[inline(always)]
+#[tactic(auto, unfolding(quic_frame_fields::specs::Reading::varint_at))]
 pub(super) fn offset(is_written: bool, bytes: &[u8]) -> Result<(u64, &[u8]), Fault>
     ensures { (before : List Value)
         → Gives (λ x. (Number x.0 ∷ [], x.1.now)) result (field_at (offset_field is_written) before bytes.now) }

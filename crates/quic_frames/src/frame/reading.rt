@@ -48,9 +48,9 @@ fn reset_stream(bytes: &[u8]) -> Result<(ResetStream, &[u8]), Fault>
     ensures { Gives (λ x. (meaning_of (frames.ResetStream x.0), x.1.now)) result
         (row_at table.reset_stream_row bytes.now) }
 {
-    let (id, rest) = split_var_mostly_one_byte(bytes)?;
-    let (error_code, rest) = split_var_mostly_one_byte(rest)?;
-    let (final_offset, rest) = split_var_mostly_one_byte(rest)?;
+    let (id, rest) = split_var_by_word(bytes)?;
+    let (error_code, rest) = split_var_by_word(rest)?;
+    let (final_offset, rest) = split_var_by_word(rest)?;
     let reset = ResetStream {
         id: StreamId::from(VarInt::from_u64_unchecked(id)),
         error_code: VarInt::from_u64_unchecked(error_code),
@@ -63,8 +63,10 @@ fn reset_stream(bytes: &[u8]) -> Result<(ResetStream, &[u8]), Fault>
 fn read_reset_stream(bytes: &[u8]) -> Result<(Frame<'_>, &[u8]), Fault>
     ensures { GivesFrame (λ rest. rest.now) bytes.now result (row_at table.reset_stream_row bytes.now) }
 {
-    let (reset, rest) = reset_stream(bytes)?;
-    Ok((Frame::ResetStream(reset), rest))
+    match reset_stream(bytes) {
+        Ok((reset, rest)) => Ok((Frame::ResetStream(reset), rest)),
+        Err(fault) => Err(fault),
+    }
 }
 
 // The end of a stream by its receiver, read by a call for the same reasons.
@@ -74,8 +76,8 @@ fn stop_sending(bytes: &[u8]) -> Result<(StopSending, &[u8]), Fault>
     ensures { Gives (λ x. (meaning_of (frames.StopSending x.0), x.1.now)) result
         (row_at table.stop_sending_row bytes.now) }
 {
-    let (id, rest) = split_var_mostly_one_byte(bytes)?;
-    let (error_code, rest) = split_var_mostly_one_byte(rest)?;
+    let (id, rest) = split_var_by_word(bytes)?;
+    let (error_code, rest) = split_var_by_word(rest)?;
     let stop = StopSending {
         id: StreamId::from(VarInt::from_u64_unchecked(id)),
         error_code: VarInt::from_u64_unchecked(error_code),
@@ -87,8 +89,10 @@ fn stop_sending(bytes: &[u8]) -> Result<(StopSending, &[u8]), Fault>
 fn read_stop_sending(bytes: &[u8]) -> Result<(Frame<'_>, &[u8]), Fault>
     ensures { GivesFrame (λ rest. rest.now) bytes.now result (row_at table.stop_sending_row bytes.now) }
 {
-    let (stop, rest) = stop_sending(bytes)?;
-    Ok((Frame::StopSending(stop), rest))
+    match stop_sending(bytes) {
+        Ok((stop, rest)) => Ok((Frame::StopSending(stop), rest)),
+        Err(fault) => Err(fault),
+    }
 }
 
 #[tactic(auto, unfolding(quic_frame_fields::specs::Reading::row_at, quic_frame_fields::specs::Reading::varint_at))]
@@ -96,7 +100,7 @@ fn read_stop_sending(bytes: &[u8]) -> Result<(Frame<'_>, &[u8]), Fault>
 fn read_crypto(bytes: &[u8]) -> Result<(Frame<'_>, &[u8]), Fault>
     ensures { GivesFrame (λ rest. rest.now) bytes.now result (row_at table.crypto_row bytes.now) }
 {
-    let (offset, rest) = split_var_mostly_one_byte(bytes)?;
+    let (offset, rest) = split_var_by_word(bytes)?;
     let (bytes, rest) = field::counted(rest)?;
     Ok((Frame::Crypto(Crypto { offset, bytes }), rest))
 }
@@ -141,10 +145,10 @@ fn read_limit(ty: u64, bytes: &[u8]) -> Result<(Frame<'_>, &[u8]), Fault>
     requires limit { (0x10 ≤ ty) × (ty ≤ 0x17) }
     ensures { GivesFrame (λ rest. rest.now) bytes.now result (frame_at ty bytes.now) }
 {
-    let (first, rest) = split_var_mostly_one_byte(bytes)?;
+    let (first, rest) = split_var_by_word(bytes)?;
     let number = VarInt::from_u64_unchecked(first);
     if ty == 0x11 || ty == 0x15 {
-        let (offset, rest) = split_var_mostly_one_byte(rest)?;
+        let (offset, rest) = split_var_by_word(rest)?;
         let id = StreamId::from(number);
         if ty == 0x11 {
             return Ok((Frame::MaxStreamData { id, offset }, rest));
@@ -198,8 +202,10 @@ fn new_connection_id(bytes: &[u8]) -> Result<(NewConnectionId, &[u8]), Fault>
 fn read_new_connection_id(bytes: &[u8]) -> Result<(Frame<'_>, &[u8]), Fault>
     ensures { GivesFrame (λ rest. rest.now) bytes.now result (row_at table.new_connection_id_row bytes.now) }
 {
-    let (issued, rest) = new_connection_id(bytes)?;
-    Ok((Frame::NewConnectionId(issued), rest))
+    match new_connection_id(bytes) {
+        Ok((issued, rest)) => Ok((Frame::NewConnectionId(issued), rest)),
+        Err(fault) => Err(fault),
+    }
 }
 
 #[tactic(auto, unfolding(quic_frame_fields::specs::Reading::row_at, quic_frame_fields::specs::Reading::varint_at))]
@@ -208,7 +214,7 @@ fn read_retire_connection_id(bytes: &[u8]) -> Result<(Frame<'_>, &[u8]), Fault>
     ensures { GivesFrame (λ rest. rest.now) bytes.now result
         (row_at table.retire_connection_id_row bytes.now) }
 {
-    let (sequence, rest) = split_var_mostly_one_byte(bytes)?;
+    let (sequence, rest) = split_var_by_word(bytes)?;
     Ok((Frame::RetireConnectionId { sequence }, rest))
 }
 
@@ -235,7 +241,7 @@ fn close(ty: u64, bytes: &[u8]) -> Result<(Close<'_>, &[u8]), Fault>
     ensures gives { Gives (λ x. (meaning_of (frames.Close x.0), x.1.now)) result (frame_at ty bytes.now) }
     ensures apart { IfOk result (λ x. HasNoTypeZero (frames.Close x.0)) }
 {
-    let (error_code, rest) = split_var_mostly_one_byte(bytes)?;
+    let (error_code, rest) = split_var_by_word(bytes)?;
     if ty == 0x1d {
         let (reason, rest) = field::counted(rest)?;
         let close = ApplicationClose {
@@ -244,7 +250,7 @@ fn close(ty: u64, bytes: &[u8]) -> Result<(Close<'_>, &[u8]), Fault>
         };
         return Ok((Close::Application(close), rest));
     }
-    let (ty, rest) = split_var_mostly_one_byte(rest)?;
+    let (ty, rest) = split_var_by_word(rest)?;
     let (reason, rest) = field::counted(rest)?;
     let close = ConnectionClose {
         error_code: Code::of(error_code),
@@ -259,8 +265,10 @@ fn read_close(ty: u64, bytes: &[u8]) -> Result<(Frame<'_>, &[u8]), Fault>
     requires either { (0x1c ≤ ty) × (ty ≤ 0x1d) }
     ensures { GivesFrame (λ rest. rest.now) bytes.now result (frame_at ty bytes.now) }
 {
-    let (close, rest) = close(ty, bytes)?;
-    Ok((Frame::Close(close), rest))
+    match close(ty, bytes) {
+        Ok((close, rest)) => Ok((Frame::Close(close), rest)),
+        Err(fault) => Err(fault),
+    }
 }
 
 #[tactic(auto, unfolding(quic_frame_fields::specs::Reading::row_at, quic_frame_fields::specs::Reading::varint_at))]
@@ -296,8 +304,10 @@ fn ack_frequency(bytes: &[u8]) -> Result<(AckFrequency, &[u8]), Fault>
 fn read_ack_frequency(bytes: &[u8]) -> Result<(Frame<'_>, &[u8]), Fault>
     ensures { GivesFrame (λ rest. rest.now) bytes.now result (row_at table.ack_frequency_row bytes.now) }
 {
-    let (frequency, rest) = ack_frequency(bytes)?;
-    Ok((Frame::AckFrequency(frequency), rest))
+    match ack_frequency(bytes) {
+        Ok((frequency, rest)) => Ok((Frame::AckFrequency(frequency), rest)),
+        Err(fault) => Err(fault),
+    }
 }
 
 /// The frame of this type whose fields begin here, and what follows it.

@@ -1,9 +1,7 @@
 -- Numbers of variable length in a width (RFC 9000, section 16), and packet numbers that are expanded.
-use Rattle.std.specs.Prelude.{◌≡◌, ℕ, ◌+◌, ◌*◌, ◌^◌, ◌<◌, ◌≤◌, ◌⊎◌, List, [], ◌∷◌, nat_lt, if◌then◌else◌, ◌==◌}
+use Rattle.std.specs.Prelude.{◌≡◌, ℕ, ◌+◌, ◌*◌, ◌^◌, ◌<◌, ◌≤◌, ◌⊎◌, List, [], ◌∷◌, if◌then◌else◌, ◌==◌}
 use Rattle.quic_base.specs.Number.{bytes_of}
-
-abbrev pub least_width : ℕ → ℕ
-least_width v = if nat_lt v (2 ^ 6) then 1 else if nat_lt v (2 ^ 14) then 2 else if nat_lt v (2 ^ 30) then 4 else 8
+use Rattle.quic_base.specs.Varint.{size}
 
 -- a number encoded in a width: the two highest bits are the tag
 abbrev pub encoding_in : ℕ → ℕ → List ℕ
@@ -19,9 +17,9 @@ IsWidth n = (n ≡ 1) ⊎ (n ≡ 2) ⊎ (n ≡ 4) ⊎ (n ≡ 8)
 -- them.
 pub record CanEncode (value width room n : ℕ) : Type 0 where
   pub numeric : value < 2 ^ 62
-  pub asked : (width ≡ 0) × (n ≡ least_width value) ⊎ (0 < width) × (n ≡ width)
+  pub asked : (width ≡ 0) × (n ≡ size value) ⊎ (0 < width) × (n ≡ width)
   pub known : IsWidth n
-  pub enough : least_width value ≤ n
+  pub enough : size value ≤ n
   pub within : n ≤ room
 
 -- so many low bytes of a packet number can be expanded by the number that is expected

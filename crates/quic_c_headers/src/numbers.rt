@@ -1,9 +1,9 @@
 //! Numbers of variable length, and packet numbers.
 ghost use Rattle.std.specs.Prelude.{◌≡◌, ◌+◌, ◌-◌, ◌*◌, ◌%◌, ◌^◌, ◌<◌, ◌≤◌, ◌⊎◌, ◌↔◌, ◌++◌, ℕ, length, take, drop, pos, negsuc};
 ghost use Rattle.quic_base.specs.Codec.{NoFront, Takes};
-ghost use Rattle.quic_base.specs.Varint.{Encodes};
+ghost use Rattle.quic_base.specs.Varint.{Encodes, size};
 ghost use Rattle.quic_crypto.specs.PacketNumbers.{Expands, SizeFor};
-ghost use Rattle.quic_c_headers.specs.Numbers.{least_width, encoding_in, CanExpand, CanEncode, IsWidth};
+ghost use Rattle.quic_c_headers.specs.Numbers.{encoding_in, CanExpand, CanEncode, IsWidth};
 
 use quic_base::coding::store_array;
 use quic_base::varint::{split_var, var_size};
@@ -28,11 +28,11 @@ pub extern "C" fn quic_wire_varint_read_(bytes: &[u8], value: &mut u64) -> usize
 
 // Stores a number in a width that is enough for it.
 #[inline(always)]
-#[tactic(auto, unfolding(quic_base::specs::Number::bytes_of))]
+#[tactic(auto, unfolding(quic_base::specs::Number::bytes_of, quic_base::specs::Varint::size))]
 fn store_encoding(value: u64, width: usize, dest: &mut [u8]) -> usize
     requires numeric { value < 2 ^ 62 }
     requires room { width ≤ length dest.old }
-    requires fits { least_width value ≤ width }
+    requires fits { size value ≤ width }
     ensures wrote { (result ≡ 0)
         ⊎ ((result ≡ width) × IsWidth width × (take result dest.new ≡ encoding_in width value)) }
     ensures back { drop result dest.new ≡ drop result dest.old }

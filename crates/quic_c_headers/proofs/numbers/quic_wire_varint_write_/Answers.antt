@@ -2,20 +2,23 @@
 use Rattle.std.proofs.Common.{◌≡◌, ℕ, ◌+◌, ◌*◌, ◌<◌, ◌≤◌, ◌^◌, ◌⊎◌, List, ◌++◌, length, take, drop, sym, ap, subst, ◌∙◌, inl, inr, arith}
 use Rattle.std.proofs.lemmas.List.{take-append-drop}
 use Rattle.std.proofs.lemmas.Bool.Decides.{nat_tests}
-use Rattle.quic_base.specs.Varint.{Encodes}
+use Rattle.quic_base.specs.Varint.{Encodes, size}
 use Rattle.quic_base.proofs.PublicLaws as law
 use Rattle.quic_header_encode.proofs.Stores.{short_small}
-use Rattle.quic_c_headers.specs.Numbers.{least_width, encoding_in, CanEncode, IsWidth}
+use Rattle.quic_c_headers.specs.Numbers.{encoding_in, CanEncode, IsWidth}
 use Rattle.quic_c_headers.proofs.numbers.quic_wire_varint_write_.Goals as goal
 use Rattle.quic_c_headers.proofs.numbers.quic_wire_varint_write_.Goals.{then-width-eq0, else-width-eq0}
 
-one : (v : ℕ) → least_width v ≤ 1 → v < 2 ^ 6
+one : (v : ℕ) → size v ≤ 1 → v < 2 ^ 6
+unfolding size
 one v e = grind (arith, nat_tests)
 
-two : (v : ℕ) → least_width v ≤ 2 → v < 2 ^ 14
+two : (v : ℕ) → size v ≤ 2 → v < 2 ^ 14
+unfolding size
 two v e = grind (arith, nat_tests)
 
-four : (v : ℕ) → least_width v ≤ 4 → v < 2 ^ 30
+four : (v : ℕ) → size v ≤ 4 → v < 2 ^ 30
+unfolding size
 four v e = grind (arith, nat_tests)
 
 encodes_one : (v : ℕ) → v < 2 ^ 6 → Encodes v (encoding_in 1 v)
@@ -36,9 +39,9 @@ encodes_eight v lt =
     let is = law.is_number_8 (3 * 2 ^ 62 + v) (omega arith) in
     record { tag = 3; tag_fits = omega arith; bytes = is.bytes; width = is.width; fits = lt; value = is.value }
 
-encoded : (n v : ℕ) → v < 2 ^ 62 → least_width v ≤ n → IsWidth n → Encodes v (encoding_in n v)
+encoded : (n v : ℕ) → v < 2 ^ 62 → size v ≤ n → IsWidth n → Encodes v (encoding_in n v)
 encoded n v lt enough known =
-    let P : ℕ → Type 0 = λ k. least_width v ≤ k → Encodes v (encoding_in k v) in
+    let P : ℕ → Type 0 = λ k. size v ≤ k → Encodes v (encoding_in k v) in
     let all : P n = elim known [
       | inl e ↦ subst P (sym e) (λ h. encodes_one v (one v h))
       | inr more ↦ elim more [
@@ -64,11 +67,11 @@ returns-clause-wrote c =
           let all : new ≡ encoding_in n c.args.value ++ drop n old =
           sym (take-append-drop n new) ∙ ap (λ (xs : List ℕ). xs ++ drop n new) front
           ∙ ap (λ (xs : List ℕ). encoding_in n c.args.value ++ xs) c.store_encoding.ensures.back in
-          inr (encoded n c.args.value c.if-value.false (omega (arith, w.0, c.least_width-least.ensures)) (subst IsWidth (sym w.0) w.1), all)
+          inr (encoded n c.args.value c.if-value.false (omega (arith, w.0, c.var_size-least.ensures.value)) (subst IsWidth (sym w.0) w.1), all)
     ]
 
 chosen : (width value least n room : ℕ) → (width ≡ 0) × (n ≡ least) ⊎ (0 < width) × (n ≡ width)
-    → least ≡ least_width value → value < 2 ^ 62 → IsWidth n
+    → least ≡ size value → value < 2 ^ 62 → IsWidth n
     → least ≤ n → n ≤ room → CanEncode value width room n
 chosen width value least n room asked is lt known enough within = record {
   numeric = lt;
@@ -84,12 +87,12 @@ returns-clause-width c =
     elim c.store_encoding.ensures.wrote [
       | inl none ↦ inl none
       | inr w ↦
-          let asked : (c.args.width ≡ 0) × (n ≡ c.least_width-least.result) ⊎ (0 < c.args.width) × (n ≡ c.args.width) =
+          let asked : (c.args.width ≡ 0) × (n ≡ c.var_size-least.result) ⊎ (0 < c.args.width) × (n ≡ c.args.width) =
           elim c.if-width-eq0.branch [
             | then-width-eq0 b ↦ inl (b.if-width-eq0.true, w.0 ∙ b.width-is)
             | else-width-eq0 b ↦ inr (omega (arith, b.if-width-eq0.false), w.0 ∙ b.width-is)
           ] in
-          inr (chosen c.args.width c.args.value c.least_width-least.result n (length c.args.dest.now) asked
-          c.least_width-least.ensures c.if-value.false
+          inr (chosen c.args.width c.args.value c.var_size-least.result n (length c.args.dest.now) asked
+          c.var_size-least.ensures.value c.if-value.false
           (subst IsWidth (sym w.0) w.1) (omega (arith, w.0)) (omega (arith, w.0)))
     ]

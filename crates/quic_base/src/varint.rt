@@ -189,10 +189,15 @@ impl fmt::Debug for VarInt {
     }
 }
 
-// What the two highest bits of an encoding of two, four and eight bytes, 1, 2 and 3, add to its number.
-const IN_TWO: u16 = 1 << 14;
-const IN_FOUR: u32 = 2 << 30;
-const IN_EIGHT: u64 = 3 << 62;
+/// What is added to a number below 2^14 to encode it in two bytes, the higher one first: its two highest bits tell the
+/// width (RFC 9000, section 16).
+pub const IN_TWO: u16 = 1 << 14;
+
+/// The same for a number below 2^30 in four bytes.
+pub const IN_FOUR: u32 = 2 << 30;
+
+/// The same for a number below 2^62 in eight bytes.
+pub const IN_EIGHT: u64 = 3 << 62;
 
 // The number that a varint at the front encodes, in any width: one look at the first byte, and one
 // load of the whole width.

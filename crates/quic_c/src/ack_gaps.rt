@@ -8,7 +8,7 @@ ghost use Rattle.quic_c.specs.AckGaps.{ack_bytes, ack_described, behind_type, co
 
 use crate::words::{CFrame, CGap};
 use quic_base::coding::store_array;
-use quic_base::varint::var_size;
+use quic_base::varint::{IN_EIGHT, IN_FOUR, var_size};
 use quic_frame_fields::frame::write::numbers_len;
 
 // The type, which depends on whether there are counts.
@@ -44,9 +44,9 @@ pub(crate) fn store(dest: &mut [u8], at: usize, n: u64) -> usize
     } else if n < 1 << 14 {
         store_bytes(dest, at, (1 << 6) + (n / 256) as u8, (n % 256) as u8)
     } else if n < 1 << 30 {
-        store_array(dest, at, ((2 << 30) + n as u32).to_be_bytes())
+        store_array(dest, at, (IN_FOUR + n as u32).to_be_bytes())
     } else {
-        store_array(dest, at, (3 << 62 | n).to_be_bytes())
+        store_array(dest, at, (IN_EIGHT | n).to_be_bytes())
     }
 }
 

@@ -1,9 +1,10 @@
 //! The ranges of an ACK, one with each call.
-ghost use Rattle.std.specs.Prelude.{◌≡◌, ◌⊎◌, ◌<◌, ◌^◌, List, ℕ, IfSome, IsNone, pos, negsuc};
+ghost use Rattle.std.specs.Prelude.{◌≡◌, ◌⊎◌, ◌<◌, ◌^◌, List, ℕ, IfOk, OnErr, pos, negsuc};
 ghost use Rattle.quic_c.specs.Answers.{BeginsAsAck, GivesFront, GivesPlace, GivesRange, IsWithin, LacksAck, LacksFront, NamesNone};
 
 use crate::words::{CFrame, CRange, CRangeIter};
 use quic_base::varint::split_var;
+use quic_frame_fields::frame::fault::Fault;
 use quic_frames::frame::{split_ack, split_first_range};
 
 /// Begins at the greatest range of the ACK at the place in the frame's words (RFC 9000, section 19.3). It answers 0, or
@@ -55,7 +56,7 @@ pub extern "C" fn quic_wire_ack_ranges_init_unchecked_(
     if begin > end || end > payload.len() {
         return -1;
     }
-    let Some((largest, blocks)) = split_front(&payload[begin..end]) else {
+    let Ok((largest, blocks)) = split_front(&payload[begin..end]) else {
         return quic_wire_ack_ranges_init_(ranges, payload, frame);
     };
     *ranges = CRangeIter {
@@ -68,19 +69,19 @@ pub extern "C" fn quic_wire_ack_ranges_init_unchecked_(
 
 // The greatest number of an ACK without counts, and what follows its count of ranges.
 #[inline(always)]
-fn split_front(bytes: &[u8]) -> Option<(u64, &[u8])>
-    ensures none { IsNone result → (largest : ℕ) (rest : List ℕ) → BeginsAsAck bytes.now largest rest → ⊥ }
-    ensures begins { IfSome result (λ x. BeginsAsAck bytes.now x.0 x.1.now) }
-    ensures bound { IfSome result (λ x. x.0 < 2 ^ 62) }
+fn split_front(bytes: &[u8]) -> Result<(u64, &[u8]), Fault>
+    ensures none { OnErr result ((largest : ℕ) (rest : List ℕ) → BeginsAsAck bytes.now largest rest → ⊥) }
+    ensures begins { IfOk result (λ x. BeginsAsAck bytes.now x.0 x.1.now) }
+    ensures bound { IfOk result (λ x. x.0 < 2 ^ 62) }
 {
-    let (ty, behind_type) = split_var(bytes).ok()?;
+    let (ty, behind_type) = split_var(bytes)?;
     if ty != 2 {
-        return None;
+        return Err(Fault::InvalidFrameId);
     }
-    let (largest, behind_largest) = split_var(behind_type).ok()?;
-    let (_, behind_delay) = split_var(behind_largest).ok()?;
-    let (_, blocks) = split_var(behind_delay).ok()?;
-    Some((largest, blocks))
+    let (largest, behind_largest) = split_var(behind_type)?;
+    let (_, behind_delay) = split_var(behind_largest)?;
+    let (_, blocks) = split_var(behind_delay)?;
+    Ok((largest, blocks))
 }
 
 /// The next range of an ACK, the greatest first (RFC 9000, section 19.3.1). It answers 1 with the range; 0 exactly if

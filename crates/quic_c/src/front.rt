@@ -12,7 +12,7 @@ use crate::frames::{is_unknown, show_invalid, type_read, unknown};
 use crate::show::{parts_of, show};
 use crate::words::{CFrame, CGap};
 use quic_base::coding::are_bytes;
-use quic_base::varint::split_var_mostly_one_byte;
+use quic_base::varint::split_var;
 use quic_frames::frame::{Ack, Frame, Iter};
 
 // Fills entries with the ranges below another one, as gap and length: how many, and whether none is left.
@@ -27,10 +27,10 @@ fn fill_gaps(blocks: &[u8], gaps: &mut [CGap]) -> (usize, bool)
     let mut left = blocks;
     let mut count = 0;
     while count < gaps.len() && !left.is_empty() {
-        let Ok((gap, behind)) = split_var_mostly_one_byte(left) else {
+        let Ok((gap, behind)) = split_var(left) else {
             unreachable!()
         };
-        let Ok((len, rest)) = split_var_mostly_one_byte(behind) else {
+        let Ok((len, rest)) = split_var(behind) else {
             unreachable!()
         };
         gaps[count] = CGap { gap, len };
@@ -57,7 +57,7 @@ fn show_ack(words: CFrame, ack: &Ack<'_>, gaps: &mut [CGap]) -> CFrame
 {
     let blocks = ack.additional();
     are_bytes(blocks);
-    let Ok((first, below)) = split_var_mostly_one_byte(blocks) else {
+    let Ok((first, below)) = split_var(blocks) else {
         unreachable!()
     };
     let (count, is_whole) = fill_gaps(below, gaps);

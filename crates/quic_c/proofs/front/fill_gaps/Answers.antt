@@ -1,5 +1,6 @@
 use Rattle.std.proofs.Common.{length, arith}
 use Rattle.quic_frame_fields.proofs.UncountedBlocks.{some_of}
+use Rattle.quic_frame_fields.proofs.Varints.{varint_found, varint_none}
 use Rattle.quic_c.proofs.GapFilling.{gaps_begin, gap_is_there, len_is_there, gaps_go_on, gaps_end, gaps_whole, gaps_full}
 use Rattle.quic_c.proofs.front.fill_gaps.Goals as goal
 use Rattle.quic_c.proofs.front.fill_gaps.Goals.{then-loop-count-test+else-not-is_empty, else-loop-count-test}
@@ -12,24 +13,25 @@ unreachable-requires c =
     let here = c.loop-count in
     let asked = c.requires in
     gap_is_there asked.0 asked.1 c.args.gaps.now here.left.now here.gaps here.count _ (here.invariant asked.0 asked.1 asked.2)
-    (some_of (length here.left.now) c.if-not-is_empty.ensures) c.in_default.ensures
+    (some_of (length here.left.now) c.if-not-is_empty.ensures) (varint_none _ c.in_default.ensures.found)
 
-pub unreachable-requires-in_default-number : goal.unreachable-requires-in_default-number
-unreachable-requires-in_default-number c =
+pub unreachable-requires-in_default-split_var : goal.unreachable-requires-in_default-split_var
+unreachable-requires-in_default-split_var c =
     let here = c.loop-count in
     let asked = c.requires in
     len_is_there asked.0 asked.1 c.args.gaps.now here.left.now here.gaps here.count c.in-Ok.gap c.in-Ok.behind.now _
     (here.invariant asked.0 asked.1 asked.2)
-    (some_of (length here.left.now) c.if-not-is_empty.ensures) c.in-Ok.ensures c.in_default-number.ensures
+    (some_of (length here.left.now) c.if-not-is_empty.ensures) (varint_found _ _ c.in-Ok.ensures.found)
+    (varint_none _ c.in_default-split_var.ensures.found)
 
 pub loop-count-preserved : goal.loop-count-preserved
 loop-count-preserved c = λ least ranges are.
     let here = c.loop-count in
     let some = some_of (length here.left.now) c.if-not-is_empty.ensures in
-    gaps_go_on least ranges c.args.gaps.now here.left.now here.gaps here.count c.in-Ok.gap c.in-Ok-number.len
-    c.in-Ok.behind.now c.in-Ok-number.rest.now
+    gaps_go_on least ranges c.args.gaps.now here.left.now here.gaps here.count c.in-Ok.gap c.in-Ok-split_var.len
+    c.in-Ok.behind.now c.in-Ok-split_var.rest.now
     (here.invariant least ranges are) c.loop-count-test.true some
-    c.in-Ok.ensures c.in-Ok-number.ensures
+    (varint_found _ _ c.in-Ok.ensures.found) (varint_found _ _ c.in-Ok-split_var.ensures.found)
 
 pub returns-clause-fills : goal.returns-clause-fills
 returns-clause-fills c = λ least ranges are.

@@ -1,25 +1,27 @@
 use Rattle.std.proofs.Common.{◌≡◌, ◌+◌, ap, arith}
 use Rattle.quic_c.specs.declared.words.CFrame.{CFrame}
 use Rattle.quic_c.specs.Shown.{counts_flag}
+use Rattle.quic_frame_fields.proofs.Varints.{varint_found, varint_none}
 use Rattle.quic_c.proofs.GapFilling.{first_reads, first_is_there, more_is}
 use Rattle.quic_c.proofs.front.show_ack.Goals as goal
 
 pub unreachable-requires : goal.unreachable-requires
 unreachable-requires c =
-    first_is_there c.args.ack.now c.additional-blocks.result.now _ c.additional-blocks.ensures c.are_bytes.ensures c.in_default.ensures
+    first_is_there c.args.ack.now c.additional-blocks.result.now _ c.additional-blocks.ensures c.are_bytes.ensures
+    (varint_none _ c.in_default.ensures.found)
 
 pub fill_gaps-count-requires : goal.fill_gaps-count-requires
 fill_gaps-count-requires c =
     let f =
     first_reads c.args.ack.now c.additional-blocks.result.now c.in-Ok.first c.in-Ok.below.now
-    c.additional-blocks.ensures c.are_bytes.ensures c.in-Ok.ensures in
+    c.additional-blocks.ensures c.are_bytes.ensures (varint_found _ _ c.in-Ok.ensures.found) in
     (f.least, f.below, f.encoded)
 
 pub returns : goal.returns
 returns c =
     let f =
     first_reads c.args.ack.now c.additional-blocks.result.now c.in-Ok.first c.in-Ok.below.now
-    c.additional-blocks.ensures c.are_bytes.ensures c.in-Ok.ensures in
+    c.additional-blocks.ensures c.are_bytes.ensures (varint_found _ _ c.in-Ok.ensures.found) in
     let filled = c.fill_gaps-count.ensures.fills f.least f.below f.encoded in
     let whole = c.fill_gaps-count.ensures.whole f.least f.below f.encoded in
     let count = c.fill_gaps-count.result.0 in

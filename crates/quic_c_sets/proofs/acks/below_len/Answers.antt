@@ -22,13 +22,8 @@ overflow_sub-block-in-loop-left c =
     let n = next_below c.args.runs.now c.loop-left.left (c.loop-left.left - 1) c.loop-left.above (omega arith)
     c.loop-left.invariant.below in omega (arith, n.some)
 
-pub size_of-requires-in-loop-left : goal.size_of-requires-in-loop-left
-size_of-requires-in-loop-left c =
-    (next_below c.args.runs.now c.loop-left.left (c.loop-left.left - 1) c.loop-left.above (omega arith)
-    c.loop-left.invariant.below).numeric.1.0
-
 pub loop-left-preserved : goal.loop-left-preserved
 loop-left-preserved c =
-    rw (c.size_of.ensures.value, c.size_of-in-loop-left.ensures.value)
+    rw (c.var_size.ensures.value, c.var_size-in-loop-left.ensures.value)
     (counted_more c.args.runs.now c.args.above c.loop-left.above c.loop-left.len c.loop-left.left
     (c.loop-left.left - 1) (omega arith) c.loop-left.invariant)

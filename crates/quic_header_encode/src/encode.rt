@@ -13,6 +13,7 @@ use crate::long_type::{HeaderKind, LongType};
 use crate::store::{Exact, HeaderRef, Padded};
 use quic_base::coding::{NoRoom, are_bytes};
 use quic_base::ids::ConnectionId;
+use quic_base::varint::IN_TWO;
 use quic_crypto::crypto::{HeaderKey, PacketKey};
 use quic_crypto::packet_number::PacketNumber;
 
@@ -478,6 +479,6 @@ fn write_length(buf: &mut [u8], pn_pos: usize)
     ensures { buf.new ≡ take (pn_pos - 2) buf.old
         ++ (bytes_of 2 (2 ^ 14 + (length buf.old - pn_pos)) ++ drop pn_pos buf.old) }
 {
-    let len = (buf.len() - pn_pos) as u16 + (1 << 14);
+    let len = (buf.len() - pn_pos) as u16 + IN_TWO;
     buf[pn_pos - 2..pn_pos].copy_from_slice(&len.to_be_bytes());
 }

@@ -11,7 +11,7 @@ use crate::fields::{store_bytes, store_ends, store_id, store_number};
 use crate::long_type::HeaderKind;
 use quic_base::coding::store_array;
 use quic_base::ids::ConnectionId;
-use quic_base::varint::{store_var, var_size};
+use quic_base::varint::{IN_FOUR, IN_TWO, store_var, var_size};
 use quic_crypto::packet_number::PacketNumber;
 
 /// An id that is written.
@@ -406,10 +406,10 @@ pub fn set_len(packet: &mut [u8], place: usize, length_len: usize) -> bool
     }
     let count = packet.len() - place;
     if length_len == 2 && count < 1 << 14 {
-        store_array(packet, place - 2, (count as u16 + (1 << 14)).to_be_bytes());
+        store_array(packet, place - 2, (count as u16 + IN_TWO).to_be_bytes());
         true
     } else if length_len == 4 && count < 1 << 30 {
-        store_array(packet, place - 4, (count as u32 + (2 << 30)).to_be_bytes());
+        store_array(packet, place - 4, (count as u32 + IN_FOUR).to_be_bytes());
         true
     } else {
         false

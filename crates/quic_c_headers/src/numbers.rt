@@ -6,7 +6,7 @@ ghost use Rattle.quic_crypto.specs.PacketNumbers.{Expands, SizeFor};
 ghost use Rattle.quic_c_headers.specs.Numbers.{encoding_in, CanExpand, CanEncode, IsWidth};
 
 use quic_base::coding::store_array;
-use quic_base::varint::{split_var, var_size};
+use quic_base::varint::{IN_EIGHT, IN_FOUR, IN_TWO, split_var, var_size};
 use quic_crypto::packet_number::PacketNumber;
 
 /// Reads the number at the front of the bytes (RFC 9000, section 16), and answers how many bytes it takes; 0 exactly if
@@ -41,9 +41,9 @@ fn store_encoding(value: u64, width: usize, dest: &mut [u8]) -> usize
 {
     match width {
         1 => store_array(dest, 0, [value as u8]),
-        2 => store_array(dest, 0, (value as u16 + (1 << 14)).to_be_bytes()),
-        4 => store_array(dest, 0, (value as u32 + (2 << 30)).to_be_bytes()),
-        8 => store_array(dest, 0, (value + (3 << 62)).to_be_bytes()),
+        2 => store_array(dest, 0, (IN_TWO + value as u16).to_be_bytes()),
+        4 => store_array(dest, 0, (IN_FOUR + value as u32).to_be_bytes()),
+        8 => store_array(dest, 0, (IN_EIGHT + value).to_be_bytes()),
         _ => 0,
     }
 }

@@ -76,10 +76,6 @@ datagram_open bytes =
 
 -- ---- sizes
 
-pub size_small : (n : ℕ) → size n ≤ 8
-unfolding size
-size_small n = grind (arith, nat_tests)
-
 pub token_length : (last : Bool) (bytes : List ℕ)
     → length (shortest_frame last (frame_of NewToken (Bytes bytes ∷ []))) ≡ 1 + size (length bytes) + length bytes
 unfolding size

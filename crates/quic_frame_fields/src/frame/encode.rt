@@ -147,7 +147,7 @@ impl NewConnectionId {
 }
 
 // The size of the code, but at least two bytes.
-#[tactic(auto, using(crate::proofs::Encoding::size_small))]
+#[tactic(auto, using(quic_base::proofs::PublicLaws::size_small))]
 fn code_room(code: VarInt) -> usize
     ensures value { result ≡ max 2 (size code) }
     ensures small { result ≤ 8 }

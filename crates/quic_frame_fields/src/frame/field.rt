@@ -1,4 +1,4 @@
-//! Numbers, and the blocks of an ACK, read from the front of a slice.
+//! The blocks of an ACK, read from the front of a slice.
 ghost use Rattle.std.specs.Prelude.{◌≡◌, ◌<◌, ◌≤◌, ◌^◌, ◌-◌, ◌*◌, ◌++◌, List, ℕ, [], ◌∷◌, drop, length, slice_index, sum, IfErr, IfOk, IfSome, Ok, OnOk, ◌⊎◌};
 ghost use Rattle.std.specs.Int.{w64, from_le_bytes};
 ghost use Rattle.quic_base.specs.Number.{AreBytes};

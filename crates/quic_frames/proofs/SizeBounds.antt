@@ -3,13 +3,13 @@ use Rattle.std.proofs.Common.{◌≡◌, ℕ, Bool, true, false, List, [], ◌�
 use Rattle.std.specs.Prelude.{if◌then◌else◌}
 use Rattle.std.proofs.lemmas.List.{length-append}
 use Rattle.quic_base.specs.Varint.{shortest_varint, size}
-use Rattle.quic_base.proofs.PublicLaws.{length-short}
+use Rattle.quic_base.proofs.PublicLaws.{length-short, size_small}
 use Rattle.quic_frame_fields.specs.Field.{Number, Bytes}
 use Rattle.quic_frame_fields.specs.Table.{ResetStream, StopSending, Crypto, Stream, NewConnectionId, RetireConnectionId, ConnectionClose, ApplicationClose, Datagram}
 use Rattle.quic_frame_fields.specs.Parts.{frame_of, flag}
 use Rattle.quic_frame_fields.specs.Shortest.{shortest_frame}
 use Rattle.quic_frame_fields.specs.Numbers.{shortest_varints}
-use Rattle.quic_frame_fields.proofs.Encoding.{size_small, connection_close_parts, application_close_parts, crypto_parts, datagram_counted, id_parts}
+use Rattle.quic_frame_fields.proofs.Encoding.{connection_close_parts, application_close_parts, crypto_parts, datagram_counted, id_parts}
 use Rattle.quic_frame_fields.proofs.StreamParts.{stream_length}
 
 -- numbers after a type of one byte

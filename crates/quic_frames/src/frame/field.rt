@@ -1,5 +1,5 @@
 //! Fields of frames, other than ACK blocks, read from the front of a slice.
-ghost use Rattle.std.specs.Prelude.{◌≡◌, ◌<◌, ◌≤◌, ◌^◌, List, [], ◌∷◌, length, IfOk};
+ghost use Rattle.std.specs.Prelude.{◌≡◌, ◌<◌, ◌≤◌, List, [], ◌∷◌, length, IfOk};
 ghost use Rattle.quic_frame_fields.specs.Reading.{Gives, varint_at, bytes_at, counted_at, id_at, eight_at, field_at};
 ghost use Rattle.quic_frame_fields.specs.Field.{Value, Number, Bytes};
 ghost use Rattle.quic_frame_fields.specs.Table.{offset_field, data_field};
@@ -23,7 +23,7 @@ fn bytes_of(n: u64, bytes: &[u8]) -> Result<(&[u8], &[u8]), Fault>
 }
 
 /// A number and that many bytes, and what follows them.
-#[inline(always)]
+#[inline]
 #[tactic(auto, unfolding(quic_frame_fields::specs::Reading::counted_at, quic_frame_fields::specs::Reading::varint_at))]
 pub(super) fn counted(bytes: &[u8]) -> Result<(&[u8], &[u8]), Fault>
     ensures { Gives (λ x. (x.0.now, x.1.now)) result (counted_at bytes.now) }

@@ -211,13 +211,6 @@ two_long a b =
       length-short b,
     )
 
-pub counted_here : (low : ℕ) (gaps : List CGap) (i len : ℕ) → i < length gaps → CountedOn low gaps i len
-    → (get_or gaps i none).gap + 2 + (get_or gaps i none).len ≤ low - len
-counted_here low gaps i len lt inv =
-    let h = (subst (λ (x : List CGap). Fit inv.rest x) (cons_of gaps i lt) inv.fit).0 in
-    let small = inv.small in
-    omega (arith, h, small)
-
 pub counted_more : (low : ℕ) (gaps : List CGap) (i len : ℕ) → i < length gaps → CountedOn low gaps i len
     → CountedOn low gaps (i + 1) (len + (size (get_or gaps i none).gap + size (get_or gaps i none).len))
 counted_more low gaps i len lt inv =

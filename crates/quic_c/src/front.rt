@@ -1,7 +1,6 @@
 //! Reads the frame at the front of the rest of a payload, and the first ranges of an ACK as gap and length.
 ghost use Rattle.std.specs.Prelude.{◌≡◌, ◌↔◌, ◌⊎◌, ◌<◌, ◌≤◌, ℕ, List, [], Bool, Option, drop, map, IsTrue, length, true, false, if◌then◌else◌};
 ghost use Rattle.quic_frame_fields.specs.Field.{AreBelow};
-ghost use Rattle.quic_frame_fields.specs.Reading.{Gives, varint_at};
 ghost use Rattle.quic_frames.specs.declared.frame.Frame.TheVariants as frames;
 ghost use Rattle.quic_frames.specs.Padding.{PassesPadding};
 ghost use Rattle.quic_frames.specs.Walk.{left, first_of, resumed};

@@ -1,4 +1,4 @@
-use Rattle.std.proofs.Common.{inl, inr, arith, rules}
+use Rattle.std.proofs.Common.{inl, inr, arith}
 use Rattle.quic_c.proofs.Fronts.{front_given}
 use Rattle.std.proofs.lemmas.Grind.{common_steps}
 use Rattle.quic_c.proofs.acks.quic_wire_ack_ranges_init_unchecked_.Goals as goal

@@ -1,10 +1,9 @@
-//! Writes the values of parameters (RFC 9000, section 18.2), and numbers.
-ghost use Rattle.std.specs.Prelude.{◌≡◌, ◌++◌, ◌<◌, ◌≤◌, ◌^◌, length};
+//! Writes the values of parameters (RFC 9000, section 18.2).
+ghost use Rattle.std.specs.Prelude.{◌≡◌, ◌++◌, ◌≤◌, length};
 ghost use Rattle.std.specs.Net.Addr.{ipv4_octets, ipv6_octets};
 ghost use Rattle.std.specs.Net.Socket.{v4_ip, v4_port, v6_ip, v6_port};
 ghost use Rattle.quic_base.specs.ConnectionId.{long_id};
 ghost use Rattle.quic_base.specs.Number.{bytes_of};
-ghost use Rattle.quic_base.specs.Varint.{shortest_varint};
 ghost use Rattle.quic_base.specs.Writing.{WritesTo};
 ghost use Rattle.quic_params.specs.Writing.{encoding, v4_bytes, v6_bytes};
 
@@ -14,17 +13,8 @@ use quic_base::coding::{BufMutExt, Codec, NoRoom};
 use quic_base::ids::{ConnectionId, ResetToken};
 use std::net::{SocketAddrV4, SocketAddrV6};
 
-// A number, in its shortest encoding. Here and below `NoRoom` is answered only if the spare room is less
-// than what is to be written; then a prefix of that may have been written.
-#[inline(always)]
-pub(crate) fn write_short<W: BufMut>(n: u64, out: &mut W) -> Result<(), NoRoom>
-    requires { n < 2 ^ 62 }
-    ensures { WritesTo W.written W.spare (shortest_varint n) out.old out.new result }
-{
-    out.write_var(n)
-}
-
-// Bytes as they are.
+// Bytes as they are. Here and below `NoRoom` is answered only if the spare room is less than what is to be written;
+// then a prefix of that may have been written.
 pub(crate) fn write_bytes<W: BufMut>(bytes: &[u8], out: &mut W) -> Result<(), NoRoom>
     ensures { WritesTo W.written W.spare bytes.now out.old out.new result }
 {

@@ -32,6 +32,16 @@ pub(super) fn counted(bytes: &[u8]) -> Result<(&[u8], &[u8]), Fault>
     bytes_of(n, rest)
 }
 
+// The same, inlined into the caller.
+#[inline(always)]
+#[tactic(auto, unfolding(quic_frame_fields::specs::Reading::counted_at, quic_frame_fields::specs::Reading::varint_at))]
+fn near_counted(bytes: &[u8]) -> Result<(&[u8], &[u8]), Fault>
+    ensures { Gives (λ x. (x.0.now, x.1.now)) result (counted_at bytes.now) }
+{
+    let (n, rest) = split_var_by_word(bytes)?;
+    bytes_of(n, rest)
+}
+
 /// The offset of a STREAM, 0 if it is left out, and what follows it.
 #[inline(always)]
 #[tactic(auto, unfolding(quic_frame_fields::specs::Reading::varint_at))]
@@ -55,6 +65,19 @@ pub(super) fn data(is_counted: bool, bytes: &[u8]) -> Result<(&[u8], &[u8]), Fau
 {
     if is_counted {
         counted(bytes)
+    } else {
+        Ok(bytes.split_at(bytes.len()))
+    }
+}
+
+/// The data of a STREAM. Reading their length is inlined into the caller.
+#[inline(always)]
+pub(super) fn near_data(is_counted: bool, bytes: &[u8]) -> Result<(&[u8], &[u8]), Fault>
+    ensures { (before : List Value)
+        → Gives (λ x. (Bytes x.0.now ∷ [], x.1.now)) result (field_at (data_field is_counted) before bytes.now) }
+{
+    if is_counted {
+        near_counted(bytes)
     } else {
         Ok(bytes.split_at(bytes.len()))
     }

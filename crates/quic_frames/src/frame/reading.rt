@@ -127,7 +127,7 @@ fn read_stream(
 {
     let (id, rest) = split_var_by_word(bytes)?;
     let (offset, rest) = field::offset(has_offset, rest)?;
-    let (bytes, rest) = field::data(has_length, rest)?;
+    let (bytes, rest) = field::near_data(has_length, rest)?;
     let stream = Stream {
         id: StreamId::from(VarInt::from_u64_unchecked(id)),
         offset,

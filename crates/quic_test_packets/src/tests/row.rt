@@ -9,7 +9,7 @@ use quic_base::ids::ConnectionId;
 use quic_checks::Checks;
 use quic_packets::packet::{
     FixedLengthConnectionIdParser, Header, LongType, OpenError, Opened, PacketDecodeError,
-    PacketNumber, PartialDecode, VERSION_2, open_datagram, open_packet,
+    PacketNumber, Packets, PartialDecode, VERSION_2, open_datagram, open_packet,
 };
 use std::alloc::Global;
 use std::test::Fail;
@@ -201,14 +201,13 @@ fn first_number(alloc: Global, datagram: &[u8]) -> Result<Option<u64>, OpenError
     }
 }
 
-// Whether the first packet is not opened where one bit of this byte is changed.
-fn is_unsealed_by_a_bit(alloc: Global, at: usize) -> bool {
+// The datagram with one bit of this byte changed.
+fn changed_at(at: usize) -> [u8; 60] {
     let mut changed = WHOLE;
-    let Some(byte) = changed.get_mut(at) else {
-        return false;
-    };
-    *byte ^= 1;
-    first_number(alloc, &changed) == Err(OpenError::Unsealed)
+    if let Some(byte) = changed.get_mut(at) {
+        *byte ^= 1;
+    }
+    changed
 }
 
 // The tag is the last 16 bytes of the first packet. `OutOfMemory` is not reported while there is memory.
@@ -217,7 +216,50 @@ fn a_changed_tag(rt: HostRuntime) -> Result<(), Fail> {
     let mut checks = Checks::new(rt.alloc());
     checks.holds(first_number(rt.alloc(), &WHOLE) == Ok(Some(0)));
     for at in 14..30 {
-        checks.holds_at(at, is_unsealed_by_a_bit(rt.alloc(), at));
+        let refused = Err(OpenError::Unsealed);
+        checks.holds_at(at, first_number(rt.alloc(), &changed_at(at)) == refused);
     }
+    checks.verdict()
+}
+
+fn next(packets: &mut Packets) -> Option<Result<Opened, OpenError>> {
+    let parser = FixedLengthConnectionIdParser::new(1);
+    packets.open_next(&parser, &[1], false, &all_toy(), &ALL_ZERO)
+}
+
+fn is_refused_next(packets: &mut Packets, wanted: OpenError) -> bool {
+    match next(packets) {
+        Some(Err(e)) => e == wanted,
+        _ => false,
+    }
+}
+
+// Whether the second packet is opened, and nothing follows it.
+fn is_second_next(packets: &mut Packets) -> bool {
+    match next(packets) {
+        Some(Ok(opened)) => is_packet(&opened, &SECOND) && next(packets).is_none(),
+        _ => false,
+    }
+}
+
+// What follows a packet that isn't opened is opened all the same, since RFC 9000, section 12.2, demands it.
+#[test]
+fn the_packet_after_one_that_is_not_opened(rt: HostRuntime) -> Result<(), Fail> {
+    let mut checks = Checks::new(rt.alloc());
+    let packets = &mut Packets::new(BytesMut::copy_from_slice(rt.alloc(), &changed_at(14))?);
+    checks.holds_at("refused", is_refused_next(packets, OpenError::Unsealed));
+    checks.holds_at("opened", is_second_next(packets));
+    checks.verdict()
+}
+
+// Bytes that begin with no packet are given up, since nobody knows where that packet would end.
+#[test]
+fn bytes_that_begin_with_no_packet(rt: HostRuntime) -> Result<(), Fail> {
+    let mut checks = Checks::new(rt.alloc());
+    let packets = &mut Packets::new(BytesMut::copy_from_slice(rt.alloc(), &WHOLE[..29])?);
+    let text = "packet too short to contain payload length";
+    let wanted = OpenError::Decode(PacketDecodeError::InvalidHeader(text));
+    checks.holds_at("refused", is_refused_next(packets, wanted));
+    checks.holds_at("given up", next(packets).is_none());
     checks.verdict()
 }

@@ -1,5 +1,5 @@
 -- What was sealed is opened.
-use Rattle.std.specs.Prelude.{◌≡◌, ℕ, ◌+◌, ◌-◌, ◌<◌, ◌^◌, ◌⊎◌, true, IsTrue, List, ◌++◌, length, take, drop, Option, Some, None, MatchOption, Result, Ok, Err, IfOk, IfErr, IfSome}
+use Rattle.std.specs.Prelude.{◌≡◌, ℕ, ◌+◌, ◌-◌, ◌<◌, ◌^◌, true, List, ◌++◌, length, Option, Some, None, MatchOption, Result, Ok, Err, IfOk, IfErr, IfSome}
 use Rattle.std.proofs.Common.{sym, ap, ◌∙◌, arith, refl, subst, inl, inr, length-append}
 use Rattle.quic_base.specs.declared.ids.SpaceId.{SpaceId}
 use Rattle.quic_base.proofs.PublicLaws as law
@@ -12,9 +12,8 @@ use Rattle.quic_packets.specs.declared.opening.Opened.{Opened}
 use Rattle.quic_packets.specs.declared.opening.OpenError.{OpenError}
 use Rattle.quic_packets.specs.declared.opening.OpenError.TheVariants as error
 use Rattle.quic_header_decode.specs.declared.decode_error.PacketDecodeError.{PacketDecodeError}
-use Rattle.quic_header_decode.specs.declared.decode_error.PacketDecodeError.TheVariants as decode
-use Rattle.quic_header_decode.specs.Refusal.{Refusal, RefusesHeader, refusal_of}
-use Rattle.quic_header_decode.specs.Grammar.{Cut, CutAnswer, Uncut}
+use Rattle.quic_header_decode.specs.Refusal.{Refusal, refusal_of}
+use Rattle.quic_header_decode.specs.Grammar.{Cut, Uncut}
 use Rattle.quic_header_decode.specs.Reading.{DecodeOptions, IsRest, left_of}
 use Rattle.quic_header_decode.specs.Headers.{IsOpenedBy}
 use Rattle.quic_header_decode.specs.Datagram.{CutPacket}
@@ -53,7 +52,6 @@ use Rattle.quic_packets.proofs.Sealings.{header_length}
 use Rattle.quic_packets.proofs.Parts.{expands_same}
 use Rattle.quic_packets.proofs.Opened.{Lawful, front_bytes, cut_same}
 use Rattle.quic_packets.proofs.SealedFound.{Found, sealed_found, read_numbered}
-use Rattle.quic_packets.proofs.Uncuts.{memory_refused}
 use Rattle.quic_header_decode.proofs.CutAnswers.{cut_positive, cut_again, is_rest, is_uncut, uncut_again}
 use Rattle.quic_header_decode.specs.Datagram.{CutsFirst, IsUncut}
 

@@ -1,5 +1,5 @@
 -- Opening packets: the first one of a datagram, the next one, and all of them.
-use Rattle.std.specs.Prelude.{◌≡◌, ◌≢◌, ℕ, ◌+◌, ◌<◌, ◌≤◌, ◌⊎◌, Bool, true, IsTrue, List, [], ◌∷◌, ◌++◌, length, map, Option, Some, None, ◌^◌, Result, Ok, Err, IfOk, IfErr, IfSome, MatchOption, MatchResult}
+use Rattle.std.specs.Prelude.{◌≡◌, ◌≢◌, ℕ, ◌+◌, ◌<◌, ◌≤◌, ◌⊎◌, Bool, true, List, [], ◌∷◌, ◌++◌, length, map, Option, Some, None, ◌^◌, Result, Ok, Err, IfOk, IfErr, IfSome, MatchOption, MatchResult}
 use Rattle.bytes.specs.Filled.{Filled}
 use Rattle.quic_base.specs.declared.ids.SpaceId.{SpaceId}
 use Rattle.quic_crypto.specs.Keys.{HasSample}

@@ -12,7 +12,7 @@ use quic_crypto::crypto::{HeaderKey, PacketKey};
 use quic_header_decode::cut::PartialDecode;
 use quic_header_decode::decode_error::PacketDecodeError;
 use quic_header_decode::packet::Packet;
-use quic_header_decode::parser::ConnectionIdParser;
+use quic_header_decode::parser::{ConnectionIdParser, DecodeOptions};
 use quic_header_encode::header::Header;
 use thiserror::Error;
 
@@ -140,21 +140,20 @@ fn open_part<H: HeaderKey, P: PacketKey>(
 // opened packet, none is opened.
 fn open_first<C: ConnectionIdParser, H: HeaderKey, P: PacketKey>(
     bytes: BytesMut,
-    parser: &C,
-    versions: &[u32],
-    grease: bool,
+    options: &DecodeOptions<'_, C>,
     keys: &SpaceKeys<H, P>,
     expected: &Expected,
     room: bool,
 ) -> (Result<Opened, OpenError>, Option<BytesMut>)
     requires { AreExpected expected.now }
-    ensures next { NextAnswer (⟦<SpaceKeys<H, P> as OpeningKeys<C>>⟧.opening keys.now parser.now versions.now grease
-        expected.now) (Some bytes) (Some result.0) result.1 }
+    ensures next { NextAnswer (⟦<SpaceKeys<H, P> as OpeningKeys<C>>⟧.opening keys.now options.now.parser.now
+        options.now.versions.now options.now.grease expected.now) (Some bytes) (Some result.0) result.1 }
     ensures shorter { IfSome result.1 (λ rest. length rest.items < length bytes.items) }
     ensures roomy { IfOk result.0 (λ _. IsTrue room) }
 {
     are_bytes(bytes.as_slice());
-    let (partial, rest) = match PartialDecode::new(bytes, parser, versions, grease) {
+    let cut = PartialDecode::new(bytes, options.parser, options.versions, options.grease);
+    let (partial, rest) = match cut {
         Ok(parts) => parts,
         Err(e) => return (Err(decode_error(&e)), None),
     };
@@ -186,7 +185,12 @@ pub fn open_packet<C: ConnectionIdParser, H: HeaderKey, P: PacketKey>(
     ensures { PacketAnswer (⟦<SpaceKeys<H, P> as OpeningKeys<C>>⟧.opening keys.now parser.now versions.now grease
         expected.now) bytes.items result }
 {
-    let (opened, rest) = open_first(bytes, parser, versions, grease, keys, expected, true);
+    let options = DecodeOptions {
+        parser,
+        versions,
+        grease,
+    };
+    let (opened, rest) = open_first(bytes, &options, keys, expected, true);
     match opened {
         Ok(opened) => Ok((opened, rest)),
         Err(e) => Err(e),
@@ -216,19 +220,17 @@ impl Packets {
     /// give expected numbers below 2^62.
     pub fn open_next<C: ConnectionIdParser, H: HeaderKey, P: PacketKey>(
         &mut self,
-        parser: &C,
-        versions: &[u32],
-        grease: bool,
+        options: &DecodeOptions<'_, C>,
         keys: &SpaceKeys<H, P>,
         expected: &Expected,
     ) -> Option<Result<Opened, OpenError>>
         requires { AreExpected expected.now }
-        ensures next { NextAnswer (⟦<SpaceKeys<H, P> as OpeningKeys<C>>⟧.opening keys.now parser.now versions.now grease
-            expected.now) self.old.rest result self.new.rest }
+        ensures next { NextAnswer (⟦<SpaceKeys<H, P> as OpeningKeys<C>>⟧.opening keys.now options.now.parser.now
+            options.now.versions.now options.now.grease expected.now) self.old.rest result self.new.rest }
         ensures shorter { IsSome result → left_size self.new.rest < left_size self.old.rest }
     {
         let bytes = self.rest.take()?;
-        let (opened, rest) = open_first(bytes, parser, versions, grease, keys, expected, true);
+        let (opened, rest) = open_first(bytes, options, keys, expected, true);
         self.rest = rest;
         Some(opened)
     }
@@ -252,10 +254,15 @@ pub fn open_datagram<C: ConnectionIdParser, H: HeaderKey, P: PacketKey>(
     ensures { DatagramAnswer (⟦<SpaceKeys<H, P> as OpeningKeys<C>>⟧.opening keys.now parser.now versions.now grease
         expected.now) bytes.items result out.old.items out.new.items }
 {
+    let options = DecodeOptions {
+        parser,
+        versions,
+        grease,
+    };
     let mut left = Some(bytes);
     while let Some(bytes) = left.take() {
         let room = out.reserve(1).is_ok();
-        let (opened, rest) = open_first(bytes, parser, versions, grease, keys, expected, room);
+        let (opened, rest) = open_first(bytes, &options, keys, expected, room);
         let opened = match opened {
             Ok(opened) => opened,
             Err(e) => return Err(e),

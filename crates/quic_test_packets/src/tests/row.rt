@@ -8,7 +8,7 @@ use bytes::BytesMut;
 use quic_base::ids::ConnectionId;
 use quic_checks::Checks;
 use quic_packets::packet::{
-    FixedLengthConnectionIdParser, Header, LongType, OpenError, Opened, PacketDecodeError,
+    DecodeOptions, FixedLengthConnectionIdParser, Header, LongType, OpenError, Opened, PacketDecodeError,
     PacketNumber, Packets, PartialDecode, VERSION_2, open_datagram, open_packet,
 };
 use std::alloc::Global;
@@ -223,8 +223,12 @@ fn a_changed_tag(rt: HostRuntime) -> Result<(), Fail> {
 }
 
 fn next(packets: &mut Packets) -> Option<Result<Opened, OpenError>> {
-    let parser = FixedLengthConnectionIdParser::new(1);
-    packets.open_next(&parser, &[1], false, &all_toy(), &ALL_ZERO)
+    let options = DecodeOptions {
+        parser: &FixedLengthConnectionIdParser::new(1),
+        versions: &[1],
+        grease: false,
+    };
+    packets.open_next(&options, &all_toy(), &ALL_ZERO)
 }
 
 fn is_refused_next(packets: &mut Packets, wanted: OpenError) -> bool {

@@ -30,24 +30,27 @@ lawful g keys parser versions grease expected space = record {
 pub returns-in-Err-clause-next : goal.returns-in-Err-clause-next
 returns-in-Err-clause-next g c =
     let a = c.args in
-    answers_uncut (opening_in g a.keys.now a.parser.now a.versions.now a.grease a.expected.now) a.bytes
-    (lawful g a.keys.now a.parser.now a.versions.now a.grease a.expected.now)
+    let o = a.options.now in
+    answers_uncut (opening_in g a.keys.now o.parser.now o.versions.now o.grease a.expected.now) a.bytes
+    (lawful g a.keys.now o.parser.now o.versions.now o.grease a.expected.now)
     (subst AreBytes c.as_slice.ensures c.are_bytes.ensures) c.in-Err.e c.in-Err.ensures.refused
     c.decode_error.ensures
 
 pub returns-then-not-room-clause-next : goal.returns-then-not-room-clause-next
 returns-then-not-room-clause-next g c =
     let a = c.args in
-    let opening : Opening = opening_in g a.keys.now a.parser.now a.versions.now a.grease a.expected.now in
+    let o = a.options.now in
+    let opening : Opening = opening_in g a.keys.now o.parser.now o.versions.now o.grease a.expected.now in
     answers_cut opening a.bytes c.in-Ok.parts.1 (Err error.OutOfMemory)
-    (lawful g a.keys.now a.parser.now a.versions.now a.grease a.expected.now)
+    (lawful g a.keys.now o.parser.now o.versions.now o.grease a.expected.now)
     (subst AreBytes c.as_slice.ensures c.are_bytes.ensures) c.in-Ok.ensures.cut c.in-Ok.ensures.rest tt
     (memory_refused opening c.in-Ok.parts.0)
 
 pub returns-clause-next : goal.returns-clause-next
 returns-clause-next g c =
     let a = c.args in
-    answers_cut (opening_in g a.keys.now a.parser.now a.versions.now a.grease a.expected.now) a.bytes
-    c.in-Ok.parts.1 c.open_part.result (lawful g a.keys.now a.parser.now a.versions.now a.grease a.expected.now)
+    let o = a.options.now in
+    answers_cut (opening_in g a.keys.now o.parser.now o.versions.now o.grease a.expected.now) a.bytes
+    c.in-Ok.parts.1 c.open_part.result (lawful g a.keys.now o.parser.now o.versions.now o.grease a.expected.now)
     (subst AreBytes c.as_slice.ensures c.are_bytes.ensures) c.in-Ok.ensures.cut c.in-Ok.ensures.rest
     c.open_part.ensures.opened c.open_part.ensures.refused

@@ -7,10 +7,11 @@ use Rattle.quic_packets.proofs.opening.Packets.open_next.Goals as goal
 pub returns-clause-next : goal.returns-clause-next
 returns-clause-next g c =
     let a = c.args in
+    let o = a.options.now in
     let is : a.self.now.rest ≡ Some c.in_ok-bytes.bytes = cc in
     let next = c.open_first-opened in
-    next_of (opening_of g.H.HeaderKey g.P.PacketKey g.C.ConnectionIdParser a.keys.now a.parser.now a.versions.now
-    a.grease a.expected.now) (Some next.result.0) next.result.1 is next.ensures.next
+    next_of (opening_of g.H.HeaderKey g.P.PacketKey g.C.ConnectionIdParser a.keys.now o.parser.now o.versions.now
+    o.grease a.expected.now) (Some next.result.0) next.result.1 is next.ensures.next
 
 pub returns-clause-shorter : goal.returns-clause-shorter
 returns-clause-shorter g c = λ some.

@@ -6,7 +6,7 @@ ghost use Rattle.quic_header_decode.specs.Reading.{cut_at, left_of, read_by, IsR
 ghost use Rattle.quic_header_decode.specs.Refusal.{GivesRead};
 
 use crate::decode_error::PacketDecodeError;
-use crate::parser::{ConnectionIdParser, DecodeOptions};
+use crate::parser::ConnectionIdParser;
 use crate::protected::{ProtectedHeader, ProtectedInitialHeader};
 use bytes::BytesMut;
 use quic_base::coding::{Cursor, are_bytes};
@@ -56,32 +56,28 @@ impl PartialDecode {
         ensures refused { IfErr result (λ e. IsUncut (read_by (P.parsed parser.now) versions.now grease)
             (P.takes_memory parser.now) bytes.items e) }
     {
-        let options = DecodeOptions {
-            parser,
-            versions,
-            grease,
-        };
         are_bytes(bytes.as_slice());
-        Self::cut(bytes, &options)
+        Self::cut(bytes, parser, versions, grease)
     }
 
     #[inline(always)]
     #[tactic(auto, unfolding(crate::specs::Reading::cut_at))]
     fn cut<P: ConnectionIdParser>(
         bytes: BytesMut,
-        options: &DecodeOptions<'_, P>,
+        parser: &P,
+        versions: &[u32],
+        grease: bool,
     ) -> Result<(Self, Option<BytesMut>), PacketDecodeError>
         ensures exact { GivesRead (λ x. (x.0.head, x.0.header_end, length x.0.bytes)) result
-            (cut_at (read_by (P.parsed options.now.parser.now) options.now.versions.now options.now.grease) bytes.items) }
+            (cut_at (read_by (P.parsed parser.now) versions.now grease) bytes.items) }
         ensures packet { IfOk result (λ x. x.0.bytes ≡ take (length x.0.bytes) bytes.items) }
         ensures rest { IfOk result (λ x. IsRest x.1 (drop (length x.0.bytes) bytes.items)) }
-        ensures memory { IsErrOf result PacketDecodeError.OutOfMemory
-            → IsTrue (P.takes_memory options.now.parser.now) ⊎ MatchResult
-            (cut_at (read_by (P.parsed options.now.parser.now) options.now.versions.now options.now.grease) bytes.items)
+        ensures memory { IsErrOf result PacketDecodeError.OutOfMemory → IsTrue (P.takes_memory parser.now)
+            ⊎ MatchResult (cut_at (read_by (P.parsed parser.now) versions.now grease) bytes.items)
             (λ x. x.2 < length bytes.items) (λ _. ⊥) }
     {
         let mut buf = Cursor::new(bytes);
-        let read = ProtectedHeader::decode_header(&mut buf, options);
+        let read = ProtectedHeader::decode_header(&mut buf, parser, versions, grease);
         let position = buf.position();
         let remaining = buf.remaining() as u64;
         let mut datagram = buf.into_inner();

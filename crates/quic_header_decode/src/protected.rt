@@ -7,7 +7,7 @@ ghost use Rattle.quic_header_decode.specs.Reading.{header_at, long_at, read_by, 
 
 use crate::decode_error::PacketDecodeError;
 use crate::fields::{pass, read_id, read_var, read_word, remaining};
-use crate::parser::{ConnectionIdParser, DecodeOptions};
+use crate::parser::ConnectionIdParser;
 use quic_base::coding::Cursor;
 use quic_base::ids::ConnectionId;
 use quic_header_encode::long_type::{LongHeaderType, LongType};
@@ -101,12 +101,7 @@ impl ProtectedHeader {
     {
         let _rest = buf.rest();
         let _len = buf.remaining();
-        let options = DecodeOptions {
-            parser,
-            versions,
-            grease,
-        };
-        Self::decode_header(buf, &options)
+        Self::decode_header(buf, parser, versions, grease)
     }
 
     // Reading a short header is inlined into the caller; a long one takes a call.
@@ -114,32 +109,33 @@ impl ProtectedHeader {
     #[tactic(auto, unfolding(crate::specs::Reading::header_at))]
     pub(crate) fn decode_header<P: ConnectionIdParser>(
         buf: &mut Cursor,
-        options: &DecodeOptions<'_, P>,
+        parser: &P,
+        versions: &[u32],
+        grease: bool,
     ) -> Result<Self, PacketDecodeError>
         ensures bytes { buf.new.bytes ≡ buf.old.bytes }
         ensures exact { GivesRead (λ h. (h, unread buf.new)) result
-            (header_at (read_by (P.parsed options.now.parser.now) options.now.versions.now options.now.grease)
+            (header_at (read_by (P.parsed parser.now) versions.now grease)
             (length buf.old.bytes.items) (unread buf.old)) }
-        ensures memory { IsErrOf result PacketDecodeError.OutOfMemory
-            → IsTrue (P.takes_memory options.now.parser.now) }
+        ensures memory { IsErrOf result PacketDecodeError.OutOfMemory → IsTrue (P.takes_memory parser.now) }
         ensures places { IfOk result (λ h. IsPlaced h buf.new.position) }
     {
         let Some(first) = buf.rest().first() else {
             return Err(PacketDecodeError::InvalidHeader("unexpected end of packet"));
         };
         let first = *first;
-        if !options.grease && first / 64 % 2 == 0 {
+        if !grease && first / 64 % 2 == 0 {
             return Err(PacketDecodeError::InvalidHeader("fixed bit unset"));
         }
         buf.advance(1);
         if first < 0x80 {
             let spin = first / 32 % 2 == 1;
-            return match options.parser.parse(buf) {
+            return match parser.parse(buf) {
                 Ok(dst_cid) => Ok(Self::Short { spin, dst_cid }),
                 Err(e) => Err(e),
             };
         }
-        Self::decode_long(buf, first, options.versions)
+        Self::decode_long(buf, first, versions)
     }
 
     // Reads the rest of a long header, after its first byte, at the cursor's place.

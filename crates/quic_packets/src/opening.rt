@@ -164,9 +164,11 @@ fn open_first<C: ConnectionIdParser, H: HeaderKey, P: PacketKey>(
 }
 
 /// Opens a datagram's first packet with the keys and the expected number of its space, and returns it with what follows
-/// it. An error drops what follows: an endpoint, which has to process it (RFC 9000, section 12.2), calls
-/// `Packets::open_next`. Ids of short headers are read by `parser`; headers of versions other than `versions` are refused; with `grease`
+/// it. Ids of short headers are read by `parser`; headers of versions other than `versions` are refused; with `grease`
 /// the fixed bit may be clear. A Retry or version negotiation is returned unchanged, without a number.
+///
+/// An error drops what follows. An endpoint has to process it (RFC 9000, section 12.2), so it calls
+/// `Packets::open_next`.
 ///
 /// Errors: `Decode` only if `PartialDecode::new` or `PartialDecode::finish` refuses the packet; `Unsealed` only if the
 /// packet key answers `CryptoError`. Once a packet was cut, any call may answer `OutOfMemory` instead; before that,
@@ -237,10 +239,12 @@ impl Packets {
 }
 
 /// Opens a datagram's packets one after another, with the same expected numbers for all of them, and appends them to
-/// `out`, up to the first error, which drops what is left: an endpoint, which has to process it (RFC 9000, section
-/// 12.2), calls `Packets::open_next`. There is room in `out` for a packet before it is opened, so after an error `out`
-/// has every packet opened so far. If the packets in a row were sealed by these keys, all of them are opened, in order,
-/// or, if memory runs out, the first ones. The caller must give expected numbers below 2^62.
+/// `out`. There is room in `out` for a packet before it is opened, so after an error `out` has every packet opened so
+/// far. If the packets in a row were sealed by these keys, all of them are opened, in order, or, if memory runs out,
+/// the first ones. The caller must give expected numbers below 2^62.
+///
+/// The first error drops what is left. An endpoint has to process it (RFC 9000, section 12.2), so it calls
+/// `Packets::open_next`.
 pub fn open_datagram<C: ConnectionIdParser, H: HeaderKey, P: PacketKey>(
     bytes: BytesMut,
     parser: &C,

@@ -8,8 +8,8 @@ use bytes::BytesMut;
 use quic_base::ids::ConnectionId;
 use quic_checks::Checks;
 use quic_packets::packet::{
-    DecodeOptions, FixedLengthConnectionIdParser, Header, LongType, OpenError, Opened, PacketDecodeError,
-    PacketNumber, Packets, PartialDecode, VERSION_2, open_datagram, open_packet,
+    DecodeOptions, FixedLengthConnectionIdParser, Header, LongType, OpenError, Opened,
+    PacketDecodeError, PacketNumber, Packets, PartialDecode, VERSION_2, open_datagram, open_packet,
 };
 use std::alloc::Global;
 use std::test::Fail;
@@ -231,9 +231,15 @@ fn next(packets: &mut Packets) -> Option<Result<Opened, OpenError>> {
     packets.open_next(&options, &all_toy(), &ALL_ZERO)
 }
 
-fn is_refused_next(packets: &mut Packets, wanted: OpenError) -> bool {
+fn is_unsealed_next(packets: &mut Packets) -> bool {
+    matches!(&next(packets), Some(Err(OpenError::Unsealed)))
+}
+
+fn is_too_short_next(packets: &mut Packets) -> bool {
     match next(packets) {
-        Some(Err(e)) => e == wanted,
+        Some(Err(OpenError::Decode(PacketDecodeError::InvalidHeader(text)))) => {
+            text == "packet too short to contain payload length"
+        }
         _ => false,
     }
 }
@@ -246,24 +252,16 @@ fn is_second_next(packets: &mut Packets) -> bool {
     }
 }
 
-// What follows a packet that isn't opened is opened all the same, since RFC 9000, section 12.2, demands it.
+// What follows a packet that isn't opened is opened all the same, since RFC 9000, section 12.2, demands it. Nothing can
+// follow bytes that begin with no packet, since nobody knows where that packet would end.
 #[test]
-fn the_packet_after_one_that_is_not_opened(rt: HostRuntime) -> Result<(), Fail> {
+fn what_is_left_after_an_error(rt: HostRuntime) -> Result<(), Fail> {
     let mut checks = Checks::new(rt.alloc());
     let packets = &mut Packets::new(BytesMut::copy_from_slice(rt.alloc(), &changed_at(14))?);
-    checks.holds_at("refused", is_refused_next(packets, OpenError::Unsealed));
+    checks.holds_at("unsealed", is_unsealed_next(packets));
     checks.holds_at("opened", is_second_next(packets));
-    checks.verdict()
-}
-
-// Bytes that begin with no packet are given up, since nobody knows where that packet would end.
-#[test]
-fn bytes_that_begin_with_no_packet(rt: HostRuntime) -> Result<(), Fail> {
-    let mut checks = Checks::new(rt.alloc());
     let packets = &mut Packets::new(BytesMut::copy_from_slice(rt.alloc(), &WHOLE[..29])?);
-    let text = "packet too short to contain payload length";
-    let wanted = OpenError::Decode(PacketDecodeError::InvalidHeader(text));
-    checks.holds_at("refused", is_refused_next(packets, wanted));
+    checks.holds_at("too short", is_too_short_next(packets));
     checks.holds_at("given up", next(packets).is_none());
     checks.verdict()
 }

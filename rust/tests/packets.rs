@@ -87,6 +87,18 @@ fn the_packets_of_a_datagram_are_opened_in_a_loop() {
 }
 
 #[test]
+fn the_packet_after_one_that_is_not_opened_is_opened() {
+    let mut datagram = two_packets();
+    let mut packets = PacketsMut::new(&mut datagram, 8, &[1], true);
+    let mut open = |sample_len| packets.next().unwrap().unwrap().open_with(sample_len, |_| [9; 5], 0);
+    assert_eq!(open(60).unwrap_err(), UnprotectError::TooShort);
+    assert_eq!(open(16).unwrap().number(), 6);
+    assert!(packets.next().is_none());
+    let mut packets = PacketsMut::new(&mut datagram[..59], 8, &[1], true);
+    assert!(packets.next().unwrap().is_err() && packets.next().is_none());
+}
+
+#[test]
 fn reserved_bits_are_reported() {
     let opened = |first| Opened { number: 0, number_len: 1, payload: 0, first };
     let reported = [0x40, 0x44, 0x48, 0x50, 0xc0, 0xc4, 0xc8].map(|first| {

@@ -1,5 +1,5 @@
 -- Headers as places in bytes: the header whose fields are at these places, or an error.
-use Rattle.std.specs.Prelude.{◌≡◌, ◌≢◌, ℕ, ◌+◌, ◌-◌, ◌/◌, ◌%◌, ◌<◌, ◌≤◌, List, ◌∷◌, ◌++◌, drop, length, true, Option, Some, None, Result, Ok, Err, Contains, slice_range, codes, nat_lt, nat_eq, if◌then◌else◌}
+use Rattle.std.specs.Prelude.{◌≡◌, ◌≢◌, ℕ, ◌+◌, ◌-◌, ◌<◌, ◌≤◌, List, ◌∷◌, ◌++◌, drop, length, true, Option, Some, None, Result, Ok, Err, Contains, slice_range, codes, nat_lt, if◌then◌else◌}
 use Rattle.quic_base.specs.ConnectionId.{long_id}
 use Rattle.quic_base.specs.Number.{has_bit, IsNumber}
 use Rattle.quic_header_encode.specs.declared.long_type.HeaderKind.{HeaderKind}

@@ -33,6 +33,17 @@ pub trait ConnectionIdParser {
         → MatchResult (parsed p bytes) (λ x. x.1 ≤ length bytes) (λ e. e ≢ NoMemory) };
 }
 
+/// How headers are read.
+#[derive(Debug, Drop)]
+pub struct DecodeOptions<'a, P> {
+    /// Reads the ids of short headers.
+    pub parser: &'a P,
+    /// The versions that are known. Of others only the ids are read.
+    pub versions: &'a [u32],
+    /// Whether the fixed bit may be clear (RFC 9287).
+    pub grease: bool,
+}
+
 /// A parser of ids that all have one length, of at most 20 bytes. If fewer bytes remain it answers
 /// `InvalidHeader("packet too small")`. It allocates no memory.
 #[derive(Clone, Copy, Debug)]

@@ -1,5 +1,5 @@
 -- A datagram's packets are opened one after another, from what is left of it.
-use Rattle.std.specs.Prelude.{◌≡◌, ℕ, ◌+◌, ◌<◌, List, [], ◌∷◌, ◌++◌, length, Option, Some, None, Ok, Err, IfSome}
+use Rattle.std.specs.Prelude.{◌≡◌, ℕ, ◌+◌, ◌<◌, List, [], ◌∷◌, ◌++◌, length, Option, Some, None, Result, Ok, Err, IfSome}
 use Rattle.std.proofs.Common.{sym, subst, arith}
 use Rattle.bytes.specs.Filled.{Filled}
 use Rattle.quic_packets.specs.declared.opening.Opened.{Opened}
@@ -14,17 +14,11 @@ less_left : (bytes : List ℕ) (left : Option Filled) → IfSome left (λ f. len
 less_left bytes None less = omega arith
 less_left bytes (Some f) less = omega (arith, less)
 
-pub next_opened : {opening : Opening} {old : Option Filled} {left : Filled} {opened : Opened} {new : Option Filled}
-    → PacketAnswer opening left.items (Ok (opened, new))
-    → old ≡ Some left → NextAnswer opening old (Some (Ok opened)) new
-next_opened {opening} {old} {left} {opened} {new} first is =
-    subst (λ (o : Option Filled). NextAnswer opening o (Some (Ok opened)) new) (sym is) first
-
-pub next_refused : {opening : Opening} {old : Option Filled} {left : Filled} {e : OpenError} {new : Option Filled}
-    → PacketAnswer opening left.items (Err e)
-    → old ≡ Some left → new ≡ None → NextAnswer opening old (Some (Err e)) new
-next_refused {opening} {old} {left} {e} {new} first is none =
-    subst (λ (o : Option Filled). NextAnswer opening o (Some (Err e)) new) (sym is) (first, none)
+pub next_of : (opening : Opening) {old : Option Filled} {left : Filled} (result : Option (Result Opened OpenError))
+    (new : Option Filled)
+    → old ≡ Some left → NextAnswer opening (Some left) result new → NextAnswer opening old result new
+next_of opening {old} {left} result new is next =
+    subst (λ (o : Option Filled). NextAnswer opening o result new) (sym is) next
 
 -- ---- all packets
 
@@ -57,18 +51,20 @@ step_to opening before bytes now new opened next (Some left) it first pushed =
 
 -- a packet more
 pub reached_step : {opening : Opening} {before : List Opened} {bytes : List ℕ} {now room new : List Opened}
-    {opened : Opened} {old left : Option Filled} {next : Filled}
+    {opened : Opened} {result : Result Opened OpenError} {old left : Option Filled} {next : Filled}
     → Reached opening before bytes now old → old ≡ Some next → room ≡ now
-    → PacketAnswer opening next.items (Ok (opened, left)) → new ≡ room ++ (opened ∷ [])
+    → NextAnswer opening (Some next) (Some result) left → result ≡ Ok opened → new ≡ room ++ (opened ∷ [])
     → Reached opening before bytes new left
-reached_step {opening} {before} {bytes} {now} {room} {new} {opened} {old} {left} {next} it is same first pushed =
-    step_to opening before bytes room new opened next.items left (kept_at opening before bytes now room old next it is same) first pushed
+reached_step {opening} {before} {bytes} {now} {room} {new} {opened} {result} {old} {left} {next} it is same first ok pushed =
+    step_to opening before bytes room new opened next.items left
+    (kept_at opening before bytes now room old next it is same)
+    (subst (λ (r : Result Opened OpenError). NextAnswer opening (Some next) (Some r) left) ok first) pushed
 
 -- the measure
-pub reached_less : {opening : Opening} {opened : Opened} {old left : Option Filled} {next : Filled} → old ≡ Some next
-    → PacketAnswer opening next.items (Ok (opened, left)) → left_size left < left_size old
-reached_less {opening} {opened} {old} {left} {next} is first =
-    subst (λ (o : Option Filled). left_size left < left_size o) (sym is) (less_left next.items left first.shorter)
+pub reached_less : {old : Option Filled} (left : Option Filled) {next : Filled} → old ≡ Some next
+    → IfSome left (λ f. length f.items < length next.items) → left_size left < left_size old
+reached_less {old} left {next} is less =
+    subst (λ (o : Option Filled). left_size left < left_size o) (sym is) (less_left next.items left less)
 
 -- nothing is left
 pub reached_all : {X : Type 0} {opening : Opening} {before : List Opened} {bytes : List ℕ} {now : List Opened}
@@ -80,11 +76,14 @@ reached_all {X} {opening} {before} {bytes} {now} {left} x it is =
 
 -- the next packet is refused
 pub reached_refused : {X : Type 0} {opening : Opening} {before : List Opened} {bytes : List ℕ} {now room : List Opened}
-    {old : Option Filled} {next : Filled} {e : OpenError}
-    → Reached opening before bytes now old → old ≡ Some next → room ≡ now → PacketAnswer opening next.items (Err e)
+    {result : Result Opened OpenError} {old : Option Filled} (left : Option Filled) {next : Filled} {e : OpenError}
+    → Reached opening before bytes now old → old ≡ Some next → room ≡ now
+    → NextAnswer opening (Some next) (Some result) left → result ≡ Err e
     → DatagramAnswer {X = X} opening bytes (Err e) before room
-reached_refused {X} {opening} {before} {bytes} {now} {room} {old} {next} {e} it is same first =
+reached_refused {X} {opening} {before} {bytes} {now} {room} {result} {old} left {next} {e} it is same answer err =
     let kept = kept_at opening before bytes now room old next it is same in
+    let first : PacketAnswer opening next.items (Err e) =
+    (subst (λ (r : Result Opened OpenError). NextAnswer opening (Some next) (Some r) left) err answer).0 in
     record {
       opened = tt;
       refused = (next.items, first.refused, kept.steps);

@@ -1,5 +1,5 @@
 -- What was sealed is opened.
-use Rattle.std.specs.Prelude.{◌≡◌, ℕ, ◌+◌, ◌-◌, ◌<◌, ◌^◌, ◌⊎◌, true, IsTrue, List, ◌++◌, length, take, drop, Option, Some, None, MatchOption, Result, Ok, Err, IfSome}
+use Rattle.std.specs.Prelude.{◌≡◌, ℕ, ◌+◌, ◌-◌, ◌<◌, ◌^◌, true, List, ◌++◌, length, Option, Some, None, MatchOption, Result, Ok, Err, IfOk, IfErr, IfSome}
 use Rattle.std.proofs.Common.{sym, ap, ◌∙◌, arith, refl, subst, inl, inr, length-append}
 use Rattle.quic_base.specs.declared.ids.SpaceId.{SpaceId}
 use Rattle.quic_base.proofs.PublicLaws as law
@@ -12,9 +12,8 @@ use Rattle.quic_packets.specs.declared.opening.Opened.{Opened}
 use Rattle.quic_packets.specs.declared.opening.OpenError.{OpenError}
 use Rattle.quic_packets.specs.declared.opening.OpenError.TheVariants as error
 use Rattle.quic_header_decode.specs.declared.decode_error.PacketDecodeError.{PacketDecodeError}
-use Rattle.quic_header_decode.specs.declared.decode_error.PacketDecodeError.TheVariants as decode
-use Rattle.quic_header_decode.specs.Refusal.{Refusal, RefusesHeader, refusal_of}
-use Rattle.quic_header_decode.specs.Grammar.{Cut, CutAnswer, Uncut}
+use Rattle.quic_header_decode.specs.Refusal.{Refusal, refusal_of}
+use Rattle.quic_header_decode.specs.Grammar.{Cut, Uncut}
 use Rattle.quic_header_decode.specs.Reading.{DecodeOptions, IsRest, left_of}
 use Rattle.quic_header_decode.specs.Headers.{IsOpenedBy}
 use Rattle.quic_header_decode.specs.Datagram.{CutPacket}
@@ -27,8 +26,10 @@ use Rattle.quic_packets.specs.Opening.{
   PacketAnswer,
   BeginsSealed,
   ExpandsIn,
+  IsCutUnopened,
   IsDecode,
   IsReadBack,
+  NextAnswer,
   OpenedPacket,
   Opening,
   Opens,
@@ -51,7 +52,6 @@ use Rattle.quic_packets.proofs.Sealings.{header_length}
 use Rattle.quic_packets.proofs.Parts.{expands_same}
 use Rattle.quic_packets.proofs.Opened.{Lawful, front_bytes, cut_same}
 use Rattle.quic_packets.proofs.SealedFound.{Found, sealed_found, read_numbered}
-use Rattle.quic_packets.proofs.Uncuts.{memory_refused}
 use Rattle.quic_header_decode.proofs.CutAnswers.{cut_positive, cut_again, is_rest, is_uncut, uncut_again}
 use Rattle.quic_header_decode.specs.Datagram.{CutsFirst, IsUncut}
 
@@ -345,10 +345,10 @@ first_refuses opening bytes contents rest laws fits begins e (inr refuses) =
     let given = given_in opening bytes contents rest laws begins in
     let found = found_in opening contents begins.packet rest given in
     let same =
-    one_cut opening.options bytes refuses.0 (sealed_cut found.cut.0 contents begins.packet) refuses.1 rest refuses.2
-    (sealed_first opening bytes contents rest begins found) in
+    one_cut opening.options bytes refuses.1.packet (sealed_cut found.cut.0 contents begins.packet) refuses.0 rest
+    refuses.1.first (sealed_first opening bytes contents rest begins found) in
     packet_refuses opening contents begins.packet rest given found e
-    (subst (λ (x : CutPacket). RefusesPacket opening.keys opening.expected x e) same.0 refuses.3)
+    (subst (λ (x : CutPacket). RefusesPacket opening.keys opening.expected x e) same.0 refuses.1.refused)
 
 -- what follows a packet is shorter than the datagram
 first_shorter : (opening : Opening) (bytes : List ℕ) (opened : Opened) (left : Option Filled)
@@ -389,43 +389,33 @@ refused_first opening bytes e laws fits refuses = record {
 -- ---- what a call answers
 
 -- no packet is cut
-pub answers_uncut : {opening : Opening} {bytes : List ℕ} {f : OpenError}
-    → ((space : SpaceId) → IsLawful (opening.keys space)) → AreBytes bytes
-    → (e : PacketDecodeError) → IsUncut opening.options opening.takes_memory bytes e → IsDecode e f
-    → PacketAnswer opening bytes (Err f)
-answers_uncut {opening} {bytes} {f} laws fits e uncut same =
-    refused_first opening bytes f laws fits (inl (e, uncut, same))
+pub answers_uncut : (opening : Opening) (bytes : Filled) {f : OpenError}
+    → ((space : SpaceId) → IsLawful (opening.keys space)) → AreBytes bytes.items
+    → (e : PacketDecodeError) → IsUncut opening.options opening.takes_memory bytes.items e → IsDecode e f
+    → NextAnswer opening (Some bytes) (Some (Err f)) None
+answers_uncut opening bytes {f} laws fits e uncut same =
+    (refused_first opening bytes.items f laws fits (inl (e, uncut, same)), inl ((e, uncut, same), refl))
 
--- a packet is cut, and there is no room for it
-pub answers_no_room : {opening : Opening} {bytes rest : List ℕ} → ((space : SpaceId) → IsLawful (opening.keys space))
-    → AreBytes bytes
-    → (packet : CutPacket) → CutsFirst opening.options bytes packet rest
-    → PacketAnswer opening bytes (Err error.OutOfMemory)
-answers_no_room {opening} {bytes} {rest} laws fits packet first =
-    refused_first opening bytes error.OutOfMemory laws fits (memory_refused opening bytes packet rest first)
-
--- and refused
-pub answers_refused : {opening : Opening} {bytes rest : List ℕ} {e : OpenError}
-    → ((space : SpaceId) → IsLawful (opening.keys space)) → AreBytes bytes
-    → (packet : CutPacket) → CutsFirst opening.options bytes packet rest
-    → RefusesPacket opening.keys opening.expected packet e
-    → PacketAnswer opening bytes (Err e)
-answers_refused {opening} {bytes} {rest} {e} laws fits packet first refuses =
-    refused_first opening bytes e laws fits (inr (packet, rest, first, refuses))
-
--- and opened
-pub answers_opened : {opening : Opening} {bytes : List ℕ} {opened : Opened}
-    → ((space : SpaceId) → IsLawful (opening.keys space))
-    → (packet : CutPacket) (left : Option Filled) → CutsFirst opening.options bytes packet (left_of left)
-    → IfSome left (λ rest. 0 < length rest.items)
-    → OpensPacket opening.keys opening.expected packet (packet_of opened)
-    → PacketAnswer opening bytes (Ok (opened, left))
-answers_opened {opening} {bytes} {opened} laws packet left first some opens =
-    opened_first opening bytes opened left laws (record {
+-- a packet is cut, and opened or not
+pub answers_cut : (opening : Opening) (bytes : Filled) {packet : CutPacket} (left : Option Filled)
+    (result : Result Opened OpenError)
+    → ((space : SpaceId) → IsLawful (opening.keys space)) → AreBytes bytes.items
+    → CutsFirst opening.options bytes.items packet (left_of left) → IfSome left (λ rest. 0 < length rest.items)
+    → IfOk result (λ x. OpensPacket opening.keys opening.expected packet (packet_of x))
+    → IfErr result (RefusesPacket opening.keys opening.expected packet)
+    → NextAnswer opening (Some bytes) (Some result) left
+answers_cut opening bytes {packet} left (Ok opened) laws fits first some opens refuses =
+    opened_first opening bytes.items opened left laws (record {
       rest = left_of left;
       opens = record { packet = packet; first = first; opens = opens };
       left_is = is_rest left some refl;
     })
+answers_cut opening bytes {packet} left (Err e) laws fits first some opens refuses =
+    let unopened : IsCutUnopened opening bytes.items e (left_of left) =
+    record { packet = packet; first = first; refused = refuses } in (
+      refused_first opening bytes.items e laws fits (inr (left_of left, unopened)),
+      inr (left_of left, unopened, is_rest left some refl),
+    )
 
 -- what was sealed can be opened
 pub sealed_opens : (opening : Opening) (bytes : List ℕ) (contents : PacketContents) (rest : List ℕ)

@@ -1,18 +1,18 @@
 -- Memory runs out, as a refusal of the packet that was cut.
-use Rattle.std.specs.Prelude.{◌≡◌, List, ℕ, MatchOption, Option, None, Some}
-use Rattle.std.proofs.Common.{refl, inr}
+use Rattle.std.specs.Prelude.{◌≡◌, MatchOption, Option, None, Some}
+use Rattle.std.proofs.Common.{refl}
 use Rattle.quic_base.specs.declared.ids.SpaceId.{SpaceId}
-use Rattle.quic_header_decode.specs.Datagram.{CutPacket, CutsFirst}
+use Rattle.quic_header_decode.specs.Datagram.{CutPacket}
 use Rattle.quic_header_decode.specs.Headers.{space_of}
 use Rattle.quic_packets.specs.declared.opening.OpenError.{OpenError}
 use Rattle.quic_packets.specs.declared.opening.OpenError.TheVariants as refused
-use Rattle.quic_packets.specs.Opening.{Opening, Refuses}
+use Rattle.quic_packets.specs.Opening.{Opening, RefusesPacket}
 
 out_of_memory : (o : Option SpaceId)
     → MatchOption o (let e : OpenError = refused.OutOfMemory in e ≡ refused.OutOfMemory) (λ space. Unit {0})
 out_of_memory None = refl
 out_of_memory (Some space) = tt
 
-pub memory_refused : (opening : Opening) (bytes : List ℕ) (packet : CutPacket) (rest : List ℕ)
-    → CutsFirst opening.options bytes packet rest → Refuses opening bytes refused.OutOfMemory
-memory_refused opening bytes packet rest first = inr (packet, rest, first, out_of_memory (space_of packet.head))
+pub memory_refused : (opening : Opening) (packet : CutPacket)
+    → RefusesPacket opening.keys opening.expected packet refused.OutOfMemory
+memory_refused opening packet = out_of_memory (space_of packet.head)

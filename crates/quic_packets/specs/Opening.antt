@@ -1,5 +1,5 @@
 -- Opening packets: the first one of a datagram, the next one, and all of them.
-use Rattle.std.specs.Prelude.{◌≡◌, ◌≢◌, ℕ, ◌+◌, ◌<◌, ◌≤◌, ◌⊎◌, Bool, true, IsTrue, List, [], ◌∷◌, ◌++◌, length, map, Option, Some, None, ◌^◌, Result, Ok, Err, IfOk, IfErr, IfSome, MatchOption, MatchResult}
+use Rattle.std.specs.Prelude.{◌≡◌, ◌≢◌, ℕ, ◌+◌, ◌<◌, ◌≤◌, ◌⊎◌, Bool, true, List, [], ◌∷◌, ◌++◌, length, map, Option, Some, None, ◌^◌, Result, Ok, Err, IfOk, IfErr, IfSome, MatchOption, MatchResult}
 use Rattle.bytes.specs.Filled.{Filled}
 use Rattle.quic_base.specs.declared.ids.SpaceId.{SpaceId}
 use Rattle.quic_crypto.specs.Keys.{HasSample}
@@ -124,12 +124,27 @@ pub record Opens (opening : Opening) (bytes : List ℕ) (opened : OpenedPacket) 
   pub first : CutsFirst opening.options bytes packet rest
   pub opens : OpensPacket opening.keys opening.expected packet opened
 
--- why the first packet is not opened: none is cut, for the same error, or it is not opened
+-- no packet is cut, for the same error
+abbrev pub IsNoneCut : Opening → List ℕ → OpenError → Type 0
+IsNoneCut opening bytes e =
+    (cut : PacketDecodeError) × IsUncut opening.options opening.takes_memory bytes cut × IsDecode cut e
+
+-- the first packet is cut, and rest follows it, but it is not opened
+pub record IsCutUnopened (opening : Opening) (bytes : List ℕ) (e : OpenError) (rest : List ℕ) : Type 0 where
+  pub packet : CutPacket
+  pub first : CutsFirst opening.options bytes packet rest
+  pub refused : RefusesPacket opening.keys opening.expected packet e
+
+-- why the first packet is not opened: none is cut, or it is not opened
 abbrev pub Refuses : Opening → List ℕ → OpenError → Type 0
-Refuses opening bytes e =
-    ((cut : PacketDecodeError) × IsUncut opening.options opening.takes_memory bytes cut × IsDecode cut e)
-    ⊎ ((packet : CutPacket) × (rest : List ℕ) × CutsFirst opening.options bytes packet rest
-    × RefusesPacket opening.keys opening.expected packet e)
+Refuses opening bytes e = IsNoneCut opening bytes e ⊎ ((rest : List ℕ) × IsCutUnopened opening bytes e rest)
+
+-- What is left after an error: nothing if no packet is cut, else what follows the packet that is not opened (RFC 9000,
+-- section 12.2).
+abbrev pub IsLeftAfter : Opening → List ℕ → OpenError → Option Filled → Type 0
+IsLeftAfter opening bytes e left =
+    (IsNoneCut opening bytes e × (left ≡ None))
+    ⊎ ((rest : List ℕ) × IsCutUnopened opening bytes e rest × IsRest left rest)
 
 -- the first packet is opened, and what follows it is left, if anything does
 pub record OpensFirst (opening : Opening) (bytes : List ℕ) (opened : Opened) (left : Option Filled) : Type 0 where
@@ -215,12 +230,13 @@ pub record PacketAnswer (opening : Opening) (bytes : List ℕ)
   pub sealed : (contents : PacketContents) (rest : List ℕ) → BeginsSealed opening bytes contents rest
       → MatchResult result (λ x. ReturnsSealed opening contents rest x.0 x.1) (λ e. e ≡ error.OutOfMemory)
 
--- a call that opens the next packet of what is left, if anything is; after an error nothing is left
+-- a call that opens the next packet of what is left, if anything is
 abbrev pub NextAnswer : Opening → Option Filled → Option (Result Opened OpenError) → Option Filled → Type 0
 NextAnswer opening None result new = (result ≡ None) × (new ≡ None)
 NextAnswer opening (Some left) None new = ⊥
 NextAnswer opening (Some left) (Some (Ok opened)) new = PacketAnswer opening left.items (Ok (opened, new))
-NextAnswer opening (Some left) (Some (Err e)) new = PacketAnswer opening left.items (Err e) × (new ≡ None)
+NextAnswer opening (Some left) (Some (Err e)) new =
+    PacketAnswer opening left.items (Err e) × IsLeftAfter opening left.items e new
 
 -- how much is left, which becomes less with each packet
 abbrev pub left_size : Option Filled → ℕ

@@ -1,10 +1,7 @@
 //! Opens packets (RFC 9001, sections 5.3 and 5.4).
-ghost use Rattle.std.specs.Prelude.{◌≡◌, ◌<◌, ◌^◌, IfOk, IfErr, IsSome, IsTrue, MatchOption, None, Some};
-ghost use Rattle.quic_crypto.specs.PacketNumbers.{IsInRange};
-ghost use Rattle.quic_header_decode.specs.Headers.{is_protected};
-ghost use Rattle.quic_header_decode.specs.Headers.{space_of};
-ghost use Rattle.quic_header_encode.specs.Kinds.{number_in};
-ghost use Rattle.quic_packets.specs.Opening.{DatagramAnswer, PacketAnswer, NextAnswer, AreExpected, ExpandsIn, IsDecode, OpensPacket, OpensWithKey, RefusesPacket, RefusesWithKey, left_size, packet_of};
+ghost use Rattle.std.specs.Prelude.{◌≡◌, ◌<◌, ◌^◌, length, IfOk, IfErr, IfSome, IsSome, IsTrue, None, Some};
+ghost use Rattle.quic_header_decode.specs.Headers.{is_protected, space_of};
+ghost use Rattle.quic_packets.specs.Opening.{DatagramAnswer, PacketAnswer, NextAnswer, AreExpected, IsDecode, OpensPacket, OpensPlain, OpensWithKey, RefusesPacket, RefusesWithKey, left_size, packet_of};
 ghost use Rattle.quic_packets.specs.Pairs.{expected_in};
 
 use crate::keys::{Expected, Keys, SpaceKeys};
@@ -15,12 +12,12 @@ use quic_crypto::crypto::{HeaderKey, PacketKey};
 use quic_header_decode::cut::PartialDecode;
 use quic_header_decode::decode_error::PacketDecodeError;
 use quic_header_decode::packet::Packet;
-use quic_header_decode::parser::ConnectionIdParser;
+use quic_header_decode::parser::{ConnectionIdParser, DecodeOptions};
 use quic_header_encode::header::Header;
 use thiserror::Error;
 
-/// Why a packet is not opened. The rest of the datagram is given up, even where it is known where the packet ends: a
-/// caller that has to process the remaining packets (RFC 9000, section 12.2) cuts them off before.
+/// Why a packet is not opened. `Packets` keeps what follows a packet that was cut, since an endpoint has to process it
+/// (RFC 9000, section 12.2); `open_packet` and `open_datagram` drop it.
 #[derive(Clone, Copy, Debug, PartialEq, Eq, Drop, Error)]
 pub enum OpenError {
     /// No packet can be cut from the datagram, or the packet is too short for a sample. It never holds
@@ -69,21 +66,6 @@ fn decode_error(e: &PacketDecodeError) -> OpenError
     }
 }
 
-// The whole number for the truncated one in a header.
-fn expand(header: &Header, expected: u64) -> u64
-    requires valid { MatchOption (number_in header.now) ⊥ IsInRange }
-    requires small { expected < 2 ^ 62 }
-    ensures { ExpandsIn header.now expected result }
-{
-    match header {
-        Header::Initial(head) => head.number.expand(expected),
-        Header::Long { number, .. } => number.expand(expected),
-        Header::Short { number, .. } => number.expand(expected),
-        Header::Retry { .. } => unreachable!(),
-        Header::VersionNegotiate { .. } => unreachable!(),
-    }
-}
-
 // Opens a packet that is protected.
 fn open_protected<H: HeaderKey, P: PacketKey>(
     partial: PartialDecode,
@@ -96,16 +78,15 @@ fn open_protected<H: HeaderKey, P: PacketKey>(
         (packet_of x)) }
     ensures refused { IfErr result (RefusesWithKey (⟦<Keys<H, P> as PairOfKeys>⟧.pair keys.now) expected partial) }
 {
-    let packet = match partial.finish(Some(&keys.header)) {
-        Ok(packet) => packet,
-        Err(e) => return Err(decode_error(&e)),
-    };
     let Packet {
         header,
         header_data,
         mut payload,
-    } = packet;
-    let number = expand(&header, expected);
+    } = match partial.finish_protected(&keys.header) {
+        Ok(packet) => packet,
+        Err(e) => return Err(decode_error(&e)),
+    };
+    let number = header.number().unwrap().expand(expected);
     match keys
         .packet
         .decrypt(number, header_data.as_slice(), &mut payload)
@@ -121,21 +102,13 @@ fn open_protected<H: HeaderKey, P: PacketKey>(
 }
 
 // Returns a packet that has no protection, unchanged.
-fn open_plain<H: HeaderKey, P: PacketKey>(
-    partial: PartialDecode,
-    keys: &SpaceKeys<H, P>,
-    expected: &Expected,
-) -> Result<Opened, OpenError>
+fn open_plain(partial: PartialDecode) -> Result<Opened, OpenError>
     requires { space_of partial.head ≡ None }
-    ensures opened { IfOk result (λ x. OpensPacket (⟦<SpaceKeys<H, P> as PairsOfKeys>⟧.pairs keys.now)
-        (expected_in expected.now) partial (packet_of x)) }
-    ensures refused { IfErr result (RefusesPacket (⟦<SpaceKeys<H, P> as PairsOfKeys>⟧.pairs keys.now)
-        (expected_in expected.now) partial) }
+    ensures opened { IfOk result (λ x. OpensPlain partial (packet_of x)) }
+    ensures refused { IfErr result (λ e. e ≡ OpenError.OutOfMemory) }
 {
-    // No key is used to read it, so any would do.
-    let packet = match partial.finish(Some(&keys.initial.header)) {
-        Ok(packet) => packet,
-        Err(e) => return Err(decode_error(&e)),
+    let Ok(packet) = partial.finish_plain() else {
+        return Err(OpenError::OutOfMemory);
     };
     Ok(Opened {
         header: packet.header,
@@ -159,43 +132,43 @@ fn open_part<H: HeaderKey, P: PacketKey>(
 {
     match partial.space() {
         Some(space) => open_protected(partial, keys.of(space), expected.of(space)),
-        None => open_plain(partial, keys, expected),
+        None => open_plain(partial),
     }
 }
 
-// Cuts a datagram's first packet and opens it, and returns it with what follows it. Without `room` for the opened
-// packet, none is opened.
+// Cuts a datagram's first packet and opens it, and returns what comes of it with what is left. Without `room` for the
+// opened packet, none is opened.
 fn open_first<C: ConnectionIdParser, H: HeaderKey, P: PacketKey>(
     bytes: BytesMut,
-    parser: &C,
-    versions: &[u32],
-    grease: bool,
+    options: &DecodeOptions<'_, C>,
     keys: &SpaceKeys<H, P>,
     expected: &Expected,
     room: bool,
-) -> Result<(Opened, Option<BytesMut>), OpenError>
+) -> (Result<Opened, OpenError>, Option<BytesMut>)
     requires { AreExpected expected.now }
-    ensures first { PacketAnswer (⟦<SpaceKeys<H, P> as OpeningKeys<C>>⟧.opening keys.now parser.now versions.now grease
-        expected.now) bytes.items result }
-    ensures roomy { IfOk result (λ _. IsTrue room) }
+    ensures next { NextAnswer (⟦<SpaceKeys<H, P> as OpeningKeys<C>>⟧.opening keys.now options.now.parser.now
+        options.now.versions.now options.now.grease expected.now) (Some bytes) (Some result.0) result.1 }
+    ensures shorter { IfSome result.1 (λ rest. length rest.items < length bytes.items) }
+    ensures roomy { IfOk result.0 (λ _. IsTrue room) }
 {
     are_bytes(bytes.as_slice());
-    let (partial, rest) = match PartialDecode::new(bytes, parser, versions, grease) {
+    let cut = PartialDecode::new(bytes, options.parser, options.versions, options.grease);
+    let (partial, rest) = match cut {
         Ok(parts) => parts,
-        Err(e) => return Err(decode_error(&e)),
+        Err(e) => return (Err(decode_error(&e)), None),
     };
     if !room {
-        return Err(OpenError::OutOfMemory);
+        return (Err(OpenError::OutOfMemory), rest);
     }
-    match open_part(partial, keys, expected) {
-        Ok(opened) => Ok((opened, rest)),
-        Err(e) => Err(e),
-    }
+    (open_part(partial, keys, expected), rest)
 }
 
 /// Opens a datagram's first packet with the keys and the expected number of its space, and returns it with what follows
 /// it. Ids of short headers are read by `parser`; headers of versions other than `versions` are refused; with `grease`
 /// the fixed bit may be clear. A Retry or version negotiation is returned unchanged, without a number.
+///
+/// An error drops what follows. An endpoint has to process it (RFC 9000, section 12.2), so it calls
+/// `Packets::open_next`.
 ///
 /// Errors: `Decode` only if `PartialDecode::new` or `PartialDecode::finish` refuses the packet; `Unsealed` only if the
 /// packet key answers `CryptoError`. Once a packet was cut, any call may answer `OutOfMemory` instead; before that,
@@ -214,13 +187,22 @@ pub fn open_packet<C: ConnectionIdParser, H: HeaderKey, P: PacketKey>(
     ensures { PacketAnswer (⟦<SpaceKeys<H, P> as OpeningKeys<C>>⟧.opening keys.now parser.now versions.now grease
         expected.now) bytes.items result }
 {
-    open_first(bytes, parser, versions, grease, keys, expected, true)
+    let options = DecodeOptions {
+        parser,
+        versions,
+        grease,
+    };
+    let (opened, rest) = open_first(bytes, &options, keys, expected, true);
+    match opened {
+        Ok(opened) => Ok((opened, rest)),
+        Err(e) => Err(e),
+    }
 }
 
 /// The rest of a datagram whose packets are opened one after another.
 #[derive(Debug, Drop)]
 pub struct Packets {
-    /// The bytes from the next packet on. `None` once nothing follows a packet, and after an error.
+    /// The bytes from the next packet on. `None` once nothing follows a packet, and if no packet can be cut from them.
     pub rest: Option<BytesMut>,
 }
 
@@ -235,36 +217,34 @@ impl Packets {
     }
 
     /// Opens the next packet as `open_packet` does, and moves past it. Answers `None` once nothing is left. Each call
-    /// may have other keys and other expected numbers. After an error nothing is left: the rest of the datagram is
-    /// given up. The caller must give expected numbers below 2^62.
+    /// may have other keys and other expected numbers. A packet that was cut but not opened is passed over, and the
+    /// next call goes on after it (RFC 9000, section 12.2); if none can be cut, the rest is given up. The caller must
+    /// give expected numbers below 2^62.
     pub fn open_next<C: ConnectionIdParser, H: HeaderKey, P: PacketKey>(
         &mut self,
-        parser: &C,
-        versions: &[u32],
-        grease: bool,
+        options: &DecodeOptions<'_, C>,
         keys: &SpaceKeys<H, P>,
         expected: &Expected,
     ) -> Option<Result<Opened, OpenError>>
         requires { AreExpected expected.now }
-        ensures next { NextAnswer (⟦<SpaceKeys<H, P> as OpeningKeys<C>>⟧.opening keys.now parser.now versions.now grease
-            expected.now) self.old.rest result self.new.rest }
+        ensures next { NextAnswer (⟦<SpaceKeys<H, P> as OpeningKeys<C>>⟧.opening keys.now options.now.parser.now
+            options.now.versions.now options.now.grease expected.now) self.old.rest result self.new.rest }
         ensures shorter { IsSome result → left_size self.new.rest < left_size self.old.rest }
     {
         let bytes = self.rest.take()?;
-        match open_packet(bytes, parser, versions, grease, keys, expected) {
-            Ok((opened, rest)) => {
-                self.rest = rest;
-                Some(Ok(opened))
-            }
-            Err(e) => Some(Err(e)),
-        }
+        let (opened, rest) = open_first(bytes, options, keys, expected, true);
+        self.rest = rest;
+        Some(opened)
     }
 }
 
-/// Opens a datagram's packets one after another, as `Packets::open_next` does, with the same expected numbers for all
-/// of them, and appends them to `out`. There is room in `out` for a packet before it is opened, so after an error `out`
-/// has every packet opened so far. If the packets in a row were sealed by these keys, all of them are opened, in order,
-/// or, if memory runs out, the first ones. The caller must give expected numbers below 2^62.
+/// Opens a datagram's packets one after another, with the same expected numbers for all of them, and appends them to
+/// `out`. There is room in `out` for a packet before it is opened, so after an error `out` has every packet opened so
+/// far. If the packets in a row were sealed by these keys, all of them are opened, in order, or, if memory runs out,
+/// the first ones. The caller must give expected numbers below 2^62.
+///
+/// The first error drops what is left. An endpoint has to process it (RFC 9000, section 12.2), so it calls
+/// `Packets::open_next`.
 pub fn open_datagram<C: ConnectionIdParser, H: HeaderKey, P: PacketKey>(
     bytes: BytesMut,
     parser: &C,
@@ -278,13 +258,17 @@ pub fn open_datagram<C: ConnectionIdParser, H: HeaderKey, P: PacketKey>(
     ensures { DatagramAnswer (⟦<SpaceKeys<H, P> as OpeningKeys<C>>⟧.opening keys.now parser.now versions.now grease
         expected.now) bytes.items result out.old.items out.new.items }
 {
+    let options = DecodeOptions {
+        parser,
+        versions,
+        grease,
+    };
     let mut left = Some(bytes);
     while let Some(bytes) = left.take() {
         let room = out.reserve(1).is_ok();
-        let (opened, rest) = match open_first(
-            bytes, parser, versions, grease, keys, expected, room,
-        ) {
-            Ok(parts) => parts,
+        let (opened, rest) = open_first(bytes, &options, keys, expected, room);
+        let opened = match opened {
+            Ok(opened) => opened,
             Err(e) => return Err(e),
         };
         if out.push(opened).is_err() {

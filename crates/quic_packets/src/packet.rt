@@ -7,7 +7,9 @@ pub use quic_crypto::packet_number::PacketNumber;
 pub use quic_header_decode::cut::PartialDecode;
 pub use quic_header_decode::decode_error::PacketDecodeError;
 pub use quic_header_decode::packet::{InitialPacket, Packet};
-pub use quic_header_decode::parser::{ConnectionIdParser, FixedLengthConnectionIdParser};
+pub use quic_header_decode::parser::{
+    ConnectionIdParser, DecodeOptions, FixedLengthConnectionIdParser,
+};
 pub use quic_header_decode::protected::{ProtectedHeader, ProtectedInitialHeader};
 pub use quic_header_encode::encode::PartialEncode;
 pub use quic_header_encode::header::{Header, InitialHeader};

@@ -7,7 +7,7 @@ use quic_wire::calls::{
 };
 use quic_wire::frame::Frame;
 use quic_wire::ids::Side;
-use quic_wire::packet::FixedLengthConnectionIdParser;
+use quic_wire::packet::{DecodeOptions, FixedLengthConnectionIdParser};
 use quic_wire::transport_parameters::{ReservedTransportParameter, TransportParameters};
 use quic_wire::varint::VarInt;
 use std::test::Fail;
@@ -71,13 +71,17 @@ fn what_is_lost(rt: HostRuntime) -> Result<(), Fail> {
 #[test]
 fn datagrams_are_cut(rt: HostRuntime) -> Result<(), Fail> {
     let mut checks = Checks::new(rt.alloc());
-    let parser = FixedLengthConnectionIdParser::new(1);
+    let options = DecodeOptions {
+        parser: &FixedLengthConnectionIdParser::new(1),
+        versions: &[1],
+        grease: false,
+    };
     let mut short = Vec::new(rt.alloc());
     short.extend_from_slice(b"\x40\xaa\x01\x02".as_slice())?;
-    checks.holds(cut_first(BytesMut::from_vec(short), &parser, &[1], false).is_ok());
+    checks.holds(cut_first(BytesMut::from_vec(short), &options).is_ok());
     let mut retry = Vec::new(rt.alloc());
     retry.extend_from_slice(b"\xf0\x00\x00\x00\x01\x01\xaa\x01\xbb\x01\x02".as_slice())?;
-    checks.holds(cut_plain(BytesMut::from_vec(retry), &parser, &[1], false).is_ok());
+    checks.holds(cut_plain(BytesMut::from_vec(retry), &options).is_ok());
     checks.verdict()
 }
 

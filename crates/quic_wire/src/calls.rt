@@ -34,8 +34,8 @@ use quic_frames::frame::{Frame, InvalidFrame, Iter};
 use quic_frames::laws::{least_encoding, read_back};
 use quic_packets::crypto::{HeaderKey, PacketKey};
 use quic_packets::packet::{
-    ConnectionIdParser, Expected, Header, OpenError, Opened, PacketDecodeError, PartialDecode,
-    SpaceKeys, open_packet,
+    ConnectionIdParser, DecodeOptions, Expected, Header, OpenError, Opened, PacketDecodeError,
+    PartialDecode, SpaceKeys, open_packet,
 };
 use quic_packets::pairs::OpeningKeys;
 use quic_params::transport_parameters::{Error, TransportParameters};
@@ -85,16 +85,15 @@ pub fn read_payload<'a>(
 /// Cuts the first packet from a datagram with `PartialDecode::new`.
 pub fn cut_first<P: ConnectionIdParser>(
     datagram: BytesMut,
-    parser: &P,
-    versions: &[u32],
-    grease: bool,
+    options: &DecodeOptions<'_, P>,
 ) -> Result<(PartialDecode, Option<BytesMut>), PacketDecodeError>
-    ensures one { ReturnsOne (CutAnswer (read_by (P.parsed parser.now) versions.now grease) datagram.items)
+    ensures one { ReturnsOne (CutAnswer (read_by (P.parsed options.now.parser.now) options.now.versions.now
+        options.now.grease) datagram.items)
         (GivesRead (λ x. (x.0.head, x.0.header_end, length x.0.bytes)) result) }
 {
     every_datagram();
     are_bytes(datagram.as_slice());
-    PartialDecode::new(datagram, parser, versions, grease)
+    PartialDecode::new(datagram, options.parser, options.versions, options.grease)
 }
 
 /// Reads a list of transport parameters with `TransportParameters::read`. It doesn't allocate.
@@ -210,16 +209,14 @@ fn are_typed(frames: &[Frame<'_>])
 /// error is that memory ran out.
 pub fn cut_plain<P: ConnectionIdParser>(
     datagram: BytesMut,
-    parser: &P,
-    versions: &[u32],
-    grease: bool,
+    options: &DecodeOptions<'_, P>,
 ) -> Result<PartialDecode, PacketDecodeError>
     ensures { (header : Header) (rest : List ℕ) → datagram.items ≡ header_bytes header ++ rest
-        → IsPlainInRange (read_by (P.parsed parser.now) versions.now grease) header
+        → IsPlainInRange (read_by (P.parsed options.now.parser.now) options.now.versions.now options.now.grease) header
         → MatchResult result (λ x. IsWithoutNumber x.head header) (λ e. e ≡ PacketDecodeError.OutOfMemory) }
 {
     headers_again();
-    match cut_first(datagram, parser, versions, grease) {
+    match cut_first(datagram, options) {
         Ok((packet, _rest)) => Ok(packet),
         Err(e) => Err(e),
     }
@@ -229,25 +226,30 @@ pub fn cut_plain<P: ConnectionIdParser>(
 /// runs out.
 pub fn open_sealed<C: ConnectionIdParser, H: HeaderKey, P: PacketKey>(
     datagram: BytesMut,
-    parser: &C,
-    versions: &[u32],
-    grease: bool,
+    options: &DecodeOptions<'_, C>,
     keys: &SpaceKeys<H, P>,
     expected: &Expected,
 ) -> Result<(Opened, Option<BytesMut>), OpenError>
     requires { AreExpected expected.now }
-    ensures sealed { let opening = ⟦<SpaceKeys<H, P> as OpeningKeys<C>>⟧.opening keys.now parser.now versions.now grease
-        expected.now in
+    ensures sealed { let opening = ⟦<SpaceKeys<H, P> as OpeningKeys<C>>⟧.opening keys.now options.now.parser.now
+        options.now.versions.now options.now.grease expected.now in
         (contents : PacketContents) (rest : List ℕ) → BeginsSealed opening datagram.items contents rest
         → MatchResult result (λ x. ReturnsSealed opening contents rest x.0 x.1) (λ e. e ≡ OpenError.OutOfMemory) }
     // So lawful keys open it.
-    ensures opens { let opening = ⟦<SpaceKeys<H, P> as OpeningKeys<C>>⟧.opening keys.now parser.now versions.now grease
-        expected.now in
+    ensures opens { let opening = ⟦<SpaceKeys<H, P> as OpeningKeys<C>>⟧.opening keys.now options.now.parser.now
+        options.now.versions.now options.now.grease expected.now in
         IfOk result (λ x. (contents : PacketContents) (rest : List ℕ) → IsLawful (opening.keys (space_in contents.header))
         → BeginsSealed opening datagram.items contents rest → Opens opening datagram.items (packet_of x.0) rest) }
 {
     packets_again();
-    open_packet(datagram, parser, versions, grease, keys, expected)
+    open_packet(
+        datagram,
+        options.parser,
+        options.versions,
+        options.grease,
+        keys,
+        expected,
+    )
 }
 
 /// Whether no payload that begins with these bytes is without an error: true if reading them fails for another reason

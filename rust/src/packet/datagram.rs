@@ -197,7 +197,8 @@ impl fmt::Debug for PartialDecode<'_> {
     }
 }
 
-/// The packets of a datagram that is opened in place. Each owns its part of it, so they are opened in a loop.
+/// The packets of a datagram that is opened in place. Each owns its part of it, so they are opened in a loop, which goes
+/// on after a packet that isn't opened (RFC 9000, section 12.2). It ends where no packet can be cut.
 ///
 /// ```
 /// use quic_wire::packet::PacketsMut;

@@ -8,8 +8,8 @@ use bytes::BytesMut;
 use quic_base::ids::ConnectionId;
 use quic_checks::Checks;
 use quic_packets::packet::{
-    FixedLengthConnectionIdParser, Header, LongType, OpenError, Opened, PacketDecodeError,
-    PacketNumber, PartialDecode, VERSION_2, open_datagram, open_packet,
+    DecodeOptions, FixedLengthConnectionIdParser, Header, LongType, OpenError, Opened,
+    PacketDecodeError, PacketNumber, Packets, PartialDecode, VERSION_2, open_datagram, open_packet,
 };
 use std::alloc::Global;
 use std::test::Fail;
@@ -201,14 +201,13 @@ fn first_number(alloc: Global, datagram: &[u8]) -> Result<Option<u64>, OpenError
     }
 }
 
-// Whether the first packet is not opened where one bit of this byte is changed.
-fn is_unsealed_by_a_bit(alloc: Global, at: usize) -> bool {
+// The datagram with one bit of this byte changed.
+fn changed_at(at: usize) -> [u8; 60] {
     let mut changed = WHOLE;
-    let Some(byte) = changed.get_mut(at) else {
-        return false;
-    };
-    *byte ^= 1;
-    first_number(alloc, &changed) == Err(OpenError::Unsealed)
+    if let Some(byte) = changed.get_mut(at) {
+        *byte ^= 1;
+    }
+    changed
 }
 
 // The tag is the last 16 bytes of the first packet. `OutOfMemory` is not reported while there is memory.
@@ -217,7 +216,52 @@ fn a_changed_tag(rt: HostRuntime) -> Result<(), Fail> {
     let mut checks = Checks::new(rt.alloc());
     checks.holds(first_number(rt.alloc(), &WHOLE) == Ok(Some(0)));
     for at in 14..30 {
-        checks.holds_at(at, is_unsealed_by_a_bit(rt.alloc(), at));
+        let refused = Err(OpenError::Unsealed);
+        checks.holds_at(at, first_number(rt.alloc(), &changed_at(at)) == refused);
     }
+    checks.verdict()
+}
+
+fn next(packets: &mut Packets) -> Option<Result<Opened, OpenError>> {
+    let options = DecodeOptions {
+        parser: &FixedLengthConnectionIdParser::new(1),
+        versions: &[1],
+        grease: false,
+    };
+    packets.open_next(&options, &all_toy(), &ALL_ZERO)
+}
+
+fn is_unsealed_next(packets: &mut Packets) -> bool {
+    matches!(&next(packets), Some(Err(OpenError::Unsealed)))
+}
+
+fn is_too_short_next(packets: &mut Packets) -> bool {
+    match next(packets) {
+        Some(Err(OpenError::Decode(PacketDecodeError::InvalidHeader(text)))) => {
+            text == "packet too short to contain payload length"
+        }
+        _ => false,
+    }
+}
+
+// Whether the second packet is opened, and nothing follows it.
+fn is_second_next(packets: &mut Packets) -> bool {
+    match next(packets) {
+        Some(Ok(opened)) => is_packet(&opened, &SECOND) && next(packets).is_none(),
+        _ => false,
+    }
+}
+
+// What follows a packet that isn't opened is opened all the same, since RFC 9000, section 12.2, demands it. Nothing can
+// follow bytes that begin with no packet, since nobody knows where that packet would end.
+#[test]
+fn what_is_left_after_an_error(rt: HostRuntime) -> Result<(), Fail> {
+    let mut checks = Checks::new(rt.alloc());
+    let packets = &mut Packets::new(BytesMut::copy_from_slice(rt.alloc(), &changed_at(14))?);
+    checks.holds_at("unsealed", is_unsealed_next(packets));
+    checks.holds_at("opened", is_second_next(packets));
+    let packets = &mut Packets::new(BytesMut::copy_from_slice(rt.alloc(), &WHOLE[..29])?);
+    checks.holds_at("too short", is_too_short_next(packets));
+    checks.holds_at("given up", next(packets).is_none());
     checks.verdict()
 }

@@ -1,9 +1,6 @@
-use Rattle.std.proofs.Common.{arith, rules}
+use Rattle.std.proofs.Common.{arith}
 use Rattle.std.proofs.lemmas.Grind.{common_steps}
 use Rattle.quic_header_decode.proofs.finish.decrypt_header.Goals as goal
-
-pub returns-then-left-lt4-clause-refused : goal.returns-then-left-lt4-clause-refused
-returns-then-left-lt4-clause-refused g c = search rules
 
 pub bounds-as_slice-0 : goal.bounds-as_slice-0
 bounds-as_slice-0 g c = grind (arith, common_steps)
@@ -13,6 +10,3 @@ slice_bounds-rest-count g c = grind (arith, common_steps)
 
 pub slice_bounds-rest-start : goal.slice_bounds-rest-start
 slice_bounds-rest-start g c = grind (arith, common_steps)
-
-pub unreachable-requires : goal.unreachable-requires
-unreachable-requires g c = grind (arith, common_steps)

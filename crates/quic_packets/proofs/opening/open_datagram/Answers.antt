@@ -9,18 +9,19 @@ loop-bytes-init g c = reached_first
 pub loop-bytes-preserved : goal.loop-bytes-preserved
 loop-bytes-preserved g c =
     let is : c.loop-bytes.left ≡ Some c.in-Some.bytes = cc in
-    let pushed : c.push.new.self.items ≡ c.reserve.new.self.items ++ (c.in-Ok.parts.0 ∷ []) = search rules in
-    reached_step c.loop-bytes.invariant is c.reserve.ensures.items c.in-Ok.ensures.first pushed
+    let pushed : c.push.new.self.items ≡ c.reserve.new.self.items ++ (c.in-Ok.opened ∷ []) = search rules in
+    reached_step c.loop-bytes.invariant is c.reserve.ensures.items c.open_first-opened.ensures.next c.in-Ok.is pushed
 
 pub loop-bytes-smaller : goal.loop-bytes-smaller
 loop-bytes-smaller g c =
     let is : c.loop-bytes.left ≡ Some c.in-Some.bytes = cc in
-    reached_less is c.in-Ok.ensures.first
+    reached_less c.open_first-opened.result.1 is c.open_first-opened.ensures.shorter
 
 pub returns-in-Err : goal.returns-in-Err
 returns-in-Err g c =
     let is : c.loop-bytes.left ≡ Some c.in-Some.bytes = cc in
-    reached_refused c.loop-bytes.invariant is c.reserve.ensures.items c.in-Err.ensures.first
+    reached_refused c.open_first-opened.result.1 c.loop-bytes.invariant is c.reserve.ensures.items
+    c.open_first-opened.ensures.next c.in-Err.is
 
 pub returns : goal.returns
 returns g c =

@@ -1,13 +1,15 @@
 -- What is opened of the first packet, and why it is not; what was sealed by the keys comes back, by their laws.
-use Rattle.std.proofs.Common.{subst, ℕ, Bool, List}
+use Rattle.std.proofs.Common.{subst, ℕ, Bool, List, Err}
 use Rattle.quic_base.specs.Number.{AreBytes}
 use Rattle.quic_base.specs.declared.ids.SpaceId.{SpaceId}
 use Rattle.quic_packets.specs.declared.keys.Expected.{Expected}
 use Rattle.quic_packets.specs.declared.keys.SpaceKeys.{SpaceKeys}
+use Rattle.quic_packets.specs.declared.opening.OpenError.TheVariants as error
 use Rattle.quic_packets.specs.Opening.{Opening}
 use Rattle.quic_packets.specs.Pairs.{IsLawful, keys_in}
-use Rattle.quic_packets.proofs.OpenedBack.{answers_uncut, answers_no_room, answers_refused, answers_opened}
+use Rattle.quic_packets.proofs.OpenedBack.{answers_cut, answers_uncut}
 use Rattle.quic_packets.proofs.Openings.{opening_of}
+use Rattle.quic_packets.proofs.Uncuts.{memory_refused}
 use Rattle.quic_packets.proofs.opening.open_first.Given as given
 use Rattle.quic_packets.proofs.opening.open_first.Goals as goal
 
@@ -25,32 +27,30 @@ lawful g keys parser versions grease expected space = record {
   opens = g.met.P.PacketKey.opens (keys_in keys space).packet;
 }
 
-pub returns-in-Err-clause-first : goal.returns-in-Err-clause-first
-returns-in-Err-clause-first g c =
+pub returns-in-Err-clause-next : goal.returns-in-Err-clause-next
+returns-in-Err-clause-next g c =
     let a = c.args in
-    answers_uncut {opening = opening_in g a.keys.now a.parser.now a.versions.now a.grease a.expected.now}
-    (lawful g a.keys.now a.parser.now a.versions.now a.grease a.expected.now)
+    let o = a.options.now in
+    answers_uncut (opening_in g a.keys.now o.parser.now o.versions.now o.grease a.expected.now) a.bytes
+    (lawful g a.keys.now o.parser.now o.versions.now o.grease a.expected.now)
     (subst AreBytes c.as_slice.ensures c.are_bytes.ensures) c.in-Err.e c.in-Err.ensures.refused
     c.decode_error.ensures
 
-pub returns-then-not-room-clause-first : goal.returns-then-not-room-clause-first
-returns-then-not-room-clause-first g c =
+pub returns-then-not-room-clause-next : goal.returns-then-not-room-clause-next
+returns-then-not-room-clause-next g c =
     let a = c.args in
-    answers_no_room {opening = opening_in g a.keys.now a.parser.now a.versions.now a.grease a.expected.now}
-    (lawful g a.keys.now a.parser.now a.versions.now a.grease a.expected.now)
-    (subst AreBytes c.as_slice.ensures c.are_bytes.ensures) c.in-Ok.parts.0 c.in-Ok.ensures.cut
+    let o = a.options.now in
+    let opening : Opening = opening_in g a.keys.now o.parser.now o.versions.now o.grease a.expected.now in
+    answers_cut opening a.bytes c.in-Ok.parts.1 (Err error.OutOfMemory)
+    (lawful g a.keys.now o.parser.now o.versions.now o.grease a.expected.now)
+    (subst AreBytes c.as_slice.ensures c.are_bytes.ensures) c.in-Ok.ensures.cut c.in-Ok.ensures.rest tt
+    (memory_refused opening c.in-Ok.parts.0)
 
-pub returns-in-Err-open_part-clause-first : goal.returns-in-Err-open_part-clause-first
-returns-in-Err-open_part-clause-first g c =
+pub returns-clause-next : goal.returns-clause-next
+returns-clause-next g c =
     let a = c.args in
-    answers_refused {opening = opening_in g a.keys.now a.parser.now a.versions.now a.grease a.expected.now}
-    (lawful g a.keys.now a.parser.now a.versions.now a.grease a.expected.now)
-    (subst AreBytes c.as_slice.ensures c.are_bytes.ensures) c.in-Ok.parts.0
-    c.in-Ok.ensures.cut c.in-Err-open_part.ensures.refused
-
-pub returns-in-Ok-open_part-clause-first : goal.returns-in-Ok-open_part-clause-first
-returns-in-Ok-open_part-clause-first g c =
-    let a = c.args in
-    answers_opened {opening = opening_in g a.keys.now a.parser.now a.versions.now a.grease a.expected.now}
-    (lawful g a.keys.now a.parser.now a.versions.now a.grease a.expected.now)
-    c.in-Ok.parts.0 c.in-Ok.parts.1 c.in-Ok.ensures.cut c.in-Ok.ensures.rest c.in-Ok-open_part.ensures.opened
+    let o = a.options.now in
+    answers_cut (opening_in g a.keys.now o.parser.now o.versions.now o.grease a.expected.now) a.bytes
+    c.in-Ok.parts.1 c.open_part.result (lawful g a.keys.now o.parser.now o.versions.now o.grease a.expected.now)
+    (subst AreBytes c.as_slice.ensures c.are_bytes.ensures) c.in-Ok.ensures.cut c.in-Ok.ensures.rest
+    c.open_part.ensures.opened c.open_part.ensures.refused

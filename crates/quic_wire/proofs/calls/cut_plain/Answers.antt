@@ -4,10 +4,10 @@ use Rattle.quic_wire.proofs.calls.cut_plain.Goals as goal
 
 pub returns-in-Ok : goal.returns-in-Ok
 returns-in-Ok g c =
-    let options = read_by (g.P.ConnectionIdParser.parsed c.args.parser.now) c.args.versions.now c.args.grease in
+    let options = read_by (g.P.ConnectionIdParser.parsed c.args.options.now.parser.now) c.args.options.now.versions.now c.args.options.now.grease in
     plain_cut options c.args.datagram.items c.in-Ok.packet (c.headers_again.ensures.plain options) c.in-Ok.ensures.one
 
 pub returns-in-Err : goal.returns-in-Err
 returns-in-Err g c =
-    let options = read_by (g.P.ConnectionIdParser.parsed c.args.parser.now) c.args.versions.now c.args.grease in
+    let options = read_by (g.P.ConnectionIdParser.parsed c.args.options.now.parser.now) c.args.options.now.versions.now c.args.options.now.grease in
     plain_refused options c.args.datagram.items c.in-Err.e (c.headers_again.ensures.plain options) c.in-Err.ensures.one

@@ -1,5 +1,5 @@
 -- The reading answers what the grammar says.
-use Rattle.std.proofs.Common.{◌≡◌, ◌≤◌, length, subst, Ok, IfOk}
+use Rattle.std.proofs.Common.{◌≡◌, ◌≤◌, length, subst}
 use Rattle.quic_base.specs.Number.{AreBytes}
 use Rattle.quic_header_decode.specs.Refusal.{NoMemory}
 use Rattle.quic_header_decode.proofs.Steps.{match_ok}

@@ -68,7 +68,7 @@ QW_STORE(i64_store32, 32, u64)
 /* gcc for x86-64 fills a length that it knows by an instruction that takes
  * longer to begin than to fill so few bytes: pieces of 64 it stores. */
 #if defined(__GNUC__)
-#define QW_IN_PIECES(len) (__builtin_constant_p(len) && (len) <= 4096)
+#define QW_IN_PIECES(len) (__builtin_constant_p(len) && (len) <= 128)
 #else
 #define QW_IN_PIECES(len) 0
 #endif

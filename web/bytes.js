@@ -1,12 +1,14 @@
 // Bytes out of pasted text: hexadecimal with or without separators, dumps with offsets, base64.
 
+import { answerOf, AT_ONCE, eachLine, Pace, partsOf } from "./slices.js";
 import { fromDecimals, fromLiteral, isHeading, refusalOf, withoutNames } from "./written.js";
 
 const HEX_DIGITS = /^[0-9a-f]*$/i;
 // What may be between digits: blanks, the signs of lists in source code, 0x and \x.
 const SEPARATORS = /0x|\\x|[\s:,;{}()[\]"']+/gi;
 // Its lines may end anywhere, but no line has a blank.
-const BASE64 = /^(?:[A-Za-z0-9+/_-]+\s*\n)*[A-Za-z0-9+/_-]+={0,2}$/;
+const BASE64_LINE = /^[A-Za-z0-9+/_-]+$/;
+const BASE64_END = /={0,2}$/;
 
 // A line of a dump: its offset, a colon or blanks, and the rest; and as od prints it, with one blank between them.
 const DUMP_LINE = /^\s*(?:0x)?([0-9a-f]{4,16})(:\s+|\s{2,})(.*)$/i;
@@ -24,14 +26,19 @@ for (let value = 0; value < 16; value += 1) {
   DIGIT[value.toString(16).toUpperCase().charCodeAt(0)] = value;
 }
 
-// The bytes of an even number of digits.
-export function fromHex(digits) {
+// The bytes of an even number of digits, with pauses.
+function* fromDigits(digits) {
   const bytes = new Uint8Array(digits.length / 2);
   for (let place = 0; place < bytes.length; place += 1) {
     bytes[place] = 16 * DIGIT[digits.charCodeAt(2 * place)] + DIGIT[digits.charCodeAt(2 * place + 1)];
+    if (place % AT_ONCE === AT_ONCE - 1) {
+      yield;
+    }
   }
   return bytes;
 }
+
+export const fromHex = (digits) => answerOf(fromDigits(digits));
 
 const PAIRS = Array.from({ length: 256 }, (_, byte) => byte.toString(16).padStart(2, "0"));
 
@@ -112,13 +119,19 @@ class Dump {
   }
 }
 
-// The dumps in a text whose offsets have this base, or null where a line belongs to none. The next one begins where
-// offsets begin with 0 again, or, after an empty line, with any offset but the one that would go on.
-function dumpsWithBase(lines, base) {
+// The dumps in a text whose offsets have this base, or null where a line belongs to none, with pauses. The next one
+// begins where offsets begin with 0 again, or, after an empty line, with any offset but the one that would go on.
+function* dumpsWithBase(all, base) {
   const dumps = [];
+  const pace = new Pace();
   let isBehindBlank = false;
   let isLikeBefore = false;
-  for (const [at, text] of lines.entries()) {
+  let at = 0;
+  for (const text of eachLine(all)) {
+    at += 1;
+    if (pace.isDue(text.length)) {
+      yield;
+    }
     const last = dumps[dumps.length - 1];
     const isBlank = text.trim() === "" || isHeading(text);
     if (isBlank || (last && LIKE_BEFORE.test(text))) {
@@ -135,7 +148,7 @@ function dumpsWithBase(lines, base) {
       return null;
     }
     if (!goesOn) {
-      dumps.push(new Dump(line.offset, at + 1));
+      dumps.push(new Dump(line.offset, at));
     }
     dumps[dumps.length - 1].add(line);
     isBehindBlank = false;
@@ -144,65 +157,133 @@ function dumpsWithBase(lines, base) {
   return !isLikeBefore && dumps.length > 0 && dumps.every((dump) => dump.isWhole) ? dumps : null;
 }
 
-// The dumps in a text: of each its bytes, and the line where it begins. Null where a line belongs to none. od counts
-// offsets in octal digits.
-export function readDumps(text) {
-  const lines = text.split(/\r?\n/);
-  const dumps = dumpsWithBase(lines, 16) ?? dumpsWithBase(lines, 8);
-  return dumps && dumps.map(({ digits, line }) => ({ bytes: fromHex(digits), form: "a dump", fault: null, line }));
+// The dumps in a text, with pauses: of each its bytes, and the line where it begins. Null where a line belongs to none.
+// od counts offsets in octal digits.
+export function* readDumps(text) {
+  const dumps = (yield* dumpsWithBase(text, 16)) ?? (yield* dumpsWithBase(text, 8));
+  const entries = [];
+  for (const { digits, line } of dumps ?? []) {
+    entries.push({ bytes: yield* fromDigits(digits), form: "a dump", fault: null, line });
+  }
+  return dumps && entries;
 }
 
-export function fromBase64(text) {
-  const digits = text.replace(/\s+/g, "").replace(/-/g, "+").replace(/_/g, "/").replace(/=+$/, "");
+// The digits of base64 in a text, with pauses, or null where something else is in it.
+function* base64Digits(text) {
+  const trimmed = text.trim().replace(BASE64_END, "");
+  const lines = [];
+  const pace = new Pace();
+  for (const line of eachLine(trimmed)) {
+    const digits = line.trimEnd();
+    if (!BASE64_LINE.test(digits) && (digits !== "" || lines.length === 0)) {
+      return null;
+    }
+    lines.push(digits);
+    if (pace.isDue(line.length)) {
+      yield;
+    }
+  }
+  return /\s$/.test(trimmed) ? null : lines.join("");
+}
+
+// The bytes of digits of base64, with pauses, or null.
+function* bytesOfBase64(digits) {
   if (digits.length % 4 === 1) {
     return null;
   }
-  try {
-    return Uint8Array.from(atob(digits), (character) => character.charCodeAt(0));
-  } catch {
-    return null;
+  const bytes = new Uint8Array(Math.floor(digits.length * 3 / 4));
+  for (let from = 0, place = 0; from < digits.length; from += AT_ONCE) {
+    const part = atob(digits.slice(from, from + AT_ONCE).replace(/-/g, "+").replace(/_/g, "/"));
+    for (let at = 0; at < part.length; at += 1, place += 1) {
+      bytes[place] = part.charCodeAt(at);
+    }
+    if (from > 0) {
+      yield;
+    }
   }
+  return bytes;
 }
 
-// What is wrong with a text that looks like hexadecimal.
-function fault(text, digits) {
-  if (HEX_DIGITS.test(digits)) {
+export const fromBase64 = (text) => answerOf(bytesOfBase64(answerOf(base64Digits(text))));
+
+// The digits in a text without names, with pauses, or null where something else is in it.
+function* hexDigits(bare) {
+  const parts = [];
+  for (const part of partsOf(bare)) {
+    const digits = part.replace(SEPARATORS, "");
+    if (!HEX_DIGITS.test(digits)) {
+      return null;
+    }
+    parts.push(digits);
+    if (part.length >= AT_ONCE) {
+      yield;
+    }
+  }
+  return parts.join("");
+}
+
+// Whether a text is digits alone, with pauses.
+function* isPlain(text) {
+  for (const part of text.length % 2 === 0 ? partsOf(text) : []) {
+    if (!HEX_DIGITS.test(part)) {
+      return false;
+    }
+    if (part.length >= AT_ONCE) {
+      yield;
+    }
+  }
+  return text.length % 2 === 0;
+}
+
+// What is wrong with a text that looks like hexadecimal, with pauses.
+function* faultOf(text, digits) {
+  if (digits !== null) {
     return `an odd number of digits: ${digits.length}`;
   }
-  const place = text.replace(SEPARATORS, (blank) => "0".repeat(blank.length)).search(/[^0-9a-f]/i);
-  return `neither hexadecimal nor base64: “${[...text.slice(place)][0]}” is character ${place + 1}`;
+  let from = 0;
+  for (const part of partsOf(text)) {
+    const place = part.replace(SEPARATORS, (blank) => "0".repeat(blank.length)).search(/[^0-9a-f]/i);
+    if (place >= 0) {
+      const [sign] = text.slice(from + place);
+      return `neither hexadecimal nor base64: “${sign}” is character ${from + place + 1}`;
+    }
+    from += part.length;
+    yield;
+  }
+  return "neither hexadecimal nor base64";
 }
 
-// Returns the bytes and how they were written, or what is wrong.
-export function readText(text) {
-  if (text.length % 2 === 0 && HEX_DIGITS.test(text)) {
-    return { bytes: fromHex(text), form: "hexadecimal", fault: null };
+const found = (bytes, form) => ({ bytes, form, fault: null });
+const refused = (fault) => ({ bytes: null, form: null, fault });
+
+// Returns the bytes and how they were written, or what is wrong, with pauses. |dumps| is what readDumps said, if it was
+// asked before.
+export function* reading(text, dumps) {
+  if (yield* isPlain(text)) {
+    return found(yield* fromDigits(text), "hexadecimal");
   }
-  const refusal = refusalOf(text);
+  const bare = yield* withoutNames(text);
+  const refusal = yield* refusalOf(text, bare);
   if (refusal) {
-    return { bytes: null, form: null, fault: refusal };
+    return refused(refusal);
   }
-  const listed = fromLiteral(text) ?? fromDecimals(withoutNames(text));
-  const digits = withoutNames(text).replace(SEPARATORS, "");
-  const isHex = HEX_DIGITS.test(digits);
-  if (/[\n:]|\s{2}/.test(text) && digits !== "") {
-    const dumps = readDumps(text);
-    if (dumps?.length === 1) {
-      const [{ bytes, form }] = dumps;
-      return { bytes, form, fault: null };
-    }
+  const digits = yield* hexDigits(bare);
+  const mayBeDump = digits !== "" && (text.includes("\n") || text.includes(":") || /\s{2}/.test(text));
+  const [dump, ...others] = (mayBeDump && (dumps === undefined ? yield* readDumps(text) : dumps)) || [];
+  if (dump && others.length === 0) {
+    return found(dump.bytes, dump.form);
   }
+  const listed = (yield* fromLiteral(text)) ?? (yield* fromDecimals(bare));
   if (listed) {
-    return { bytes: listed, form: "a list of bytes", fault: null };
+    return found(listed, "a list of bytes");
   }
-  if (isHex && digits.length % 2 === 0 && (digits !== "" || !BASE64.test(text.trim()))) {
-    return { bytes: fromHex(digits), form: "hexadecimal", fault: null };
+  const base64 = digits ? null : yield* base64Digits(text);
+  if (digits !== null && digits.length % 2 === 0 && base64 === null) {
+    return found(yield* fromDigits(digits), "hexadecimal");
   }
-  if ((!isHex || digits === "") && BASE64.test(text.trim())) {
-    const bytes = fromBase64(text);
-    if (bytes) {
-      return { bytes, form: "base64", fault: null };
-    }
-  }
-  return { bytes: null, form: null, fault: fault(text, digits) };
+  const bytes = base64 === null ? null : yield* bytesOfBase64(base64);
+  return bytes ? found(bytes, "base64") : refused(yield* faultOf(text, digits));
 }
+
+// The same without pauses.
+export const readText = (text) => answerOf(reading(text));

@@ -1,34 +1,45 @@
 // Inputs out of pasted text: one, or a list of them, where the text has several dumps, blocks or lines that are bytes,
 // or is a log whose lines have bytes in them.
 
-import { readDumps, readText } from "./bytes.js";
-import { refusalOf } from "./written.js";
+import { readDumps, reading, readText } from "./bytes.js";
+import { answerOf, eachLine, Pace } from "./slices.js";
+import { refusalOf, withoutNames } from "./written.js";
 
 // A line of a log is looked at for pairs of digits in a row; what is shorter than this is a time, a length or the like.
 const LOG_RUN = /(?<![0-9a-z_])(?:0x)?((?:[0-9a-f]{2}[ :]?)*[0-9a-f]{2})(?![0-9a-z_])/gi;
 const LOG_DIGITS = 8;
 const IN_LOG = "hexadecimal in a line of a log";
-// So many lines are read before a pause.
-const LINES_AT_ONCE = 4096;
-// The end of a line that goes on in the next one, in source code.
-const GOES_ON = /[,\\({[]\s*$/;
+// The signs behind which a line goes on in the next one, in source code.
+const GOES_ON = [",", "\\", "(", "{", "["];
 
-// Lines that aren't empty, each with its number.
-function filledLines(text) {
-  return text.split(/\r?\n/).map((line, at) => ({ line: at + 1, text: line })).filter((one) => one.text.trim() !== "");
+// Lines that aren't empty, each with its number, with pauses.
+function* filledLines(text) {
+  const filled = [];
+  const pace = new Pace();
+  let line = 0;
+  for (const one of eachLine(text)) {
+    line += 1;
+    if (one.trim() !== "") {
+      filled.push({ line, text: one });
+    }
+    if (pace.isDue(one.length)) {
+      yield;
+    }
+  }
+  return filled;
 }
 
-// Neighbouring lines that aren't empty as one text.
+// Neighbouring lines that aren't empty as lists of them.
 function blocksOf(lines) {
   const blocks = [];
-  for (const { line, text } of lines) {
-    const last = blocks[blocks.length - 1];
-    if (last && last.line + last.count === line) {
-      last.text += `\n${text}`;
-      last.count += 1;
+  let before = null;
+  for (const one of lines) {
+    if (one.line - 1 === before) {
+      blocks[blocks.length - 1].push(one);
     } else {
-      blocks.push({ line, text, count: 1 });
+      blocks.push([one]);
     }
+    before = one.line;
   }
   return blocks;
 }
@@ -38,11 +49,13 @@ function blocksOf(lines) {
 function isWrapped(lines) {
   const widths = lines.map(({ text }) => text.trim().length);
   const last = widths.pop();
-  return lines.slice(0, -1).some(({ text }) => GOES_ON.test(text))
+  return lines.slice(0, -1).some(({ text }) => GOES_ON.includes(text.trimEnd().at(-1)))
     || (widths.every((width) => width === widths[0]) && last <= widths[0]);
 }
 
-const read = ({ text, line }) => ({ ...readText(text), line });
+function* read({ text, line }) {
+  return { ...(yield* reading(text)), line };
+}
 const isBytes = ({ bytes }) => bytes !== null && bytes.length > 0;
 
 // The longest run of digits in a line of a log, the last one of these, or null. What begins the line is no such run:
@@ -58,28 +71,33 @@ function runOf({ text, line }) {
   return longest.length >= LOG_DIGITS ? { ...readText(longest), form: IN_LOG, line } : null;
 }
 
-// What |map| makes of lines, with pauses.
-function* mapped(lines, map) {
-  const all = [];
+// The inputs in lines of a log, with pauses.
+function* readLog(lines) {
+  const entries = [];
+  const pace = new Pace();
   for (const line of lines) {
-    all.push(map(line));
-    if (all.length % LINES_AT_ONCE === 0) {
+    const entry = runOf(line);
+    if (entry) {
+      entries.push(entry);
+    }
+    if (pace.isDue(line.text.length)) {
       yield;
     }
   }
-  return all;
+  return entries;
 }
 
-// Texts as bytes, with pauses; null where one of them is none.
-function* readAll(texts) {
+// Texts as bytes, with pauses; null where one of them is none, unless |any| are taken.
+function* readAll(texts, any = false) {
   const entries = [];
+  const pace = new Pace();
   for (const text of texts) {
-    const entry = read(text);
-    if (!isBytes(entry)) {
+    const entry = yield* read(text);
+    if (!any && !isBytes(entry)) {
       return null;
     }
     entries.push(entry);
-    if (entries.length % LINES_AT_ONCE === 0) {
+    if (pace.isDue(text.text.length)) {
       yield;
     }
   }
@@ -88,10 +106,9 @@ function* readAll(texts) {
 
 // Blocks between empty lines, each of them one input or one for each of its lines; or null where one is no bytes.
 function* readBlocks(lines) {
-  return yield* readAll(blocksOf(lines).flatMap((block) => {
-    const inner = filledLines(block.text).map((one) => ({ ...one, line: block.line + one.line - 1 }));
-    return inner.length === 1 || isWrapped(inner) ? [block] : inner;
-  }));
+  return yield* readAll(blocksOf(lines).flatMap((block) => (block.length === 1 || isWrapped(block)
+    ? [{ line: block[0].line, text: block.map(({ text }) => text).join("\n") }]
+    : block)));
 }
 
 // The inputs in lines that are apart, as far as they are bytes.
@@ -101,7 +118,7 @@ function* apart(lines) {
     return blocks;
   }
   const each = yield* readAll(lines);
-  return each ?? (yield* mapped(lines, runOf)).filter((entry) => entry !== null);
+  return each ?? (yield* readLog(lines));
 }
 
 // Whether lines that can be taken both ways look like one input.
@@ -121,17 +138,16 @@ function isOne(one, several, lines, filled) {
 // "auto". Returned are the inputs, how many lines have none, whether the lines can be taken both ways, and how they
 // were.
 export function* entriesOf(text, lines) {
-  if (refusalOf(text)) {
-    return { entries: [{ ...readText(text), line: 1 }], left: 0, both: false, lines: "one" };
+  const refusal = yield* refusalOf(text, yield* withoutNames(text));
+  if (refusal) {
+    return { entries: [yield* read({ text, line: 1 })], left: 0, both: false, lines: "one" };
   }
-  const filled = text.includes("\n") ? filledLines(text) : [{ text, line: 1 }];
-  const dumps = filled.length > 1 ? readDumps(text) : null;
+  const filled = text.includes("\n") ? yield* filledLines(text) : [{ text, line: 1 }];
+  const dumps = filled.length > 1 ? yield* readDumps(text) : null;
   if (dumps && dumps.length > 1) {
     return { entries: dumps, left: 0, both: false, lines: "each" };
   }
-  yield;
-  const one = { ...readText(text), line: 1 };
-  yield;
+  const one = { ...(yield* reading(text, dumps ?? undefined)), line: 1 };
   if (dumps || (filled.length < 2 && one.bytes)) {
     return { entries: [one], left: 0, both: false, lines: "one" };
   }
@@ -140,18 +156,10 @@ export function* entriesOf(text, lines) {
   if (filled.length < 2 ? several.length === 0 : isOne(one, several, lines, filled)) {
     return { entries: [one], left: 0, both, lines: "one" };
   }
-  const entries = several.length > 0 ? several : yield* mapped(filled, read);
+  const entries = several.length > 0 ? several : yield* readAll(filled, true);
   const left = entries[0].form === IN_LOG ? filled.length - entries.length : 0;
   return { entries, left, both, lines: "each" };
 }
 
 // The same without pauses.
-export function readEntries(text, lines = "auto") {
-  const steps = entriesOf(text, lines);
-  for (;;) {
-    const { done, value } = steps.next();
-    if (done) {
-      return value;
-    }
-  }
-}
+export const readEntries = (text, lines = "auto") => answerOf(entriesOf(text, lines));

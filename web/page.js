@@ -2,7 +2,7 @@
 
 import { Beside } from "./beside.js";
 import { fromBase64, fromHex, readText, toHex } from "./bytes.js";
-import { entriesOf, readEntries } from "./entries.js";
+import { entriesOf } from "./entries.js";
 import { EXAMPLES } from "./examples.js";
 import { Form } from "./form.js";
 import { inspect } from "./inspector.js";
@@ -16,6 +16,7 @@ import { pictureOf, saveText } from "./picture.js";
 import { printInto } from "./printed.js";
 import { readBytes } from "./reading.js";
 import { element } from "./rows.js";
+import { inTasks } from "./slices.js";
 import { showReading, showStatus, summaryOf } from "./status.js";
 import { Views } from "./views.js";
 import { count } from "./walk.js";
@@ -152,7 +153,7 @@ class Page {
     this.go(this.steps(state), state.text.length);
   }
 
-  // Takes steps, all at once where there are few characters, else each as a task of its own.
+  // Takes steps, all at once where there are few characters, else as tasks of their own, each as many as fit in a while.
   go(steps, characters) {
     this.going = steps;
     if (characters <= MOST_AT_ONCE) {
@@ -160,18 +161,10 @@ class Page {
       document.documentElement.dataset.state = "ready";
       return;
     }
-    const step = () => {
-      if (this.going === steps) {
-        if (steps.next().done) {
-          document.documentElement.dataset.state = "ready";
-        } else {
-          setTimeout(step);
-        }
-      }
-    };
+    const end = () => { document.documentElement.dataset.state = "ready"; };
     document.documentElement.dataset.state = "reading";
     showReading(byId("status"), characters);
-    requestAnimationFrame(() => setTimeout(step));
+    requestAnimationFrame(() => setTimeout(() => inTasks(steps, () => this.going === steps, end)));
   }
 
   *steps(state) {
@@ -283,7 +276,7 @@ class Page {
       this.views.show(reading, columns());
     }
     yield;
-    this.showBeside();
+    yield* this.showBeside();
     yield;
     this.opened.show(reading?.unit === "packet" ? reading : null, columns(), this.form.opened);
     if (reading?.unit === "packet") {
@@ -303,7 +296,7 @@ class Page {
   }
 
   // The other input, if one is to be shown beside the bytes; else their shortest form.
-  showBeside() {
+  *showBeside() {
     const { reading } = this;
     const isOther = this.form.state.compare && reading !== null;
     this.shortest.clear();
@@ -312,14 +305,14 @@ class Page {
     byId("views").classList.toggle("compared", isOther);
     if (isOther) {
       byId("shortest").hidden = true;
-      this.showOther();
+      yield* this.showOther();
     } else {
-      this.showShortest();
+      yield* this.showShortest();
     }
   }
 
-  showOther() {
-    const [{ bytes, fault }] = readEntries(this.form.state.other, "one").entries;
+  *showOther() {
+    const { entries: [{ bytes, fault }] } = yield* entriesOf(this.form.state.other, "one");
     byId("other-input").setAttribute("aria-invalid", Boolean(fault));
     const isShown = bytes !== null && bytes.length > 0 && this.reading.bytes.length > 0;
     byId("other-grid").hidden = !isShown;
@@ -328,6 +321,7 @@ class Page {
       return;
     }
     const reading = readBytes(this.besideLibrary, bytes, this.chosen);
+    yield;
     this.other.show(reading, columns(), false);
     const { count: here, rightCount: there, isRough } = this.other.comparison;
     const differ = `${count(here, "byte")} of the first and ${there} of this one`;
@@ -335,10 +329,11 @@ class Page {
       : isRough ? `Too many changes to find each: ${differ} are in parts that differ.` : `${differ} differ.`}`;
   }
 
-  showShortest() {
+  *showShortest() {
     const { reading } = this;
     const section = byId("shortest");
     const canonical = reading?.unit === "frame" ? reading.canonical() : { bytes: null };
+    yield;
     section.hidden = canonical.bytes === null;
     if (section.hidden) {
       return;
@@ -355,6 +350,7 @@ class Page {
     const size = `${count(canonical.bytes.length, "byte")}, ${fewer} fewer, with the same frames in the same order. `;
     byId("shortest-note").replaceChildren(size, copy);
     const shortest = readBytes(this.besideLibrary, canonical.bytes, { mode: "frames", strict: false });
+    yield;
     this.shortest.show(shortest, columns(), true);
   }
 

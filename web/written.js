@@ -1,6 +1,8 @@
 // What is in a text beside digits: comments, names of lists, bytes as Python and Rust print them, lists of decimal
 // numbers, the lines above a dump; and the dumps that swap bytes, which aren't read. rust/README.md says it in a table.
 
+import { AT_ONCE, eachLine, Pace } from "./slices.js";
+
 const SWAPPED_UNITS = "the bytes of each group are swapped, as hexdump without -C and od -x print them; hexdump -C and "
   + "od -t x1 are read";
 const WIDE_UNITS = "these are units of more than a byte, as od and hexdump print them; od -t x1 and hexdump -C are "
@@ -17,12 +19,18 @@ const XXD_LINE = /^[0-9a-f]{8,}: (((?:[0-9a-f]{2,} )*[0-9a-f]{2,})  (.*))$/i;
 // The lines that tshark and tcpdump print above a dump.
 const HEADING = /^\s*(?:.*\(\d+ bytes\):|(?:\S+ )?\d\d:\d\d:\d\d\.\d{6} .*|.* → .*|.* > .*: .*)$/;
 
-// A literal of bytes, the name before a value, and how many bytes there are, as xxd -i prints it.
-const LITERAL = /^(?:bytearray\()?b(['"])((?:\\[^]|(?!\1)[\x00-\x5b\x5d-\x7f])*)\1[);,\s]*$/;
+// Where a literal of bytes begins, what it has, and what may be behind it; the name before a value, and how many bytes
+// there are, as xxd -i prints it.
+const LITERAL = /^(?:bytearray\()?b(?=['"])/;
+const LITERAL_PART = /\\x[0-9a-f]{2}|\\[^]|[\x00-\x5b\x5d-\x7f]/giy;
+const BEHIND_LITERAL = /^[);,\s]*$/;
 const NAME = /^\s*[a-z_][^"'\\=]*=(?=\s*[^=\s])/i;
 const LENGTH = /^unsigned int \w+_len = \d+;\s*$/m;
 const ESCAPES = { a: 7, b: 8, t: 9, n: 10, v: 11, f: 12, r: 13, 0: 0, "\\": 92, "'": 39, '"': 34 };
 const COMMENT = /\/\*[^]*?\*\/|(?:#|\/\/)[^\n]*/g;
+const WORD = /[^\s,:;(){}[\]]+/g;
+// No line of a dump and no name is longer.
+const LONGEST = 1000;
 
 export const isHeading = (line) => HEADING.test(line);
 
@@ -67,46 +75,112 @@ function refusalOfLine(line) {
   return isOfXxdE ? SWAPPED_GROUPS : null;
 }
 
-// The numbers of a list, if all may be decimal bytes, as JSON has them.
-function decimalsOf(text) {
-  const isList = /^[[{(][^"'\\]*$/.test(text.trim());
-  const words = isList ? text.match(/[^\s,:;(){}[\]]+/g) ?? [] : [];
-  return words.every((word) => /^(?:0|[1-9]\d{0,2})$/.test(word) && Number(word) < 256) ? words : [];
+// The numbers of a list, if all may be decimal bytes, as JSON has them, with pauses.
+function* decimalsOf(text) {
+  const list = text.trim();
+  if (!/^[[{(]/.test(list.slice(0, 1)) || ['"', "'", "\\"].some((sign) => list.includes(sign))) {
+    return [];
+  }
+  const words = [];
+  const pace = new Pace();
+  for (const [word] of list.matchAll(WORD)) {
+    if (!/^(?:0|[1-9]\d{0,2})$/.test(word) || Number(word) > 255) {
+      return [];
+    }
+    words.push(word);
+    if (pace.isDue(word.length)) {
+      yield;
+    }
+  }
+  return words;
 }
 
 // Why a text isn't read, if it is a dump of those that swap bytes or print other units, or a list that may mean either
-// of two things.
-export function refusalOf(text) {
-  for (const line of text.split(/\r?\n/)) {
-    const refusal = refusalOfLine(line);
+// of two things. With pauses; |bare| is the text without names.
+export function* refusalOf(text, bare) {
+  const pace = new Pace();
+  for (const line of eachLine(text)) {
+    const refusal = line.length < LONGEST ? refusalOfLine(line) : null;
     if (refusal) {
       return refusal;
     }
+    if (pace.isDue(line.length)) {
+      yield;
+    }
   }
-  const decimals = decimalsOf(withoutNames(text));
+  const decimals = yield* decimalsOf(bare);
   return decimals.length > 0 && decimals.every((word) => word.length === 2) ? EITHER : null;
 }
 
-// The bytes of a literal of Python or Rust, or null.
-export function fromLiteral(text) {
-  const inner = LITERAL.exec(text.replace(NAME, "").trim())?.[2];
-  const parts = inner?.match(/\\x[0-9a-f]{2}|\\?[^]/gi) ?? [];
-  const codes = parts.map((part) => {
-    if (part.length === 1) {
-      return part.charCodeAt(0);
+// The bytes of a literal of Python or Rust, or null, with pauses.
+export function* fromLiteral(text) {
+  const literal = withoutName(text).trim();
+  const [begin] = LITERAL.exec(literal) ?? [];
+  if (begin === undefined) {
+    return null;
+  }
+  const quote = literal[begin.length];
+  const codes = [];
+  const pace = new Pace();
+  let at = begin.length + 1;
+  while (literal[at] !== quote) {
+    LITERAL_PART.lastIndex = at;
+    const [part] = LITERAL_PART.exec(literal) ?? [""];
+    const code = part.length < 2 ? part.charCodeAt(0) : ESCAPES[part[1]];
+    codes.push(part.length === 4 ? parseInt(part.slice(2), 16) : code);
+    if (!(codes[codes.length - 1] >= 0)) {
+      return null;
     }
-    return part.length === 4 ? parseInt(part.slice(2), 16) : ESCAPES[part[1]];
-  });
-  return inner === undefined || codes.includes(undefined) ? null : Uint8Array.from(codes);
+    at += part.length;
+    if (pace.isDue(part.length)) {
+      yield;
+    }
+  }
+  return BEHIND_LITERAL.test(literal.slice(at + 1)) ? Uint8Array.from(codes) : null;
 }
 
-// The bytes of a list of decimal numbers, as JSON has it, or null.
-export function fromDecimals(text) {
-  const words = decimalsOf(text);
-  return words.length > 0 ? Uint8Array.from(words, Number) : null;
+// The bytes of a list of decimal numbers, as JSON has it, or null, with pauses.
+export function* fromDecimals(bare) {
+  const words = yield* decimalsOf(bare);
+  const bytes = new Uint8Array(words.length);
+  for (const [at, word] of words.entries()) {
+    bytes[at] = Number(word);
+    if (at % AT_ONCE === AT_ONCE - 1) {
+      yield;
+    }
+  }
+  return words.length > 0 ? bytes : null;
 }
 
-// A text without comments, the names of lists, and lines that aren't of one.
-export function withoutNames(text) {
-  return text.replace(COMMENT, (comment) => " ".repeat(comment.length)).replace(LENGTH, "").replace(NAME, "");
+function withoutName(text) {
+  const [name] = NAME.exec(text.slice(0, LONGEST)) ?? [""];
+  return text.slice(name.length);
+}
+
+function withoutLength(text) {
+  const at = text.lastIndexOf("unsigned int ");
+  const isLine = at === 0 || text[at - 1] === "\n";
+  return at >= 0 && isLine ? text.slice(0, at) + text.slice(at).replace(LENGTH, "") : text;
+}
+
+function* withoutComments(text) {
+  if (!text.includes("#") && !text.includes("/")) {
+    return text;
+  }
+  const parts = [];
+  const pace = new Pace();
+  let from = 0;
+  for (const { 0: comment, index } of text.matchAll(COMMENT)) {
+    parts.push(text.slice(from, index), " ".repeat(comment.length));
+    if (pace.isDue(index + comment.length - from)) {
+      yield;
+    }
+    from = index + comment.length;
+  }
+  return parts.join("") + text.slice(from);
+}
+
+// A text without comments, the names of lists, and lines that aren't of one, with pauses.
+export function* withoutNames(text) {
+  return withoutName(withoutLength(yield* withoutComments(text)));
 }

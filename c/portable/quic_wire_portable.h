@@ -65,13 +65,27 @@ QW_STORE(i64_store8, 8, u64)
 QW_STORE(i64_store16, 16, u64)
 QW_STORE(i64_store32, 32, u64)
 
+/* gcc for x86-64 fills a length that it knows by an instruction that takes
+ * longer to begin than to fill so few bytes: pieces of 64 it stores. */
+#if defined(__GNUC__)
+#define QW_IN_PIECES(len) (__builtin_constant_p(len) && (len) <= 128)
+#else
+#define QW_IN_PIECES(len) 0
+#endif
 static inline void memory_copy(u64 to, u64 from, u64 len) {
   if (len)
     memmove(HERE(to), HERE(from), (size_t)len);
 }
 static inline void memory_fill(u64 to, u32 byte, u64 len) {
+  if (QW_IN_PIECES(len))
+    for (; len > 64; len -= 64, to += 64)
+      memset(HERE(to), (int)(byte & 255), 64);
   if (len)
     memset(HERE(to), (int)(byte & 255), (size_t)len);
+}
+/* Whether so many bytes are the same. */
+static inline u32 memory_same(u64 a, u64 b, u64 len) {
+  return !memcmp(HERE(a), HERE(b), (size_t)len);
 }
 
 /* ---- Operations */

@@ -151,10 +151,38 @@ fn answers_come_as_lines_do() {
         let answer = answers.next().unwrap().unwrap();
         assert!(answer.starts_with(&format!("{}: ", i + 1)), "{answer}");
     }
-    // Who reads no more ends it without an error.
+    // Who reads no more ends it, without a word, by the status that a shell has of SIGPIPE.
     drop(answers);
     while writeln!(stdin, "01").is_ok() {}
-    assert_eq!(child.wait().unwrap().code(), Some(1));
+    assert_eq!(child.wait().unwrap().code(), Some(141));
+}
+
+// The output goes to what the shell's words say; then what is said, and the status.
+#[cfg(target_os = "linux")]
+fn shell(words: &str) -> (String, i32) {
+    let mut command = Command::new("sh");
+    let output = command.args(["-c", words, env!("CARGO_BIN_EXE_quic-wire")]).stdin(Stdio::null()).output().unwrap();
+    assert_eq!(output.stdout, b"", "{words}");
+    (String::from_utf8(output.stderr).unwrap(), output.status.code().unwrap())
+}
+
+#[cfg(target_os = "linux")]
+#[test]
+fn an_output_that_takes_nothing_is_told() {
+    let unread = "(sleep 1; echo 01) | { \"$0\" frames; echo $? >&2; } | true";
+    assert_eq!(shell(unread), ("141\n".into(), 0));
+    let closed = "quic-wire: write failed: standard output is closed\n";
+    for call in ["frames", "frames --json", "--version", "--help"] {
+        assert_eq!(shell(&format!("echo 01 | \"$0\" {call} >&-")), (closed.into(), 3), "{call}");
+    }
+    assert_eq!(shell("\"$0\" --version >&- 2>&-"), (String::new(), 3));
+    assert_eq!(shell("\"$0\" frame >&-").1, 2);
+    let (said, status) = shell("echo 01 | \"$0\" frames >/dev/full");
+    assert!(said.starts_with("quic-wire: write failed: ") && status == 3, "{said}");
+    // Files that take all, for reading too, as Python's DEVNULL does.
+    for taken in [">/dev/null", "1<>/dev/null"] {
+        assert_eq!(shell(&format!("echo 01 | \"$0\" frames {taken}")), (String::new(), 0), "{taken}");
+    }
 }
 
 #[test]

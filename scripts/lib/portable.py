@@ -228,6 +228,55 @@ class Translation:
         return "\n".join(kept)
 
 
+# ---- Comparisons of arrays, byte by byte, which no C compiler makes wider.
+
+GUARD = ["i0 = 0u;", "l3 = i0;", "i0 = p0;", "i0 = !(i0);", "if (i0) {goto B0;}"]
+LAST = ["l3 = i0;", "B0:;", "i0 = l3;", "i1 = 1u;", "i0 &= i1;", "return i0;"]
+STEP_OF = re.compile(r"(\w+) (\+|\||\^)?= (?:(\d+)u(?:ll)?|(\w+)|i32_load8_u\(\((\w+)\)\)|(\w+) != (\w+));")
+
+
+def stepped(values, line):
+    """Sets what a line says of a value: a number; an address, as a parameter and a number; a byte there; at which
+    places the bytes of p1 and p2 are compared, and whether the value says that one differs or that none does. Returns
+    whether the line is one of these."""
+    found = STEP_OF.fullmatch(line)
+    if not found:
+        return False
+    to, sign, number, name, address, left, right = found.groups()
+    value = ("number", int(number)) if number else values.get(name or address or left)
+    if left:
+        pair = (value or ("",), values.get(right, ("",)))
+        is_pair = [it[:2] for it in pair] == [("byte", "p1"), ("byte", "p2")] and pair[0][2] == pair[1][2]
+        value = ("differs", {pair[0][2]}) if is_pair else None
+    elif address:
+        value = ("byte", *value[1:]) if value and value[0] == "address" else None
+    elif sign:
+        before = values.get(to)
+        kinds = (before and before[0], sign, value and value[0])
+        value = {
+            ("address", "+", "number"): lambda: ("address", before[1], before[2] + value[1]),
+            ("differs", "|", "differs"): lambda: ("differs", before[1] | value[1]),
+            ("differs", "^", "number"): lambda: ("same", before[1]) if value[1] == 1 else None,
+        }.get(kinds, lambda: None)()
+    values[to] = value
+    return value is not None
+
+
+def comparison(head, body):
+    """The body of a function that says whether p0 isn't 0 and arrays at p1 and p2 are the same: in one call, where it
+    does nothing else, or None."""
+    lines = [line.strip() for line in body.strip().split("\n") if not re.match(r"\s*u(32|64) ", line)]
+    steps = lines[len(GUARD) : -len(LAST)]
+    if not head.endswith("(u32 p0, u64 p1, u64 p2)") or lines != GUARD + steps + LAST:
+        return None
+    values = {"p1": ("address", "p1", 0), "p2": ("address", "p2", 0)}
+    if not all(stepped(values, line) for line in steps):
+        return None
+    kind, places = values.get("i0")
+    is_whole = kind == "same" and places == set(range(len(places)))
+    return f"  return p0 && memory_same(p1, p2, {len(places)});\n" if is_whole else None
+
+
 def head_of(function, name, depth):
     arguments = function.arguments.replace("var_", "")
     arguments = f"u64 sp{arguments}" if depth else arguments.removeprefix(", ") or "void"
@@ -311,6 +360,7 @@ def file_of(head, first, second, include):
     translation = Translation(data, names, depths)
     bodies = {name: translation.body(functions[name].body, others[name].body) for name in order}
     heads = {name: head_of(functions[name], names[name], depths[name]) for name in order}
+    bodies = {name: comparison(heads[name], body) or body for name, body in bodies.items()}
     parts = [f"/* SPDX-License-Identifier: MIT OR Apache-2.0 */\n/*\n{head} */\n#define QUIC_WIRE_INLINE\n"
              '#include "quic_wire.h"\n#include "quic_wire_portable.h"\n']
     parts += [*asserted(exports, layouts), "", array_of(data.content)]

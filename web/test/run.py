@@ -120,7 +120,7 @@ def times(browser, host):
         took, what = sizes.shown(browser, address, size, bound)
         listed = sizes.listed(browser, address, size, bound)
         print(f"  {size} bytes: at most {took:.0f} ms ({what}), a log in {listed:.0f} ms", flush=True)
-    print(f"  texts of 5 MB: busy for {sizes.long_texts(browser, address, 3000):.0f} ms at a time", flush=True)
+    print(f"  texts of 5 MB: busy for {sizes.long_texts(browser, address, 100):.0f} ms at a time", flush=True)
     if isinstance(browser, Chromium):
         browser.slow(6)
         took, what = sizes.shown(browser, address, 65536, 2000)

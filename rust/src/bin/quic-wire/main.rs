@@ -1,6 +1,7 @@
 //! The program `quic-wire`: what the bytes of QUIC say, from lines of hexadecimal or dumps.
 mod args;
 mod canon;
+mod closed;
 mod colour;
 mod datagram;
 mod dump;
@@ -29,11 +30,17 @@ use std::process::ExitCode;
 const REFUSED: u8 = 1;
 const WRONG_CALL: u8 = 2;
 const FAILED: u8 = 3;
+// Who read the output reads no more, as `head` does: what a shell says of a program that SIGPIPE has ended.
+const UNREAD: u8 = 141;
 
 const WHOLE_PACKET: &str = "a packet with its headers of IP, and no payload of QUIC; the mode datagram reads it";
 
 fn main() -> ExitCode {
     match args::parse(std::env::args_os().skip(1)) {
+        Ok(_) if closed::is_closed() => {
+            say("write failed: standard output is closed");
+            ExitCode::from(FAILED)
+        }
         Ok(Call::Show(args)) => show(&args),
         Ok(Call::Print(text)) => status(io::stdout().write_all(text.as_bytes()), true),
         Err(what) => {
@@ -118,13 +125,14 @@ fn show_all(args: &Args, source: impl BufRead, output: &mut Output<impl Write>) 
     Ok(())
 }
 
-// Who reads no more, as `head` does, is no error.
 fn status(written: io::Result<()>, is_clean: bool) -> ExitCode {
-    match written {
-        Err(error) if error.kind() != ErrorKind::BrokenPipe => {
+    ExitCode::from(match written {
+        Ok(()) if is_clean => 0,
+        Ok(()) => REFUSED,
+        Err(error) if error.kind() == ErrorKind::BrokenPipe => UNREAD,
+        Err(error) => {
             say(format_args!("write failed: {error}"));
-            ExitCode::from(FAILED)
+            FAILED
         }
-        _ => ExitCode::from(if is_clean { 0 } else { REFUSED }),
-    }
+    })
 }

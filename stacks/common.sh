@@ -5,19 +5,19 @@ export top lists
 top=$(dirname -- "$here")
 lists=$WORK/lists
 
-# row WHAT OWN OVER: a row of the table, of the peer as it is and over the library.
+# row WHAT OWN OVER: a row of the table, of the stack as it is and over the library.
 row() { printf '%s\t%s\t%s\n' "$@" >>"$WORK/table"; }
 
 # step NAME COMMAND..: a step, whose output is kept in a log; where it fails the log's end is shown. It is never called
 # as a condition, in which bash would go on after a failure.
 step() {
     local log=$WORK/logs/$1.log status
-    echo "peers: $1" >&2
+    echo "stacks: $1" >&2
     set +e
     (set -e; "${@:2}") >"$log" 2>&1
     status=$?
     set -e
-    [ "$status" = 0 ] || { echo "peers: $1 failed:" >&2; tail -20 "$log" >&2; exit 1; }
+    [ "$status" = 0 ] || { echo "stacks: $1 failed:" >&2; tail -20 "$log" >&2; exit 1; }
 }
 
 # debian ARG..: apt-get with lists, cache and state of its own, so that the machine's stay as they are.

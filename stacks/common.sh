@@ -4,6 +4,7 @@ here=$(cd "$(dirname -- "$(readlink -f -- "${BASH_SOURCE[0]}")")" && pwd)
 export top lists
 top=$(dirname -- "$here")
 lists=$WORK/lists
+suite=bookworm mirror=${DEBIAN_MIRROR:-http://deb.debian.org/debian}
 
 # row WHAT OWN OVER: a row of the table, of the stack as it is and over the library.
 row() { printf '%s\t%s\t%s\n' "$@" >>"$WORK/table"; }
@@ -12,38 +13,39 @@ row() { printf '%s\t%s\t%s\n' "$@" >>"$WORK/table"; }
 # as a condition, in which bash would go on after a failure.
 step() {
     local log=$WORK/logs/$1.log status
-    echo "stacks: $1" >&2
+    echo "${self:-stacks}: $1" >&2
     set +e
     (set -e; "${@:2}") >"$log" 2>&1
     status=$?
     set -e
-    [ "$status" = 0 ] || { echo "stacks: $1 failed:" >&2; tail -20 "$log" >&2; exit 1; }
+    [ "$status" = 0 ] || { echo "${self:-stacks}: $1 failed:" >&2; tail -20 "$log" >&2; exit 1; }
 }
 
-# debian ARG..: apt-get with lists, cache and state of its own, so that the machine's stay as they are.
+# debian ARG..: apt-get for Debian's release `suite`, with lists, cache and state of its own, so that the machine's stay
+# as they are.
 debian() {
-    apt-get -qq -o Dir::Etc::sourcelist="$WORK/apt/sources.list" -o Dir::Etc::sourceparts=/dev/null \
-        -o Dir::State="$WORK/apt/state" -o Dir::State::status="$WORK/apt/status" -o Dir::Cache="$WORK/apt/cache" \
+    local apt=$WORK/apt-$suite
+    apt-get -qq -o Dir::Etc::sourcelist="$apt/sources.list" -o Dir::Etc::sourceparts=/dev/null \
+        -o Dir::State="$apt/state" -o Dir::State::status="$apt/status" -o Dir::Cache="$apt/cache" \
         -o APT::Sandbox::User=root "$@"
 }
 
-# Debian's list of packages and of sources, fetched once.
+# debian_lists: the lists of packages and of sources of Debian's release `suite`, fetched once.
 debian_lists() {
-    [ ! -e "$WORK/apt/status" ] || return 0
-    mkdir -p "$WORK"/apt/{state/lists,cache/archives}/partial
-    local suite=bookworm keys=/usr/share/keyrings/debian-archive-keyring.gpg
-    local mirror=${DEBIAN_MIRROR:-http://deb.debian.org/debian}
-    printf '%s [signed-by=%s] %s %s main\n' deb "$keys" "$mirror" $suite deb-src "$keys" "$mirror" $suite \
-        >"$WORK/apt/sources.list"
-    : >"$WORK/apt/status"
-    step lists debian update
+    local apt=$WORK/apt-$suite keys=/usr/share/keyrings/debian-archive-keyring.gpg
+    [ ! -e "$apt/status" ] || return 0
+    mkdir -p "$apt"/{state/lists,cache/archives}/partial
+    printf '%s [signed-by=%s] %s %s main\n' deb "$keys" "$mirror" "$suite" deb-src "$keys" "$mirror" "$suite" \
+        >"$apt/sources.list"
+    : >"$apt/status"
+    debian update
 }
 
 # callgrind FILE COMMAND..: a command, its instructions counted to a file.
 callgrind() { valgrind -q --tool=callgrind --callgrind-out-file="$1" "${@:2}"; }
 
-# spent COMMAND..: how many milliseconds of processor time a command takes with all that it starts.
-spent() {
+# ms_of COMMAND..: how many milliseconds of processor time a command takes with all that it starts.
+ms_of() {
     local TIMEFORMAT='%U %S' both
     both=$({ time "$@" >/dev/null 2>&1; } 2>&1)
     awk '{printf "%d", ($1 + $2) * 1000 + 0.5}' <<<"$both"
@@ -56,7 +58,7 @@ timed() {
     shift
     for round in {1..10}; do
         for v in own over; do
-            ms=$(spent "$@" "$v")
+            ms=$(ms_of "$@" "$v")
             [ "$round" != 1 ] && [ "$ms" -ge "${least[$v]}" ] || least[$v]=$ms
         done
     done

@@ -24,12 +24,13 @@ RANGES = {0x03: (1200, 65527), 0x0A: (0, 20), 0x0B: (0, (1 << 14) - 1), 0x0E: (2
 RANGES |= {0x08: (0, GREATEST_STREAMS), 0x09: (0, GREATEST_STREAMS)}
 IDS = {0x00, 0x0F, 0x10}
 ONCE = INTEGERS | IDS | {0x02, 0x0C, 0x0D}
+FLAGS = {0x0C, 0x2AB2}
 MAX_DATAGRAM, MIN_ACK_DELAY = 0x20, 0xFF04DE1B
 # Of other parameters, what a value has to be: a reset token, two flags, a preferred address, version_information.
 LAWFUL = {
     0x02: lambda value: len(value) == 16,
     0x0C: lambda value: not value,
-    0x0D: lambda value: len(value) > 25 and 0 < value[24] <= 20 and len(value) == 41 + value[24] and any(value[:24]),
+    0x0D: lambda value: len(value) > 25 and 0 < value[24] <= 20 and len(value) == 41 + value[24],
     0x11: lambda value: len(value) % 4 == 0 and value and all(map(any, zip(*[iter(value)] * 4))),
     0x2AB2: lambda value: not value,
 }
@@ -134,15 +135,18 @@ def special(ident, value):
     if ident > 0xFFFF and ident & 0xFFFF in ONCE:
         return "16 bits of a known one"
     is_lawful = LAWFUL.get(ident)
+    if ident == 0x0D and is_lawful(value) and not any(value[:24]):
+        return "0xd without an address"
     return None if is_lawful is None or is_lawful(value) else f"{ident:#x} unlawful"
 
 
 def specials(digits):
     """All that is special in a list of parameters."""
     found, is_cut = entries(bytes.fromhex(digits))
-    counts = collections.Counter(ident for ident, _ in found)
-    names = [special(ident, value) for ident, value in found]
-    if dict(found).get(0x0F) == b"" and 0x0D in counts:
+    counts = collections.Counter(ident for ident, _, _ in found)
+    names = [special(ident, value) for ident, value, _ in found]
+    names += ["a flag's longer length" for ident, _, size in found if ident in FLAGS and size > 1]
+    if any(ident == 0x0F and not value for ident, value, _ in found) and 0x0D in counts:
         names.append("preferred address beside an empty id")
     names += ["repeat" if ident in ONCE else "unknown repeat" for ident, count in counts.items() if count > 1]
     return sorted({name for name in names if name} | ({"cut"} if is_cut else set()))

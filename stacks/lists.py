@@ -20,15 +20,16 @@ def integer_at(data, at):
 
 
 def entries(data):
-    """The entries of a list of parameters, as ids and values, up to where it is cut off, and whether it is."""
+    """The entries of a list of parameters, as ids, values and how many bytes their lengths have, up to where it is cut
+    off; and whether it is."""
     found, at = [], 0
     try:
         while at < len(data):
-            ident, at = integer_at(data, at)
-            size, at = integer_at(data, at)
+            ident, begin = integer_at(data, at)
+            size, at = integer_at(data, begin)
             if at + size > len(data):
                 raise IndexError
-            found.append((ident, data[at : at + size]))
+            found.append((ident, data[at : at + size], at - begin))
             at += size
     except IndexError:
         return found, True
@@ -37,7 +38,7 @@ def entries(data):
 
 def with_ids(data, is_server):
     found, is_cut = entries(data)
-    idents = {ident for ident, _ in found}
+    idents = {ident for ident, _, _ in found}
     more = b"".join(bytes([ident, 0]) for ident in [ISCID] + [ODCID] * is_server if ident not in idents)
     return more + data if is_cut else data + more
 

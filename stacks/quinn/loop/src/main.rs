@@ -4,10 +4,14 @@ use bytes::BytesMut;
 use quinn_proto::{
     ClientConfig, Connection, ConnectionHandle, DatagramEvent, Dir, Endpoint, EndpointConfig, ServerConfig, StreamId,
 };
+use rustls::pki_types::{CertificateDer, PrivatePkcs8KeyDer};
 use std::collections::HashMap;
 use std::net::SocketAddr;
 use std::sync::Arc;
 use std::time::{Duration, Instant};
+
+/// As many as a datagram has at most.
+const MOST_BYTES: usize = 1500;
 
 /// One of the two, with its connections.
 struct Side {
@@ -25,14 +29,15 @@ impl Side {
     /// All that is to be sent now.
     fn datagrams(&mut self, now: Instant) -> Vec<Vec<u8>> {
         let mut out = Vec::new();
-        while let Some(transmit) = self.endpoint.poll_transmit() {
-            out.push(transmit.contents);
-        }
         for (&handle, connection) in &mut self.connections {
             loop {
                 let before = out.len();
-                while let Some(transmit) = connection.poll_transmit(now, 1) {
-                    out.push(transmit.contents);
+                loop {
+                    let mut datagram = Vec::with_capacity(MOST_BYTES);
+                    if connection.poll_transmit(now, 1, &mut datagram).is_none() {
+                        break;
+                    }
+                    out.push(datagram);
                 }
                 let mut is_idle = out.len() == before;
                 while let Some(event) = connection.poll_endpoint_events() {
@@ -52,13 +57,17 @@ impl Side {
 
     /// Takes in a datagram.
     fn take(&mut self, now: Instant, from: SocketAddr, datagram: &[u8]) {
-        match self.endpoint.handle(now, from, None, None, BytesMut::from(datagram)) {
-            Some((handle, DatagramEvent::NewConnection(connection))) => {
+        let mut answer = Vec::new();
+        match self.endpoint.handle(now, from, None, None, BytesMut::from(datagram), &mut answer) {
+            Some(DatagramEvent::NewConnection(incoming)) => {
+                let accepted = self.endpoint.accept(incoming, now, &mut answer, None);
+                let Ok((handle, connection)) = accepted else { panic!("a connection that isn't taken") };
                 self.connections.insert(handle, connection);
             }
-            Some((handle, DatagramEvent::ConnectionEvent(event))) => {
+            Some(DatagramEvent::ConnectionEvent(handle, event)) => {
                 self.connections.get_mut(&handle).expect("a connection").handle_event(event);
             }
+            Some(DatagramEvent::Response(_)) => panic!("an answer of the endpoint"),
             None => {}
         }
     }
@@ -143,21 +152,21 @@ fn read(connection: &mut Connection, stream: &mut Option<StreamId>, got: &mut us
 
 fn main() {
     let args: Vec<String> = std::env::args().collect();
-    let key = std::fs::read(&args[1]).expect("KEY");
-    let cert = rustls::Certificate(std::fs::read(&args[2]).expect("CERT"));
+    let key = PrivatePkcs8KeyDer::from(std::fs::read(&args[1]).expect("KEY")).into();
+    let cert = CertificateDer::from(std::fs::read(&args[2]).expect("CERT"));
     let total: usize = args[3].parse::<usize>().expect("MEGABYTES") * 1_000_000;
 
-    let server_config = ServerConfig::with_single_cert(vec![cert.clone()], rustls::PrivateKey(key)).expect("a key");
+    let server_config = ServerConfig::with_single_cert(vec![cert.clone()], key).expect("a key");
     let mut roots = rustls::RootCertStore::empty();
-    roots.add(&cert).expect("a certificate");
+    roots.add(cert).expect("a certificate");
     let config = Arc::new(EndpointConfig::default());
-    let mut server = Side::new(Endpoint::new(config.clone(), Some(Arc::new(server_config))), "127.0.0.1:1");
-    let mut client = Side::new(Endpoint::new(config, None), "127.0.0.1:2");
-    let client_config = ClientConfig::with_root_certificates(roots);
-    let (handle, connection) = client.endpoint.connect(client_config, server.addr, "localhost").expect("connects");
+    let mut server = Side::new(Endpoint::new(config.clone(), Some(Arc::new(server_config)), true, None), "127.0.0.1:1");
+    let mut client = Side::new(Endpoint::new(config, None, true, None), "127.0.0.1:2");
+    let client_config = ClientConfig::with_root_certificates(Arc::new(roots)).expect("roots");
+    let mut now = Instant::now();
+    let (handle, connection) = client.endpoint.connect(now, client_config, server.addr, "localhost").expect("connects");
     client.connections.insert(handle, connection);
 
-    let mut now = Instant::now();
     let (mut wrote, mut got, mut sends, mut receives) = (0, 0, None, None);
     for _ in 0..10_000_000 {
         for datagram in client.datagrams(now) {

@@ -160,9 +160,13 @@ def read_payload(payload):
 
 
 def is_refused(params, by_server):
-    """What _parse_transport_parameters of connection.py refuses, but for ids that aren't the handshake's."""
+    """What _parse_transport_parameters of connection.py refuses; of ids that aren't the handshake's those that no
+    handshake has."""
     of_server = ("original_destination_connection_id", "preferred_address", "retry_source_connection_id")
     if by_server and any(getattr(params, name) is not None for name in (*of_server, "stateless_reset_token")):
+        return True
+    ids = ("initial_source_connection_id", "original_destination_connection_id", "retry_source_connection_id")
+    if any(len(getattr(params, name) or b"") > packet.CONNECTION_ID_MAX_SIZE for name in ids):
         return True
     limits = {"active_connection_id_limit": (2, 1 << 62), "max_udp_payload_size": (1200, 1 << 62)}
     limits |= {"ack_delay_exponent": (0, 20), "max_ack_delay": (0, (1 << 14) - 1)}

@@ -142,7 +142,8 @@ static int params(void) {
                      .active_connection_id_limit = 2};
   if (ngx_quic_parse_transport_params(input, input + input_len, &p, &no_log) != NGX_OK ||
       p.max_udp_payload_size < NGX_QUIC_MIN_INITIAL_SIZE || p.max_udp_payload_size > NGX_QUIC_MAX_UDP_PAYLOAD_SIZE ||
-      p.active_connection_id_limit < 2 || p.ack_delay_exponent > 20 || p.max_ack_delay >= 16384)
+      p.active_connection_id_limit < 2 || p.ack_delay_exponent > 20 || p.max_ack_delay >= 16384 ||
+      p.initial_scid.len > NGX_QUIC_CID_LEN_MAX) /* which is no handshake's */
     return refuse_list("TRANSPORT_PARAMETER_ERROR");
   number("max_idle_timeout", (uint64_t)p.max_idle_timeout);
   number("max_udp_payload_size", p.max_udp_payload_size);

@@ -51,16 +51,22 @@ fn ack(ack: &frame::Ack) -> String {
 
 fn close(close: &frame::Close) -> String {
     match close {
-        frame::Close::Connection(x) => item("CONNECTION_CLOSE", &[
-            ("layer", "transport".into()),
-            ("error_code", u64::from(x.error_code).to_string()),
-            ("reason_phrase", hex(&x.reason)),
-        ]),
-        frame::Close::Application(x) => item("CONNECTION_CLOSE", &[
-            ("layer", "application".into()),
-            ("error_code", x.error_code.to_string()),
-            ("reason_phrase", hex(&x.reason)),
-        ]),
+        frame::Close::Connection(x) => item(
+            "CONNECTION_CLOSE",
+            &[
+                ("layer", "transport".into()),
+                ("error_code", u64::from(x.error_code).to_string()),
+                ("reason_phrase", hex(&x.reason)),
+            ],
+        ),
+        frame::Close::Application(x) => item(
+            "CONNECTION_CLOSE",
+            &[
+                ("layer", "application".into()),
+                ("error_code", x.error_code.to_string()),
+                ("reason_phrase", hex(&x.reason)),
+            ],
+        ),
     }
 }
 
@@ -80,12 +86,15 @@ fn shown(frame: &Frame) -> String {
         Frame::StopSending(x) => item("STOP_SENDING", &[stream(&x.id), code(x.error_code)]),
         Frame::Crypto(x) => item("CRYPTO", &[("offset", x.offset.to_string()), ("crypto_data", hex(&x.data))]),
         Frame::NewToken(x) => item("NEW_TOKEN", &[("token", hex(&x.token))]),
-        Frame::Stream(x) => item("STREAM", &[
-            stream(&x.id),
-            ("offset", x.offset.to_string()),
-            ("fin", u8::from(x.fin).to_string()),
-            ("stream_data", hex(&x.data)),
-        ]),
+        Frame::Stream(x) => item(
+            "STREAM",
+            &[
+                stream(&x.id),
+                ("offset", x.offset.to_string()),
+                ("fin", u8::from(x.fin).to_string()),
+                ("stream_data", hex(&x.data)),
+            ],
+        ),
         Frame::MaxData(x) => item("MAX_DATA", &[("maximum_data", x.to_string())]),
         Frame::DataBlocked { offset } => item("DATA_BLOCKED", &[("maximum_data", offset.to_string())]),
         Frame::MaxStreamData { id, offset } => {
@@ -100,24 +109,30 @@ fn shown(frame: &Frame) -> String {
         Frame::StreamsBlocked { dir, limit } => {
             item("STREAMS_BLOCKED", &[direction(*dir), ("maximum_streams", limit.to_string())])
         }
-        Frame::NewConnectionId(x) => item("NEW_CONNECTION_ID", &[
-            ("sequence_number", x.sequence.to_string()),
-            ("retire_prior_to", x.retire_prior_to.to_string()),
-            ("connection_id", hex(&x.id)),
-            ("stateless_reset_token", hex(&x.reset_token)),
-        ]),
+        Frame::NewConnectionId(x) => item(
+            "NEW_CONNECTION_ID",
+            &[
+                ("sequence_number", x.sequence.to_string()),
+                ("retire_prior_to", x.retire_prior_to.to_string()),
+                ("connection_id", hex(&x.id)),
+                ("stateless_reset_token", hex(&x.reset_token)),
+            ],
+        ),
         Frame::RetireConnectionId { sequence } => {
             item("RETIRE_CONNECTION_ID", &[("sequence_number", sequence.to_string())])
         }
         Frame::PathChallenge(x) => item("PATH_CHALLENGE", &[("data", format!("{x:016x}"))]),
         Frame::PathResponse(x) => item("PATH_RESPONSE", &[("data", format!("{x:016x}"))]),
         Frame::Datagram(x) => item("DATAGRAM", &[("datagram_data", hex(&x.data))]),
-        Frame::AckFrequency(x) => item("ACK_FREQUENCY", &[
-            ("sequence_number", x.sequence.to_string()),
-            ("ack_eliciting_threshold", x.ack_eliciting_threshold.to_string()),
-            ("requested_max_ack_delay", x.request_max_ack_delay.to_string()),
-            ("reordering_threshold", x.reordering_threshold.to_string()),
-        ]),
+        Frame::AckFrequency(x) => item(
+            "ACK_FREQUENCY",
+            &[
+                ("sequence_number", x.sequence.to_string()),
+                ("ack_eliciting_threshold", x.ack_eliciting_threshold.to_string()),
+                ("requested_max_ack_delay", x.request_max_ack_delay.to_string()),
+                ("reordering_threshold", x.reordering_threshold.to_string()),
+            ],
+        ),
     }
 }
 

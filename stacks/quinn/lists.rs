@@ -24,10 +24,8 @@ fn bytes(line: &str) -> Vec<u8> {
 fn shown(list: &str, name: &str, show: impl Fn(Vec<u8>) -> String + RefUnwindSafe) {
     let folder = |name| std::path::PathBuf::from(std::env::var(name).expect("a folder"));
     let list = std::fs::read_to_string(folder("LISTS").join(list)).expect("a list");
-    let lines: Vec<String> = list
-        .lines()
-        .map(|line| catch_unwind(|| show(bytes(line))).unwrap_or_else(|_| "panic".into()))
-        .collect();
+    let lines: Vec<String> =
+        list.lines().map(|line| catch_unwind(|| show(bytes(line))).unwrap_or_else(|_| "panic".into())).collect();
     std::fs::write(folder("SHOWN").join(name), lines.join("\n") + "\n").expect("written");
 }
 

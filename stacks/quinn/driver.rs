@@ -70,20 +70,31 @@ fn close(close: &frame::Close) -> String {
     }
 }
 
-fn shown(frame: &Frame) -> String {
-    let stream = |id: &crate::StreamId| ("stream_id", id.0.to_string());
-    let code = |code: VarInt| ("application_protocol_error_code", code.to_string());
-    match frame {
-        Frame::Padding => item("PADDING", &[]),
-        Frame::Ping => item("PING", &[]),
-        Frame::HandshakeDone => item("HANDSHAKE_DONE", &[]),
-        Frame::ImmediateAck => item("IMMEDIATE_ACK", &[]),
+fn stream(id: &crate::StreamId) -> (&'static str, String) {
+    ("stream_id", id.0.to_string())
+}
+
+/// Frames of numbers alone that are a limit.
+fn limit(frame: &Frame) -> Option<String> {
+    let all = |ty: &str, most: u64| item(ty, &[("maximum_data", most.to_string())]);
+    let one = |ty: &str, id, most: &u64| item(ty, &[stream(id), ("maximum_stream_data", most.to_string())]);
+    let streams = |ty: &str, dir: &Dir, most: &u64| item(ty, &[direction(*dir), ("maximum_streams", most.to_string())]);
+    Some(match frame {
+        Frame::MaxData(most) => all("MAX_DATA", most.into_inner()),
+        Frame::DataBlocked { offset } => all("DATA_BLOCKED", *offset),
+        Frame::MaxStreamData { id, offset } => one("MAX_STREAM_DATA", id, offset),
+        Frame::StreamDataBlocked { id, offset } => one("STREAM_DATA_BLOCKED", id, offset),
+        Frame::MaxStreams { dir, count } => streams("MAX_STREAMS", dir, count),
+        Frame::StreamsBlocked { dir, limit } => streams("STREAMS_BLOCKED", dir, limit),
+        _ => return None,
+    })
+}
+
+/// Frames that have data.
+fn with_data(frame: &Frame) -> Option<String> {
+    Some(match frame {
         Frame::Ack(x) => ack(x),
         Frame::Close(x) => close(x),
-        Frame::ResetStream(x) => {
-            item("RESET_STREAM", &[stream(&x.id), code(x.error_code), ("final_size", x.final_offset.to_string())])
-        }
-        Frame::StopSending(x) => item("STOP_SENDING", &[stream(&x.id), code(x.error_code)]),
         Frame::Crypto(x) => item("CRYPTO", &[("offset", x.offset.to_string()), ("crypto_data", hex(&x.data))]),
         Frame::NewToken(x) => item("NEW_TOKEN", &[("token", hex(&x.token))]),
         Frame::Stream(x) => item(
@@ -95,20 +106,6 @@ fn shown(frame: &Frame) -> String {
                 ("stream_data", hex(&x.data)),
             ],
         ),
-        Frame::MaxData(x) => item("MAX_DATA", &[("maximum_data", x.to_string())]),
-        Frame::DataBlocked { offset } => item("DATA_BLOCKED", &[("maximum_data", offset.to_string())]),
-        Frame::MaxStreamData { id, offset } => {
-            item("MAX_STREAM_DATA", &[stream(id), ("maximum_stream_data", offset.to_string())])
-        }
-        Frame::StreamDataBlocked { id, offset } => {
-            item("STREAM_DATA_BLOCKED", &[stream(id), ("maximum_stream_data", offset.to_string())])
-        }
-        Frame::MaxStreams { dir, count } => {
-            item("MAX_STREAMS", &[direction(*dir), ("maximum_streams", count.to_string())])
-        }
-        Frame::StreamsBlocked { dir, limit } => {
-            item("STREAMS_BLOCKED", &[direction(*dir), ("maximum_streams", limit.to_string())])
-        }
         Frame::NewConnectionId(x) => item(
             "NEW_CONNECTION_ID",
             &[
@@ -118,12 +115,27 @@ fn shown(frame: &Frame) -> String {
                 ("stateless_reset_token", hex(&x.reset_token)),
             ],
         ),
-        Frame::RetireConnectionId { sequence } => {
-            item("RETIRE_CONNECTION_ID", &[("sequence_number", sequence.to_string())])
-        }
         Frame::PathChallenge(x) => item("PATH_CHALLENGE", &[("data", format!("{x:016x}"))]),
         Frame::PathResponse(x) => item("PATH_RESPONSE", &[("data", format!("{x:016x}"))]),
         Frame::Datagram(x) => item("DATAGRAM", &[("datagram_data", hex(&x.data))]),
+        _ => return None,
+    })
+}
+
+fn shown(frame: &Frame) -> String {
+    let code = |code: VarInt| ("application_protocol_error_code", code.to_string());
+    match frame {
+        Frame::Padding => item("PADDING", &[]),
+        Frame::Ping => item("PING", &[]),
+        Frame::HandshakeDone => item("HANDSHAKE_DONE", &[]),
+        Frame::ImmediateAck => item("IMMEDIATE_ACK", &[]),
+        Frame::ResetStream(x) => {
+            item("RESET_STREAM", &[stream(&x.id), code(x.error_code), ("final_size", x.final_offset.to_string())])
+        }
+        Frame::StopSending(x) => item("STOP_SENDING", &[stream(&x.id), code(x.error_code)]),
+        Frame::RetireConnectionId { sequence } => {
+            item("RETIRE_CONNECTION_ID", &[("sequence_number", sequence.to_string())])
+        }
         Frame::AckFrequency(x) => item(
             "ACK_FREQUENCY",
             &[
@@ -133,6 +145,7 @@ fn shown(frame: &Frame) -> String {
                 ("reordering_threshold", x.reordering_threshold.to_string()),
             ],
         ),
+        _ => limit(frame).or_else(|| with_data(frame)).expect("a kind of frame"),
     }
 }
 

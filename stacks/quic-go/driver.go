@@ -128,22 +128,9 @@ func withData(frame any) item {
 	return item{"type": fmt.Sprintf("%T", frame)}
 }
 
-func shown(frame any, kind wire.FrameType) item {
+// Frames that are a limit; nil of others.
+func limits(frame any, kind wire.FrameType) item {
 	switch f := frame.(type) {
-	case *wire.PingFrame:
-		return item{"type": "PING"}
-	case *wire.HandshakeDoneFrame:
-		return item{"type": "HANDSHAKE_DONE"}
-	case *wire.ImmediateAckFrame:
-		return item{"type": "IMMEDIATE_ACK"}
-	case *wire.AckFrame:
-		return ack(f, kind == wire.FrameTypeAckECN)
-	case *wire.ResetStreamFrame:
-		return item{"type": "RESET_STREAM", "stream_id": number(f.StreamID),
-			"application_protocol_error_code": number(f.ErrorCode), "final_size": number(f.FinalSize)}
-	case *wire.StopSendingFrame:
-		return item{"type": "STOP_SENDING", "stream_id": number(f.StreamID),
-			"application_protocol_error_code": number(f.ErrorCode)}
 	case *wire.MaxDataFrame:
 		return item{"type": "MAX_DATA", "maximum_data": number(f.MaximumData)}
 	case *wire.MaxStreamDataFrame:
@@ -160,12 +147,35 @@ func shown(frame any, kind wire.FrameType) item {
 	case *wire.StreamsBlockedFrame:
 		return item{"type": "STREAMS_BLOCKED", "direction": direction(kind == wire.FrameTypeUniStreamBlocked),
 			"maximum_streams": number(f.StreamLimit)}
+	}
+	return nil
+}
+
+func shown(frame any, kind wire.FrameType) item {
+	switch f := frame.(type) {
+	case *wire.PingFrame:
+		return item{"type": "PING"}
+	case *wire.HandshakeDoneFrame:
+		return item{"type": "HANDSHAKE_DONE"}
+	case *wire.ImmediateAckFrame:
+		return item{"type": "IMMEDIATE_ACK"}
+	case *wire.AckFrame:
+		return ack(f, kind == wire.FrameTypeAckECN)
+	case *wire.ResetStreamFrame:
+		return item{"type": "RESET_STREAM", "stream_id": number(f.StreamID),
+			"application_protocol_error_code": number(f.ErrorCode), "final_size": number(f.FinalSize)}
+	case *wire.StopSendingFrame:
+		return item{"type": "STOP_SENDING", "stream_id": number(f.StreamID),
+			"application_protocol_error_code": number(f.ErrorCode)}
 	case *wire.RetireConnectionIDFrame:
 		return item{"type": "RETIRE_CONNECTION_ID", "sequence_number": number(f.SequenceNumber)}
 	case *wire.AckFrequencyFrame:
 		return item{"type": "ACK_FREQUENCY", "sequence_number": number(f.SequenceNumber),
 			"ack_eliciting_threshold": number(f.AckElicitingThreshold), "reordering_threshold": number(f.ReorderingThreshold),
 			"requested_max_ack_delay": number(f.RequestMaxAckDelay / time.Microsecond)}
+	}
+	if read := limits(frame, kind); read != nil {
+		return read
 	}
 	return withData(frame)
 }

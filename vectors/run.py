@@ -1,7 +1,7 @@
 #!/usr/bin/env python3
 """Runs the tests of json/ through decoders and encoders, and prints each failure and a table of groups.
 
-run.py [-v] [--only PATTERN] [--as NAME] STACK COMMAND.. [-- STACK COMMAND..]
+run.py [-v] [--only PATTERN] [--as NAME] [--by-file] STACK COMMAND.. [-- STACK COMMAND..]
 
 STACK is what the table calls it, COMMAND a driver: a program that reads lines `FORMAT CONTEXT HEX` and writes a line
 for each, without waiting for the next:
@@ -17,6 +17,7 @@ that it didn't answer, which counts as a crash.
 -v              prints every test, with what the driver answered
 --only PATTERN  only tests whose ids fit PATTERN, such as 'ack.*'
 --as NAME       of a test that leaves a choice, the answer of NAME is the only one allowed, if it has one
+--by-file       the table has a line for each file of tests, not for each group
 
 Status 0: no test failed; 1: one did; 2: a wrong call."""
 import argparse
@@ -268,6 +269,14 @@ def table(stacks, counts):
         yield f"and {len(groups) - len(keys)} groups that are skipped"
 
 
+def by_file(count):
+    """The counts of a stack by the files of the groups."""
+    out = {}
+    for group, kinds in count.items():
+        out.setdefault(group.split(":")[0], Counter()).update(kinds)
+    return out
+
+
 def run(stacks, every, name, is_verbose):
     """Runs the tests through each stack; returns of each its counts by group."""
     counts = []
@@ -299,6 +308,7 @@ def main():
     parser.add_argument("-v", action="store_true")
     parser.add_argument("--only", default="*")
     parser.add_argument("--as", dest="name")
+    parser.add_argument("--by-file", action="store_true")
     parser.add_argument("stacks", nargs=argparse.REMAINDER)
     words = parser.parse_args()
     stacks = stacks_of(words.stacks)
@@ -310,6 +320,7 @@ def main():
         return 2
     try:
         counts = run(stacks, every, words.name, words.v)
+        counts = list(map(by_file, counts)) if words.by_file else counts
     except (DriverEnded, OSError) as fault:
         print(fault, file=sys.stderr)
         return 2

@@ -98,6 +98,8 @@ def frames(items):
     error = next((item for item in items if "error" in item), None)
     if not error:
         return "valid " + json.dumps(read)
+    if "offset" not in error:
+        return "skip"  # what looks like a packet with headers of IP, which the program refuses as a payload
     is_violation = "empty" in error["error"] or "shortest" in error["error"]
     code = "PROTOCOL_VIOLATION" if is_violation else "FRAME_ENCODING_ERROR"
     return f"invalid {code} " + json.dumps({"at": error["offset"], "before": read})

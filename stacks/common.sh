@@ -1,0 +1,79 @@
+# shellcheck shell=bash
+# What the scripts of this folder share. WORK is the folder in which everything is made, LIB that of the library.
+here=$(cd "$(dirname -- "$(readlink -f -- "${BASH_SOURCE[0]}")")" && pwd)
+export top lists
+top=$(dirname -- "$here")
+lists=$WORK/lists
+suite=bookworm mirror=${DEBIAN_MIRROR:-http://deb.debian.org/debian}
+
+# row WHAT OWN OVER: a row of the table, of the stack as it is and over the library.
+row() { printf '%s\t%s\t%s\n' "$@" >>"$WORK/table"; }
+
+# step NAME COMMAND..: a step, whose output is kept in a log; where it fails the log's end is shown. It is never called
+# as a condition, in which bash would go on after a failure.
+step() {
+    local log=$WORK/logs/$1.log status
+    echo "${self:-stacks}: $1" >&2
+    set +e
+    (set -e; "${@:2}") >"$log" 2>&1
+    status=$?
+    set -e
+    [ "$status" = 0 ] || { echo "${self:-stacks}: $1 failed:" >&2; tail -20 "$log" >&2; exit 1; }
+}
+
+# debian ARG..: apt-get for Debian's release `suite`, with lists, cache and state of its own, so that the machine's stay
+# as they are.
+debian() {
+    local apt=$WORK/apt-$suite
+    apt-get -qq -o Dir::Etc::sourcelist="$apt/sources.list" -o Dir::Etc::sourceparts=/dev/null \
+        -o Dir::State="$apt/state" -o Dir::State::status="$apt/status" -o Dir::Cache="$apt/cache" \
+        -o APT::Sandbox::User=root "$@"
+}
+
+# debian_lists: the lists of packages and of sources of Debian's release `suite`, fetched once.
+debian_lists() {
+    local apt=$WORK/apt-$suite keys=/usr/share/keyrings/debian-archive-keyring.gpg
+    [ ! -e "$apt/status" ] || return 0
+    mkdir -p "$apt"/{state/lists,cache/archives}/partial
+    printf '%s [signed-by=%s] %s %s main\n' deb "$keys" "$mirror" "$suite" deb-src "$keys" "$mirror" "$suite" \
+        >"$apt/sources.list"
+    : >"$apt/status"
+    debian update
+}
+
+# callgrind FILE COMMAND..: a command, its instructions counted to a file.
+callgrind() { valgrind -q --tool=callgrind --callgrind-out-file="$1" "${@:2}"; }
+
+# ms_of COMMAND..: how many milliseconds of processor time a command takes with all that it starts.
+ms_of() {
+    local TIMEFORMAT='%U %S' both
+    both=$({ time "$@" >/dev/null 2>&1; } 2>&1)
+    awk '{printf "%d", ($1 + $2) * 1000 + 0.5}' <<<"$both"
+}
+
+# timed WHAT COMMAND..: a row of the least processor time of `COMMAND own` and `COMMAND over`, ten times each in turn.
+timed() {
+    local what=$1 round v ms
+    local -A least=()
+    shift
+    for round in {1..10}; do
+        for v in own over; do
+            ms=$(ms_of "$@" "$v")
+            [ "$round" != 1 ] && [ "$ms" -ge "${least[$v]}" ] || least[$v]=$ms
+        done
+    done
+    row "$what" "${least[own]}" "${least[over]}"
+}
+
+# parts TITLE UNIT PARTS OWN OVER: rows of what each part of a program takes, by two profiles (count.py).
+parts() {
+    python3 "$here/count.py" "$@" | while IFS=$'\t' read -r what own over; do row "$what" "$own" "$over"; done
+}
+
+# compared WHAT OWN OVER: a row of what the readers of both answered for a list.
+compared() {
+    local lines panics refused read_on other
+    read -r lines panics refused read_on other < <(python3 "$here/compare.py" "$2" "$3")
+    row "$1: lines; those that panic, are refused by one alone, are read otherwise" \
+        "$lines; $panics panic, $read_on refused" "$refused refused, $other otherwise"
+}

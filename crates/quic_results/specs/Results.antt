@@ -1,0 +1,27 @@
+-- The numbers that functions exported to C return.
+use Rattle.std.specs.Prelude.{ℕ, ℤ, pos, negsuc, ◌-◌, Result, Ok, Err}
+use Rattle.quic_results.specs.declared.results.Failure.{Failure}
+use Rattle.quic_results.specs.declared.results.Failure.TheVariants as failure
+
+-- the number of a failure, without its sign
+abbrev pub number_of : Failure → ℕ
+number_of failure.NoRoom = 4
+number_of failure.Place = 6
+number_of failure.Kind = 7
+number_of failure.Number = 9
+number_of failure.Length = 10
+number_of failure.PacketEnd = 40
+number_of failure.PacketSmall = 42
+number_of failure.PacketId = 43
+number_of failure.PacketToken = 44
+number_of failure.PacketVersion = 45
+number_of failure.PacketCut = 46
+
+-- what a failure is returned as
+abbrev pub failed : Failure → ℤ
+failed f = negsuc (number_of f - 1)
+
+-- what a result is returned as
+abbrev pub returned : Result ℕ Failure → ℤ
+returned (Ok count) = pos count
+returned (Err f) = failed f

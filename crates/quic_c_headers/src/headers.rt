@@ -32,11 +32,7 @@ fn kind_word(kind: HeaderKind) -> u8
 
 // Stores the words of a header, and gives where its packet ends, if it is complete.
 #[inline(always)]
-fn show_header(
-    packet: &[u8],
-    places: HeaderPlaces,
-    head: &mut CHeader,
-) -> Result<u32, Failure>
+fn show_header(packet: &[u8], places: HeaderPlaces, head: &mut CHeader) -> Result<u32, Failure>
     requires whole { length packet.now < 2 ^ 32 }
     requires placed { ArePlacesWithin places.kind places (length packet.now) }
     ensures outcome { result ≡ outcome_of (Ok places) (length packet.now) }

@@ -1,21 +1,31 @@
--- The numbers that functions exported to C return.
+-- What functions exported to C return: a count, or the number of a failure.
 use Rattle.std.specs.Prelude.{ℕ, ℤ, pos, negsuc, ◌-◌, Result, Ok, Err}
 use Rattle.quic_results.specs.declared.results.Failure.{Failure}
 use Rattle.quic_results.specs.declared.results.Failure.TheVariants as failure
 
 -- the number of a failure, without its sign
 abbrev pub number_of : Failure → ℕ
-number_of failure.NoRoom = 4
-number_of failure.Place = 6
-number_of failure.Kind = 7
-number_of failure.Number = 9
-number_of failure.Length = 10
+number_of failure.Place = 2
+number_of failure.Kind = 3
+number_of failure.Flags = 4
+number_of failure.Number = 5
+number_of failure.Length = 6
+number_of failure.Ranges = 7
+number_of failure.Parameter = 8
+number_of failure.NoRoom = 9
+number_of failure.PayloadEmpty = 20
+number_of failure.FrameEnd = 21
+number_of failure.FrameType = 22
+number_of failure.FrameMalformed = 23
+number_of failure.FrameLongType = 24
 number_of failure.PacketEnd = 40
 number_of failure.PacketSmall = 42
 number_of failure.PacketId = 43
 number_of failure.PacketToken = 44
 number_of failure.PacketVersion = 45
 number_of failure.PacketCut = 46
+number_of failure.ParametersMalformed = 60
+number_of failure.ParametersIllegal = 61
 
 -- what a failure is returned as
 abbrev pub failed : Failure → ℤ

@@ -1,20 +1,36 @@
-//! What functions exported to C return: a count, or the number of a failure, which is below 0.
-ghost use Rattle.std.specs.Prelude.{◌≡◌, ◌<◌, ◌^◌, Result};
-ghost use Rattle.quic_results.specs.Results.{returned, failed};
+//! The results of functions exported to C.
+ghost use Rattle.std.specs.Prelude.{◌≡◌};
+ghost use Rattle.quic_results.specs.Results.{failed, returned};
 
-/// Why a function exported to C fails. Each variant has a number, which never changes.
+/// Why a function exported to C fails. Each reason has a number, which never changes.
 #[derive(Clone, Copy, Debug, PartialEq, Eq)]
 pub enum Failure {
-    /// The buffer has less room than is needed.
-    NoRoom,
-    /// A place is outside of the bytes.
+    /// A place is outside of the bytes, or what is there isn't what the function reads.
     Place,
     /// There is no such kind, or not for this function.
     Kind,
+    /// A flag is set that the kind doesn't have.
+    Flags,
     /// A number is too large for its field, or 0 where that isn't possible.
     Number,
     /// A length or width isn't possible in its field.
     Length,
+    /// The ranges are none, or aren't sorted with a number between any two.
+    Ranges,
+    /// A transport parameter is one that the peer would refuse.
+    Parameter,
+    /// The buffer has less room than is needed.
+    NoRoom,
+    /// A payload has no frame (RFC 9000, section 12.4).
+    PayloadEmpty,
+    /// The bytes end within a frame.
+    FrameEnd,
+    /// The type of a frame is unknown.
+    FrameType,
+    /// A field of a frame has no value of its kind.
+    FrameMalformed,
+    /// The type of a frame isn't in its shortest encoding (RFC 9000, section 12.4).
+    FrameLongType,
     /// The bytes end within a packet's header.
     PacketEnd,
     /// The packet is too short for its id, or for its number and a sample.
@@ -27,31 +43,45 @@ pub enum Failure {
     PacketVersion,
     /// The bytes end within the packet, after its header.
     PacketCut,
+    /// A transport parameter is cut off, has no value of its kind, or is there twice.
+    ParametersMalformed,
+    /// A transport parameter has a value out of range, or may not come from that side.
+    ParametersIllegal,
 }
 
 impl Failure {
-    /// The number that C sees.
+    /// The number that C sees, below 0.
     #[inline(always)]
     pub fn number(self) -> i32
         ensures { result ≡ failed self }
     {
         match self {
-            Failure::NoRoom => -4,
-            Failure::Place => -6,
-            Failure::Kind => -7,
-            Failure::Number => -9,
-            Failure::Length => -10,
+            Failure::Place => -2,
+            Failure::Kind => -3,
+            Failure::Flags => -4,
+            Failure::Number => -5,
+            Failure::Length => -6,
+            Failure::Ranges => -7,
+            Failure::Parameter => -8,
+            Failure::NoRoom => -9,
+            Failure::PayloadEmpty => -20,
+            Failure::FrameEnd => -21,
+            Failure::FrameType => -22,
+            Failure::FrameMalformed => -23,
+            Failure::FrameLongType => -24,
             Failure::PacketEnd => -40,
             Failure::PacketSmall => -42,
             Failure::PacketId => -43,
             Failure::PacketToken => -44,
             Failure::PacketVersion => -45,
             Failure::PacketCut => -46,
+            Failure::ParametersMalformed => -60,
+            Failure::ParametersIllegal => -61,
         }
     }
 }
 
-/// What C sees of a result.
+/// What C sees of a result: the count, or the number of the failure.
 #[inline(always)]
 pub fn returned(outcome: Result<u32, Failure>) -> i64
     ensures { result ≡ returned outcome }

@@ -13,13 +13,16 @@ first_of (Err e) first packet is stands = tt
 
 pub returns-clause-reported : goal.returns-clause-reported
 returns-clause-reported c =
-    let count : to_z w64 (of_z w64 c.returned.result) ≡ c.returned.result = search rules in
-    (c.show.result, count ∙ c.returned.ensures, λ id_len. record {
-  read = c.read_long.result;
-  right = c.read_long.ensures.answer id_len;
-  stored = c.read_long.ensures.seen;
-  first = first_of c.read_long.result c.args.first c.args.packet.now c.read_long.ensures.first
-      (ap (λ (p : List ℕ). slice_index p 0) c.requires.begins);
-  outcome_is = c.show.ensures.outcome;
-  words = c.show.ensures.words;
-})
+    let count : to_z w64 (of_z w64 c.returned.result) ≡ c.returned.result = search rules in (
+      c.show.result,
+      count ∙ c.returned.ensures,
+      λ id_len. record {
+        read = c.read_long.result;
+        right = c.read_long.ensures.answer id_len;
+        stored = c.read_long.ensures.seen;
+        first = first_of c.read_long.result c.args.first c.args.packet.now c.read_long.ensures.first
+            (ap (λ (p : List ℕ). slice_index p 0) c.requires.begins);
+        outcome_is = c.show.ensures.outcome;
+        words = c.show.ensures.words;
+      },
+    )

@@ -11,9 +11,17 @@ use Rattle.quic_c_headers.proofs.write.quic_wire_short_write_.Goals as goal
 
 pub returns-then-not-is_shaped-clause-short : goal.returns-then-not-is_shaped-clause-short
 returns-then-not-is_shaped-clause-short c = λ _.
-    inr (refl, inr (c.why_not.result, search rules, c.why_not.ensures, λ clear head can.
-    let yes = c.is_shaped.ensures.1 (shaped c.args.words.now c.args.dst.now [] [] clear head can) in
-    search (rules, yes, c.if-not-is_shaped)))
+    inr (
+      refl,
+      inr (
+        c.why_not.result,
+        search rules,
+        c.why_not.ensures,
+        λ clear head can.
+            let yes = c.is_shaped.ensures.1 (shaped c.args.words.now c.args.dst.now [] [] clear head can) in
+            search (rules, yes, c.if-not-is_shaped),
+      ),
+    )
 
 pub returns-then-dest-behind_first-clause-short : goal.returns-then-dest-behind_first-clause-short
 returns-then-dest-behind_first-clause-short c = λ short.
@@ -21,18 +29,24 @@ returns-then-dest-behind_first-clause-short c = λ short.
     let dst : List ℕ = c.args.dst.now in
     let is : IsShaped words dst [] [] = search (rules, c.is_shaped.ensures, c.if-not-is_shaped) in
     let number = is.numbered.number (inr short) in
-    inr (refl, inl (search rules, record {
-      clear = clear_by kind.Short words.flags;
-      head = header_described kind.Short words dst [] [];
-      can = short_can words dst is short;
-      full = omega (
-        arith,
-        ap length (short_described words dst is short),
-        ap length (short_stored words dst number.0 number.1),
-        length-append dst (bytes_of words.number_len words.number),
-        length-bytes_of words.number_len words.number,
-      );
-    }))
+    inr (
+      refl,
+      inl (
+        search rules,
+        record {
+          clear = clear_by kind.Short words.flags;
+          head = header_described kind.Short words dst [] [];
+          can = short_can words dst is short;
+          full = omega (
+            arith,
+            ap length (short_described words dst is short),
+            ap length (short_stored words dst number.0 number.1),
+            length-append dst (bytes_of words.number_len words.number),
+            length-bytes_of words.number_len words.number,
+          );
+        },
+      ),
+    )
 
 pub returns-then-behind_first-lt4-clause-short : goal.returns-then-behind_first-lt4-clause-short
 returns-then-behind_first-lt4-clause-short c = λ short.

@@ -12,10 +12,18 @@ use Rattle.quic_c_headers.proofs.write.write_as.Goals as goal
 
 pub returns-then-not-is_shaped : goal.returns-then-not-is_shaped
 returns-then-not-is_shaped c =
-    inr (refl, inr (c.why_not.result, search rules, c.why_not.ensures, λ clear head can.
-    let yes =
-    c.is_shaped.ensures.1 (shaped c.args.words.now c.args.dst.now c.args.src.now c.args.token.now clear head can) in
-    search (rules, yes, c.if-not-is_shaped)))
+    inr (
+      refl,
+      inr (
+        c.why_not.result,
+        search rules,
+        c.why_not.ensures,
+        λ clear head can.
+            let yes =
+            c.is_shaped.ensures.1 (shaped c.args.words.now c.args.dst.now c.args.src.now c.args.token.now clear head can) in
+            search (rules, yes, c.if-not-is_shaped),
+      ),
+    )
 
 pub returns-then-not-fits : goal.returns-then-not-fits
 returns-then-not-fits c =
@@ -37,13 +45,19 @@ returns-then-not-fits c =
     let same : stored_described k len words dst src token ≡ described_bytes words.length_len (clear_by k words.flags)
     (header_described k words dst src token) =
     bytes_described k len words dst src token is.numbered c.requires.kind c.stored_length_len.ensures.same in
-    inr (refl, inl (search rules, record {
-      clear = clear_by k words.flags;
-      head = header_described k words dst src token;
-      can = can_described k words dst c.args.src.now c.args.token.now src token is c.requires.kind
-          c.source_of-source.ensures.has c.token_of-own.ensures.has;
-      full = omega (arith, small, ap length stored, ap length same);
-    }))
+    inr (
+      refl,
+      inl (
+        search rules,
+        record {
+          clear = clear_by k words.flags;
+          head = header_described k words dst src token;
+          can = can_described k words dst c.args.src.now c.args.token.now src token is c.requires.kind
+              c.source_of-source.ensures.has c.token_of-own.ensures.has;
+          full = omega (arith, small, ap length stored, ap length same);
+        },
+      ),
+    )
 
 pub returns-then-has_len : goal.returns-then-has_len
 returns-then-has_len c =

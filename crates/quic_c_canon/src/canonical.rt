@@ -6,14 +6,14 @@ ghost use Rattle.quic_frames.specs.InRange.{CanStand};
 ghost use Rattle.quic_frames.specs.Least.{frame_in, shortest_frames};
 ghost use Rattle.quic_frames.specs.Meaning.{meaning_of};
 ghost use Rattle.quic_frames.specs.Walk.{invalid_of, first_of};
-ghost use Rattle.quic_c_canon.specs.Answers.{type_word, failure_of, GivesLeastLen, LeastNeedsMore, IsReportedOf, ReportsInvalidPayload, HasLength};
+ghost use Rattle.quic_c_canon.specs.Answers.{type_word, GivesLeastLen, LeastNeedsMore, IsReportedOf, ReportsInvalidPayload, HasLength};
 ghost use Rattle.quic_results.specs.Results.{failed};
 
 use crate::words::CCanonical;
 use quic_canon::laws::one_least;
 use quic_frames::frame::{Frame, FrameType, InvalidFrame, Iter};
 use quic_frames::laws::{least_encoding, one_reading, read_back};
-use quic_results::results::Failure;
+use quic_results::results::{Failure, frame_failure};
 
 // The number for a type.
 fn type_word(ty: Option<FrameType>) -> u64
@@ -22,17 +22,6 @@ fn type_word(ty: Option<FrameType>) -> u64
     match ty {
         Some(ty) => ty.into_inner(),
         None => u64::MAX,
-    }
-}
-
-// What is returned for a reason.
-fn failure_of(reason: &str) -> Failure
-    ensures { result ≡ failure_of reason.now }
-{
-    match reason {
-        "unexpected end" => Failure::FrameEnd,
-        "invalid frame ID" => Failure::FrameType,
-        _ => Failure::FrameMalformed,
     }
 }
 
@@ -187,7 +176,7 @@ pub extern "C" fn quic_wire_canonical_(payload: &[u8], dest: &mut [u8], out: &mu
         Ok(len) => len,
         Err(invalid) => {
             out.last_type = type_word(invalid.ty);
-            return failure_of(invalid.reason).number();
+            return frame_failure(invalid.reason).number();
         }
     };
     out.len = len;

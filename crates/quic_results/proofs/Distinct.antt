@@ -9,7 +9,8 @@ use Rattle.quic_results.specs.Results.{returned}
 abbrev back : ℤ → Result ℕ Failure
 back (pos n) = Ok n
 back (negsuc n) =
-    if n == 1 then Err failure.Place
+    if n == 0 then Err failure.Argument
+    else if n == 1 then Err failure.Place
     else if n == 2 then Err failure.Kind
     else if n == 3 then Err failure.Flags
     else if n == 4 then Err failure.Number
@@ -33,6 +34,7 @@ back (negsuc n) =
 
 again : (r : Result ℕ Failure) → back (returned r) ≡ r
 again (Ok n) = refl
+again (Err failure.Argument) = refl
 again (Err failure.Place) = refl
 again (Err failure.Kind) = refl
 again (Err failure.Flags) = refl

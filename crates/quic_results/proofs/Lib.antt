@@ -1,1 +1,2 @@
 mod Distinct
+pub mod FrameFailures

@@ -1,10 +1,12 @@
 -- What functions exported to C return: a count, or the number of a failure.
-use Rattle.std.specs.Prelude.{ℕ, ℤ, pos, negsuc, ◌-◌, Result, Ok, Err}
+use Rattle.std.specs.Prelude.{ℕ, ℤ, pos, negsuc, ◌-◌, List, Result, Ok, Err, codes, nat_eq, if◌then◌else◌}
+use Rattle.std.specs.Cmp.Lexicographic.{pointwise}
 use Rattle.quic_results.specs.declared.results.Failure.{Failure}
 use Rattle.quic_results.specs.declared.results.Failure.TheVariants as failure
 
 -- the number of a failure, without its sign
 abbrev pub number_of : Failure → ℕ
+number_of failure.Argument = 1
 number_of failure.Place = 2
 number_of failure.Kind = 3
 number_of failure.Flags = 4
@@ -35,3 +37,10 @@ failed f = negsuc (number_of f - 1)
 abbrev pub returned : Result ℕ Failure → ℤ
 returned (Ok count) = pos count
 returned (Err f) = failed f
+
+-- what is returned for the reason why a frame is invalid
+abbrev pub frame_failure : List ℕ → Failure
+frame_failure reason = if pointwise nat_eq reason (codes "unexpected end") then failure.FrameEnd
+    else if pointwise nat_eq reason (codes "invalid frame ID") then failure.FrameType
+    else if pointwise nat_eq reason (codes "frame type not in shortest form") then failure.FrameLongType
+    else failure.FrameMalformed

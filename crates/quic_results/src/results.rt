@@ -1,10 +1,12 @@
 //! The results of functions exported to C.
 ghost use Rattle.std.specs.Prelude.{◌≡◌};
-ghost use Rattle.quic_results.specs.Results.{failed, returned};
+ghost use Rattle.quic_results.specs.Results.{failed, frame_failure, returned};
 
 /// Why a function exported to C fails. Each reason has a number, which never changes.
 #[derive(Clone, Copy, Debug, PartialEq, Eq)]
 pub enum Failure {
+    /// The arguments describe nothing that the function can write.
+    Argument,
     /// A place is outside of the bytes, or what is there isn't what the function reads.
     Place,
     /// There is no such kind, or not for this function.
@@ -56,6 +58,7 @@ impl Failure {
         ensures { result ≡ failed self }
     {
         match self {
+            Failure::Argument => -1,
             Failure::Place => -2,
             Failure::Kind => -3,
             Failure::Flags => -4,
@@ -89,5 +92,17 @@ pub fn returned(outcome: Result<u32, Failure>) -> i64
     match outcome {
         Ok(count) => i64::from(count),
         Err(failure) => i64::from(failure.number()),
+    }
+}
+
+/// What is returned for the reason why a frame is invalid.
+pub fn frame_failure(reason: &str) -> Failure
+    ensures { result ≡ frame_failure reason.now }
+{
+    match reason {
+        "unexpected end" => Failure::FrameEnd,
+        "invalid frame ID" => Failure::FrameType,
+        "frame type not in shortest form" => Failure::FrameLongType,
+        _ => Failure::FrameMalformed,
     }
 }

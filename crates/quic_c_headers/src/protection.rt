@@ -1,5 +1,5 @@
 //! Puts protection on headers and takes it off, by masks that the caller makes (RFC 9001, section 5.4).
-ghost use Rattle.std.specs.Prelude.{◌≡◌, ◌⊎◌, ◌↔◌, ◌<◌, ◌≤◌, ◌+◌, ◌^◌, ℕ, pos, length, slice_index, slice_set, IsTrue};
+ghost use Rattle.std.specs.Prelude.{◌≡◌, ◌⊎◌, ◌↔◌, ◌<◌, ◌≤◌, ◌+◌, ◌^◌, ◌++◌, ℕ, pos, length, take, drop, slice_index, slice_set, IsTrue};
 ghost use Rattle.quic_crypto.specs.Keys.{number_len};
 ghost use Rattle.quic_crypto.specs.PacketNumbers.{number_size};
 ghost use Rattle.quic_header_encode.specs.Writing.{with_len, TakesLen};
@@ -74,6 +74,26 @@ fn has_number(packet: &[u8], place: usize) -> bool
     packet.len() >= 4 && place != 0 && place <= packet.len() - 4
 }
 
+// Takes the protection off the header of a packet whose number begins at a place, gives the whole number, and returns
+// how many bytes it has.
+#[inline(always)]
+fn open_header(
+    packet: &mut [u8],
+    place: usize,
+    mask: &[u8; 5],
+    expected: u64,
+    number: &mut u64,
+) -> i32
+    requires there { HasNumber place (length packet.old) }
+    requires small { expected < 2 ^ 62 }
+    ensures { (count : ℕ) × (result ≡ pos count)
+        × GivesNumber place mask.now expected packet.old packet.new number.new count }
+{
+    let written = unmask(packet, place, mask);
+    *number = written.expand(expected);
+    written.len() as i32
+}
+
 /// Takes the protection off the header of a packet whose number begins at `place`, by the mask that the caller made
 /// from the sample (RFC 9001, section 5.4.1), and gives the whole number, found from the `expected` one (RFC 9000,
 /// appendix A.3). It returns how many bytes the number has: the payload begins after them. It returns `Number` exactly if
@@ -101,9 +121,44 @@ pub extern "C" fn quic_wire_unprotect_(
     if !has_number(packet, place) {
         return Failure::PacketSmall.number();
     }
-    let written = unmask(packet, place, mask);
-    *number = written.expand(expected);
-    written.len() as i32
+    open_header(packet, place, mask, expected, number)
+}
+
+/// The same of a packet that doesn't change: its bytes up to the place and the four after it are written to the front of
+/// `dest`, and the protection is taken off there. It returns `NoRoom` exactly if `dest` has fewer bytes than these, and
+/// `quic_wire_unprotect_` would return none of its failures; then and with those nothing changes.
+#[unsafe(no_mangle)]
+pub extern "C" fn quic_wire_unprotect_copy_(
+    packet: &[u8],
+    place: usize,
+    mask: &[u8; 5],
+    expected: u64,
+    dest: &mut [u8],
+    number: &mut u64,
+) -> i32
+    ensures opened { (result ≡ failed Failure.PacketSmall) ⊎ (result ≡ failed Failure.Number)
+        ⊎ (result ≡ failed Failure.NoRoom) ⊎ ((count : ℕ) × (result ≡ pos count)
+        × GivesNumber place mask.now expected (take (place + 4) packet.now ++ drop (place + 4) dest.old) dest.new
+        number.new count) }
+    ensures short { (result ≡ failed Failure.PacketSmall)
+        ↔ ((expected < 2 ^ 62) × (HasNumber place (length packet.now) → ⊥)) }
+    ensures invalid { (result ≡ failed Failure.Number) ↔ (2 ^ 62 ≤ expected) }
+    ensures room { (result ≡ failed Failure.NoRoom)
+        ↔ ((expected < 2 ^ 62) × HasNumber place (length packet.now) × (length dest.old < place + 4)) }
+    ensures same { ((count : ℕ) × (result ≡ pos count)) ⊎ ((dest.new ≡ dest.old) × (number.new ≡ number.old)) }
+{
+    if expected >= 1 << 62 {
+        return Failure::Number.number();
+    }
+    if !has_number(packet, place) {
+        return Failure::PacketSmall.number();
+    }
+    let end = place + 4;
+    if dest.len() < end {
+        return Failure::NoRoom.number();
+    }
+    dest[..end].copy_from_slice(&packet[..end]);
+    open_header(dest, place, mask, expected, number)
 }
 
 /// Puts the protection on the header of a packet whose payload is sealed and whose number begins at `place`, by the

@@ -12,7 +12,6 @@ back (negsuc n) =
     if n == 0 then Err failure.Argument
     else if n == 1 then Err failure.Place
     else if n == 2 then Err failure.Kind
-    else if n == 3 then Err failure.Flags
     else if n == 4 then Err failure.Number
     else if n == 5 then Err failure.Length
     else if n == 6 then Err failure.Ranges
@@ -37,7 +36,6 @@ again (Ok n) = refl
 again (Err failure.Argument) = refl
 again (Err failure.Place) = refl
 again (Err failure.Kind) = refl
-again (Err failure.Flags) = refl
 again (Err failure.Number) = refl
 again (Err failure.Length) = refl
 again (Err failure.Ranges) = refl

@@ -9,7 +9,6 @@ abbrev pub number_of : Failure → ℕ
 number_of failure.Argument = 1
 number_of failure.Place = 2
 number_of failure.Kind = 3
-number_of failure.Flags = 4
 number_of failure.Number = 5
 number_of failure.Length = 6
 number_of failure.Ranges = 7
@@ -44,3 +43,25 @@ frame_failure reason = if pointwise nat_eq reason (codes "unexpected end") then 
     else if pointwise nat_eq reason (codes "invalid frame ID") then failure.FrameType
     else if pointwise nat_eq reason (codes "frame type not in shortest form") then failure.FrameLongType
     else failure.FrameMalformed
+
+-- the code of the CONNECTION_CLOSE that a failure leads to (RFC 9000, section 20.1): an INTERNAL_ERROR for the caller's
+-- arguments, a PROTOCOL_VIOLATION for an empty payload and a type in a longer encoding (section 12.4), a
+-- FRAME_ENCODING_ERROR for other frames, a TRANSPORT_PARAMETER_ERROR (section 7.4), and NO_ERROR for packets, which are
+-- dropped (section 5.2)
+abbrev pub code_of : Failure → ℕ
+code_of failure.Argument = 0x01
+code_of failure.Place = 0x01
+code_of failure.Kind = 0x01
+code_of failure.Number = 0x01
+code_of failure.Length = 0x01
+code_of failure.Ranges = 0x01
+code_of failure.Parameter = 0x01
+code_of failure.NoRoom = 0x01
+code_of failure.PayloadEmpty = 0x0a
+code_of failure.FrameEnd = 0x07
+code_of failure.FrameType = 0x07
+code_of failure.FrameMalformed = 0x07
+code_of failure.FrameLongType = 0x0a
+code_of failure.ParametersMalformed = 0x08
+code_of failure.ParametersIllegal = 0x08
+code_of _ = 0x00

@@ -1,6 +1,6 @@
 //! The results of functions exported to C.
-ghost use Rattle.std.specs.Prelude.{◌≡◌};
-ghost use Rattle.quic_results.specs.Results.{failed, frame_failure, returned};
+ghost use Rattle.std.specs.Prelude.{◌≡◌, ℕ, pos};
+ghost use Rattle.quic_results.specs.Results.{code_of, failed, frame_failure, returned};
 
 /// Why a function exported to C fails. Each reason has a number, which never changes.
 #[derive(Clone, Copy, Debug, PartialEq, Eq)]
@@ -11,8 +11,6 @@ pub enum Failure {
     Place,
     /// There is no such kind, or not for this function.
     Kind,
-    /// A flag is set that the kind doesn't have.
-    Flags,
     /// A number is too large for its field, or 0 where that isn't possible.
     Number,
     /// A length or width isn't possible in its field.
@@ -61,7 +59,6 @@ impl Failure {
             Failure::Argument => -1,
             Failure::Place => -2,
             Failure::Kind => -3,
-            Failure::Flags => -4,
             Failure::Number => -5,
             Failure::Length => -6,
             Failure::Ranges => -7,
@@ -81,6 +78,23 @@ impl Failure {
             Failure::ParametersMalformed => -60,
             Failure::ParametersIllegal => -61,
         }
+    }
+}
+
+/// The code with which an endpoint closes the connection because of a failure with this number (RFC 9000, section 20.1):
+/// `FRAME_ENCODING_ERROR`, `PROTOCOL_VIOLATION` or `TRANSPORT_PARAMETER_ERROR` if its peer broke a rule,
+/// `INTERNAL_ERROR` if the caller passed impossible arguments, and `NO_ERROR`, 0, if nothing is closed: a packet that
+/// can't be read is dropped, and other numbers are no failures.
+pub fn close_code(number: i32) -> u32
+    ensures failure { (f : Failure) → number ≡ failed f → result ≡ code_of f }
+    ensures success { (count : ℕ) → number ≡ pos count → result ≡ 0x00 }
+{
+    match number {
+        -1 | -2 | -3 | -5 | -6 | -7 | -8 | -9 => 0x01,
+        -21 | -22 | -23 => 0x07,
+        -20 | -24 => 0x0a,
+        -60 | -61 => 0x08,
+        _ => 0x00,
     }
 }
 

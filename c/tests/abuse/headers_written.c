@@ -13,7 +13,7 @@ void headers_written_nulls(void) {
   WANT(quic_wire_header_write(&fields, id, 4, id, 4, NULL, 1, out, 16) == 15);
   fields.kind = QUIC_WIRE_1RTT;
   WANT(quic_wire_header_write(&fields, id, 4, NULL, 4, NULL, 1, out, 16) ==
-       INVALID);
+       QUIC_WIRE_ERR_LENGTH);
   fields.numberlen = 1;
   WANT(quic_wire_header_write(&fields, id, 4, NULL, 4, NULL, 1, out, 16) == 6);
   fields.kind = QUIC_WIRE_INITIAL;

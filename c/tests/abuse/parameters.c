@@ -53,7 +53,8 @@ static void further_made(struct further *f) {
   static const uint8_t versions[] = {0, 0, 0, 1};
   size_t n = 0, m = 0;
   uint8_t k;
-  WANT(quic_wire_params_read(QUIC_WIRE_SERVER, NULL, 0, &f->params) == 0);
+  WANT(quic_wire_params_read(QUIC_WIRE_SERVER, NULL, 0, &f->params,
+                             sizeof f->params) == 0);
   f->params.max_idle_timeout = 5;
   f->params.initial_max_data = 9;
   WANT(quic_wire_param_write(QUIC_WIRE_PARAM_VERSION_INFORMATION, versions, 4,

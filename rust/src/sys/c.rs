@@ -5,7 +5,7 @@ use super::words::{Canon, Frame, Frames, HeaderFields, HeaderPlaces, Param, Para
 
 extern "C" {
     /// An archive of another version lacks it, so that it isn't linked.
-    pub static quic_wire_abi_6: u8;
+    pub static quic_wire_abi_7: u8;
 
     pub fn quic_wire_frames_fill_(
         frames: *mut Frames,

@@ -67,7 +67,7 @@ struct Linked(#[allow(dead_code)] *const u8);
 unsafe impl Sync for Linked {}
 
 #[used]
-static LINKED: Linked = Linked(&raw const c::quic_wire_abi_6);
+static LINKED: Linked = Linked(&raw const c::quic_wire_abi_7);
 
 // What a writer answers: the bytes at the front of its room, or its answer and how many it asks for.
 fn wrote(answer: i32, written: usize) -> Result<Filled, (i32, usize)> {

@@ -6,6 +6,7 @@ use quic_wire::frame::{
     FrameType, InvalidFrame, Iter, NewConnectionId, Reason, Stream, StreamMeta, WriteError,
 };
 use quic_wire::transport_error::Code;
+use quic_wire::Side;
 use quic_wire::{varint, Dir, StreamId};
 use std::collections::HashSet;
 use std::mem::MaybeUninit;
@@ -87,7 +88,8 @@ fn an_iterator_goes_on_where_another_stopped() {
 #[test]
 fn an_owner_of_a_payload_reads_it_as_an_iterator_does() {
     // All kinds of ends: none, an invalid frame, a type in two bytes, the extension for ACK frequency.
-    for payload in [&[0x10, 0x05, 0x00, 0x00, 0x08, 0x04, b'x'][..], &[0x01, 0x05, 0x40], &[0x40, 0x01, 0x01], &[0x1f]] {
+    for payload in [&[0x10, 0x05, 0x00, 0x00, 0x08, 0x04, b'x'][..], &[0x01, 0x05, 0x40], &[0x40, 0x01, 0x01], &[0x1f]]
+    {
         for frames in [
             Iter::new(payload).unwrap(),
             Iter::strict(payload).unwrap(),

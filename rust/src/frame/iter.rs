@@ -199,7 +199,9 @@ impl<'a> Iter<'a> {
         let mut count = 0;
         match sys::frames_fill(&mut self.state, self.payload, self.basic, entries, &mut count) {
             sys::ITEM => Some(Ok(Batch { payload: self.payload, entries: entries[..count].iter() })),
-            sys::MALFORMED => Some(Err(invalid_of(entries[0].get()))),
+            answer @ sys::FRAME_LONG_TYPE..=sys::FRAME_END => {
+                Some(Err(invalid_by(entries[0].get().numbers[0], answer)))
+            }
             _ => None,
         }
     }
@@ -221,7 +223,7 @@ impl<'a> Iterator for Iter<'a> {
         let mut room = MaybeUninit::uninit();
         match sys::frames_next(&mut self.state, self.payload, self.basic, &mut room) {
             (sys::ITEM, Some(frame)) => Some(Ok(frame_of(self.payload, frame))),
-            (_, Some(reported)) => Some(Err(invalid_of(reported))),
+            (answer, Some(reported)) => Some(Err(invalid_by(reported.numbers[0], answer))),
             (_, None) => None,
         }
     }
@@ -402,10 +404,6 @@ impl fmt::Debug for Batch<'_, '_> {
     fn fmt(&self, f: &mut fmt::Formatter<'_>) -> fmt::Result {
         f.debug_list().entries(self.clone()).finish()
     }
-}
-
-fn invalid_of(reported: &sys::Frame) -> InvalidFrame {
-    invalid_by(reported.numbers[0], u64::from(reported.flags))
 }
 
 // Slices are taken with Rust's own tests, though the library proves the places.

@@ -165,8 +165,8 @@ impl HeaderPlaces {
     pub fn read(bytes: &[u8], cid_len: usize, versions: &[u32]) -> Result<HeaderPlaces, HeaderError> {
         let mut places = sys::HeaderPlaces::default();
         match sys::header_read(bytes, u32::try_from(cid_len).unwrap_or(u32::MAX), versions, &mut places) {
-            0 => Ok(HeaderPlaces(places)),
-            reason => Err(HeaderPlaces(places).error(reason, cid_len)),
+            1.. => Ok(HeaderPlaces(places)),
+            answer => Err(HeaderPlaces(places).error(answer, cid_len)),
         }
     }
 
@@ -208,21 +208,21 @@ impl HeaderPlaces {
     pub fn read_version_negotiation(packet: &[u8]) -> Option<HeaderPlaces> {
         let mut places = sys::HeaderPlaces::default();
         match sys::negotiation_read(packet, &mut places) {
-            0 => Some(HeaderPlaces(places)),
+            1.. => Some(HeaderPlaces(places)),
             _ => None,
         }
     }
 
     #[cold]
-    fn error(self, reason: i32, cid_len: usize) -> HeaderError {
+    fn error(self, answer: i64, cid_len: usize) -> HeaderError {
         assert!(cid_len <= crate::ids::MAX_CID_SIZE, "the ids of short headers have at most 20 bytes");
-        HeaderError::InvalidHeader(match reason {
-            1 => return HeaderError::UnsupportedVersion(UnsupportedVersion(self)),
-            2 => "unexpected end of packet",
-            4 => "packet too small",
-            5 => "malformed cid",
-            6 => "token out of bounds",
-            7 => return HeaderError::CutOff(self),
+        HeaderError::InvalidHeader(match i32::try_from(answer).unwrap_or(0) {
+            sys::PACKET_VERSION => return HeaderError::UnsupportedVersion(UnsupportedVersion(self)),
+            sys::PACKET_CUT => return HeaderError::CutOff(self),
+            sys::PACKET_END => "unexpected end of packet",
+            sys::PACKET_SMALL => "packet too small",
+            sys::PACKET_CID => "malformed cid",
+            sys::PACKET_TOKEN => "token out of bounds",
             // Places have 32 bits.
             _ => "packet of 4 GiB or more",
         })

@@ -89,13 +89,13 @@ mod tests {
             for largest_acked in [0, 1, 0xff, 0xabe8_b3c1, (1 << 62) - 1, u64::MAX / 2] {
                 let number = largest_acked + distance;
                 // The library doesn't look at the number itself.
-                let reported = if number > varint::MAX { -1 } else { sys::number_len(number, largest_acked) };
-                let len = PacketNumber::new(number, largest_acked).map_or(-1, |number| number.len as i32);
+                let reported = if number > varint::MAX { -5 } else { sys::number_len(number, largest_acked) };
+                let len = PacketNumber::new(number, largest_acked).map_or(-5, |number| number.len as i32);
                 assert_eq!(len, reported, "of {number}, {largest_acked} acknowledged");
                 if distance != 0 {
                     assert_eq!(
                         (PacketNumber::new(largest_acked, number), sys::number_len(largest_acked, number)),
-                        (None, -1)
+                        (None, -5)
                     );
                 }
             }

@@ -67,7 +67,7 @@
  *   quic_wire_set_len(packet, end, place, fields.lengthlen);
  *   seal_payload(number, packet, (size_t)begin, packet + begin, payloadlen);
  *   make_mask(mask, quic_wire_sample(packet, end, place, 16));
- *   quic_wire_protect(packet, end, place, mask);
+ *   int sealed = quic_wire_protect(packet, end, place, mask); // above 0
  *
  * A payload of fewer than 4 - numberlen bytes is padded before it is sealed, so
  * that there is a sample (RFC 9001, section 5.4.2).

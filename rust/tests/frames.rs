@@ -123,7 +123,7 @@ fn an_ack_is_kept_beside_its_payload() {
     let Some(Ok(Frame::Ack(ack))) = Iter::new(&payload).unwrap().nth(1) else { panic!() };
     let place = ack.place_in(&payload).unwrap();
     assert_eq!((place.range(), place.ack(&payload)), (1..11, Some(ack)));
-    assert_eq!(place.ack(&payload.to_vec()), Some(ack), "in a copy");
+    assert_eq!(place.ack(&payload.clone()), Some(ack), "in a copy");
     assert_eq!(place.ack(&payload[..10]), None, "cut off");
     assert_eq!(ack.place_in(&payload[..10]), None, "in a part");
     assert_eq!(ack.place_in(&payload[2..]), None, "in bytes that begin after it");

@@ -9,10 +9,10 @@
 #include "crossing.h"
 
 static u64 packets_of(const uint8_t *datagram, size_t len) {
-    static const uint32_t versions[] = {1, 0x6b3343cf};
+    static const uint32_t versions[] = {QUIC_WIRE_VERSION_1, QUIC_WIRE_VERSION_2};
     quic_wire_header head;
     u64 sum = 0;
-    while (len != 0 && quic_wire_header_read(datagram, len, 8, versions, 2, &head) == QUIC_WIRE_OK &&
+    while (len != 0 && quic_wire_header_read(datagram, len, 8, versions, 2, &head) > 0 &&
            head.first & QUIC_WIRE_FIXED_BIT) {
         sum += head.kind + head.version + head.header_end + head.dcidlen + head.scidlen + head.token + head.tokenlen +
                head.len + head.end + *quic_wire_dcid(datagram, &head);
@@ -75,7 +75,7 @@ static u64 ack_write(u64 turn) {
 
 static inline __attribute__((always_inline)) u64 header_of(uint8_t kind, u64 turn) {
     quic_wire_header_fields said = {
-        .kind = kind, .flags = QUIC_WIRE_FIXED_BIT, .numberlen = 2, .lengthlen = 2, .version = 1, .number = turn};
+        .kind = kind, .numberlen = 2, .lengthlen = 2, .version = QUIC_WIRE_VERSION_1, .number = turn};
     size_t token_len = kind == QUIC_WIRE_INITIAL ? sizeof token : 0;
     return (u64)quic_wire_header_write(&said, id, id_len, id, id_len, token, token_len, dest, sizeof dest);
 }

@@ -43,14 +43,14 @@ static void canonical(size_t i) {
 }
 
 static void header(size_t i) {
-    static const uint32_t versions[] = {1, 0x6b3343cf};
+    static const uint32_t versions[] = {QUIC_WIRE_VERSION_1, QUIC_WIRE_VERSION_2};
     quic_wire_header to = {0};
     sum += (uint64_t)quic_wire_header_read(lines[i], lens[i], 8, versions, 2, &to) + to.end;
 }
 
 static void params_read(size_t i) {
     quic_wire_params params;
-    sum += (uint64_t)quic_wire_params_read(QUIC_WIRE_CLIENT, lines[i], lens[i], &params);
+    sum += (uint64_t)quic_wire_params_read(QUIC_WIRE_CLIENT, lines[i], lens[i], &params, sizeof params);
 }
 
 // Writes the first list that a client may have got.
@@ -58,8 +58,11 @@ static void params_write(size_t i) {
     static quic_wire_params params;
     static int has_params;
     size_t written = 0;
-    if (!has_params) has_params = quic_wire_params_read(QUIC_WIRE_CLIENT, lines[i], lens[i], &params) == QUIC_WIRE_OK;
-    sum += (uint64_t)quic_wire_params_write(QUIC_WIRE_SERVER, &params, room, sizeof room, &written) + written;
+    if (!has_params)
+        has_params =
+            quic_wire_params_read(QUIC_WIRE_CLIENT, lines[i], lens[i], &params, sizeof params) == QUIC_WIRE_OK;
+    sum += (uint64_t)quic_wire_params_write(QUIC_WIRE_SERVER, &params, sizeof params, room, sizeof room, &written) +
+           written;
 }
 
 static void set(size_t i) {

@@ -34,7 +34,6 @@ static void frames(void) {
   STRUCT(canon);
   FIELD(canon, len);
   FIELD(canon, last_type);
-  FIELD(canon, reason);
 }
 
 static void headers(void) {
@@ -54,7 +53,7 @@ static void headers(void) {
 static void params(void) {
   STRUCT(params);
   FIELD(params, present);
-  FIELD(params, reason);
+  FIELD(params, reserved);
   FIELD(params, max_idle_timeout);
   FIELD(params, max_udp_payload_size);
   FIELD(params, initial_max_data);

@@ -13,7 +13,7 @@ export const LAYOUT = {
   },
   range: { size: 16, fields: { start: [0, 8], end: [8, 8] } },
   ack_ranges: { size: 24, fields: { begin: [0, 8], end: [8, 8], largest: [16, 8] } },
-  canon: { size: 24, fields: { len: [0, 8], last_type: [8, 8], reason: [16, 8] } },
+  canon: { size: 16, fields: { len: [0, 8], last_type: [8, 8] } },
   header: {
     size: 32,
     fields: {
@@ -24,7 +24,7 @@ export const LAYOUT = {
   params: {
     size: 264,
     fields: {
-      present: [0, 4], reason: [4, 4], max_idle_timeout: [8, 8], max_udp_payload_size: [16, 8],
+      present: [0, 4], reserved: [4, 4], max_idle_timeout: [8, 8], max_udp_payload_size: [16, 8],
       initial_max_data: [24, 8], initial_max_stream_data_bidi_local: [32, 8],
       initial_max_stream_data_bidi_remote: [40, 8], initial_max_stream_data_uni: [48, 8],
       initial_max_streams_bidi: [56, 8], initial_max_streams_uni: [64, 8], ack_delay_exponent: [72, 8],
@@ -37,11 +37,10 @@ export const LAYOUT = {
   },
 };
 
-// What calls answer: QUIC_WIRE_OK and so on.
+// What calls return: QUIC_WIRE_OK, QUIC_WIRE_ITEM, QUIC_WIRE_ERR_PAYLOAD_EMPTY.
 export const OK = 0;
 export const ITEM = 1;
-export const EMPTY = -2;
-export const MALFORMED = -3;
+export const EMPTY = -20;
 
 // QUIC_WIRE_NO_TYPE.
 export const NO_TYPE = 0xffffffffffffffffn;

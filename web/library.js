@@ -1,7 +1,9 @@
 // The calls of the proved library, as they stand in c/include/quic_wire.h, over bytes that lie in the module's memory.
 
-import { PACKET_FIXED_BIT_UNSET, PACKET_MALFORMED_CID, PACKET_UNSUPPORTED_VERSION, PADDING } from "./names.js";
-import { EMPTY, ITEM, LAYOUT, MALFORMED, NO_TYPE, OK, Struct } from "./layout.js";
+import {
+  FRAME_REASONS, PACKET_FIXED_BIT_UNSET, PACKET_MALFORMED_CID, PACKET_REASONS, PACKET_UNSUPPORTED_VERSION, PADDING,
+} from "./names.js";
+import { EMPTY, ITEM, LAYOUT, NO_TYPE, OK, Struct } from "./layout.js";
 
 // How many frames, and how many ranges of an ACK, one call gives at most.
 const ROOM = 1024;
@@ -131,8 +133,8 @@ export class Library {
       );
       if (answer === ITEM) {
         this.addFrames(begins, kinds);
-      } else if (answer === MALFORMED) {
-        error = this.frameError(new Struct(this.memory, "frame", this.room));
+      } else if (answer in FRAME_REASONS) {
+        error = this.frameError(answer, new Struct(this.memory, "frame", this.room));
       } else {
         throw new Error(`quic_wire_frames_fill_ answered ${answer}`);
       }
@@ -156,9 +158,9 @@ export class Library {
     }
   }
 
-  frameError(frame) {
+  frameError(reason, frame) {
     const type = frame.entry("numbers", 0);
-    return { empty: false, reason: frame.number("flags"), type: type === NO_TYPE ? null : type };
+    return { empty: false, reason, type: type === NO_TYPE ? null : type };
   }
 
   // The frame that begins at |offset|.
@@ -221,7 +223,7 @@ export class Library {
       return { bytes: null, error: { empty: true } };
     }
     const type = this.canon.big("last_type");
-    const error = { empty: false, reason: this.canon.number("reason"), type: type === NO_TYPE ? null : type };
+    const error = { empty: false, reason: answer, type: type === NO_TYPE ? null : type };
     return { bytes: null, error };
   }
 
@@ -241,11 +243,14 @@ export class Library {
       return PACKET_FIXED_BIT_UNSET;
     }
     const spoken = this.speak(versions);
-    const answer = this.call(
+    const answer = Number(this.call(
       "header_read", this.at(this.input + offset), BigInt(this.length - offset), idLength, this.at(this.versions),
       spoken, this.at(this.header.place),
-    );
-    if (answer < OK) {
+    ));
+    if (answer > 0) {
+      return OK;
+    }
+    if (!(answer in PACKET_REASONS)) {
       throw new Error(`quic_wire_header_read_ answered ${answer}`);
     }
     const hasLongId = () => this.header.number("dcidlen") > MAX_ID || this.header.number("scidlen") > MAX_ID;
@@ -295,9 +300,9 @@ export class Library {
     this.reserve(given + 16);
     const memory = new Uint8Array(this.memory.buffer);
     memory.set(mask, given);
-    const answer = this.calls.quic_wire_unprotect_header(
-      this.at(this.input + begin), this.at(end - begin), this.at(place), this.at(given), 0n, this.at(header),
-      this.at(place + 4), this.at(this.count),
+    const answer = this.call(
+      "unprotect_copy", this.at(this.input + begin), this.at(end - begin), this.at(place), this.at(given), 0n,
+      this.at(header), this.at(place + 4), this.at(this.count),
     );
     if (answer < OK) {
       return null;
@@ -312,16 +317,16 @@ export class Library {
       "params_read", side === "server" ? 1 : 0, ...this.held(length), this.at(this.params.place),
     );
     if (answer !== OK) {
-      return { record: null, reason: this.params.number("reason") };
+      return { record: null, reason: answer };
     }
     const { params } = this;
     const copy = ([field, [, bytes]]) => {
       if (bytes === 8) {
         return [field, params.big(field)];
       }
-      return [field, field.endsWith("len") || bytes === 2 || field === "present" || field === "reason"
+      return [field, field.endsWith("len") || bytes === 2 || field === "present" || field === "reserved"
         ? params.number(field) : params.bytes(field)];
     };
-    return { record: Object.fromEntries(Object.entries(params.fields).map(copy)), reason: 0 };
+    return { record: Object.fromEntries(Object.entries(params.fields).map(copy)), reason: OK };
   }
 }

@@ -64,26 +64,30 @@ export function typeName(type) {
   return kind === null ? `<unknown ${type.toString(16)}>` : frameName(kind);
 }
 
-// QUIC_WIRE_REASON_UNEXPECTED_END and so on.
-export const FRAME_REASONS = [
-  "unknown", "unexpected end", "invalid frame ID", "malformed", "frame type not in shortest form",
-];
-export const REASON_END = 1;
-export const REASON_TYPE = 2;
-export const REASON_LONG_TYPE = 4;
+// What calls return for an invalid frame, QUIC_WIRE_ERR_FRAME_END and so on, with the texts.
+export const REASON_END = -21;
+export const REASON_TYPE = -22;
+export const REASON_MALFORMED = -23;
+export const REASON_LONG_TYPE = -24;
+export const FRAME_REASONS = {
+  [REASON_END]: "unexpected end", [REASON_TYPE]: "invalid frame ID", [REASON_MALFORMED]: "malformed",
+  [REASON_LONG_TYPE]: "frame type not in shortest form",
+};
 
-// QUIC_WIRE_PARAMS_MALFORMED and so on.
-export const PARAMS_REASONS = ["unknown", "malformed", "illegal value"];
-export const PARAMS_MALFORMED = 1;
+// For a list of parameters: QUIC_WIRE_ERR_PARAMS_MALFORMED and QUIC_WIRE_ERR_PARAMS_ILLEGAL.
+export const PARAMS_MALFORMED = -60;
+export const PARAMS_ILLEGAL = -61;
+export const PARAMS_REASONS = { [PARAMS_MALFORMED]: "malformed", [PARAMS_ILLEGAL]: "illegal value" };
 
-// QUIC_WIRE_PACKET_UNSUPPORTED_VERSION and so on.
-export const PACKET_REASONS = [
-  "unknown", "unsupported version", "unexpected end of packet", "fixed bit unset", "packet too small",
-  "malformed cid", "token out of bounds", "packet too short to contain payload length",
-];
-export const PACKET_UNSUPPORTED_VERSION = 1;
-export const PACKET_FIXED_BIT_UNSET = 3;
-export const PACKET_MALFORMED_CID = 5;
+// For a packet: QUIC_WIRE_ERR_PACKET_VERSION and so on.
+export const PACKET_UNSUPPORTED_VERSION = -45;
+export const PACKET_FIXED_BIT_UNSET = -41;
+export const PACKET_MALFORMED_CID = -43;
+export const PACKET_REASONS = {
+  [PACKET_UNSUPPORTED_VERSION]: "unsupported version", [PACKET_FIXED_BIT_UNSET]: "fixed bit unset",
+  [PACKET_MALFORMED_CID]: "malformed cid", [-40]: "unexpected end of packet", [-42]: "packet too small",
+  [-44]: "token out of bounds", [-46]: "packet too short to contain payload length",
+};
 
 // Of each kind of packet: the word that quic-show prints, its name, and its tone.
 const PACKETS = [

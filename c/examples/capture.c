@@ -16,7 +16,7 @@
 
 enum { MOST = 65535, FLOWS = 4096, ID = 20 }; /* no id of versions 1 and 2 is longer */
 
-static const uint32_t versions[] = {VERSION_1, VERSION_2};
+static const uint32_t versions[] = {QUIC_WIRE_VERSION_1, QUIC_WIRE_VERSION_2};
 
 /* What is kept of a side, QUIC_WIRE_CLIENT or QUIC_WIRE_SERVER. */
 typedef struct side {
@@ -51,7 +51,7 @@ static void check(int is_so, const char *what) {
 static int is_first(const datagram *d) {
   const uint32_t version = d->len < 7 ? 0 : four_bytes(d->bytes + 1);
   return d->len >= 7 && d->bytes[0] & QUIC_WIRE_LONG_FORM &&
-         (version == VERSION_1 || version == VERSION_2 || version == 0 ||
+         (version == QUIC_WIRE_VERSION_1 || version == QUIC_WIRE_VERSION_2 || version == 0 ||
           (version & 0x0f0f0f0f) == 0x0a0a0a0a);
 }
 
@@ -93,8 +93,8 @@ static const char *open_by(const uint8_t *id, size_t idlen, unsigned from, uint6
   if (!sample)
     return "too short for a sample";
   make_mask(&k, sample, mask);
-  numberlen = quic_wire_unprotect_header(packet, header->end, header->header_end, mask, expected,
-                                         bare, sizeof bare, &out->number);
+  numberlen = quic_wire_unprotect_copy(packet, header->end, header->header_end, mask, expected, bare,
+                                       sizeof bare, &out->number);
   if (numberlen < 0)
     return quic_wire_strerror(numberlen);
   begin = header->header_end + (size_t)numberlen;
@@ -199,9 +199,7 @@ static void print_frames(const uint8_t *payload, size_t len) {
                                                         &count)) == QUIC_WIRE_ITEM)
     print_frame(payload, len, &frame);
   if (answer != QUIC_WIRE_OK)
-    printf("  : %s\n", answer == QUIC_WIRE_ERR_MALFORMED
-                           ? quic_wire_reason_text(quic_wire_error_reason(&frame))
-                           : quic_wire_strerror(answer));
+    printf("  : %s\n", quic_wire_strerror(answer));
 }
 
 /* The versions that a version negotiation offers.  Returns whether all are whole. */
@@ -237,18 +235,17 @@ static void print_packet(const datagram *d, flow *f, unsigned *from, const uint8
  * |why| what is wrong with it, or why there is none. */
 static int read_header(const uint8_t *packet, size_t len, int cidlen, quic_wire_header *header,
                        const char **why) {
-  int answer = quic_wire_negotiation_read(packet, len, header);
+  int64_t answer = quic_wire_negotiation_read(packet, len, header);
   *why = "the length of its id isn't known";
   if (!(packet[0] & QUIC_WIRE_LONG_FORM) && cidlen < 0)
     return 0;
-  if (answer != QUIC_WIRE_OK)
+  if (answer < 0)
     answer =
         quic_wire_header_read(packet, len, cidlen < 0 ? 0 : (uint32_t)cidlen, versions, 2, header);
-  *why = answer ? quic_wire_packet_reason_text((uint32_t)answer) : NULL;
-  if (answer == QUIC_WIRE_PACKET_UNSUPPORTED_VERSION)
+  *why = answer < 0 ? quic_wire_strerror((int)answer) : NULL;
+  if (answer == QUIC_WIRE_ERR_PACKET_VERSION)
     header->end = (uint32_t)len; /* where such a packet ends only its version says */
-  return !answer || answer == QUIC_WIRE_PACKET_UNSUPPORTED_VERSION ||
-         answer == QUIC_WIRE_PACKET_LENGTH_BEYOND_END;
+  return answer > 0 || answer == QUIC_WIRE_ERR_PACKET_VERSION || answer == QUIC_WIRE_ERR_PACKET_CUT;
 }
 
 /* The packets of a datagram, which have one id (RFC 9000, section 12.2). */
@@ -291,7 +288,7 @@ int main(int argc, char **argv) {
     fputs("usage: capture FILE\n", stderr);
     return 2;
   }
-  check(quic_wire_check_linked() == 0, "another library is linked");
+  check(quic_wire_check(QUIC_WIRE_LIB) == 0, "another library is linked");
   c = open_capture(argv[1]);
   while (next_datagram(&c, &d))
     if ((f = flow_of(&d, &from)) != NULL)

@@ -20,8 +20,8 @@ static void print_frames(const uint8_t *payload, size_t len) {
   quic_wire_frames frames;
   quic_wire_frame frame;
   int answer = quic_wire_frames_init(&frames, payload, len);
-  if (answer == QUIC_WIRE_ERR_EMPTY) {
-    puts("error packet payload is empty");
+  if (answer < 0) {
+    printf("error %s\n", quic_wire_strerror(answer));
     return;
   }
   while ((answer = quic_wire_frames_next(&frames, payload, len, &frame)) ==
@@ -30,8 +30,8 @@ static void print_frames(const uint8_t *payload, size_t len) {
     print_type(frame.kind);
     putchar('\n');
   }
-  if (answer == QUIC_WIRE_ERR_MALFORMED) {
-    printf("error %s", quic_wire_reason_text(quic_wire_error_reason(&frame)));
+  if (answer < 0) {
+    printf("error %s", quic_wire_strerror(answer));
     if (quic_wire_error_type(&frame) != QUIC_WIRE_NO_TYPE) {
       printf(" in ");
       print_type(quic_wire_error_type(&frame));

@@ -90,26 +90,30 @@ static size_t read_hex(FILE *file, uint8_t *out, size_t room) {
 }
 
 int main(void) {
-  static const uint32_t versions[] = {VERSION_1};
+  static const uint32_t versions[] = {QUIC_WIRE_VERSION_1};
   static uint8_t packet[MOST], given[MOST], again[MOST];
-  quic_wire_header_fields fields = {QUIC_WIRE_INITIAL, 0, 0, 2, 1, 0};
+  quic_wire_header_fields fields = {0};
   quic_wire_header header;
   const uint8_t *dcid;
   const size_t len = read_hex(stdin, packet, sizeof packet);
   size_t begin, i;
   keys k;
-  int answer = quic_wire_header_read(packet, len, 0, versions, 1, &header);
-  check(quic_wire_check_linked() == 0, "another library is linked");
-  check(answer == 0, quic_wire_packet_reason_text((uint32_t)answer));
+  const int64_t end =
+      quic_wire_header_read(packet, len, 0, versions, 1, &header);
+  check(quic_wire_check(QUIC_WIRE_LIB) == 0, "another library is linked");
+  check(end > 0, quic_wire_strerror((int)end));
   check(header.kind == QUIC_WIRE_INITIAL &&
             header.scidlen + header.tokenlen == 0,
         "no Initial packet of a client's first datagram");
   memcpy(given, packet, len);
   dcid = quic_wire_dcid(given, &header);
-  k = initial_keys(VERSION_1, QUIC_WIRE_CLIENT, dcid, header.dcidlen);
+  k = initial_keys(QUIC_WIRE_VERSION_1, QUIC_WIRE_CLIENT, dcid, header.dcidlen);
 
   begin = open_packet(&k, packet, &header, &fields.number);
+  fields.kind = QUIC_WIRE_INITIAL;
+  fields.version = QUIC_WIRE_VERSION_1;
   fields.numberlen = (uint8_t)(begin - header.header_end);
+  fields.lengthlen = 2;
   printf("initial, number %" PRIu64 ", id ", fields.number);
   for (i = 0; i < header.dcidlen; i++)
     printf("%02x", dcid[i]);

@@ -11,9 +11,6 @@
 
 #include "quic_wire.h"
 
-#define VERSION_1 0x00000001u
-#define VERSION_2 0x6b3343cfu
-
 enum { TAG = 16, SAMPLE = 16 };
 
 typedef struct keys {
@@ -50,7 +47,7 @@ static keys initial_keys(uint32_t version, unsigned side, const uint8_t *dcid,
        0x9a, 0xe6, 0xa4, 0xc8, 0x0c, 0xad, 0xcc, 0xbb, 0x7f, 0x0a},
       {0x0d, 0xed, 0xe3, 0xde, 0xf7, 0x00, 0xa6, 0xdb, 0x81, 0x93,
        0x81, 0xbe, 0x6e, 0x26, 0x9d, 0xcb, 0xf9, 0xbd, 0x2e, 0xd9}};
-  const int is_2 = version == VERSION_2;
+  const int is_2 = version == QUIC_WIRE_VERSION_2;
   uint8_t initial[32], secret[32];
   keys k;
   hmac(salts[is_2], sizeof salts[is_2], dcid, dcidlen, initial);

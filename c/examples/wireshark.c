@@ -21,7 +21,7 @@ WS_DLL_PUBLIC const char plugin_version[];
 WS_DLL_PUBLIC const int plugin_want_major, plugin_want_minor;
 WS_DLL_PUBLIC void plugin_register(void);
 
-const char plugin_version[] = QUIC_WIRE_VERSION_TEXT;
+const char plugin_version[] = QUIC_WIRE_LIB_TEXT;
 const int plugin_want_major = WIRESHARK_VERSION_MAJOR;
 const int plugin_want_minor = WIRESHARK_VERSION_MINOR;
 
@@ -48,18 +48,14 @@ typedef struct refusal {
 
 static refusal refusal_of(int answer, const quic_wire_frames *frames,
                           const quic_wire_frame *frame) {
-  refusal r = {NULL, NULL, QUIC_WIRE_NO_TYPE, 0, 0x0a};
-  uint32_t words;
-  if (answer != QUIC_WIRE_ERR_MALFORMED) {
-    r.why = quic_wire_strerror(answer);
-    return r;
+  refusal r = {NULL, NULL, QUIC_WIRE_NO_TYPE, 0, 0};
+  r.why = quic_wire_strerror(answer);
+  r.code = (int)quic_wire_close_code(answer);
+  if (answer != QUIC_WIRE_ERR_PAYLOAD_EMPTY) {
+    r.type = quic_wire_error_type(frame);
+    r.name = r.type == QUIC_WIRE_NO_TYPE ? NULL : quic_wire_type_name(r.type);
+    r.place = (int)frames->offset;
   }
-  words = quic_wire_error_reason(frame);
-  r.why = quic_wire_reason_text(words);
-  r.type = quic_wire_error_type(frame);
-  r.name = r.type == QUIC_WIRE_NO_TYPE ? NULL : quic_wire_type_name(r.type);
-  r.place = (int)frames->offset;
-  r.code = words == QUIC_WIRE_REASON_LONG_TYPE ? 0x0a : 0x07;
   return r;
 }
 
@@ -169,6 +165,6 @@ static void register_protocol(void) {
 void plugin_register(void) {
   static proto_plugin plugin;
   plugin.register_protoinfo = register_protocol;
-  if (quic_wire_check_linked() == 0)
+  if (quic_wire_check(QUIC_WIRE_LIB) == 0)
     proto_register_plugin(&plugin);
 }

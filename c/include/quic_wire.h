@@ -35,7 +35,7 @@
  * the caller's cipher:
  *
  *   while (len != 0 && quic_wire_header_read(packet, len, cidlen, versions,
- *                                            nversions, &header) == 0) {
+ *                                            nversions, &header) > 0) {
  *     const uint8_t *sample =
  *         quic_wire_sample(packet, header.end, header.header_end, 16);
  *     if (sample && header.kind != QUIC_WIRE_RETRY &&
@@ -54,7 +54,7 @@
  *
  *   quic_wire_header_fields fields = {0};
  *   fields.kind = QUIC_WIRE_HANDSHAKE;
- *   fields.version = 1;
+ *   fields.version = QUIC_WIRE_VERSION_1;
  *   fields.number = number;
  *   fields.numberlen = (uint8_t)quic_wire_number_len(number, largest_acked);
  *   fields.lengthlen = 2;
@@ -67,7 +67,7 @@
  *   quic_wire_set_len(packet, end, place, fields.lengthlen);
  *   seal_payload(number, packet, (size_t)begin, packet + begin, payloadlen);
  *   make_mask(mask, quic_wire_sample(packet, end, place, 16));
- *   quic_wire_protect(packet, end, place, mask);
+ *   int sealed = quic_wire_protect(packet, end, place, mask); // above 0
  *
  * A payload of fewer than 4 - numberlen bytes is padded before it is sealed, so
  * that there is a sample (RFC 9001, section 5.4.2).
@@ -103,8 +103,13 @@
 #include <stdint.h>
 
 /* The version of this header: a byte each of major, minor and patch. */
-#define QUIC_WIRE_VERSION 0x000100
-#define QUIC_WIRE_VERSION_TEXT "0.1.0"
+#define QUIC_WIRE_LIB_MAJOR 0
+#define QUIC_WIRE_LIB_MINOR 1
+#define QUIC_WIRE_LIB_PATCH 0
+#define QUIC_WIRE_LIB                                                          \
+  ((uint32_t)(QUIC_WIRE_LIB_MAJOR << 16 | QUIC_WIRE_LIB_MINOR << 8 |           \
+              QUIC_WIRE_LIB_PATCH))
+#define QUIC_WIRE_LIB_TEXT "0.1.0"
 
 /* Each function is a symbol of both libraries, the archive and the shared one.
  * Who is linked with the archive can define QUIC_WIRE_INLINE before this
@@ -114,6 +119,13 @@
 #define QUIC_WIRE_API static inline
 #else
 #define QUIC_WIRE_API extern
+#endif
+
+/* Compilers warn where a result that may be an error isn't looked at. */
+#if defined(__GNUC__)
+#define QUIC_WIRE_CHECKED __attribute__((warn_unused_result))
+#else
+#define QUIC_WIRE_CHECKED
 #endif
 
 /* gcc and clang have unnamed members in C99 too. */
@@ -143,28 +155,75 @@ typedef size_t quic_wire_size;
 extern "C" {
 #endif
 
-/* ---- Results.  Those below 0 are errors. */
+/* ---- Results */
 
-/* Nothing is left to be read; or something was written or changed. */
-#define QUIC_WIRE_OK 0
-/* An item was read. */
-#define QUIC_WIRE_ITEM 1
-/* The set changed. */
-#define QUIC_WIRE_CHANGED 1
-/* A pointer is NULL, a place lies outside the bytes, a number is too great,
- * or the fields of a struct describe no valid value. */
-#define QUIC_WIRE_ERR_INVALID_ARGUMENT (-1)
-/* The payload is empty: a PROTOCOL_VIOLATION of the peer. */
-#define QUIC_WIRE_ERR_EMPTY (-2)
-/* The bytes have an invalid frame (a FRAME_ENCODING_ERROR of the peer, with
- * QUIC_WIRE_REASON_LONG_TYPE a PROTOCOL_VIOLATION), are not a list of
- * parameters, or are too short for a packet's number; a struct tells more of the
- * first two. */
-#define QUIC_WIRE_ERR_MALFORMED (-3)
-/* The buffer has less room than is needed. */
-#define QUIC_WIRE_ERR_NOBUF (-4)
-/* The library that is linked is not this header's. */
-#define QUIC_WIRE_ERR_VERSION (-5)
+/* What functions return.  Below 0 it is an error, which quic_wire_strerror()
+ * names; from 0 on a count, a length, or one of the first three.  The numbers
+ * never change; new ones may be added. */
+typedef enum quic_wire_result {
+  QUIC_WIRE_OK = 0, /* nothing is left to be read, or something was written */
+  QUIC_WIRE_ITEM = 1,    /* an item was read */
+  QUIC_WIRE_CHANGED = 1, /* the set changed */
+
+  /* The caller's mistakes. */
+  QUIC_WIRE_ERR_ARGUMENT = -1, /* a pointer is NULL, or the arguments describe
+                                  nothing that can be written */
+  QUIC_WIRE_ERR_PLACE = -2,    /* a place is outside of the bytes, or what is
+                                  there isn't what the function reads */
+  QUIC_WIRE_ERR_KIND = -3,     /* no such kind or side, or not for this function */
+  QUIC_WIRE_ERR_NUMBER = -5,   /* a number is too large for its field, or 0 */
+  QUIC_WIRE_ERR_LENGTH = -6,   /* a length or width isn't possible in its field */
+  QUIC_WIRE_ERR_RANGES = -7,   /* none, or not sorted with a number between any two */
+  QUIC_WIRE_ERR_PARAM = -8,    /* parameters that the peer would refuse */
+  QUIC_WIRE_ERR_NOBUF = -9,    /* the buffer has less room than is needed */
+  QUIC_WIRE_ERR_LIBRARY = -10, /* the library that is linked is another one */
+
+  /* A payload is refused (RFC 9000, sections 12.4 and 19). */
+  QUIC_WIRE_ERR_PAYLOAD_EMPTY = -20,
+  QUIC_WIRE_ERR_FRAME_END = -21,       /* the bytes end within a frame */
+  QUIC_WIRE_ERR_FRAME_TYPE = -22,      /* the type is unknown */
+  QUIC_WIRE_ERR_FRAME_MALFORMED = -23, /* a field has no value of its kind */
+  QUIC_WIRE_ERR_FRAME_LONG_TYPE = -24, /* of strict readers alone: the type isn't
+                                          in its shortest encoding */
+
+  /* A packet is dropped (section 5.2). */
+  QUIC_WIRE_ERR_PACKET_END = -40,       /* the bytes end within the header */
+  QUIC_WIRE_ERR_PACKET_FIXED_BIT = -41, /* the fixed bit is clear: for callers
+                                           to say, no function returns it */
+  QUIC_WIRE_ERR_PACKET_SMALL = -42,     /* too short for the id, or the number */
+  QUIC_WIRE_ERR_PACKET_CID = -43,       /* an id isn't complete, or too long */
+  QUIC_WIRE_ERR_PACKET_TOKEN = -44,     /* the bytes end within the token */
+  QUIC_WIRE_ERR_PACKET_VERSION = -45,   /* none of the versions given */
+  QUIC_WIRE_ERR_PACKET_CUT = -46,       /* the bytes end after the header */
+
+  /* A list of transport parameters is refused (section 7.4). */
+  QUIC_WIRE_ERR_PARAMS_MALFORMED = -60, /* cut off, no value of its kind, or
+                                           a repeat */
+  QUIC_WIRE_ERR_PARAMS_ILLEGAL = -61    /* a value is out of range, or may not
+                                           come from that side */
+} quic_wire_result;
+
+/* The codes of a CONNECTION_CLOSE (RFC 9000, section 20.1). */
+typedef enum quic_wire_code {
+  QUIC_WIRE_CODE_NO_ERROR = 0x00,
+  QUIC_WIRE_CODE_INTERNAL_ERROR = 0x01,
+  QUIC_WIRE_CODE_CONNECTION_REFUSED = 0x02,
+  QUIC_WIRE_CODE_FLOW_CONTROL_ERROR = 0x03,
+  QUIC_WIRE_CODE_STREAM_LIMIT_ERROR = 0x04,
+  QUIC_WIRE_CODE_STREAM_STATE_ERROR = 0x05,
+  QUIC_WIRE_CODE_FINAL_SIZE_ERROR = 0x06,
+  QUIC_WIRE_CODE_FRAME_ENCODING_ERROR = 0x07,
+  QUIC_WIRE_CODE_TRANSPORT_PARAMETER_ERROR = 0x08,
+  QUIC_WIRE_CODE_CONNECTION_ID_LIMIT_ERROR = 0x09,
+  QUIC_WIRE_CODE_PROTOCOL_VIOLATION = 0x0a,
+  QUIC_WIRE_CODE_INVALID_TOKEN = 0x0b,
+  QUIC_WIRE_CODE_APPLICATION_ERROR = 0x0c,
+  QUIC_WIRE_CODE_CRYPTO_BUFFER_EXCEEDED = 0x0d,
+  QUIC_WIRE_CODE_KEY_UPDATE_ERROR = 0x0e,
+  QUIC_WIRE_CODE_AEAD_LIMIT_REACHED = 0x0f,
+  QUIC_WIRE_CODE_NO_VIABLE_PATH = 0x10,
+  QUIC_WIRE_CODE_CRYPTO_ERROR = 0x100 /* plus the alert of TLS */
+} quic_wire_code;
 
 /* ---- Frames (RFC 9000, section 19) */
 
@@ -205,12 +264,6 @@ extern "C" {
 
 /* The value of a type where there is none. */
 #define QUIC_WIRE_NO_TYPE UINT64_MAX
-
-/* Why a frame is invalid. */
-#define QUIC_WIRE_REASON_UNEXPECTED_END 1
-#define QUIC_WIRE_REASON_INVALID_FRAME_ID 2
-#define QUIC_WIRE_REASON_MALFORMED 3
-#define QUIC_WIRE_REASON_LONG_TYPE 4 /* of strict readers alone */
 
 /* How far an iterator over a payload has come.  A struct of any other words is
  * harmless, and reads from |offset| on. */
@@ -320,12 +373,12 @@ typedef struct quic_wire_ack_ranges {
   uint64_t largest;          /* the greatest number of the next range */
 } QUIC_WIRE_ALIGNED quic_wire_ack_ranges;
 
-/* The length of a payload's shortest form, or why it has none. */
+/* The length of a payload's shortest form, or the type because of which it has
+ * none. */
 typedef struct quic_wire_canon {
   quic_wire_size len; /* how many bytes the shortest form has */
   uint64_t last_type; /* of an invalid frame: the last type that was read, its
                          own included, or QUIC_WIRE_NO_TYPE */
-  uint64_t reason;    /* QUIC_WIRE_REASON_UNEXPECTED_END and so on */
 } QUIC_WIRE_ALIGNED quic_wire_canon;
 
 /* ---- Packets (RFC 9000, section 17) */
@@ -348,15 +401,9 @@ typedef struct quic_wire_canon {
 #define QUIC_WIRE_RESERVED_1RTT 0x18 /* must be 0, under protection */
 #define QUIC_WIRE_RESERVED_LONG 0x0c /* of Initial, 0-RTT and Handshake */
 
-/* Why a header, or its packet, isn't whole.  That the fixed bit is unset is for
- * callers to say: no function answers it. */
-#define QUIC_WIRE_PACKET_UNSUPPORTED_VERSION 1
-#define QUIC_WIRE_PACKET_UNEXPECTED_END 2
-#define QUIC_WIRE_PACKET_FIXED_BIT_UNSET 3
-#define QUIC_WIRE_PACKET_TOO_SMALL 4
-#define QUIC_WIRE_PACKET_MALFORMED_CID 5
-#define QUIC_WIRE_PACKET_TOKEN_OUT_OF_BOUNDS 6
-#define QUIC_WIRE_PACKET_LENGTH_BEYOND_END 7
+/* Versions of QUIC. */
+#define QUIC_WIRE_VERSION_1 0x00000001u /* RFC 9000 */
+#define QUIC_WIRE_VERSION_2 0x6b3343cfu /* RFC 9369 */
 
 /* The header of a packet, with its protection still on.  Every place is one in
  * the packet, in bytes from its front; fields that the kind doesn't have are 0. */
@@ -373,13 +420,17 @@ typedef struct quic_wire_header {
                    from |header_end| on, as its header says */
 } QUIC_WIRE_ALIGNED quic_wire_header;
 
+/* In the flags of a header that is written: its fixed bit is clear (RFC 9287). */
+#define QUIC_WIRE_CLEAR_FIXED_BIT 0x40
+
 /* What a header says that is written, beside its ids and its token.  What its
  * kind lacks isn't looked at. */
 typedef struct quic_wire_header_fields {
   uint8_t kind;      /* QUIC_WIRE_INITIAL and so on */
-  uint8_t flags;     /* QUIC_WIRE_FIXED_BIT: it is clear; of 1-RTT
+  uint8_t flags;     /* 0: the first byte is what RFC 9000 has.
+                        QUIC_WIRE_CLEAR_FIXED_BIT; of 1-RTT
                         QUIC_WIRE_SPIN_BIT and QUIC_WIRE_KEY_PHASE; of a
-                        version negotiation all bits but the highest */
+                        version negotiation each bit but the highest is turned */
   uint8_t numberlen; /* how many bytes of the number are written, 1 to 4 */
   uint8_t lengthlen; /* how many bytes the packet's length has, 2 or 4 */
   uint32_t version;
@@ -405,18 +456,12 @@ typedef struct quic_wire_header_fields {
 #define QUIC_WIRE_HAS_GREASE_QUIC_BIT 0x200
 #define QUIC_WIRE_HAS_MIN_ACK_DELAY 0x400
 
-/* Why a list is refused. */
-#define QUIC_WIRE_PARAMS_MALFORMED 1 /* an entry is cut off, no value of its
-                                        kind, or a repeat */
-#define QUIC_WIRE_PARAMS_ILLEGAL_VALUE 2 /* a value is out of range, or may not
-                                            come from that side */
-
 /* Transport parameters.  What is absent is 0 in all of its words and bytes, but
  * for the numbers that have a default: these hold it then.  Ids are at the
  * front of their bytes, followed by zeros. */
 typedef struct quic_wire_params {
-  uint32_t present; /* QUIC_WIRE_HAS_STATELESS_RESET_TOKEN and so on */
-  uint32_t reason;  /* of parameters 0; else why the list was refused */
+  uint32_t present;  /* QUIC_WIRE_HAS_STATELESS_RESET_TOKEN and so on */
+  uint32_t reserved; /* 0 */
   uint64_t max_idle_timeout;     /* milliseconds; 0, the default: for ever */
   uint64_t max_udp_payload_size; /* bytes, at least 1200; default 65527 */
   uint64_t initial_max_data;     /* bytes; default 0, as of the next five */
@@ -488,9 +533,8 @@ QUIC_WIRE_ASSERT(offsetof(quic_wire_range, end) == 8, "64-bit words");
 QUIC_WIRE_ASSERT(sizeof(quic_wire_gap) == 16, "64-bit words");
 QUIC_WIRE_ASSERT(offsetof(quic_wire_gap, len) == 8, "64-bit words");
 QUIC_WIRE_ASSERT(sizeof(quic_wire_ack_ranges) == 24, "64-bit words");
-QUIC_WIRE_ASSERT(sizeof(quic_wire_canon) == 24, "64-bit words");
+QUIC_WIRE_ASSERT(sizeof(quic_wire_canon) == 16, "64-bit words");
 QUIC_WIRE_ASSERT(offsetof(quic_wire_canon, last_type) == 8, "64-bit words");
-QUIC_WIRE_ASSERT(offsetof(quic_wire_canon, reason) == 16, "64-bit words");
 QUIC_WIRE_ASSERT(sizeof(quic_wire_header) == 32, "no room between the fields");
 QUIC_WIRE_ASSERT(offsetof(quic_wire_header, version) == 4, "no room");
 QUIC_WIRE_ASSERT(offsetof(quic_wire_header, len) == 24, "no room");
@@ -510,40 +554,32 @@ QUIC_WIRE_ASSERT(offsetof(quic_wire_param, value) == 8, "64-bit words");
 #undef QUIC_WIRE_ASSERT
 #endif
 
-/* The sizes of the structs but quic_wire_gap, a byte for each, in words of 64
- * bits. */
-#define QUIC_WIRE_LAYOUT                                                       \
-  ((uint64_t)(sizeof(quic_wire_frames) / 8) |                                  \
-   (uint64_t)(sizeof(quic_wire_frame) / 8) << 8 |                              \
-   (uint64_t)(sizeof(quic_wire_range) / 8) << 16 |                             \
-   (uint64_t)(sizeof(quic_wire_ack_ranges) / 8) << 24 |                        \
-   (uint64_t)(sizeof(quic_wire_canon) / 8) << 32 |                             \
-   (uint64_t)(sizeof(quic_wire_header) / 8) << 40 |                            \
-   (uint64_t)(sizeof(quic_wire_header_fields) / 8) << 48 |                     \
-   (uint64_t)(sizeof(quic_wire_params) / 8) << 56)
-
-/* QUIC_WIRE_VERSION and QUIC_WIRE_LAYOUT of the library that is linked. */
-extern uint32_t quic_wire_version(void);
-extern uint64_t quic_wire_layout(void);
+/* QUIC_WIRE_LIB and QUIC_WIRE_LIB_TEXT of the library that is linked. */
+extern uint32_t quic_wire_lib(void);
+extern const char *quic_wire_lib_text(void);
 
 /*
- * Whether the library that is linked is one for this header, which a program
- * asks once, at its start.  Returns 0, or QUIC_WIRE_ERR_VERSION where major or
- * minor version or the size of a struct differ.
+ * Whether the library that is linked serves this header, which a program asks
+ * once, at its start, as quic_wire_check(QUIC_WIRE_LIB).  Returns 0 if it has
+ * the same major version, and the same minor version or a later one, as the
+ * name of the shared library says; otherwise QUIC_WIRE_ERR_LIBRARY.
  */
-static inline int quic_wire_check_linked(void) {
-  return quic_wire_version() >> 8 == QUIC_WIRE_VERSION >> 8 &&
-                 quic_wire_layout() == QUIC_WIRE_LAYOUT
-             ? QUIC_WIRE_OK
-             : QUIC_WIRE_ERR_VERSION;
-}
+QUIC_WIRE_CHECKED extern int quic_wire_check(uint32_t header);
+
+/*
+ * The code with which an endpoint closes the connection because of a |result|:
+ * FRAME_ENCODING_ERROR, PROTOCOL_VIOLATION or TRANSPORT_PARAMETER_ERROR where
+ * its peer broke a rule, INTERNAL_ERROR for the caller's mistakes; NO_ERROR, 0,
+ * where nothing is closed: from 0 on, and for packets, which are dropped.
+ */
+QUIC_WIRE_API uint32_t quic_wire_close_code(int result);
 
 /* ---- Frames, read */
 
 /*
  * Begins at the front of a |payload| of |payloadlen| bytes, with 0 in
- * |frames->strict|.  Returns 0, or QUIC_WIRE_ERR_EMPTY,
- * QUIC_WIRE_ERR_INVALID_ARGUMENT.
+ * |frames->strict|.  Returns 0, or QUIC_WIRE_ERR_PAYLOAD_EMPTY,
+ * QUIC_WIRE_ERR_ARGUMENT for NULL.
  */
 QUIC_WIRE_API int quic_wire_frames_init(quic_wire_frames *frames,
                                         const uint8_t *payload,
@@ -551,7 +587,7 @@ QUIC_WIRE_API int quic_wire_frames_init(quic_wire_frames *frames,
 
 /*
  * The same with 1 in |frames->strict|: a type that isn't in its shortest encoding
- * is an error, with QUIC_WIRE_REASON_LONG_TYPE.  Other fields may have any width.
+ * is an error, QUIC_WIRE_ERR_FRAME_LONG_TYPE.  Other fields may have any width.
  */
 QUIC_WIRE_API int quic_wire_frames_init_strict(quic_wire_frames *frames,
                                                const uint8_t *payload,
@@ -561,12 +597,10 @@ QUIC_WIRE_API int quic_wire_frames_init_strict(quic_wire_frames *frames,
  * Reads the next frame.  |payload| is the one that |frames| began with.
  *
  * Returns QUIC_WIRE_ITEM and the frame; 0 where none remains;
- * QUIC_WIRE_ERR_MALFORMED, once, where the next frame is invalid, and then 0: its
- * type and the reason are in |frame| (quic_wire_error_type,
- * quic_wire_error_reason).
- * QUIC_WIRE_ERR_INVALID_ARGUMENT for NULL, or where |frames->offset| is above
- * |payloadlen|.  |frame| changes only with QUIC_WIRE_ITEM and
- * QUIC_WIRE_ERR_MALFORMED.
+ * QUIC_WIRE_ERR_FRAME_END and so on, once, where the next frame is invalid, with
+ * its type in |frame| (quic_wire_error_type), and then 0; QUIC_WIRE_ERR_PLACE
+ * where |frames->offset| is above |payloadlen|; QUIC_WIRE_ERR_ARGUMENT for NULL.
+ * |frame| changes only with QUIC_WIRE_ITEM and QUIC_WIRE_ERR_FRAME_...
  */
 QUIC_WIRE_API int quic_wire_frames_next(quic_wire_frames *frames,
                                         const uint8_t *payload,
@@ -575,9 +609,9 @@ QUIC_WIRE_API int quic_wire_frames_next(quic_wire_frames *frames,
 
 /*
  * The same where the ACK frequency extension wasn't negotiated: an ACK_FREQUENCY
- * or IMMEDIATE_ACK is reported as a frame of an unknown type, with
- * QUIC_WIRE_REASON_INVALID_FRAME_ID, but one with an invalid field for that
- * field.  A caller may change between the two at any time.
+ * or IMMEDIATE_ACK has an unknown type, QUIC_WIRE_ERR_FRAME_TYPE, but one with an
+ * invalid field is reported for that field.  A caller may change between the two
+ * at any time.
  */
 QUIC_WIRE_API int quic_wire_frames_next_basic(quic_wire_frames *frames,
                                               const uint8_t *payload,
@@ -590,11 +624,11 @@ QUIC_WIRE_API int quic_wire_frames_next_basic(quic_wire_frames *frames,
  * all the zero bytes after it are one entry: quic_wire_padding_count.
  *
  * Returns QUIC_WIRE_ITEM, and in |*count| how many entries were filled, one at
- * least; 0 where no frame remains; QUIC_WIRE_ERR_MALFORMED, once, where the next
- * frame is invalid, and then 0: its type and the reason are in |out[0]|
- * (quic_wire_error_type, quic_wire_error_reason); QUIC_WIRE_ERR_NOBUF where
- * |room| is 0.  QUIC_WIRE_ERR_INVALID_ARGUMENT for NULL, or where
- * |frames->offset| is above |payloadlen|.  Frames before an invalid one are
+ * least; 0 where no frame remains; QUIC_WIRE_ERR_FRAME_END and so on, once, where
+ * the next frame is invalid, with its type in |out[0]| (quic_wire_error_type),
+ * and then 0; QUIC_WIRE_ERR_NOBUF where |room| is 0; QUIC_WIRE_ERR_PLACE where
+ * |frames->offset| is above |payloadlen|; QUIC_WIRE_ERR_ARGUMENT for NULL.
+ * Frames before an invalid one are
  * given first, and the next call reports it.  Entries after those that were
  * filled don't change, and |*count| changes only with QUIC_WIRE_ITEM.  Once
  * |frames->offset| is |payloadlen| no frame remains, and no call is needed to
@@ -620,11 +654,11 @@ QUIC_WIRE_API int quic_wire_frames_fill_basic(quic_wire_frames *frames,
  * |frames->offset| is below |payloadlen|.
  *
  * Returns QUIC_WIRE_ITEM, and in |*count| how many entries were filled, one at
- * least; QUIC_WIRE_ERR_EMPTY; QUIC_WIRE_ERR_MALFORMED, and its type and the reason
- * in |out[0]|, if the payload doesn't begin with a valid frame;
- * QUIC_WIRE_ERR_NOBUF where |room| is 0; QUIC_WIRE_ERR_INVALID_ARGUMENT for NULL.
+ * least; QUIC_WIRE_ERR_PAYLOAD_EMPTY; QUIC_WIRE_ERR_FRAME_END and so on, with the
+ * type in |out[0]|, if the payload doesn't begin with a valid frame;
+ * QUIC_WIRE_ERR_NOBUF where |room| is 0; QUIC_WIRE_ERR_ARGUMENT for NULL.
  * |*count| changes only with QUIC_WIRE_ITEM, and nothing changes but with that and
- * QUIC_WIRE_ERR_MALFORMED.
+ * QUIC_WIRE_ERR_FRAME_...
  */
 QUIC_WIRE_API int quic_wire_frames_first(quic_wire_frames *frames,
                                          const uint8_t *payload,
@@ -645,10 +679,10 @@ QUIC_WIRE_API int quic_wire_frames_first(quic_wire_frames *frames,
  * set, and quic_wire_ack_ranges_init gives all.  For other frames |gaps| doesn't
  * change.
  *
- * Returns where the frame ends, which is above 0; QUIC_WIRE_ERR_EMPTY where no
- * byte remains; QUIC_WIRE_ERR_MALFORMED, and its type and the reason in |frame|,
- * if the bytes don't begin with a valid frame (the type is QUIC_WIRE_NO_TYPE if
- * they end within that); QUIC_WIRE_ERR_INVALID_ARGUMENT for NULL.
+ * Returns where the frame ends, which is above 0; QUIC_WIRE_ERR_PAYLOAD_EMPTY
+ * where no byte remains; QUIC_WIRE_ERR_FRAME_END and so on, with the type in
+ * |frame|, if the bytes don't begin with a valid frame (the type is
+ * QUIC_WIRE_NO_TYPE if they end within that); QUIC_WIRE_ERR_ARGUMENT for NULL.
  */
 QUIC_WIRE_API int64_t quic_wire_frame_read(const uint8_t *payload,
                                            size_t payloadlen, int strict,
@@ -684,20 +718,17 @@ QUIC_WIRE_API const uint8_t *quic_wire_path_data(const uint8_t *payload,
                                                  size_t payloadlen,
                                                  const quic_wire_frame *frame);
 
-/* After QUIC_WIRE_ERR_MALFORMED: the last type that was read, the broken
+/* After QUIC_WIRE_ERR_FRAME_...: the last type that was read, the broken
  * frame's own included; QUIC_WIRE_NO_TYPE if none was.  It may be any number
  * below 2^62, and |frame->type| is 0. */
 QUIC_WIRE_API uint64_t quic_wire_error_type(const quic_wire_frame *frame);
-
-/* After QUIC_WIRE_ERR_MALFORMED: QUIC_WIRE_REASON_UNEXPECTED_END and so on. */
-QUIC_WIRE_API uint32_t quic_wire_error_reason(const quic_wire_frame *frame);
 
 /* ---- The ranges of an ACK, read */
 
 /*
  * Begins at the greatest range of |frame|, an ACK that was read of this
- * payload.  Returns 0, or QUIC_WIRE_ERR_INVALID_ARGUMENT where its bytes
- * are no ACK.
+ * payload.  Returns 0; QUIC_WIRE_ERR_PLACE where its bytes are no ACK;
+ * QUIC_WIRE_ERR_ARGUMENT for NULL.
  */
 QUIC_WIRE_API int quic_wire_ack_ranges_init(quic_wire_ack_ranges *ranges,
                                             const uint8_t *payload,
@@ -717,8 +748,8 @@ quic_wire_ack_ranges_init_unchecked(quic_wire_ack_ranges *ranges,
 
 /*
  * Reads the next range, the greatest first.  Returns QUIC_WIRE_ITEM and the
- * range, 0 where none remains, QUIC_WIRE_ERR_INVALID_ARGUMENT where |ranges|
- * has no place of an ACK's blocks.
+ * range, 0 where none remains, QUIC_WIRE_ERR_PLACE where |ranges| has no place of
+ * an ACK's blocks.
  */
 QUIC_WIRE_API int quic_wire_ack_ranges_next(quic_wire_ack_ranges *ranges,
                                             const uint8_t *payload,
@@ -729,7 +760,7 @@ QUIC_WIRE_API int quic_wire_ack_ranges_next(quic_wire_ack_ranges *ranges,
  * Reads the next ranges, the greatest first, as many as the |room| entries of
  * |out| hold, with one call.  Returns QUIC_WIRE_ITEM, and in |*count| how many
  * entries were filled, one at least; 0 where no range remains;
- * QUIC_WIRE_ERR_NOBUF where |room| is 0; QUIC_WIRE_ERR_INVALID_ARGUMENT where
+ * QUIC_WIRE_ERR_NOBUF where |room| is 0; QUIC_WIRE_ERR_PLACE where
  * |ranges| has no place of an ACK's blocks.  Entries after those that were filled
  * don't change, and nothing changes but with QUIC_WIRE_ITEM.  Once
  * |ranges->begin| is |ranges->end| none remains, and no call is needed to learn
@@ -755,7 +786,7 @@ QUIC_WIRE_API int quic_wire_ack_ranges_fill(quic_wire_ack_ranges *ranges,
  *
  * Returns 0, and in |*written| how many bytes were written;
  * QUIC_WIRE_ERR_NOBUF where |destlen| is less, and in |*written| how many are
- * needed; QUIC_WIRE_ERR_INVALID_ARGUMENT where |frame| is no frame that can be
+ * needed; QUIC_WIRE_ERR_ARGUMENT where |frame| is no frame that can be
  * written.  Bytes of |dest| after those written don't change, and none if nothing
  * was written.
  */
@@ -768,8 +799,8 @@ QUIC_WIRE_API int quic_wire_frame_write(const quic_wire_frame *frame,
  * Writes |frame|, a STREAM, CRYPTO or DATAGRAM, up to its data, which are
  * |frame->datalen| bytes: the front of what quic_wire_frame_write writes of it,
  * after which the caller puts the data.  type, data, begin and end are not
- * looked at.  Answers and |dest| are those of quic_wire_frame_write;
- * QUIC_WIRE_ERR_INVALID_ARGUMENT also for other kinds.
+ * looked at.  What it returns and |dest| are as of quic_wire_frame_write;
+ * QUIC_WIRE_ERR_ARGUMENT also for other kinds.
  */
 QUIC_WIRE_API int quic_wire_frame_header_write(const quic_wire_frame *frame,
                                                int last, uint8_t *dest,
@@ -785,7 +816,7 @@ QUIC_WIRE_API int quic_wire_frame_header_write(const quic_wire_frame *frame,
  *
  * Returns 0, and in |*written| how many bytes were written;
  * QUIC_WIRE_ERR_NOBUF where |destlen| is less, and in |*written| how many are
- * needed; QUIC_WIRE_ERR_INVALID_ARGUMENT for NULL, or where they are no ACK: a
+ * needed; QUIC_WIRE_ERR_ARGUMENT for NULL, or where they are no ACK: a
  * range goes below 0, a number is 2^62 or more, or the flags are others, as with
  * QUIC_WIRE_FLAG_MORE, where ranges are missing.  Bytes of |dest| after those
  * written don't change, and none if nothing was written.
@@ -796,7 +827,7 @@ QUIC_WIRE_API int quic_wire_ack_gaps_write(const quic_wire_frame *ack,
                                            size_t destlen, size_t *written);
 
 /* How many bytes quic_wire_frame_write writes of these: returns 0 with |*len|,
- * or QUIC_WIRE_ERR_INVALID_ARGUMENT where that does. */
+ * or QUIC_WIRE_ERR_ARGUMENT where that does. */
 QUIC_WIRE_API int quic_wire_frame_len(const quic_wire_frame *frame,
                                       const uint8_t *data, size_t datalen,
                                       int last, size_t *len);
@@ -810,10 +841,11 @@ QUIC_WIRE_API int quic_wire_frame_len(const quic_wire_frame *frame,
  *
  * Returns 0, and in |out->len| how many bytes were written, at most
  * |payloadlen|; QUIC_WIRE_ERR_NOBUF where |destlen| is less, and in |out->len|
- * how many are needed; QUIC_WIRE_ERR_EMPTY where the payload is empty;
- * QUIC_WIRE_ERR_MALFORMED where it has an invalid frame, with its type and the
- * reason in |out|.  Bytes of |dest| after those written don't change, and none if
- * nothing was written; |out| changes only in the fields that are named here.
+ * how many are needed; QUIC_WIRE_ERR_PAYLOAD_EMPTY; QUIC_WIRE_ERR_FRAME_END and
+ * so on where it has an invalid frame, with its type in |out|;
+ * QUIC_WIRE_ERR_ARGUMENT for NULL.  Bytes of |dest| after those written don't
+ * change, and none if nothing was written; |out| changes only in the fields that
+ * are named here.
  */
 QUIC_WIRE_API int quic_wire_canonical(const uint8_t *payload, size_t payloadlen,
                                       uint8_t *dest, size_t destlen,
@@ -829,20 +861,20 @@ QUIC_WIRE_API int quic_wire_canonical(const uint8_t *payload, size_t payloadlen,
  * |header->first|, but not in a version negotiation, where clients ignore it (RFC
  * 9000, section 17.2.1).
  *
- * Returns 0 and the header, whose packet ends at |header->end|, where the next
- * one of the datagram begins; QUIC_WIRE_PACKET_LENGTH_BEYOND_END and the
- * header, of a packet that is cut off; QUIC_WIRE_PACKET_UNSUPPORTED_VERSION and
- * of the header its kind, its version and its ids, which may have up to 255
- * bytes; another reason where there is no header, or where a version
+ * Returns where the packet ends, 1 or more, which is |header->end|: the next one
+ * of the datagram begins there.  QUIC_WIRE_ERR_PACKET_CUT and the header, of a
+ * packet that is cut off; QUIC_WIRE_ERR_PACKET_VERSION and of the header its
+ * kind, its version and its ids, which may have up to 255 bytes; another
+ * QUIC_WIRE_ERR_PACKET_.. where there is no header, or where a version
  * negotiation has longer ids than 20 bytes, which quic_wire_negotiation_read
- * tells; QUIC_WIRE_ERR_INVALID_ARGUMENT for NULL, or where |cidlen| is above 20
- * or there are 2^32 bytes or more.  |header| stays with the last two.
+ * reads; QUIC_WIRE_ERR_LENGTH where |cidlen| is above 20 or there are 2^32 bytes
+ * or more; QUIC_WIRE_ERR_ARGUMENT for NULL.  |header| changes only with the first
+ * three.
  */
-QUIC_WIRE_API int quic_wire_header_read(const uint8_t *bytes, size_t len,
-                                        uint32_t cidlen,
-                                        const uint32_t *versions,
-                                        size_t nversions,
-                                        quic_wire_header *header);
+QUIC_WIRE_CHECKED QUIC_WIRE_API int64_t
+quic_wire_header_read(const uint8_t *bytes, size_t len, uint32_t cidlen,
+                      const uint32_t *versions, size_t nversions,
+                      quic_wire_header *header);
 
 /*
  * Where the short header ends that |packet| begins with, whose id has |cidlen|
@@ -860,16 +892,16 @@ QUIC_WIRE_API size_t quic_wire_short_read(const uint8_t *packet,
  * what quic_wire_header_read tells where both have at most 20, which refuses
  * longer ones.  The seven low bits of the first byte aren't looked at.
  *
- * Returns 0 and the header, after which the versions are, from |header->header_end|
- * to |header->end|, four bytes each, the highest first; QUIC_WIRE_ERR_MALFORMED
- * where none begins there: the highest bit of the first byte is clear, the
- * version isn't 0, or the bytes end within the ids;
- * QUIC_WIRE_ERR_INVALID_ARGUMENT for NULL, or where there are 2^32 bytes or
- * more.  |header| changes with 0 alone.
+ * Returns |packetlen|, where the packet ends, and the header, after which the
+ * versions are, from |header->header_end| to |header->end|, four bytes each, the
+ * highest first; QUIC_WIRE_ERR_KIND where none begins there: the highest bit of
+ * the first byte is clear, the version isn't 0, or the bytes end within the ids;
+ * QUIC_WIRE_ERR_LENGTH where there are 2^32 bytes or more;
+ * QUIC_WIRE_ERR_ARGUMENT for NULL.  |header| changes only with the first.
  */
-QUIC_WIRE_API int quic_wire_negotiation_read(const uint8_t *packet,
-                                             size_t packetlen,
-                                             quic_wire_header *header);
+QUIC_WIRE_CHECKED QUIC_WIRE_API int64_t
+quic_wire_negotiation_read(const uint8_t *packet, size_t packetlen,
+                           quic_wire_header *header);
 
 /* Where the ids begin in a packet of this header, or NULL for NULL. */
 QUIC_WIRE_API const uint8_t *quic_wire_dcid(const uint8_t *packet,
@@ -894,39 +926,39 @@ QUIC_WIRE_API const uint8_t *quic_wire_sample(const uint8_t *packet,
  * number by the one that is |expected| next, as quic_wire_number_expand does;
  * with 0 it is what is written.  Returns how many bytes the number has, 1 to 4:
  * the payload begins after them, and packet[0] has the key phase and the
- * reserved bits.  QUIC_WIRE_ERR_MALFORMED where |place| is 0 or has fewer than
- * four bytes from it on; QUIC_WIRE_ERR_INVALID_ARGUMENT for NULL, or where
- * |expected| is 2^62 or more.  Nothing changes then.
+ * reserved bits.  QUIC_WIRE_ERR_NUMBER where |expected| is 2^62 or more, else
+ * QUIC_WIRE_ERR_PACKET_SMALL where |place| is 0 or has fewer than four bytes from
+ * it on; QUIC_WIRE_ERR_ARGUMENT for NULL.  Nothing changes then.
  */
-QUIC_WIRE_API int quic_wire_unprotect(uint8_t *packet, size_t packetlen,
+QUIC_WIRE_CHECKED QUIC_WIRE_API int quic_wire_unprotect(uint8_t *packet, size_t packetlen,
                                       size_t place, const uint8_t *mask,
                                       uint64_t expected, uint64_t *number);
 
 /*
- * The same of a packet that stays as it is: its header and the four bytes from
- * |place| on are copied to |header|, which has room for |headerlen| bytes, and
- * opened there.  QUIC_WIRE_ERR_NOBUF where that is less.  With an answer below
- * 0 |number| stays, and |header| may hold the copy.
+ * The same in a copy, so that the packet doesn't change: its bytes up to |place|
+ * and the four from there on are written to |dest|, and opened there.  Returns
+ * what quic_wire_unprotect does; else QUIC_WIRE_ERR_NOBUF where |destlen| is
+ * less.  Nothing changes with an error.
  */
-QUIC_WIRE_API int
-quic_wire_unprotect_header(const uint8_t *packet, size_t packetlen,
-                           size_t place, const uint8_t *mask, uint64_t expected,
-                           uint8_t *header, size_t headerlen, uint64_t *number);
+QUIC_WIRE_CHECKED QUIC_WIRE_API int
+quic_wire_unprotect_copy(const uint8_t *packet, size_t packetlen, size_t place,
+                         const uint8_t *mask, uint64_t expected, uint8_t *dest,
+                         size_t destlen, uint64_t *number);
 
 /*
  * Puts the protection on the header of a packet whose payload is sealed and
  * whose number begins at |place|.  Returns how many bytes the number has;
- * QUIC_WIRE_ERR_MALFORMED where |place| is 0 or has fewer than four bytes from
- * it on; QUIC_WIRE_ERR_INVALID_ARGUMENT for NULL.  Nothing changes then.
+ * QUIC_WIRE_ERR_PACKET_SMALL where |place| is 0 or has fewer than four bytes from
+ * it on; QUIC_WIRE_ERR_ARGUMENT for NULL.  Nothing changes then.
  */
-QUIC_WIRE_API int quic_wire_protect(uint8_t *packet, size_t packetlen,
+QUIC_WIRE_CHECKED QUIC_WIRE_API int quic_wire_protect(uint8_t *packet, size_t packetlen,
                                     size_t place, const uint8_t *mask);
 
 /* ---- Numbers of packets, and of variable length */
 
 /* How many bytes of |number| are written whose receiver has acknowledged
- * |largest_acked|, 1 to 4; QUIC_WIRE_ERR_INVALID_ARGUMENT where that is above
- * |number|, or 2^31 or more below it. */
+ * |largest_acked|, 1 to 4, or 0 if nothing was acknowledged;
+ * QUIC_WIRE_ERR_NUMBER where that is above |number|, or 2^31 or more below it. */
 QUIC_WIRE_API int quic_wire_number_len(uint64_t number,
                                        uint64_t largest_acked);
 
@@ -966,12 +998,12 @@ QUIC_WIRE_API size_t quic_wire_header_len(const quic_wire_header_fields *fields,
  *
  * Returns how many bytes were written, the last of which are the number;
  * QUIC_WIRE_ERR_NOBUF where |destlen| is less than quic_wire_header_len;
- * QUIC_WIRE_ERR_INVALID_ARGUMENT for NULL, or where no such header can be
- * written: there is no such kind, an id is longer than 20 bytes, the number is
- * 2^62 or more or has not 1 to 4 bytes, the length has not 2 or 4, or an
- * Initial, 0-RTT, Handshake or Retry packet has version 0, which would be a
- * version negotiation (RFC 9000, section 17.2.1).  |dest| changes where a
- * header was written alone.
+ * QUIC_WIRE_ERR_KIND where there is no such kind; QUIC_WIRE_ERR_NUMBER where the
+ * number is 2^62 or more, or an Initial, 0-RTT, Handshake or Retry packet has
+ * version 0, which would be a version negotiation (RFC 9000, section 17.2.1);
+ * QUIC_WIRE_ERR_LENGTH where an id is longer than 20 bytes, the number has not 1
+ * to 4 bytes, or the length not 2 or 4; QUIC_WIRE_ERR_ARGUMENT for NULL.  |dest|
+ * changes only where a header was written.
  *
  * What is looked at, and nothing else, so that one |fields| serves all kinds:
  *
@@ -982,12 +1014,10 @@ QUIC_WIRE_API size_t quic_wire_header_len(const quic_wire_header_fields *fields,
  *   1-RTT            |flags|, |dcid|, |number|, |numberlen|
  *   negotiation      |flags|, both ids
  *
- * and of |flags| QUIC_WIRE_FIXED_BIT, with 1-RTT also QUIC_WIRE_SPIN_BIT and
- * QUIC_WIRE_KEY_PHASE, and with a version negotiation the seven low bits.
- *
- * A version negotiation is written also where |fields->flags| lacks
- * QUIC_WIRE_FIXED_BIT: RFC 9000, section 17.2.1, has that bit set where QUIC
- * may share its port (RFC 7983), and readers that ask for it refuse it.
+ * With |flags| of 0 the first byte is what RFC 9000 has, of each kind.
+ * QUIC_WIRE_CLEAR_FIXED_BIT clears its fixed bit; with 1-RTT QUIC_WIRE_SPIN_BIT
+ * and QUIC_WIRE_KEY_PHASE set these; with a version negotiation, whose seven low
+ * bits are free (section 17.2.1), each of them turns its bit of c0.
  */
 QUIC_WIRE_API int64_t quic_wire_header_write(
     const quic_wire_header_fields *fields, const uint8_t *dcid, size_t dcidlen,
@@ -996,30 +1026,30 @@ QUIC_WIRE_API int64_t quic_wire_header_write(
 
 /*
  * Writes a version negotiation at the front of |dest|, all of it: the first
- * byte |first| with its highest bit set, version 0, the ids, which may have 255
- * bytes (RFC 8999, section 6), and the versions.  |dcid| is the source id of
- * the packet that it answers, |scid| its destination id (RFC 9000, section
- * 17.2.1).  The seven low bits of |first| are free; that section has
- * QUIC_WIRE_FIXED_BIT set where QUIC may share its port (RFC 7983), and readers
- * that ask for it refuse a packet without it.
+ * byte, version 0, the ids, which may have 255 bytes (RFC 8999, section 6), and
+ * the versions.  |dcid| is the source id of the packet that it answers, |scid|
+ * its destination id (RFC 9000, section 17.2.1).  With |flags| of 0 the first
+ * byte is c0; each of the seven low bits of |flags| turns its bit, which is free,
+ * though that section has the fixed bit set where QUIC may share its port (RFC
+ * 7983), and readers that ask for it refuse a packet without it.
  *
  * Returns 0, and in |*written| how many bytes were written;
  * QUIC_WIRE_ERR_NOBUF where |destlen| is less, and in |*written| how many are
- * needed; QUIC_WIRE_ERR_INVALID_ARGUMENT for NULL, or where an id is longer than
- * 255 bytes, and then |*written| stays.  Bytes of |dest| after
- * those written don't change, and none if nothing was written.
+ * needed; QUIC_WIRE_ERR_LENGTH where an id is longer than 255 bytes, and
+ * QUIC_WIRE_ERR_ARGUMENT for NULL, and then |*written| doesn't change.  Bytes of
+ * |dest| after those written don't change, and none if nothing was written.
  */
 QUIC_WIRE_API int quic_wire_negotiation_write(
-    uint8_t first, const uint8_t *dcid, size_t dcidlen, const uint8_t *scid,
+    uint8_t flags, const uint8_t *dcid, size_t dcidlen, const uint8_t *scid,
     size_t scidlen, const uint32_t *versions, size_t nversions, uint8_t *dest,
     size_t destlen, size_t *written);
 
 /*
  * Sets the length in the header of a packet of |packetlen| bytes whose number
  * begins at |place|, to what there is from there on.  |lengthlen| is that of
- * the header.  Returns 0, or QUIC_WIRE_ERR_INVALID_ARGUMENT where that is neither
- * 2 nor 4, has no place before |place| or can't hold the length; nothing
- * changes then.
+ * the header.  Returns 0, or QUIC_WIRE_ERR_LENGTH where that is neither 2 nor 4,
+ * has no place before |place| or can't hold the length; QUIC_WIRE_ERR_ARGUMENT for
+ * NULL.  Nothing changes then.
  */
 QUIC_WIRE_API int quic_wire_set_len(uint8_t *packet, size_t packetlen,
                                     size_t place, uint32_t lengthlen);
@@ -1034,27 +1064,18 @@ QUIC_WIRE_API int quic_wire_set_len(uint8_t *packet, size_t packetlen,
  * in its shortest encoding is refused as malformed, though section 16 allows
  * it; max_datagram_frame_size and min_ack_delay are taken in any.
  *
- * Returns 0 and the parameters; QUIC_WIRE_ERR_MALFORMED where the list is
- * refused with a TRANSPORT_PARAMETER_ERROR, and then |params->reason| says why,
- * and nothing else of |params| changes; QUIC_WIRE_ERR_INVALID_ARGUMENT where
- * |side| is neither.
+ * Returns 0 and the parameters; QUIC_WIRE_ERR_PARAMS_MALFORMED or
+ * QUIC_WIRE_ERR_PARAMS_ILLEGAL where the list is refused with a
+ * TRANSPORT_PARAMETER_ERROR; QUIC_WIRE_ERR_KIND where |side| is neither;
+ * QUIC_WIRE_ERR_ARGUMENT for NULL.  |params| changes only with 0.
  *
- * |size| is that of the struct as the caller has it, so that it can grow at its
- * end in a later version without a change for callers of this one: a size that
- * the library doesn't know is refused with QUIC_WIRE_ERR_INVALID_ARGUMENT.
+ * |size| is `sizeof *params`, so that the struct can grow at its end in a later
+ * version without a change for callers of this one: a size that the library
+ * doesn't know is refused with QUIC_WIRE_ERR_LENGTH.
  */
-QUIC_WIRE_API int quic_wire_params_read_sized(uint32_t side,
-                                              const uint8_t *list,
-                                              size_t listlen,
-                                              quic_wire_params *params,
-                                              size_t size);
-
-static inline int quic_wire_params_read(uint32_t side, const uint8_t *list,
-                                        size_t listlen,
-                                        quic_wire_params *params) {
-  return quic_wire_params_read_sized(side, list, listlen, params,
-                                     sizeof *params);
-}
+QUIC_WIRE_CHECKED QUIC_WIRE_API int
+quic_wire_params_read(uint32_t side, const uint8_t *list, size_t listlen,
+                      quic_wire_params *params, size_t size);
 
 /*
  * Writes the shortest list of these parameters, as QUIC_WIRE_CLIENT or as
@@ -1062,24 +1083,18 @@ static inline int quic_wire_params_read(uint32_t side, const uint8_t *list,
  * what else is there.
  *
  * Returns 0 and how many bytes were written; QUIC_WIRE_ERR_NOBUF and how many
- * are needed where |dest| has fewer; QUIC_WIRE_ERR_INVALID_ARGUMENT where the
- * peer would refuse the parameters, or would not read the same words: a number
- * is out of range, something that is absent is not 0, |reason| is not 0, or the
- * preferred address has no address, or one of zeros with port 0.  |dest|
- * changes only with 0, and then only in the bytes that were written.
+ * are needed where |dest| has fewer; QUIC_WIRE_ERR_PARAM where the peer would
+ * refuse the parameters, or would not read the same: a number is out of range,
+ * something that is absent is not 0, or the preferred address has no address, or
+ * one of zeros with port 0; QUIC_WIRE_ERR_KIND where |side| is neither;
+ * QUIC_WIRE_ERR_LENGTH for another |size| than `sizeof *params`;
+ * QUIC_WIRE_ERR_ARGUMENT for NULL.  |dest| changes only with 0, and then only in
+ * the bytes that were written.
  */
-QUIC_WIRE_API int quic_wire_params_write_sized(uint32_t side,
-                                               const quic_wire_params *params,
-                                               size_t size, uint8_t *dest,
-                                               size_t destlen, size_t *written);
-
-static inline int quic_wire_params_write(uint32_t side,
+QUIC_WIRE_API int quic_wire_params_write(uint32_t side,
                                          const quic_wire_params *params,
-                                         uint8_t *dest, size_t destlen,
-                                         size_t *written) {
-  return quic_wire_params_write_sized(side, params, sizeof *params, dest,
-                                      destlen, written);
-}
+                                         size_t size, uint8_t *dest,
+                                         size_t destlen, size_t *written);
 
 /*
  * The same with further entries, in an order.  |further| is a list of entries
@@ -1103,44 +1118,34 @@ static inline int quic_wire_params_write(uint32_t side,
  *   10 active_connection_id_limit
  *
  * Each entry is written in its least widths, and the peer reads the same
- * |params|.  Returns what quic_wire_params_write does;
- * QUIC_WIRE_ERR_INVALID_ARGUMENT also where |further| or |order| are none of
- * that.
+ * |params|.  Returns what quic_wire_params_write does; QUIC_WIRE_ERR_PARAM also
+ * where |further| or |order| are none of that.
  */
-QUIC_WIRE_API int quic_wire_params_write_with_sized(
+QUIC_WIRE_API int quic_wire_params_write_with(
     uint32_t side, const quic_wire_params *params, size_t size,
     const uint8_t *further, size_t furtherlen, const uint8_t *order,
     size_t orderlen, uint8_t *dest, size_t destlen, size_t *written);
 
-static inline int quic_wire_params_write_with(
-    uint32_t side, const quic_wire_params *params, const uint8_t *further,
-    size_t furtherlen, const uint8_t *order, size_t orderlen, uint8_t *dest,
-    size_t destlen, size_t *written) {
-  return quic_wire_params_write_with_sized(side, params, sizeof *params,
-                                           further, furtherlen, order, orderlen,
-                                           dest, destlen, written);
-}
-
 /*
  * Reads the entry at the front of a |list| of transport parameters, be it one
- * that quic_wire_params has a field for or another.  The next one begins after
- * its value.  Whether the value is one of its kind isn't looked at, nor whether
- * an entry is there twice: quic_wire_params_read does that.
+ * that quic_wire_params has a field for or another.  Whether the value is one of
+ * its kind isn't looked at, nor whether an entry is there twice.
  *
- * Returns 0 and the entry; QUIC_WIRE_ERR_EMPTY where the list is empty;
- * QUIC_WIRE_ERR_MALFORMED where its first entry is cut off;
- * QUIC_WIRE_ERR_INVALID_ARGUMENT for NULL.  |param| changes only with 0.
+ * Returns where the entry ends, which is where the next one begins, and the
+ * entry; 0 where the list is empty; QUIC_WIRE_ERR_PARAMS_MALFORMED where its
+ * first entry is cut off; QUIC_WIRE_ERR_ARGUMENT for NULL.  |param| changes only
+ * with the first.
  */
-QUIC_WIRE_API int quic_wire_param_read(const uint8_t *list, size_t listlen,
-                                       quic_wire_param *param);
+QUIC_WIRE_CHECKED QUIC_WIRE_API int64_t quic_wire_param_read(
+    const uint8_t *list, size_t listlen, quic_wire_param *param);
 
 /*
  * Writes an entry of a list at the front of |dest| in its least widths.
  *
  * Returns 0 and how many bytes were written; QUIC_WIRE_ERR_NOBUF and how many
- * are needed where |dest| has fewer; QUIC_WIRE_ERR_INVALID_ARGUMENT for NULL,
- * or where |id| is 2^62 or more.  |dest| changes only with 0, and then only in
- * the bytes that were written.
+ * are needed where |dest| has fewer; QUIC_WIRE_ERR_NUMBER where |id| is 2^62 or
+ * more, QUIC_WIRE_ERR_LENGTH where |valuelen| is; QUIC_WIRE_ERR_ARGUMENT for NULL.
+ * |dest| changes only with 0, and then only in the bytes that were written.
  */
 QUIC_WIRE_API int quic_wire_param_write(uint64_t id, const uint8_t *value,
                                         size_t valuelen, uint8_t *dest,
@@ -1159,7 +1164,7 @@ QUIC_WIRE_API int quic_wire_param_is_known(uint64_t id);
  * reversed range puts in nothing.  Returns QUIC_WIRE_CHANGED, and in |*count|
  * how many entries the set then has; 0 where all of them were in it;
  * QUIC_WIRE_ERR_NOBUF where the set needs one entry more than there are;
- * QUIC_WIRE_ERR_INVALID_ARGUMENT where |*count| is above |room| or the entries
+ * QUIC_WIRE_ERR_RANGES where |*count| is above |room| or the entries
  * are no such runs.  Entries after the set don't change, and nothing
  * changes but with QUIC_WIRE_CHANGED.
  */
@@ -1178,7 +1183,7 @@ QUIC_WIRE_API int quic_wire_set_remove(quic_wire_range *runs, size_t room,
 
 /*
  * Returns 1 where |number| is in the set of the |count| runs, 0 where it isn't,
- * and QUIC_WIRE_ERR_INVALID_ARGUMENT where they are no such runs.
+ * and QUIC_WIRE_ERR_RANGES where they are no such runs.
  */
 QUIC_WIRE_API int quic_wire_set_contains(const quic_wire_range *runs,
                                          size_t count, uint64_t number);
@@ -1190,9 +1195,10 @@ QUIC_WIRE_API int quic_wire_set_contains(const quic_wire_range *runs,
  *
  * Returns 0, and in |*written| how many bytes were written;
  * QUIC_WIRE_ERR_NOBUF where |destlen| is less, and in |*written| how many are
- * needed; QUIC_WIRE_ERR_INVALID_ARGUMENT where the runs are none or no such
- * runs, or a number in them, the delay or a count is 2^62 or more.  Bytes of
- * |dest| after those written don't change, and none if nothing was written.
+ * needed; QUIC_WIRE_ERR_RANGES where the runs are none or no such runs;
+ * QUIC_WIRE_ERR_NUMBER where a number in them, the delay or a count is 2^62 or
+ * more; QUIC_WIRE_ERR_ARGUMENT for NULL.  Bytes of |dest| after those written
+ * don't change, and none if nothing was written.
  */
 QUIC_WIRE_API int quic_wire_ack_write(uint64_t delay,
                                       const quic_wire_range *runs, size_t count,
@@ -1201,20 +1207,12 @@ QUIC_WIRE_API int quic_wire_ack_write(uint64_t delay,
 
 /* ---- Texts */
 
-/* What an answer below 0 says, in English; of others "ok". */
-extern const char *quic_wire_strerror(int answer);
+/* What a result below 0 says, in English; of others "ok".  To that of
+ * QUIC_WIRE_ERR_PACKET_VERSION belongs the version's number. */
+extern const char *quic_wire_strerror(int result);
 
 /* The name of a frame type, which is as on the wire, or NULL. */
 extern const char *quic_wire_type_name(uint64_t type);
-
-/* Why a frame is invalid. */
-extern const char *quic_wire_reason_text(uint32_t reason);
-
-/* Why a list of transport parameters is refused. */
-extern const char *quic_wire_params_reason_text(uint32_t reason);
-
-/* Why no packet was cut; that of an unsupported version wants its number too. */
-extern const char *quic_wire_packet_reason_text(uint32_t reason);
 
 #ifdef QUIC_WIRE_INLINE
 #include "quic_wire_inline.h"

@@ -3,19 +3,18 @@
  * What the functions of quic_wire.h do: they look at their pointers, and call
  * the proved library with what they were given.  Without a call, each by one
  * expression, are those that give a part of what was read,
- * quic_wire_padding_count and quic_wire_header_len.  quic_wire_unprotect_header
- * looks at two lengths and copies, quic_wire_frame_len asks for a frame where
- * there is no room, and quic_wire_header_write chooses one of two proved calls
- * of one meaning.  c/tests/abuse/ holds these against the proved calls.
+ * quic_wire_padding_count and quic_wire_header_len.  quic_wire_frame_len asks
+ * for a frame where there is no room, and quic_wire_header_write chooses one of
+ * two proved calls of one meaning.  c/tests/abuse/ holds these against the proved
+ * calls.
  * quic_wire.h includes this file where QUIC_WIRE_INLINE is defined, and so does
  * the library's own quic_wire.c, which makes symbols of them.
  */
 #ifndef QUIC_WIRE_INLINE_H
 #define QUIC_WIRE_INLINE_H
 
-#include <string.h>
-
 /* The functions of the proved library.  Their pointers must not be NULL. */
+uint32_t quic_wire_close_code_(int32_t);
 int32_t quic_wire_frames_init_(quic_wire_frames *, const uint8_t *, size_t);
 int32_t quic_wire_frames_init_strict_(quic_wire_frames *, const uint8_t *,
                                       size_t);
@@ -51,13 +50,16 @@ int32_t quic_wire_ack_gaps_write_(const quic_wire_frame *, const quic_wire_gap *
                                   size_t, uint8_t *, size_t, size_t *);
 int32_t quic_wire_canonical_(const uint8_t *, size_t, uint8_t *, size_t,
                              quic_wire_canon *);
-int32_t quic_wire_header_read_(const uint8_t *, size_t, uint32_t,
+int64_t quic_wire_header_read_(const uint8_t *, size_t, uint32_t,
                                const uint32_t *, size_t, quic_wire_header *);
 size_t quic_wire_short_read_(const uint8_t *, size_t, uint32_t);
-int32_t quic_wire_negotiation_read_(const uint8_t *, size_t,
+int64_t quic_wire_negotiation_read_(const uint8_t *, size_t,
                                     quic_wire_header *);
 int32_t quic_wire_unprotect_(uint8_t *, size_t, size_t, const uint8_t *,
                              uint64_t, uint64_t *);
+int32_t quic_wire_unprotect_copy_(const uint8_t *, size_t, size_t,
+                                  const uint8_t *, uint64_t, uint8_t *, size_t,
+                                  uint64_t *);
 int32_t quic_wire_protect_(uint8_t *, size_t, size_t, const uint8_t *);
 int64_t quic_wire_short_write_(const quic_wire_header_fields *, const uint8_t *,
                                size_t, uint8_t *, size_t);
@@ -80,7 +82,7 @@ int32_t quic_wire_params_write_(uint32_t, const quic_wire_params *, uint8_t *,
 int32_t quic_wire_params_write_with_(uint32_t, const quic_wire_params *,
                                      const uint8_t *, size_t, const uint8_t *,
                                      size_t, uint8_t *, size_t, size_t *);
-int32_t quic_wire_param_read_(const uint8_t *, size_t, quic_wire_param *);
+int64_t quic_wire_param_read_(const uint8_t *, size_t, quic_wire_param *);
 int32_t quic_wire_param_write_(uint64_t, const uint8_t *, size_t, uint8_t *,
                                size_t, size_t *);
 uint32_t quic_wire_param_is_known_(uint64_t);
@@ -101,11 +103,15 @@ static inline void *quic_wire_nothing_(void) {
   return &nothing;
 }
 
+QUIC_WIRE_API uint32_t quic_wire_close_code(int result) {
+  return quic_wire_close_code_(result);
+}
+
 QUIC_WIRE_API int quic_wire_frames_init(quic_wire_frames *frames,
                                         const uint8_t *payload,
                                         size_t payloadlen) {
   if (!frames || (!payload && payloadlen))
-    return QUIC_WIRE_ERR_INVALID_ARGUMENT;
+    return QUIC_WIRE_ERR_ARGUMENT;
   if (!payload)
     payload = (const uint8_t *)quic_wire_nothing_();
   return quic_wire_frames_init_(frames, payload, payloadlen);
@@ -115,7 +121,7 @@ QUIC_WIRE_API int quic_wire_frames_init_strict(quic_wire_frames *frames,
                                                const uint8_t *payload,
                                                size_t payloadlen) {
   if (!frames || (!payload && payloadlen))
-    return QUIC_WIRE_ERR_INVALID_ARGUMENT;
+    return QUIC_WIRE_ERR_ARGUMENT;
   if (!payload)
     payload = (const uint8_t *)quic_wire_nothing_();
   return quic_wire_frames_init_strict_(frames, payload, payloadlen);
@@ -126,7 +132,7 @@ QUIC_WIRE_API int quic_wire_frames_next(quic_wire_frames *frames,
                                         size_t payloadlen,
                                         quic_wire_frame *frame) {
   if (!frames || !frame || (!payload && payloadlen))
-    return QUIC_WIRE_ERR_INVALID_ARGUMENT;
+    return QUIC_WIRE_ERR_ARGUMENT;
   if (!payload)
     payload = (const uint8_t *)quic_wire_nothing_();
   return quic_wire_frames_next_(frames, payload, payloadlen, frame);
@@ -137,7 +143,7 @@ QUIC_WIRE_API int quic_wire_frames_next_basic(quic_wire_frames *frames,
                                               size_t payloadlen,
                                               quic_wire_frame *frame) {
   if (!frames || !frame || (!payload && payloadlen))
-    return QUIC_WIRE_ERR_INVALID_ARGUMENT;
+    return QUIC_WIRE_ERR_ARGUMENT;
   if (!payload)
     payload = (const uint8_t *)quic_wire_nothing_();
   return quic_wire_frames_next_basic_(frames, payload, payloadlen, frame);
@@ -148,7 +154,7 @@ QUIC_WIRE_API int quic_wire_frames_fill(quic_wire_frames *frames,
                                         size_t payloadlen, quic_wire_frame *out,
                                         size_t room, size_t *count) {
   if (!frames || !count || (!payload && payloadlen) || (!out && room))
-    return QUIC_WIRE_ERR_INVALID_ARGUMENT;
+    return QUIC_WIRE_ERR_ARGUMENT;
   if (!payload)
     payload = (const uint8_t *)quic_wire_nothing_();
   if (!out)
@@ -162,7 +168,7 @@ QUIC_WIRE_API int quic_wire_frames_fill_basic(quic_wire_frames *frames,
                                               quic_wire_frame *out, size_t room,
                                               size_t *count) {
   if (!frames || !count || (!payload && payloadlen) || (!out && room))
-    return QUIC_WIRE_ERR_INVALID_ARGUMENT;
+    return QUIC_WIRE_ERR_ARGUMENT;
   if (!payload)
     payload = (const uint8_t *)quic_wire_nothing_();
   if (!out)
@@ -177,10 +183,10 @@ QUIC_WIRE_API int quic_wire_frames_first(quic_wire_frames *frames,
                                          quic_wire_frame *out, size_t room,
                                          size_t *count) {
   if (!frames || !count || (!out && room))
-    return QUIC_WIRE_ERR_INVALID_ARGUMENT;
+    return QUIC_WIRE_ERR_ARGUMENT;
   if (!payload) {
     if (payloadlen)
-      return QUIC_WIRE_ERR_INVALID_ARGUMENT;
+      return QUIC_WIRE_ERR_ARGUMENT;
     payload = (const uint8_t *)quic_wire_nothing_();
   }
   if (!out)
@@ -193,7 +199,7 @@ QUIC_WIRE_API int64_t quic_wire_frame_read(const uint8_t *payload,
                                            quic_wire_frame *frame,
                                            quic_wire_gap *gaps, size_t room) {
   if ((!payload && payloadlen) || !frame || (!gaps && room))
-    return QUIC_WIRE_ERR_INVALID_ARGUMENT;
+    return QUIC_WIRE_ERR_ARGUMENT;
   if (!payload)
     payload = (const uint8_t *)quic_wire_nothing_();
   if (!gaps)
@@ -208,7 +214,7 @@ QUIC_WIRE_API int64_t quic_wire_frame_read_basic(const uint8_t *payload,
                                                  quic_wire_gap *gaps,
                                                  size_t room) {
   if ((!payload && payloadlen) || !frame || (!gaps && room))
-    return QUIC_WIRE_ERR_INVALID_ARGUMENT;
+    return QUIC_WIRE_ERR_ARGUMENT;
   if (!payload)
     payload = (const uint8_t *)quic_wire_nothing_();
   if (!gaps)
@@ -255,16 +261,12 @@ QUIC_WIRE_API uint64_t quic_wire_error_type(const quic_wire_frame *frame) {
   return frame ? frame->numbers[0] : QUIC_WIRE_NO_TYPE;
 }
 
-QUIC_WIRE_API uint32_t quic_wire_error_reason(const quic_wire_frame *frame) {
-  return frame ? frame->flags : 0;
-}
-
 QUIC_WIRE_API int quic_wire_ack_ranges_init(quic_wire_ack_ranges *ranges,
                                             const uint8_t *payload,
                                             size_t payloadlen,
                                             const quic_wire_frame *frame) {
   if (!ranges || !payload || !frame)
-    return QUIC_WIRE_ERR_INVALID_ARGUMENT;
+    return QUIC_WIRE_ERR_ARGUMENT;
   return quic_wire_ack_ranges_init_(ranges, payload, payloadlen, frame);
 }
 
@@ -273,7 +275,7 @@ quic_wire_ack_ranges_init_unchecked(quic_wire_ack_ranges *ranges,
                                     const uint8_t *payload, size_t payloadlen,
                                     const quic_wire_frame *frame) {
   if (!ranges || !payload || !frame)
-    return QUIC_WIRE_ERR_INVALID_ARGUMENT;
+    return QUIC_WIRE_ERR_ARGUMENT;
   return quic_wire_ack_ranges_init_unchecked_(ranges, payload, payloadlen,
                                               frame);
 }
@@ -283,7 +285,7 @@ QUIC_WIRE_API int quic_wire_ack_ranges_next(quic_wire_ack_ranges *ranges,
                                             size_t payloadlen,
                                             quic_wire_range *range) {
   if (!ranges || !payload || !range)
-    return QUIC_WIRE_ERR_INVALID_ARGUMENT;
+    return QUIC_WIRE_ERR_ARGUMENT;
   return quic_wire_ack_ranges_next_(ranges, payload, payloadlen, range);
 }
 
@@ -293,7 +295,7 @@ QUIC_WIRE_API int quic_wire_ack_ranges_fill(quic_wire_ack_ranges *ranges,
                                             quic_wire_range *out, size_t room,
                                             size_t *count) {
   if (!ranges || !payload || !count || (!out && room))
-    return QUIC_WIRE_ERR_INVALID_ARGUMENT;
+    return QUIC_WIRE_ERR_ARGUMENT;
   if (!out)
     out = (quic_wire_range *)quic_wire_nothing_();
   return quic_wire_ack_ranges_fill_(ranges, payload, payloadlen, out, room,
@@ -306,10 +308,10 @@ QUIC_WIRE_API int quic_wire_frame_write(const quic_wire_frame *frame,
                                         size_t destlen, size_t *written) {
   size_t unused;
   if (!frame || (!dest && destlen))
-    return QUIC_WIRE_ERR_INVALID_ARGUMENT;
+    return QUIC_WIRE_ERR_ARGUMENT;
   if (!data) {
     if (datalen && frame->datalen)
-      return QUIC_WIRE_ERR_INVALID_ARGUMENT;
+      return QUIC_WIRE_ERR_ARGUMENT;
     data = (const uint8_t *)quic_wire_nothing_();
     datalen = 0;
   }
@@ -325,7 +327,7 @@ QUIC_WIRE_API int quic_wire_frame_header_write(const quic_wire_frame *frame,
                                                size_t *written) {
   size_t unused;
   if (!frame || (!dest && destlen))
-    return QUIC_WIRE_ERR_INVALID_ARGUMENT;
+    return QUIC_WIRE_ERR_ARGUMENT;
   if (!dest)
     dest = (uint8_t *)quic_wire_nothing_();
   return quic_wire_frame_header_write_(frame, last != 0, dest, destlen,
@@ -338,7 +340,7 @@ QUIC_WIRE_API int quic_wire_frame_len(const quic_wire_frame *frame,
   /* No frame has no byte, so that none fits where there is no room. */
   int answer = len ? quic_wire_frame_write(frame, data, datalen, last, NULL, 0,
                                            len)
-                   : QUIC_WIRE_ERR_INVALID_ARGUMENT;
+                   : QUIC_WIRE_ERR_ARGUMENT;
   return answer == QUIC_WIRE_ERR_NOBUF ? QUIC_WIRE_OK : answer;
 }
 
@@ -347,7 +349,7 @@ QUIC_WIRE_API int quic_wire_ack_gaps_write(const quic_wire_frame *ack,
                                            size_t ngaps, uint8_t *dest,
                                            size_t destlen, size_t *written) {
   if (!ack || (!gaps && ngaps) || (!dest && destlen) || !written)
-    return QUIC_WIRE_ERR_INVALID_ARGUMENT;
+    return QUIC_WIRE_ERR_ARGUMENT;
   if (!gaps)
     gaps = (const quic_wire_gap *)quic_wire_nothing_();
   if (!dest)
@@ -359,7 +361,7 @@ QUIC_WIRE_API int quic_wire_canonical(const uint8_t *payload, size_t payloadlen,
                                       uint8_t *dest, size_t destlen,
                                       quic_wire_canon *out) {
   if ((!payload && payloadlen) || (!dest && destlen) || !out)
-    return QUIC_WIRE_ERR_INVALID_ARGUMENT;
+    return QUIC_WIRE_ERR_ARGUMENT;
   if (!payload)
     payload = (const uint8_t *)quic_wire_nothing_();
   if (!dest)
@@ -367,14 +369,14 @@ QUIC_WIRE_API int quic_wire_canonical(const uint8_t *payload, size_t payloadlen,
   return quic_wire_canonical_(payload, payloadlen, dest, destlen, out);
 }
 
-QUIC_WIRE_API int quic_wire_header_read(const uint8_t *bytes, size_t len,
-                                        uint32_t cidlen,
-                                        const uint32_t *versions,
-                                        size_t nversions,
-                                        quic_wire_header *header) {
+QUIC_WIRE_API int64_t quic_wire_header_read(const uint8_t *bytes, size_t len,
+                                            uint32_t cidlen,
+                                            const uint32_t *versions,
+                                            size_t nversions,
+                                            quic_wire_header *header) {
   static const uint32_t none = 0;
   if (!bytes || !header || (!versions && nversions))
-    return QUIC_WIRE_ERR_INVALID_ARGUMENT;
+    return QUIC_WIRE_ERR_ARGUMENT;
   return quic_wire_header_read_(bytes, len, cidlen, versions ? versions : &none,
                                 nversions, header);
 }
@@ -384,11 +386,11 @@ QUIC_WIRE_API size_t quic_wire_short_read(const uint8_t *packet,
   return packet ? quic_wire_short_read_(packet, packetlen, cidlen) : 0;
 }
 
-QUIC_WIRE_API int quic_wire_negotiation_read(const uint8_t *packet,
-                                             size_t packetlen,
-                                             quic_wire_header *header) {
+QUIC_WIRE_API int64_t quic_wire_negotiation_read(const uint8_t *packet,
+                                                 size_t packetlen,
+                                                 quic_wire_header *header) {
   if (!packet || !header)
-    return QUIC_WIRE_ERR_INVALID_ARGUMENT;
+    return QUIC_WIRE_ERR_ARGUMENT;
   return quic_wire_negotiation_read_(packet, packetlen, header);
 }
 
@@ -417,27 +419,25 @@ QUIC_WIRE_API int quic_wire_unprotect(uint8_t *packet, size_t packetlen,
                                       size_t place, const uint8_t *mask,
                                       uint64_t expected, uint64_t *number) {
   if (!packet || !mask || !number)
-    return QUIC_WIRE_ERR_INVALID_ARGUMENT;
+    return QUIC_WIRE_ERR_ARGUMENT;
   return quic_wire_unprotect_(packet, packetlen, place, mask, expected, number);
 }
 
-QUIC_WIRE_API int quic_wire_unprotect_header(
-    const uint8_t *packet, size_t packetlen, size_t place, const uint8_t *mask,
-    uint64_t expected, uint8_t *header, size_t headerlen, uint64_t *number) {
-  if (!packet || !mask || !header || !number)
-    return QUIC_WIRE_ERR_INVALID_ARGUMENT;
-  return packetlen < 4 || packetlen - 4 < place ? QUIC_WIRE_ERR_MALFORMED
-         : headerlen < place + 4
-             ? QUIC_WIRE_ERR_NOBUF
-             : quic_wire_unprotect_(
-                   (uint8_t *)memcpy(header, packet, place + 4), place + 4,
-                   place, mask, expected, number);
+QUIC_WIRE_API int quic_wire_unprotect_copy(const uint8_t *packet,
+                                           size_t packetlen, size_t place,
+                                           const uint8_t *mask,
+                                           uint64_t expected, uint8_t *dest,
+                                           size_t destlen, uint64_t *number) {
+  if (!packet || !mask || !dest || !number)
+    return QUIC_WIRE_ERR_ARGUMENT;
+  return quic_wire_unprotect_copy_(packet, packetlen, place, mask, expected,
+                                   dest, destlen, number);
 }
 
 QUIC_WIRE_API int quic_wire_protect(uint8_t *packet, size_t packetlen,
                                     size_t place, const uint8_t *mask) {
   if (!packet || !mask)
-    return QUIC_WIRE_ERR_INVALID_ARGUMENT;
+    return QUIC_WIRE_ERR_ARGUMENT;
   return quic_wire_protect_(packet, packetlen, place, mask);
 }
 
@@ -486,7 +486,7 @@ QUIC_WIRE_API int64_t quic_wire_header_write(
     uint8_t *dest, size_t destlen) {
   static const uint8_t none = 0;
   if (!fields || (!dcid && dcidlen) || !dest)
-    return QUIC_WIRE_ERR_INVALID_ARGUMENT;
+    return QUIC_WIRE_ERR_ARGUMENT;
   if (!dcid)
     dcid = &none;
   if (fields->kind == QUIC_WIRE_1RTT)
@@ -494,24 +494,24 @@ QUIC_WIRE_API int64_t quic_wire_header_write(
   if (fields->kind != QUIC_WIRE_INITIAL)
     tokenlen = 0;
   if ((!scid && scidlen) || (!token && tokenlen))
-    return QUIC_WIRE_ERR_INVALID_ARGUMENT;
+    return QUIC_WIRE_ERR_ARGUMENT;
   return quic_wire_header_write_(fields, dcid, dcidlen, scid ? scid : &none,
                                  scidlen, token ? token : &none, tokenlen, dest,
                                  destlen);
 }
 
 QUIC_WIRE_API int quic_wire_negotiation_write(
-    uint8_t first, const uint8_t *dcid, size_t dcidlen, const uint8_t *scid,
+    uint8_t flags, const uint8_t *dcid, size_t dcidlen, const uint8_t *scid,
     size_t scidlen, const uint32_t *versions, size_t nversions, uint8_t *dest,
     size_t destlen, size_t *written) {
   static const uint32_t none = 0;
   if ((!dcid && dcidlen) || (!scid && scidlen) || (!versions && nversions) ||
       (!dest && destlen) || !written)
-    return QUIC_WIRE_ERR_INVALID_ARGUMENT;
+    return QUIC_WIRE_ERR_ARGUMENT;
   if (!dest)
     dest = (uint8_t *)quic_wire_nothing_();
   return quic_wire_negotiation_write_(
-      first, dcid ? dcid : (const uint8_t *)&none, dcidlen,
+      flags, dcid ? dcid : (const uint8_t *)&none, dcidlen,
       scid ? scid : (const uint8_t *)&none, scidlen, versions ? versions : &none,
       nversions, dest, destlen, written);
 }
@@ -519,51 +519,54 @@ QUIC_WIRE_API int quic_wire_negotiation_write(
 QUIC_WIRE_API int quic_wire_set_len(uint8_t *packet, size_t packetlen,
                                     size_t place, uint32_t lengthlen) {
   return packet ? quic_wire_set_len_(packet, packetlen, place, lengthlen)
-                : QUIC_WIRE_ERR_INVALID_ARGUMENT;
+                : QUIC_WIRE_ERR_ARGUMENT;
 }
 
-QUIC_WIRE_API int quic_wire_params_read_sized(uint32_t side,
-                                              const uint8_t *list,
-                                              size_t listlen,
-                                              quic_wire_params *params,
-                                              size_t size) {
-  if ((!list && listlen) || !params || size != sizeof *params)
-    return QUIC_WIRE_ERR_INVALID_ARGUMENT;
+QUIC_WIRE_API int quic_wire_params_read(uint32_t side, const uint8_t *list,
+                                        size_t listlen,
+                                        quic_wire_params *params, size_t size) {
+  if ((!list && listlen) || !params)
+    return QUIC_WIRE_ERR_ARGUMENT;
+  if (size != sizeof *params)
+    return QUIC_WIRE_ERR_LENGTH;
   return quic_wire_params_read_(
       side, list ? list : (const uint8_t *)quic_wire_nothing_(), listlen,
       params);
 }
 
-QUIC_WIRE_API int quic_wire_params_write_sized(uint32_t side,
-                                               const quic_wire_params *params,
-                                               size_t size, uint8_t *dest,
-                                               size_t destlen,
-                                               size_t *written) {
-  if (!params || size != sizeof *params || (!dest && destlen) || !written)
-    return QUIC_WIRE_ERR_INVALID_ARGUMENT;
+QUIC_WIRE_API int quic_wire_params_write(uint32_t side,
+                                         const quic_wire_params *params,
+                                         size_t size, uint8_t *dest,
+                                         size_t destlen, size_t *written) {
+  if (!params || (!dest && destlen) || !written)
+    return QUIC_WIRE_ERR_ARGUMENT;
+  if (size != sizeof *params)
+    return QUIC_WIRE_ERR_LENGTH;
   return quic_wire_params_write_( /* it asks for the side that is to read */
       side ^ 1, params, dest ? dest : (uint8_t *)quic_wire_nothing_(), destlen,
       written);
 }
 
-QUIC_WIRE_API int quic_wire_params_write_with_sized(
+QUIC_WIRE_API int quic_wire_params_write_with(
     uint32_t side, const quic_wire_params *params, size_t size,
     const uint8_t *further, size_t furtherlen, const uint8_t *order,
     size_t orderlen, uint8_t *dest, size_t destlen, size_t *written) {
   const uint8_t *none = (const uint8_t *)quic_wire_nothing_();
-  if (!params || size != sizeof *params || (!further && furtherlen) ||
-      (!order && orderlen) || (!dest && destlen) || !written)
-    return QUIC_WIRE_ERR_INVALID_ARGUMENT;
+  if (!params || (!further && furtherlen) || (!order && orderlen) ||
+      (!dest && destlen) || !written)
+    return QUIC_WIRE_ERR_ARGUMENT;
+  if (size != sizeof *params)
+    return QUIC_WIRE_ERR_LENGTH;
   return quic_wire_params_write_with_(
       side ^ 1, params, further ? further : none, furtherlen,
       order ? order : none, orderlen,
       dest ? dest : (uint8_t *)quic_wire_nothing_(), destlen, written);
 }
 
-QUIC_WIRE_API int quic_wire_param_read(const uint8_t *list, size_t listlen,
-                                       quic_wire_param *param) {
+QUIC_WIRE_API int64_t quic_wire_param_read(const uint8_t *list, size_t listlen,
+                                           quic_wire_param *param) {
   if ((!list && listlen) || !param)
-    return QUIC_WIRE_ERR_INVALID_ARGUMENT;
+    return QUIC_WIRE_ERR_ARGUMENT;
   return quic_wire_param_read_(
       list ? list : (const uint8_t *)quic_wire_nothing_(), listlen, param);
 }
@@ -572,7 +575,7 @@ QUIC_WIRE_API int quic_wire_param_write(uint64_t id, const uint8_t *value,
                                         size_t valuelen, uint8_t *dest,
                                         size_t destlen, size_t *written) {
   if ((!value && valuelen) || (!dest && destlen) || !written)
-    return QUIC_WIRE_ERR_INVALID_ARGUMENT;
+    return QUIC_WIRE_ERR_ARGUMENT;
   return quic_wire_param_write_(
       id, value ? value : (const uint8_t *)quic_wire_nothing_(), valuelen,
       dest ? dest : (uint8_t *)quic_wire_nothing_(), destlen, written);
@@ -586,7 +589,7 @@ QUIC_WIRE_API int quic_wire_set_insert(quic_wire_range *runs, size_t room,
                                        size_t *count, uint64_t start,
                                        uint64_t end) {
   if ((!runs && room) || !count)
-    return QUIC_WIRE_ERR_INVALID_ARGUMENT;
+    return QUIC_WIRE_ERR_ARGUMENT;
   return quic_wire_set_insert_(
       runs ? runs : (quic_wire_range *)quic_wire_nothing_(), room, count, start,
       end);
@@ -596,7 +599,7 @@ QUIC_WIRE_API int quic_wire_set_remove(quic_wire_range *runs, size_t room,
                                        size_t *count, uint64_t start,
                                        uint64_t end) {
   if ((!runs && room) || !count)
-    return QUIC_WIRE_ERR_INVALID_ARGUMENT;
+    return QUIC_WIRE_ERR_ARGUMENT;
   return quic_wire_set_remove_(
       runs ? runs : (quic_wire_range *)quic_wire_nothing_(), room, count, start,
       end);
@@ -605,7 +608,7 @@ QUIC_WIRE_API int quic_wire_set_remove(quic_wire_range *runs, size_t room,
 QUIC_WIRE_API int quic_wire_set_contains(const quic_wire_range *runs,
                                          size_t count, uint64_t number) {
   if (!runs && count)
-    return QUIC_WIRE_ERR_INVALID_ARGUMENT;
+    return QUIC_WIRE_ERR_ARGUMENT;
   return quic_wire_set_contains_(
       runs ? runs : (const quic_wire_range *)quic_wire_nothing_(), count, count,
       number);
@@ -617,7 +620,7 @@ QUIC_WIRE_API int quic_wire_ack_write(uint64_t delay,
                                       size_t destlen, size_t *written) {
   size_t unused;
   if ((!runs && count) || (!dest && destlen))
-    return QUIC_WIRE_ERR_INVALID_ARGUMENT;
+    return QUIC_WIRE_ERR_ARGUMENT;
   return quic_wire_ack_write_(
       delay, runs ? runs : (const quic_wire_range *)quic_wire_nothing_(), count,
       count, counts ? counts : (const uint64_t *)quic_wire_nothing_(),

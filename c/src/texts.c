@@ -2,18 +2,44 @@
  * library this is, and what numbers are called. */
 #include "quic_wire.h"
 
-uint32_t quic_wire_version(void) { return QUIC_WIRE_VERSION; }
+uint32_t quic_wire_lib(void) { return QUIC_WIRE_LIB; }
 
-uint64_t quic_wire_layout(void) { return QUIC_WIRE_LAYOUT; }
+const char *quic_wire_lib_text(void) { return QUIC_WIRE_LIB_TEXT; }
 
-const char *quic_wire_strerror(int answer) {
-  switch (answer) {
-  case QUIC_WIRE_ERR_INVALID_ARGUMENT: return "invalid argument";
-  case QUIC_WIRE_ERR_EMPTY: return "packet payload is empty";
-  case QUIC_WIRE_ERR_MALFORMED: return "malformed";
+int quic_wire_check(uint32_t header) {
+  return header >> 16 == QUIC_WIRE_LIB_MAJOR &&
+                 (header >> 8 & 0xff) <= QUIC_WIRE_LIB_MINOR
+             ? QUIC_WIRE_OK
+             : QUIC_WIRE_ERR_LIBRARY;
+}
+
+const char *quic_wire_strerror(int result) {
+  switch (result) {
+  case QUIC_WIRE_ERR_ARGUMENT: return "invalid argument";
+  case QUIC_WIRE_ERR_PLACE: return "place outside of the bytes";
+  case QUIC_WIRE_ERR_KIND: return "no such kind";
+  case QUIC_WIRE_ERR_NUMBER: return "number out of range";
+  case QUIC_WIRE_ERR_LENGTH: return "length out of range";
+  case QUIC_WIRE_ERR_RANGES: return "ranges not sorted or touching";
+  case QUIC_WIRE_ERR_PARAM: return "parameters that the peer would refuse";
   case QUIC_WIRE_ERR_NOBUF: return "buffer too small";
-  case QUIC_WIRE_ERR_VERSION: return "library and header differ in version";
-  default: return answer < 0 ? "unknown" : "ok";
+  case QUIC_WIRE_ERR_LIBRARY: return "library and header differ in version";
+  case QUIC_WIRE_ERR_PAYLOAD_EMPTY: return "packet payload is empty";
+  case QUIC_WIRE_ERR_FRAME_END: return "unexpected end";
+  case QUIC_WIRE_ERR_FRAME_TYPE: return "invalid frame ID";
+  case QUIC_WIRE_ERR_FRAME_MALFORMED: return "malformed";
+  case QUIC_WIRE_ERR_FRAME_LONG_TYPE: return "frame type not in shortest form";
+  case QUIC_WIRE_ERR_PACKET_END: return "unexpected end of packet";
+  case QUIC_WIRE_ERR_PACKET_FIXED_BIT: return "fixed bit unset";
+  case QUIC_WIRE_ERR_PACKET_SMALL: return "packet too small";
+  case QUIC_WIRE_ERR_PACKET_CID: return "malformed cid";
+  case QUIC_WIRE_ERR_PACKET_TOKEN: return "token out of bounds";
+  case QUIC_WIRE_ERR_PACKET_VERSION: return "unsupported version";
+  case QUIC_WIRE_ERR_PACKET_CUT:
+    return "packet too short to contain payload length";
+  case QUIC_WIRE_ERR_PARAMS_MALFORMED: return "malformed";
+  case QUIC_WIRE_ERR_PARAMS_ILLEGAL: return "illegal value";
+  default: return result < 0 ? "unknown" : "ok";
   }
 }
 
@@ -48,37 +74,5 @@ const char *quic_wire_type_name(uint64_t type) {
   case 0x30: case 0x31: return "DATAGRAM";
   case 0xaf: return "ACK_FREQUENCY";
   default: return NULL;
-  }
-}
-
-const char *quic_wire_reason_text(uint32_t reason) {
-  switch (reason) {
-  case QUIC_WIRE_REASON_UNEXPECTED_END: return "unexpected end";
-  case QUIC_WIRE_REASON_INVALID_FRAME_ID: return "invalid frame ID";
-  case QUIC_WIRE_REASON_MALFORMED: return "malformed";
-  case QUIC_WIRE_REASON_LONG_TYPE: return "frame type not in shortest form";
-  default: return "unknown";
-  }
-}
-
-const char *quic_wire_params_reason_text(uint32_t reason) {
-  switch (reason) {
-  case QUIC_WIRE_PARAMS_MALFORMED: return "malformed";
-  case QUIC_WIRE_PARAMS_ILLEGAL_VALUE: return "illegal value";
-  default: return "unknown";
-  }
-}
-
-const char *quic_wire_packet_reason_text(uint32_t reason) {
-  switch (reason) {
-  case QUIC_WIRE_PACKET_UNSUPPORTED_VERSION: return "unsupported version";
-  case QUIC_WIRE_PACKET_UNEXPECTED_END: return "unexpected end of packet";
-  case QUIC_WIRE_PACKET_FIXED_BIT_UNSET: return "fixed bit unset";
-  case QUIC_WIRE_PACKET_TOO_SMALL: return "packet too small";
-  case QUIC_WIRE_PACKET_MALFORMED_CID: return "malformed cid";
-  case QUIC_WIRE_PACKET_TOKEN_OUT_OF_BOUNDS: return "token out of bounds";
-  case QUIC_WIRE_PACKET_LENGTH_BEYOND_END:
-    return "packet too short to contain payload length";
-  default: return "unknown";
   }
 }

@@ -81,6 +81,7 @@ static size_t seal_a_packet(uint8_t *packet, size_t room) {
   frame.stream.stream_id = 4;
   frame.stream.offset = 9;
 #include "example-3.h"
+  check(sealed == fields.numberlen, "no protection");
   return end;
 }
 

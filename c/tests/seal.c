@@ -39,14 +39,13 @@ static void write_words(const uint32_t *words, size_t count) {
 /* Seals a payload of a connection.  Returns how long the packet is. */
 static size_t seal(unsigned connection, const uint8_t *payload, size_t len,
                    uint8_t *packet, size_t room) {
-  const quic_wire_header_fields fields = {QUIC_WIRE_INITIAL, 0, 0, 4, 2, 0};
   uint8_t id[ID] = {0x83, 0x94, 0xc8, 0xf0}, mask[5];
-  quic_wire_header_fields all = fields;
+  quic_wire_header_fields all = {0};
   size_t begin, place, end;
   int64_t written;
   keys k;
-  all.version = VERSION_1;
-  all.number = 0;
+  all.kind = QUIC_WIRE_INITIAL;
+  all.version = QUIC_WIRE_VERSION_1;
   all.numberlen = 4;
   all.lengthlen = 2;
   two_bytes(id + ID - 2, connection);
@@ -59,7 +58,7 @@ static size_t seal(unsigned connection, const uint8_t *payload, size_t len,
   check(end <= room && !quic_wire_set_len(packet, end, place, all.lengthlen),
         "too long");
   memcpy(packet + begin, payload, len);
-  k = initial_keys(VERSION_1, QUIC_WIRE_CLIENT, id, ID);
+  k = initial_keys(QUIC_WIRE_VERSION_1, QUIC_WIRE_CLIENT, id, ID);
   crypt_payload(&k, 1, all.number, packet, begin, packet + begin, len,
                 packet + begin);
   make_mask(&k, quic_wire_sample(packet, end, place, SAMPLE), mask);
@@ -89,7 +88,7 @@ int main(void) {
   static char line[2 * MOST + 2];
   static uint8_t payload[MOST], datagram[IP + UDP + MOST + 64];
   unsigned connection = 0, byte;
-  check(quic_wire_check_linked() == 0, "another library is linked");
+  check(quic_wire_check(QUIC_WIRE_LIB) == 0, "another library is linked");
   write_words(head, 6);
   while (fgets(line, sizeof line, stdin)) {
     size_t len = 0;

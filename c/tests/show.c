@@ -51,8 +51,8 @@ static void print_type(uint64_t type) {
     printf("<unknown %" PRIx64 ">", type);
 }
 
-static void print_invalid(uint64_t type, uint32_t reason) {
-  printf("error %s", quic_wire_reason_text(reason));
+static void print_invalid(uint64_t type, int result) {
+  printf("error %s", quic_wire_strerror(result));
   if (type != QUIC_WIRE_NO_TYPE) {
     printf(" in ");
     print_type(type);
@@ -66,8 +66,8 @@ static int print_frames(const uint8_t *payload, size_t len, int strict) {
   quic_wire_frame frame;
   int answer = (strict ? quic_wire_frames_init_strict : quic_wire_frames_init)(
       &frames, payload, len);
-  if (answer == QUIC_WIRE_ERR_EMPTY) {
-    puts("error packet payload is empty");
+  if (answer < 0) {
+    print_invalid(QUIC_WIRE_NO_TYPE, answer);
     return 0;
   }
   while ((answer = quic_wire_frames_next(&frames, payload, len, &frame)) ==
@@ -78,22 +78,18 @@ static int print_frames(const uint8_t *payload, size_t len, int strict) {
   }
   if (answer == QUIC_WIRE_OK)
     return 1;
-  print_invalid(quic_wire_error_type(&frame), quic_wire_error_reason(&frame));
+  print_invalid(quic_wire_error_type(&frame), answer);
   return 0;
 }
 
 /* The shortest form, in a block of just its length. */
 static int print_canonical(const uint8_t *payload, size_t len) {
-  quic_wire_canon canon;
+  quic_wire_canon canon = {0, QUIC_WIRE_NO_TYPE};
   int answer = quic_wire_canonical(payload, len, NULL, 0, &canon);
   uint8_t *block;
   size_t i;
-  if (answer == QUIC_WIRE_ERR_EMPTY) {
-    puts("error packet payload is empty");
-    return 0;
-  }
-  if (answer == QUIC_WIRE_ERR_MALFORMED) {
-    print_invalid(canon.last_type, (uint32_t)canon.reason);
+  if (answer != QUIC_WIRE_ERR_NOBUF) {
+    print_invalid(canon.last_type, answer);
     return 0;
   }
   block = malloc(canon.len);
@@ -132,39 +128,40 @@ static void print_packet(const uint8_t *packet, size_t begin,
   putchar('\n');
 }
 
-/* Why no packet begins here, or 0 and its header. */
-static int read_header(const uint8_t *bytes, size_t len, uint32_t cidlen,
+/* Where the packet ends that begins here, with its header, or why there is
+ * none. */
+static int64_t read_header(const uint8_t *bytes, size_t len, uint32_t cidlen,
                        quic_wire_header *header) {
   static const uint32_t versions[] = {0x00000001, 0xff00001d, 0xff00001e,
                                       0xff00001f, 0xff000020, 0xff000021,
                                       0xff000022, 0x6b3343cf};
-  int answer;
+  int64_t end;
   if (len && !(bytes[0] & QUIC_WIRE_FIXED_BIT))
-    return QUIC_WIRE_PACKET_FIXED_BIT_UNSET;
-  answer = quic_wire_header_read(bytes, len, cidlen, versions, 8, header);
-  if (answer == QUIC_WIRE_PACKET_UNSUPPORTED_VERSION &&
+    return QUIC_WIRE_ERR_PACKET_FIXED_BIT;
+  end = quic_wire_header_read(bytes, len, cidlen, versions, 8, header);
+  if (end == QUIC_WIRE_ERR_PACKET_VERSION &&
       (header->dcidlen > 20 || header->scidlen > 20))
-    return QUIC_WIRE_PACKET_MALFORMED_CID;
-  return answer;
+    return QUIC_WIRE_ERR_PACKET_CID;
+  return end;
 }
 
 static int print_packets(const uint8_t *datagram, size_t len, uint32_t cidlen) {
   static const uint8_t none = 0;
   quic_wire_header header;
   size_t begin = 0;
-  int answer;
+  int64_t end;
   do {
     const uint8_t *packet = datagram ? datagram + begin : &none;
-    answer = read_header(packet, len - begin, cidlen, &header);
-    if (answer == 0) {
+    end = read_header(packet, len - begin, cidlen, &header);
+    if (end > 0) {
       print_packet(packet, begin, &header);
-      begin += header.end;
+      begin += (size_t)end;
     }
-  } while (answer == 0 && begin < len);
-  if (answer == 0)
+  } while (end > 0 && begin < len);
+  if (end > 0)
     return 1;
-  printf("error %s", quic_wire_packet_reason_text((uint32_t)answer));
-  if (answer == QUIC_WIRE_PACKET_UNSUPPORTED_VERSION)
+  printf("error %s", quic_wire_strerror((int)end));
+  if (end == QUIC_WIRE_ERR_PACKET_VERSION)
     printf(" %" PRIx32, header.version);
   putchar('\n');
   return 0;
@@ -211,8 +208,9 @@ static void print_numbers(const quic_wire_params *p) {
 
 static int print_params(const uint8_t *list, size_t len, uint32_t side) {
   quic_wire_params p;
-  if (quic_wire_params_read(side, list, len, &p) != QUIC_WIRE_OK) {
-    printf("error %s\n", quic_wire_params_reason_text(p.reason));
+  int answer = quic_wire_params_read(side, list, len, &p, sizeof p);
+  if (answer != QUIC_WIRE_OK) {
+    printf("error %s\n", quic_wire_strerror(answer));
     return 0;
   }
   print_numbers(&p);

@@ -7,9 +7,9 @@ const [modulePath, mode, word] = process.argv.slice(2);
 const { instance } = await WebAssembly.instantiate(fs.readFileSync(modulePath));
 const wire = instance.exports;
 
-const OK = 0, ITEM = 1, EMPTY = -2;
+const OK = 0, ITEM = 1;
 const NO_TYPE = 0xffffffffffffffffn;
-const UNSUPPORTED_VERSION = 1, FIXED_BIT_UNSET = 3, MALFORMED_CID = 5;
+const PACKET_FIXED_BIT = -41, PACKET_CID = -43, PACKET_VERSION = -45;
 const KINDS = ['initial', '0rtt', 'handshake', 'retry', 'short', 'version-negotiation'];
 const INITIAL = 0, SHORT = 4;
 const VERSIONS = [1, 0xff00001d, 0xff00001e, 0xff00001f, 0xff000020, 0xff000021, 0xff000022, 0x6b3343cf];
@@ -55,10 +55,8 @@ function typeName(type) {
     return name === 0n ? `<unknown ${type.toString(16)}>` : text(name);
 }
 
-function invalid(type, reason) {
-    const place = type === NO_TYPE ? '' : ` in ${typeName(type)}`;
-    return `error ${text(wire.quic_wire_reason_text(reason))}${place}`;
-}
+const error = (result) => `error ${text(wire.quic_wire_strerror(result))}`;
+const invalid = (type, result) => `${error(result)}${type === NO_TYPE ? '' : ` in ${typeName(type)}`}`;
 
 function frames(bytes, strict) {
     const view = give(bytes);
@@ -66,13 +64,13 @@ function frames(bytes, strict) {
     const length = BigInt(bytes.length);
     const init = strict ? wire.quic_wire_frames_init_strict : wire.quic_wire_frames_init;
     let answer = init(state, payload, length);
-    if (answer === EMPTY) return ['error packet payload is empty'];
+    if (answer !== OK) return [error(answer)];
     const lines = [];
     while ((answer = wire.quic_wire_frames_next(state, payload, length, out)) === ITEM) {
         const [begin, end] = [view.getBigUint64(at.out + 8, true), view.getBigUint64(at.out + 16, true)];
         lines.push(`${begin}..${end} ${typeName(BigInt(view.getUint16(at.out, true)))}`);
     }
-    if (answer !== OK) lines.push(invalid(unsigned(wire.quic_wire_error_type(out)), wire.quic_wire_error_reason(out)));
+    if (answer !== OK) lines.push(invalid(unsigned(wire.quic_wire_error_type(out)), answer));
     return lines;
 }
 
@@ -80,10 +78,10 @@ function canon(bytes) {
     const view = give(bytes);
     const length = BigInt(bytes.length);
     const dest = at.bytes + bytes.length;
+    view.setBigUint64(at.out + 8, NO_TYPE, true);
     const answer = wire.quic_wire_canonical(pointer(at.bytes), length, pointer(dest), length, pointer(at.out));
-    if (answer === EMPTY) return ['error packet payload is empty'];
-    const [len, lastType, reason] = [0, 8, 16].map((place) => view.getBigUint64(at.out + place, true));
-    return [answer === OK ? hex(slice(dest, Number(len))) : invalid(lastType, Number(reason))];
+    const [len, lastType] = [0, 8].map((place) => view.getBigUint64(at.out + place, true));
+    return [answer === OK ? hex(slice(dest, Number(len))) : invalid(lastType, answer)];
 }
 
 // The line of a packet that begins at a place of its datagram, by its header at `at.out`.
@@ -98,19 +96,16 @@ function packet(view, begin) {
     return parts.join(' ');
 }
 
-function refused(reason, version) {
-    const which = reason === UNSUPPORTED_VERSION ? ` ${version.toString(16)}` : '';
-    return `error ${text(wire.quic_wire_packet_reason_text(reason))}${which}`;
-}
+const refused = (result, version) => `${error(result)}${result === PACKET_VERSION ? ` ${version.toString(16)}` : ''}`;
 
-// Why no packet begins at a place of the datagram, or 0, and its header is at `at.out`.
+// Where the packet ends that begins at a place of the datagram, whose header is at `at.out`, or why there is none.
 function readHeader(bytes, begin, idLen) {
-    if (begin < bytes.length && !(bytes[begin] & 0x40)) return FIXED_BIT_UNSET;
+    if (begin < bytes.length && !(bytes[begin] & 0x40)) return PACKET_FIXED_BIT;
     const [rest, versions, out] = [at.bytes + begin, at.versions, at.out].map(pointer);
     const [left, count] = [bytes.length - begin, VERSIONS.length].map(BigInt);
-    const answer = wire.quic_wire_header_read(rest, left, idLen, versions, count, out);
+    const end = Number(wire.quic_wire_header_read(rest, left, idLen, versions, count, out));
     const hasLongId = () => slice(at.out + 2, 2).some((length) => length > 20);
-    return answer === UNSUPPORTED_VERSION && hasLongId() ? MALFORMED_CID : answer;
+    return end === PACKET_VERSION && hasLongId() ? PACKET_CID : end;
 }
 
 function packets(bytes, idLen) {
@@ -119,10 +114,10 @@ function packets(bytes, idLen) {
     const lines = [];
     let begin = 0;
     do {
-        const answer = readHeader(bytes, begin, idLen);
-        if (answer !== OK) return [...lines, refused(answer, view.getUint32(at.out + 4, true))];
+        const end = readHeader(bytes, begin, idLen);
+        if (end < 0) return [...lines, refused(end, view.getUint32(at.out + 4, true))];
         lines.push(packet(view, begin));
-        begin += view.getUint32(at.out + 12, true);
+        begin += end;
     } while (begin < bytes.length);
     return lines;
 }
@@ -150,9 +145,8 @@ const PARAMS_SIZE = 264n;
 function params(bytes, side) {
     const view = give(bytes);
     const p = at.out;
-    if (wire.quic_wire_params_read_sized(side, pointer(at.bytes), BigInt(bytes.length), pointer(p), PARAMS_SIZE) !== OK) {
-        return [`error ${text(wire.quic_wire_params_reason_text(view.getUint32(p + 4, true)))}`];
-    }
+    const answer = wire.quic_wire_params_read(side, pointer(at.bytes), BigInt(bytes.length), pointer(p), PARAMS_SIZE);
+    if (answer !== OK) return [error(answer)];
     const present = view.getUint32(p, true);
     const cid = (lenPlace, place) => id(slice(p + place, view.getUint32(p + lenPlace, true)));
     const number = (place) => view.getBigUint64(p + place, true);

@@ -64,8 +64,8 @@ pub fn canonical<B: Buffer + ?Sized>(payload: &[u8], out: &mut B) -> Result<usiz
         Ok(filled) => Ok((filled, filled.len())),
         Err((sys::NO_ROOM, reported)) => Err(WriteError::NoRoom(reported.len)),
         Err((answer, reported)) => {
-            if answer != sys::EMPTY {
-                refused = CanonError::Invalid(frame::invalid_by(reported.last_type, reported.reason));
+            if answer != sys::PAYLOAD_EMPTY {
+                refused = CanonError::Invalid(frame::invalid_by(reported.last_type, answer));
             }
             Err(WriteError::OutOfRange("no payload"))
         }

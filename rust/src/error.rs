@@ -159,7 +159,7 @@ impl From<PacketDecodeError<'_>> for Error {
 impl From<HeaderError> for Error {
     fn from(error: HeaderError) -> Error {
         match error {
-            HeaderError::UnsupportedVersion(header) => Error::UnsupportedVersion(header.version()),
+            HeaderError::UnsupportedVersion(packet) => Error::UnsupportedVersion(packet.version()),
             _ => Error::Packet(error.reason()),
         }
     }

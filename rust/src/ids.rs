@@ -94,13 +94,18 @@ impl fmt::Display for Dir {
 pub struct StreamId(pub u64);
 
 impl StreamId {
-    /// The stream that comes after `index` others, below 2^60, of the same initiator and direction.
+    /// The stream that comes after `index` others of the same initiator and direction.
     ///
     /// ```
     /// use quic_wire::{Dir, Side, StreamId};
     /// assert_eq!(StreamId::new(Side::Client, Dir::Bi, 1), StreamId(4));
     /// ```
+    ///
+    /// # Panics
+    ///
+    /// If `index` is 2^60 or more: there are no more streams (RFC 9000, section 2.1).
     pub const fn new(initiator: Side, dir: Dir, index: u64) -> StreamId {
+        assert!(index < 1 << 60, "there are at most 2^60 streams of an initiator and direction");
         StreamId(index << 2 | (dir as u64) << 1 | initiator as u64)
     }
 

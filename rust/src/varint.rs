@@ -76,18 +76,16 @@ pub fn write<B: Buffer + ?Sized>(value: u64, out: &mut B) -> Result<usize, Write
 /// Where it doesn't fit into so many bytes, there is no such width, or there is too little room.
 #[inline]
 pub fn write_in<B: Buffer + ?Sized>(value: u64, width: usize, out: &mut B) -> Result<usize, WriteError> {
-    let needed = len(value).ok_or(WriteError::OutOfRange("a number of variable length is 2^62 or more"))?.max(width);
-    if width > 8 {
-        return Err(WriteError::OutOfRange("a number of variable length has 1, 2, 4 or 8 bytes"));
-    }
-    out.put(|room| {
-        if room.len() < needed {
-            return Err(WriteError::NoRoom(needed));
-        }
-        match sys::varint_write(value, width as u32, room) {
-            Some(filled) => Ok((filled, filled.len())),
-            None => Err(WriteError::OutOfRange("a number has no encoding of this width")),
-        }
+    let shortest = len(value).ok_or(WriteError::OutOfRange("a number of variable length is 2^62 or more"))?;
+    let needed = match width {
+        0 => shortest,
+        1 | 2 | 4 | 8 if shortest <= width => width,
+        1 | 2 | 4 | 8 => return Err(WriteError::OutOfRange("a number has no encoding of this width")),
+        _ => return Err(WriteError::OutOfRange("a number of variable length has 1, 2, 4 or 8 bytes")),
+    };
+    out.put(|room| match sys::varint_write(value, width as u32, room) {
+        Some(filled) => Ok((filled, filled.len())),
+        None => Err(WriteError::NoRoom(needed)),
     })
 }
 
@@ -103,5 +101,22 @@ mod tests {
             let written = sys::varint_write(value, 0, &mut [MaybeUninit::uninit(); 8]);
             assert_eq!(written.map(|filled| filled.len()), len(value), "{value}");
         }
+    }
+
+    #[test]
+    fn a_width_is_refused_before_room_is_asked_for() {
+        let mut short = [0; 1];
+        for width in [3, 5, 6, 7, 9, usize::MAX] {
+            let error = "a number of variable length has 1, 2, 4 or 8 bytes";
+            assert_eq!(write_in(5, width, &mut short), Err(WriteError::OutOfRange(error)), "{width}");
+        }
+        for (value, width) in [(64, 1), (1 << 14, 2), (1 << 30, 4)] {
+            let error = "a number has no encoding of this width";
+            assert_eq!(write_in(value, width, &mut short), Err(WriteError::OutOfRange(error)), "{value}");
+        }
+        for (value, width, needed) in [(64, 0, 2), (5, 2, 2), (5, 4, 4), (MAX, 8, 8)] {
+            assert_eq!(write_in(value, width, &mut short), Err(WriteError::NoRoom(needed)), "{value}");
+        }
+        assert_eq!(short, [0]);
     }
 }

@@ -6,6 +6,7 @@ use quic_wire::frame::{
     FrameType, InvalidFrame, Iter, NewConnectionId, Reason, Stream, StreamMeta, WriteError,
 };
 use quic_wire::transport_error::Code;
+use quic_wire::Side;
 use quic_wire::{varint, Dir, StreamId};
 use std::collections::HashSet;
 use std::mem::MaybeUninit;
@@ -82,6 +83,62 @@ fn an_iterator_goes_on_where_another_stopped() {
     assert!(Iter::resume(&payload, 9, None, false).is_none());
     let refused = Iter::resume(&[0x01, 0x40], 1, Some(FrameType::PING), true).unwrap().next();
     assert_eq!(refused.unwrap().unwrap_err().ty, Some(FrameType::PING));
+}
+
+#[test]
+fn an_owner_of_a_payload_reads_it_as_an_iterator_does() {
+    // All kinds of ends: none, an invalid frame, a type in two bytes, the extension for ACK frequency.
+    for payload in [&[0x10, 0x05, 0x00, 0x00, 0x08, 0x04, b'x'][..], &[0x01, 0x05, 0x40], &[0x40, 0x01, 0x01], &[0x1f]]
+    {
+        for frames in [
+            Iter::new(payload).unwrap(),
+            Iter::strict(payload).unwrap(),
+            Iter::new(payload).unwrap().without_ack_frequency(),
+        ] {
+            let mut read = frames.progress();
+            let mut all = frames.clone();
+            loop {
+                let item = read.next(payload);
+                assert_eq!(item, all.next(), "of {payload:?}");
+                assert_eq!(read.offset(), all.offset(), "of {payload:?}");
+                let left: Vec<_> = read.iter(payload).unwrap().collect();
+                assert_eq!(left, all.clone().collect::<Vec<_>>(), "what is left of {payload:?}");
+                if item.is_none() {
+                    break;
+                }
+            }
+        }
+    }
+    let mut read = Iter::new(&[0x01, 0x01]).unwrap().progress();
+    assert_eq!(read.next(&[0x01, 0x01]), Some(Ok(Frame::Ping)));
+    assert!(read.iter(&[]).is_none(), "the payload ends before the place");
+    assert_eq!(read.next(&[]), None, "the payload ends before the place");
+    let debug = "Progress { offset: 1, last_type: Some(PING), strict: false, ack_frequency: true }";
+    assert_eq!(format!("{read:?}"), debug);
+}
+
+#[test]
+fn an_ack_is_kept_beside_its_payload() {
+    let payload = [0x01, 0x03, 9, 5, 1, 2, 0, 3, 7, 8, 9, 0x01];
+    let Some(Ok(Frame::Ack(ack))) = Iter::new(&payload).unwrap().nth(1) else { panic!() };
+    let place = ack.place_in(&payload).unwrap();
+    assert_eq!((place.range(), place.ack(&payload)), (1..11, Some(ack)));
+    assert_eq!(place.ack(&payload.clone()), Some(ack), "in a copy");
+    assert_eq!(place.ack(&payload[..10]), None, "cut off");
+    assert_eq!(ack.place_in(&payload[..10]), None, "in a part");
+    assert_eq!(ack.place_in(&payload[2..]), None, "in bytes that begin after it");
+    assert_eq!(ack.place_in(ack.as_bytes()).map(|place| place.range()), Some(0..10), "in its own bytes");
+    // In other bytes it has other ranges, or none.
+    let other = place.ack(&[0; 11]).unwrap();
+    assert_eq!((other.largest(), other.iter().count(), other.additional()), (9, 0, &[][..]));
+}
+
+#[test]
+#[should_panic(expected = "there are at most 2^60 streams of an initiator and direction")]
+fn there_is_no_stream_after_the_last_one() {
+    let last = StreamId::new(Side::Server, Dir::Uni, (1 << 60) - 1);
+    assert_eq!(last, StreamId((1 << 62) - 1), "the last one");
+    StreamId::new(Side::Client, Dir::Bi, 1 << 60);
 }
 
 #[test]

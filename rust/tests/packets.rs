@@ -388,8 +388,10 @@ fn a_header_is_reported_where_its_packet_is_cut_off() {
     unknown.extend([1; 255]);
     unknown.extend([1, 2]);
     let error = HeaderPlaces::read(&unknown, 0, &[1]).unwrap_err();
-    let HeaderError::UnsupportedVersion(places) = error else { panic!() };
-    assert_eq!((places.version(), places.dst_cid(&unknown).len(), places.src_cid(&unknown)), (9, 255, &[2][..]));
+    let HeaderError::UnsupportedVersion(packet) = error else { panic!() };
+    assert_eq!((packet.version(), packet.dst_cid(&unknown).len(), packet.src_cid(&unknown)), (9, 255, &[2][..]));
+    let debug = "UnsupportedVersion { version: 00000009, dst_cid_len: 255, src_cid_len: 1 }";
+    assert_eq!(format!("{packet:?}"), debug);
     assert_eq!(Error::from(error), Error::UnsupportedVersion(9));
 }
 

@@ -59,7 +59,7 @@ def described(call):
 
 
 def page(header, date):
-    version = re.search(r'QUIC_WIRE_VERSION_TEXT "(.*)"', header)[1]
+    version = re.search(r'QUIC_WIRE_LIB_TEXT "(.*)"', header)[1]
     opening = unstarred(re.search(r"\n/\*\n(.*?)\*/", header, re.S)[1])
     before, _, rest = opening.partition("The frames of a payload are read so:")
     sections = list(sections_of(header))

@@ -42,10 +42,9 @@ quic_wire_ng_unprotect(ngtcp2_pkt_hd *hd, uint8_t *header, const uint8_t *pkt,
   if (hp_mask(mask, hp, hp_ctx, sample) != 0) {
     return NGTCP2_ERR_CALLBACK_FAILURE;
   }
-  /* What quic_wire_unprotect_header does; the sample is after the header. */
-  memcpy(header, pkt, place + 4);
-  len = quic_wire_unprotect(header, place + 4, place, mask,
-                            quic_wire_ng_expected(largest), &number);
+  len = quic_wire_unprotect_copy(pkt, pktlen, place, mask,
+                                 quic_wire_ng_expected(largest), header,
+                                 place + 4, &number);
   if (len < 0) {
     return NGTCP2_ERR_PROTO;
   }

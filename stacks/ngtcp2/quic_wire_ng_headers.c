@@ -60,17 +60,17 @@ ngtcp2_ssize ngtcp2_pkt_decode_hd_long(ngtcp2_pkt_hd *dest, const uint8_t *pkt,
       NGTCP2_PKT_INITIAL, NGTCP2_PKT_0RTT, NGTCP2_PKT_HANDSHAKE,
       NGTCP2_PKT_RETRY,   NGTCP2_PKT_1RTT, NGTCP2_PKT_VERSION_NEGOTIATION};
   quic_wire_header h;
-  int answer = quic_wire_header_read(
+  int64_t answer = quic_wire_header_read(
       pkt, pktlen, 0, versions, sizeof(versions) / sizeof(versions[0]), &h);
 
 #if !QUIC_WIRE_NG_1
-  if (answer == QUIC_WIRE_PACKET_UNSUPPORTED_VERSION &&
+  if (answer == QUIC_WIRE_ERR_PACKET_VERSION &&
       h.version == NGTCP2_PROTO_VER_V2_DRAFT) {
     answer = read_draft(&h, pkt, pktlen);
   }
 #endif
   /* ngtcp2 looks itself at whether a packet is cut off. */
-  if ((answer != 0 && answer != QUIC_WIRE_PACKET_LENGTH_BEYOND_END) ||
+  if ((answer < 0 && answer != QUIC_WIRE_ERR_PACKET_CUT) ||
       h.kind == QUIC_WIRE_1RTT) {
     return NGTCP2_ERR_INVALID_ARGUMENT;
   }
@@ -121,7 +121,7 @@ int ngtcp2_pkt_decode_version_cid(ngtcp2_version_cid *dest, const uint8_t *data,
                                   size_t datalen, size_t short_dcidlen) {
   quic_wire_header h;
   int supported;
-  int answer;
+  int64_t answer;
 
   if (quic_wire_short_read(data, datalen, (uint32_t)short_dcidlen)) {
     dest->version = 0;
@@ -133,10 +133,10 @@ int ngtcp2_pkt_decode_version_cid(ngtcp2_version_cid *dest, const uint8_t *data,
   }
   answer = quic_wire_header_read(data, datalen, (uint32_t)short_dcidlen, NULL,
                                  0, &h);
-  if (answer == QUIC_WIRE_PACKET_MALFORMED_CID) {
+  if (answer == QUIC_WIRE_ERR_PACKET_CID) {
     answer = quic_wire_negotiation_read(data, datalen, &h);
   }
-  if (answer != 0 && answer != QUIC_WIRE_PACKET_UNSUPPORTED_VERSION) {
+  if (answer < 0 && answer != QUIC_WIRE_ERR_PACKET_VERSION) {
     return NGTCP2_ERR_INVALID_ARGUMENT;
   }
   dest->version = h.version;
@@ -168,7 +168,7 @@ static quic_wire_header_fields fields_of(const ngtcp2_pkt_hd *hd,
                                     .version = hd->version,
                                     .number = (uint64_t)hd->pkt_num};
   if (hd->flags & NGTCP2_PKT_FLAG_FIXED_BIT_CLEAR) {
-    fields.flags |= QUIC_WIRE_FIXED_BIT;
+    fields.flags |= QUIC_WIRE_CLEAR_FIXED_BIT;
   }
   if (hd->flags & NGTCP2_PKT_FLAG_KEY_PHASE) {
     fields.flags |= QUIC_WIRE_KEY_PHASE;
@@ -231,10 +231,11 @@ ngtcp2_ssize ngtcp2_pkt_write_version_negotiation(
     size_t dcidlen, const uint8_t *scid, size_t scidlen, const uint32_t *sv,
     size_t nsv) {
   uint8_t fixed = QUIC_WIRE_NG_1 ? QUIC_WIRE_FIXED_BIT : 0;
+  /* The bits that differ from the first byte with the fixed bit alone. */
+  uint8_t flags = (uint8_t)((unused_random | fixed) ^ QUIC_WIRE_FIXED_BIT);
   size_t n;
-  int answer = quic_wire_negotiation_write(unused_random | fixed, dcid, dcidlen,
-                                           scid, scidlen, sv, nsv, dest,
-                                           destlen, &n);
+  int answer = quic_wire_negotiation_write(flags, dcid, dcidlen, scid, scidlen,
+                                           sv, nsv, dest, destlen, &n);
   if (answer != 0) {
     return answer == QUIC_WIRE_ERR_NOBUF ? NGTCP2_ERR_NOBUF
                                          : NGTCP2_ERR_INVALID_ARGUMENT;

@@ -100,21 +100,22 @@ static int read_params(ngtcp2_transport_params *params, quic_wire_params *w,
                        uint32_t side, const uint8_t *data, size_t datalen) {
   quic_wire_param entry;
   size_t at = 0;
+  int64_t end;
   int rv;
 
   memset(params, 0, sizeof(*params));
-  if (quic_wire_params_read(side, data, datalen, w) != 0) {
+  if (quic_wire_params_read(side, data, datalen, w, sizeof(*w)) != 0) {
     return NGTCP2_ERR_MALFORMED_TRANSPORT_PARAM;
   }
   params_of(params, w);
-  while (quic_wire_param_read(data + at, datalen - at, &entry) == 0) {
+  while ((end = quic_wire_param_read(data + at, datalen - at, &entry)) > 0) {
     if (entry.id == NGTCP2_TRANSPORT_PARAM_VERSION_INFORMATION) {
       rv = versions_of(params, data + at + entry.value, entry.valuelen);
       if (rv != 0) {
         return rv;
       }
     }
-    at += entry.value + entry.valuelen;
+    at += (size_t)end;
   }
   return 0;
 }
@@ -259,9 +260,9 @@ static ngtcp2_ssize write_params(uint8_t *dest, size_t destlen, uint32_t side,
   if (side == QUIC_WIRE_SERVER) {
     server_to(&w, params);
   }
-  rv = quic_wire_params_write(side, &w, dest,
+  rv = quic_wire_params_write(side, &w, sizeof(w), dest,
                               destlen < more ? 0 : destlen - more, &written);
-  if (rv == QUIC_WIRE_ERR_INVALID_ARGUMENT) {
+  if (rv != QUIC_WIRE_OK && rv != QUIC_WIRE_ERR_NOBUF) {
     return NGTCP2_ERR_INVALID_ARGUMENT;
   }
   if (dest == NULL && destlen == 0) {

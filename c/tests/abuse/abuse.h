@@ -18,7 +18,12 @@
       exit(1);                                                                 \
     }                                                                          \
   } while (0)
-#define INVALID QUIC_WIRE_ERR_INVALID_ARGUMENT
+#define INVALID QUIC_WIRE_ERR_ARGUMENT
+
+/* Whether a result says that a frame is invalid. */
+#define REFUSED(result)                                                        \
+  ((result) <= QUIC_WIRE_ERR_FRAME_END &&                                      \
+   (result) >= QUIC_WIRE_ERR_FRAME_LONG_TYPE)
 
 /* A random number. */
 extern uint64_t any(void);

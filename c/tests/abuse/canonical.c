@@ -7,7 +7,7 @@ void canonical_nulls(void) {
   WANT(quic_wire_canonical(NULL, 1, out, 8, &canon) == INVALID);
   WANT(quic_wire_canonical(&byte, 1, NULL, 8, &canon) == INVALID);
   WANT(quic_wire_canonical(&byte, 1, out, 8, NULL) == INVALID);
-  WANT(quic_wire_canonical(NULL, 0, NULL, 0, &canon) == QUIC_WIRE_ERR_EMPTY);
+  WANT(quic_wire_canonical(NULL, 0, NULL, 0, &canon) == QUIC_WIRE_ERR_PAYLOAD_EMPTY);
   WANT(quic_wire_canonical(&byte, 1, NULL, 0, &canon) == QUIC_WIRE_ERR_NOBUF &&
        canon.len == 1);
 }
@@ -70,7 +70,7 @@ static void canonical_read(const uint8_t *payload, size_t len,
                            const uint8_t *dest, size_t n) {
   quic_wire_frames frames, others;
   quic_wire_frame frame, other;
-  quic_wire_canon again = {77, 78, 79};
+  quic_wire_canon again = {77, 78};
   uint8_t *twice = block(n);
   WANT(quic_wire_frames_init(&frames, payload, len) == 0);
   WANT(quic_wire_frames_init(&others, dest, n) == 0);
@@ -90,7 +90,7 @@ static void canonical_read(const uint8_t *payload, size_t len,
 int canonical_any(const uint8_t *payload, size_t len) {
   quic_wire_frames frames;
   quic_wire_frame frame;
-  quic_wire_canon canon = {77, 78, 79};
+  quic_wire_canon canon = {77, 78};
   size_t room = any() % 3 ? len : any() % (len + 1), k, sum = 0;
   uint8_t *dest = block(room);
   int answer, first;
@@ -102,14 +102,12 @@ int canonical_any(const uint8_t *payload, size_t len) {
     sum += shortest_len(payload, len, &frame, frame.end == len);
   if (answer == 0 || answer == QUIC_WIRE_ERR_NOBUF) {
     WANT(first == 0 && canon.len == sum && sum <= len);
-    WANT(canon.last_type == 78 && canon.reason == 79);
+    WANT(canon.last_type == 78);
     WANT((answer == 0) == (sum <= room));
   } else {
     WANT(answer == first && canon.len == 77);
-    WANT(answer == QUIC_WIRE_ERR_MALFORMED || canon.last_type == 78);
-    WANT(answer != QUIC_WIRE_ERR_MALFORMED ||
-         (canon.last_type == quic_wire_error_type(&frame) &&
-          canon.reason == quic_wire_error_reason(&frame)));
+    WANT(canon.last_type ==
+         (REFUSED(answer) ? quic_wire_error_type(&frame) : 78));
   }
   for (k = answer ? 0 : canon.len; k < room; k++)
     WANT(dest[k] == 0xa5);

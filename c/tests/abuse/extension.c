@@ -51,13 +51,12 @@ void extension_nulls(void) {
   WANT(read_by(1, NULL, 1, 0, &frame, NULL, 0) == INVALID);
   WANT(read_by(1, &byte, 1, 0, NULL, NULL, 0) == INVALID);
   WANT(read_by(1, &byte, 1, 0, &frame, NULL, 1) == INVALID);
-  WANT(read_by(1, NULL, 0, 0, &frame, NULL, 0) == QUIC_WIRE_ERR_EMPTY);
+  WANT(read_by(1, NULL, 0, 0, &frame, NULL, 0) == QUIC_WIRE_ERR_PAYLOAD_EMPTY);
 }
 
 /* The error of a frame of the extension, where that is left out. */
 static void reported(const quic_wire_frame *frame, size_t begin, uint64_t type) {
   WANT(frame->begin == begin && quic_wire_error_type(frame) == type);
-  WANT(quic_wire_error_reason(frame) == QUIC_WIRE_REASON_INVALID_FRAME_ID);
 }
 
 /* A PING, PADDING, a MAX_DATA whose type has two bytes, and |len| bytes of the
@@ -74,16 +73,16 @@ static void left_out(const uint8_t *bytes, size_t len, uint64_t type) {
   one = frames; /* the other call gives it */
   WANT(next_by(0, &one, payload, 6 + len, &frame) == 1 && frame.kind == type);
   one = frames;
-  WANT(next_by(1, &one, payload, 6 + len, &frame) == QUIC_WIRE_ERR_MALFORMED);
+  WANT(next_by(1, &one, payload, 6 + len, &frame) == QUIC_WIRE_ERR_FRAME_TYPE);
   reported(&frame, 6, type);
   WANT(one.offset == 6 && one.ended && one.last_type == QUIC_WIRE_MAX_DATA);
   WANT(next_by(1, &one, payload, 6 + len, &frame) == 0);
   WANT(next_by(0, &one, payload, 6 + len, &frame) == 0);
   WANT(fill_by(1, &frames, payload, 6 + len, filled, 4, &count) ==
-       QUIC_WIRE_ERR_MALFORMED);
+       QUIC_WIRE_ERR_FRAME_TYPE);
   reported(&filled[0], 6, type);
   WANT(!memcmp(&frames, &one, sizeof one));
-  WANT(read_by(1, bytes, len, 0, &frame, NULL, 0) == QUIC_WIRE_ERR_MALFORMED);
+  WANT(read_by(1, bytes, len, 0, &frame, NULL, 0) == QUIC_WIRE_ERR_FRAME_TYPE);
   reported(&frame, 0, type);
   frames = begin(0);
   WANT(fill_by(0, &frames, payload, 6 + len, filled, 4, &count) == 1);
@@ -98,8 +97,7 @@ void extension_examples(void) {
   quic_wire_frame frame;
   left_out(immediate, sizeof immediate, QUIC_WIRE_IMMEDIATE_ACK);
   left_out(frequency, sizeof frequency, QUIC_WIRE_ACK_FREQUENCY);
-  WANT(next_by(1, &frames, frequency, 5, &frame) == QUIC_WIRE_ERR_MALFORMED);
-  WANT(quic_wire_error_reason(&frame) == QUIC_WIRE_REASON_UNEXPECTED_END);
+  WANT(next_by(1, &frames, frequency, 5, &frame) == QUIC_WIRE_ERR_FRAME_END);
 }
 
 /* The bytes with a frame of the extension put in, maybe cut off or in a longer
@@ -135,9 +133,9 @@ static int all_agree(int basic, quic_wire_frames *one, quic_wire_frames *many,
     *at = filled.end;
   } else {
     WANT(next_by(basic, one, payload, len, &next) == answer);
-    WANT(answer ? end == QUIC_WIRE_ERR_MALFORMED : end == QUIC_WIRE_ERR_EMPTY);
+    WANT(answer ? REFUSED(answer) && end == answer
+                : end == QUIC_WIRE_ERR_PAYLOAD_EMPTY);
     WANT(!answer || !memcmp(&next, &filled, sizeof next));
-    WANT(!answer || next.flags == front.flags);
     WANT(next_by(basic, one, payload, len, &next) == 0);
   }
   WANT(!memcmp(one, many, sizeof *one));

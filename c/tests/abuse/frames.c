@@ -9,10 +9,10 @@ static void iterator_nulls(void) {
   memset(&frame, 0, sizeof frame);
   WANT(quic_wire_frames_init(NULL, &byte, 1) == INVALID);
   WANT(quic_wire_frames_init(&frames, NULL, 1) == INVALID);
-  WANT(quic_wire_frames_init(&frames, NULL, 0) == QUIC_WIRE_ERR_EMPTY);
+  WANT(quic_wire_frames_init(&frames, NULL, 0) == QUIC_WIRE_ERR_PAYLOAD_EMPTY);
   WANT(quic_wire_frames_init_strict(NULL, &byte, 1) == INVALID);
   WANT(quic_wire_frames_init_strict(&frames, NULL, 1) == INVALID);
-  WANT(quic_wire_frames_init_strict(&frames, NULL, 0) == QUIC_WIRE_ERR_EMPTY);
+  WANT(quic_wire_frames_init_strict(&frames, NULL, 0) == QUIC_WIRE_ERR_PAYLOAD_EMPTY);
   WANT(quic_wire_frames_next(NULL, &byte, 1, &frame) == INVALID);
   WANT(quic_wire_frames_next(&frames, &byte, 1, NULL) == INVALID);
   WANT(quic_wire_frames_next(&frames, NULL, 1, &frame) == INVALID);
@@ -40,17 +40,16 @@ static void fill_nulls(void) {
   WANT(quic_wire_frames_first(&frames, &byte, 1, NULL, 0, &n) ==
        QUIC_WIRE_ERR_NOBUF);
   WANT(quic_wire_frames_first(&frames, NULL, 0, &frame, 1, &n) ==
-       QUIC_WIRE_ERR_EMPTY);
+       QUIC_WIRE_ERR_PAYLOAD_EMPTY);
   WANT(quic_wire_frames_first(&frames, NULL, 0, NULL, 0, &n) ==
-       QUIC_WIRE_ERR_EMPTY);
+       QUIC_WIRE_ERR_PAYLOAD_EMPTY);
   WANT(n == 0 && frames.offset == 0);
 }
 
 void frames_nulls(void) {
   iterator_nulls();
   fill_nulls();
-  WANT(quic_wire_error_type(NULL) == QUIC_WIRE_NO_TYPE &&
-       quic_wire_error_reason(NULL) == 0);
+  WANT(quic_wire_error_type(NULL) == QUIC_WIRE_NO_TYPE);
   WANT(quic_wire_padding_count(NULL, 1, NULL) == 0 &&
        !quic_wire_reset_token(NULL, 1, NULL) &&
        !quic_wire_path_data(NULL, 1, NULL));
@@ -159,9 +158,9 @@ static void read_on_rubbish(const uint8_t *payload, size_t len,
              : !token);
     path_bytes(payload, len, frame);
   }
-  WANT(answer != QUIC_WIRE_ERR_MALFORMED || frame->type == 0);
-  WANT(k < 50 && (answer == 0 || answer == INVALID ||
-                  answer == QUIC_WIRE_ERR_MALFORMED));
+  WANT(!REFUSED(answer) || (frame->type == 0 && frame->flags == 0));
+  WANT(k < 50 &&
+       (answer == 0 || answer == QUIC_WIRE_ERR_PLACE || REFUSED(answer)));
   WANT(frames.strict == strict);
 }
 
@@ -231,7 +230,7 @@ void fill_rubbish(const uint8_t *payload, size_t len) {
   }
   WANT(calls < 50 && count == 77);
   WANT(next_by(basic, &one, payload, len, &frame) == answer);
-  if (answer == QUIC_WIRE_ERR_MALFORMED) {
+  if (REFUSED(answer)) {
     WANT(!memcmp(&frame, &filled[0], sizeof frame));
     WANT(!memcmp(filled + 1, before, 5 * sizeof frame));
   } else {
@@ -294,8 +293,7 @@ int strict_any(const uint8_t *bytes, size_t len) {
     is_long = has_long_type(payload + strict.offset, len - strict.offset);
     answer = quic_wire_frames_next(&strict, payload, len, &frame);
     if (is_long) {
-      WANT(answer == QUIC_WIRE_ERR_MALFORMED);
-      WANT(quic_wire_error_reason(&frame) == QUIC_WIRE_REASON_LONG_TYPE);
+      WANT(answer == QUIC_WIRE_ERR_FRAME_LONG_TYPE);
       WANT(frame.begin == frames.offset);
     } else {
       WANT(quic_wire_frames_next(&frames, payload, len, &other) == answer);

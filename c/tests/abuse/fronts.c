@@ -10,7 +10,7 @@ void fronts_nulls(void) {
   WANT(quic_wire_frame_read(&byte, 1, 0, NULL, NULL, 0) == INVALID);
   WANT(quic_wire_frame_read(&byte, 1, 0, &frame, NULL, 1) == INVALID);
   WANT(quic_wire_frame_read(NULL, 0, 0, &frame, NULL, 0) ==
-       QUIC_WIRE_ERR_EMPTY);
+       QUIC_WIRE_ERR_PAYLOAD_EMPTY);
 }
 
 /* A frame of |n| bytes that was read at |at| is the next one of an iterator; of
@@ -39,14 +39,14 @@ static void front_is_next(int basic, const uint8_t *payload, size_t len,
   WANT(!memcmp(&entry, &want, sizeof entry));
 }
 
-/* An invalid frame at |at| is invalid for an iterator too. */
+/* An invalid frame at |at| is invalid for an iterator too, for the same reason. */
 static void front_refused(int basic, const uint8_t *payload, size_t len,
-                          size_t at, const quic_wire_frame *frame,
+                          size_t at, int64_t reason,
+                          const quic_wire_frame *frame,
                           quic_wire_frames *frames) {
   quic_wire_frame want;
-  WANT(next_by(basic, frames, payload, len, &want) == QUIC_WIRE_ERR_MALFORMED);
+  WANT(next_by(basic, frames, payload, len, &want) == reason);
   WANT(want.begin == at && frame->begin == 0);
-  WANT(quic_wire_error_reason(frame) == quic_wire_error_reason(&want));
   WANT(quic_wire_error_type(frame) == quic_wire_error_type(&want) ||
        quic_wire_error_type(frame) == QUIC_WIRE_NO_TYPE);
 }
@@ -75,10 +75,10 @@ void front_rubbish(const uint8_t *payload, size_t len) {
     at += (size_t)n;
   } while (1);
   WANT(!memcmp(gaps, before, sizeof gaps));
-  if (n == QUIC_WIRE_ERR_EMPTY) {
+  if (n == QUIC_WIRE_ERR_PAYLOAD_EMPTY) {
     WANT(at == len && (!len || !next_by(basic, &frames, payload, len, &want)));
     return;
   }
-  WANT(n == QUIC_WIRE_ERR_MALFORMED && answer == 0);
-  front_refused(basic, payload, len, at, &frame, &frames);
+  WANT(REFUSED(n) && answer == 0);
+  front_refused(basic, payload, len, at, n, &frame, &frames);
 }

@@ -7,13 +7,13 @@ static void protection_nulls(void) {
   WANT(quic_wire_unprotect(NULL, 4, 0, id, 0, &number) == INVALID);
   WANT(quic_wire_unprotect(out, 4, 0, NULL, 0, &number) == INVALID);
   WANT(quic_wire_unprotect(out, 4, 0, id, 0, NULL) == INVALID);
-  WANT(quic_wire_unprotect_header(NULL, 4, 0, id, 0, out, 16, &number) ==
+  WANT(quic_wire_unprotect_copy(NULL, 4, 0, id, 0, out, 16, &number) ==
        INVALID);
-  WANT(quic_wire_unprotect_header(id, 4, 0, NULL, 0, out, 16, &number) ==
+  WANT(quic_wire_unprotect_copy(id, 4, 0, NULL, 0, out, 16, &number) ==
        INVALID);
-  WANT(quic_wire_unprotect_header(id, 4, 0, id, 0, NULL, 16, &number) ==
+  WANT(quic_wire_unprotect_copy(id, 4, 0, id, 0, NULL, 16, &number) ==
        INVALID);
-  WANT(quic_wire_unprotect_header(id, 4, 0, id, 0, out, 16, NULL) == INVALID);
+  WANT(quic_wire_unprotect_copy(id, 4, 0, id, 0, out, 16, NULL) == INVALID);
   WANT(quic_wire_protect(NULL, 4, 0, id) == INVALID);
   WANT(quic_wire_protect(out, 4, 0, NULL) == INVALID);
   WANT(quic_wire_set_len(NULL, 4, 2, 2) == INVALID && number == 77);
@@ -26,9 +26,10 @@ void headers_nulls(void) {
   WANT(quic_wire_header_read(NULL, 1, 0, one, 1, &header) == INVALID);
   WANT(quic_wire_header_read(id, 4, 0, NULL, 1, &header) == INVALID);
   WANT(quic_wire_header_read(id, 4, 0, one, 1, NULL) == INVALID);
-  WANT(quic_wire_header_read(id, 4, 21, one, 1, &header) == INVALID);
+  WANT(quic_wire_header_read(id, 4, 21, one, 1, &header) ==
+       QUIC_WIRE_ERR_LENGTH);
   WANT(quic_wire_header_read(id, 0, 0, NULL, 0, &header) ==
-       QUIC_WIRE_PACKET_UNEXPECTED_END);
+       QUIC_WIRE_ERR_PACKET_END);
   WANT(!quic_wire_dcid(NULL, &header) && !quic_wire_dcid(id, NULL));
   WANT(!quic_wire_scid(NULL, &header) && !quic_wire_scid(id, NULL));
   WANT(!quic_wire_sample(NULL, 40, 0, 16) && !quic_wire_sample(id, 4, 5, 0));
@@ -39,7 +40,7 @@ void headers_nulls(void) {
 /* Lengths of two and of four bytes on both sides of 2^14. */
 void long_lengths(void) {
   static uint8_t packet[(1 << 14) + 4];
-  WANT(quic_wire_set_len(packet, sizeof packet, 4, 2) == INVALID);
+  WANT(quic_wire_set_len(packet, sizeof packet, 4, 2) == QUIC_WIRE_ERR_LENGTH);
   WANT(quic_wire_set_len(packet, sizeof packet - 1, 4, 2) == 0);
   WANT(!memcmp(packet, "\0\0\x7f\xff", 5));
   WANT(quic_wire_set_len(packet, sizeof packet, 4, 4) == 0);
@@ -73,6 +74,7 @@ void packet_rubbish(uint8_t *datagram, size_t len) {
   uint64_t number = 0, expected = edge() >> 2, again = 0;
   size_t begin = 0, at;
   uint32_t cidlen = (uint32_t)(any() % 22);
+  int64_t end;
   int answer = 0;
   if (len > 4 && any() % 2) { /* a version that is known */
     memcpy(datagram + 1, any() % 2 ? "\0\0\0\1" : "\x6b\x33\x43\xcf", 4);
@@ -81,28 +83,29 @@ void packet_rubbish(uint8_t *datagram, size_t len) {
   any_bytes(mask, 5);
   for (; begin < len; begin += header.end) {
     uint8_t *packet = datagram + begin;
-    answer = quic_wire_header_read(packet, len - begin, cidlen, versions, 2,
-                                   &header);
+    end = quic_wire_header_read(packet, len - begin, cidlen, versions, 2,
+                                &header);
     if (cidlen > 20)
-      WANT(answer == INVALID);
-    WANT(
-        quic_wire_short_read(packet, len - begin, cidlen) ==
-        (answer == 0 && header.kind == QUIC_WIRE_1RTT ? header.header_end : 0));
-    if (answer != 0 && answer != QUIC_WIRE_PACKET_LENGTH_BEYOND_END)
+      WANT(end == QUIC_WIRE_ERR_LENGTH);
+    WANT(quic_wire_short_read(packet, len - begin, cidlen) ==
+         (end > 0 && header.kind == QUIC_WIRE_1RTT ? header.header_end : 0));
+    if (end <= 0 && end != QUIC_WIRE_ERR_PACKET_CUT)
       break;
+    WANT(end < 0 || (size_t)end == header.end);
     header_within(packet, len - begin, &header);
     answer =
-        quic_wire_unprotect_header(packet, header.end, header.header_end, mask,
+        quic_wire_unprotect_copy(packet, header.end, header.header_end, mask,
                                    expected, copy, sizeof copy, &again);
     WANT(answer == quic_wire_unprotect(packet, header.end, header.header_end,
                                        mask, expected, &number));
     WANT(answer >= 1 ? answer <= 4 && number == again
-                     : answer == INVALID || answer == QUIC_WIRE_ERR_MALFORMED);
+                     : answer == QUIC_WIRE_ERR_NUMBER ||
+                           answer == QUIC_WIRE_ERR_PACKET_SMALL);
   }
   at = place();
   answer = quic_wire_unprotect(datagram, len, at, mask, edge(), &number);
-  WANT(answer == INVALID || (answer >= 1 ? at + 4 <= len
-                                         : answer == QUIC_WIRE_ERR_MALFORMED));
+  WANT(answer == QUIC_WIRE_ERR_NUMBER ||
+       (answer >= 1 ? at + 4 <= len : answer == QUIC_WIRE_ERR_PACKET_SMALL));
 }
 
 /* Any place to put protection on. */
@@ -114,15 +117,16 @@ void protect_rubbish(uint8_t *datagram, size_t len) {
   any_bytes(mask, 5);
   memcpy(before, datagram, len);
   answer = quic_wire_protect(datagram, len, at, mask);
-  WANT(answer == QUIC_WIRE_ERR_MALFORMED ||
+  WANT(answer == QUIC_WIRE_ERR_PACKET_SMALL ||
        (answer >= 1 && answer <= 4 && at + 4 <= len));
   for (k = 0; k < len; k++)
     WANT(datagram[k] == before[k] ||
          (answer > 0 && (k == 0 || (k >= at && k < at + 4))));
 }
 
-/* A header of any bytes is opened in a copy where that has room: what is answered
- * and written there is what opening the same bytes in place gives. */
+/* A header of any bytes is opened in a copy where that has room: what is returned
+ * and written there is what opening the same bytes in place gives, and nothing
+ * changes with an error. */
 static void opened_apart(const uint8_t *packet, size_t len, size_t at) {
   const size_t headerlen = any() % 40;
   const uint64_t expected = any() % 2 ? edge() : any() >> 34;
@@ -133,20 +137,15 @@ static void opened_apart(const uint8_t *packet, size_t len, size_t at) {
   any_bytes(mask, 5);
   memcpy(before, packet, len);
   memset(header, 0xa5, sizeof header);
-  answer = quic_wire_unprotect_header(packet, len, at, mask, expected, header,
+  answer = quic_wire_unprotect_copy(packet, len, at, mask, expected, header,
                                       headerlen, &number);
-  if (len < 4 || at > len - 4) {
-    WANT(answer == QUIC_WIRE_ERR_MALFORMED);
-  } else if (headerlen < at + 4) {
-    WANT(answer == QUIC_WIRE_ERR_NOBUF);
+  memcpy(copy, packet, len);
+  if (answer == QUIC_WIRE_ERR_NOBUF) {
+    WANT(headerlen < at + 4 && at && at + 4 <= len && expected >> 62 == 0);
   } else {
-    begin = at + 4;
-    memcpy(copy, packet, begin);
-    WANT(quic_wire_unprotect(copy, begin, at, mask, expected, &again) ==
-         answer);
-    WANT(!memcmp(header, copy, begin));
-    WANT(answer == INVALID ||
-         (at ? answer >= 1 && answer <= 4 : answer == QUIC_WIRE_ERR_MALFORMED));
+    WANT(quic_wire_unprotect(copy, len, at, mask, expected, &again) == answer);
+    begin = answer > 0 ? at + 4 : 0;
+    WANT(begin <= headerlen && !memcmp(header, copy, begin));
   }
   for (; begin < sizeof header; begin++)
     WANT(header[begin] == 0xa5);
@@ -170,7 +169,7 @@ void place_any(uint8_t *packet, size_t len) {
              lengthlen && number == len - at);
     memcpy(packet + at - lengthlen, before + at - lengthlen, lengthlen);
   } else {
-    WANT(answer == INVALID);
+    WANT(answer == QUIC_WIRE_ERR_LENGTH);
   }
   WANT(!memcmp(packet, before, len));
 }

@@ -13,7 +13,7 @@ void headers_written_nulls(void) {
   WANT(quic_wire_header_write(&fields, id, 4, id, 4, NULL, 1, out, 16) == 15);
   fields.kind = QUIC_WIRE_1RTT;
   WANT(quic_wire_header_write(&fields, id, 4, NULL, 4, NULL, 1, out, 16) ==
-       INVALID);
+       QUIC_WIRE_ERR_LENGTH);
   fields.numberlen = 1;
   WANT(quic_wire_header_write(&fields, id, 4, NULL, 4, NULL, 1, out, 16) == 6);
   fields.kind = QUIC_WIRE_INITIAL;
@@ -30,7 +30,7 @@ void headers_written_nulls(void) {
   WANT(out[0] == 0xf0 && out[4] == 1 && out[5] == 4 && out[10] == 4);
   fields.version = 0;
   WANT(quic_wire_header_write(&fields, id, 4, id, 4, NULL, 0, out, 16) ==
-       INVALID);
+       QUIC_WIRE_ERR_NUMBER);
   WANT(quic_wire_header_len(NULL, 4, 4, 0) == 0);
 }
 
@@ -71,7 +71,7 @@ static size_t model_long(const quic_wire_header_fields *h,
   const int is_long = h->kind <= QUIC_WIRE_HANDSHAKE;
   size_t n = 0, i, k;
   uint32_t type = (h->kind + (h->version == 0x6b3343cf ? 1u : 0)) % 4;
-  out[n++] = (uint8_t)(vn ? 0x80 | (h->flags & 0x7f) : first | 16 * type);
+  out[n++] = (uint8_t)(vn ? 0xc0 ^ (h->flags & 0x7f) : first | 16 * type);
   for (k = 4; k--;)
     out[n++] = (uint8_t)(vn ? 0 : h->version >> (8 * k));
   for (i = 0; i < 2; i++) {
@@ -91,20 +91,32 @@ static size_t model_long(const quic_wire_header_fields *h,
   return n;
 }
 
+/* Why there is no such header, or 0. */
+static int64_t model_refusal(const quic_wire_header_fields *h,
+                             const size_t lens[3]) {
+  const int is_long = h->kind <= QUIC_WIRE_HANDSHAKE;
+  const int numbered = is_long || h->kind == QUIC_WIRE_1RTT;
+  if (h->kind > 5)
+    return QUIC_WIRE_ERR_KIND;
+  if ((h->kind <= QUIC_WIRE_RETRY && h->version == 0) ||
+      (numbered && h->number >> 62))
+    return QUIC_WIRE_ERR_NUMBER;
+  if (lens[0] > 20 || (h->kind != QUIC_WIRE_1RTT && lens[1] > 20) ||
+      (numbered && (h->numberlen < 1 || h->numberlen > 4)) ||
+      (is_long && h->lengthlen != 2 && h->lengthlen != 4))
+    return QUIC_WIRE_ERR_LENGTH;
+  return 0;
+}
+
 /* A header as RFC 9000, section 17, and RFC 9369 draw it, by a plain model: its
- * length, or 0 where there is no such header. */
+ * length. */
 static size_t model_header(const quic_wire_header_fields *h,
                            const uint8_t *const parts[3], const size_t lens[3],
                            uint8_t *out) {
   const int is_long = h->kind <= QUIC_WIRE_HANDSHAKE;
   const int numbered = is_long || h->kind == QUIC_WIRE_1RTT;
-  const uint8_t fixed = (h->flags & QUIC_WIRE_FIXED_BIT) ^ 0x40;
+  const uint8_t fixed = (h->flags & QUIC_WIRE_CLEAR_FIXED_BIT) ^ 0x40;
   size_t n = 0, k;
-  if (h->kind > 5 || lens[0] > 20 || (h->kind != QUIC_WIRE_1RTT && lens[1] > 20) ||
-      (h->kind <= QUIC_WIRE_RETRY && h->version == 0) ||
-      (numbered && (h->numberlen < 1 || h->numberlen > 4 || h->number >> 62)) ||
-      (is_long && h->lengthlen != 2 && h->lengthlen != 4))
-    return 0;
   if (h->kind == QUIC_WIRE_1RTT) {
     out[n++] = (uint8_t)(fixed | (h->flags & 0x24) | (h->numberlen - 1));
     for (k = 0; k < lens[0]; k++)
@@ -129,7 +141,8 @@ static int header_protected(const quic_wire_header_fields *h, uint8_t *packet,
   size_t k;
   int answer = quic_wire_protect(packet, whole, at, mask);
   if (whole - at < 4) {
-    WANT(answer == QUIC_WIRE_ERR_MALFORMED && !memcmp(packet, plain, whole));
+    WANT(answer == QUIC_WIRE_ERR_PACKET_SMALL &&
+         !memcmp(packet, plain, whole));
   } else if (numbered) {
     WANT(answer == h->numberlen);
     for (k = 0; k < whole; k++) {
@@ -168,7 +181,7 @@ static void header_cut(const quic_wire_header_fields *h,
   any_bytes(mask, 5);
   answer = header_protected(h, packet, plain, whole, len, at, mask);
   WANT(quic_wire_header_read(packet, whole, (uint32_t)lens[0], &h->version, 1,
-                             &header) == 0);
+                             &header) == (int64_t)whole);
   WANT(header.kind == h->kind && header.first == packet[0]);
   WANT(header.version == (h->kind <= QUIC_WIRE_RETRY ? h->version : 0));
   WANT(header.dcidlen == lens[0] && header.end == whole &&
@@ -207,7 +220,7 @@ int header_written(void) {
   uint8_t model[512], *parts[3], *dest;
   const uint8_t *given[3];
   size_t lens[3], room, want, k, i;
-  int64_t answer;
+  int64_t answer, refusal;
   any_fields(&h);
   lens[0] = any() % 40 ? any() % 21 : 21;
   lens[1] = any() % 40 ? any() % 21 : 21;
@@ -216,7 +229,8 @@ int header_written(void) {
     given[i] = parts[i] = block(lens[i]);
     any_bytes(parts[i], lens[i]);
   }
-  want = model_header(&h, given, lens, model);
+  refusal = model_refusal(&h, lens);
+  want = refusal ? 0 : model_header(&h, given, lens, model);
   WANT(!want || quic_wire_header_len(&h, lens[0], lens[1], lens[2]) == want);
   room = any() % 3 ? want + any() % 8 : any() % (want + 1);
   dest = block(room);
@@ -224,7 +238,7 @@ int header_written(void) {
   answer = quic_wire_header_write(&h, parts[0], lens[0], parts[1], lens[1],
                                   parts[2], lens[2], dest, room);
   if (!want) {
-    WANT(answer == INVALID);
+    WANT(answer == refusal);
   } else if (room < want) {
     WANT(answer == QUIC_WIRE_ERR_NOBUF);
   } else {

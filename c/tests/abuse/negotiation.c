@@ -24,7 +24,7 @@ void negotiation_nulls(void) {
        n == 19);
   WANT(quic_wire_negotiation_write(0, NULL, 0, NULL, 0, NULL, 0, out, 16, &n) ==
            0 &&
-       n == 7 && !memcmp(out, "\x80\0\0\0\0\0", 7));
+       n == 7 && !memcmp(out, "\xc0\0\0\0\0\0", 7));
 }
 
 /* A version negotiation is read where it is one by a plain model, whole, cut off
@@ -34,7 +34,8 @@ static void negotiation_read(uint8_t *packet, size_t len, size_t cut) {
   static const uint32_t one[] = {1};
   quic_wire_header header, same;
   size_t i, dcidlen, scidlen;
-  int answer, is;
+  int64_t end;
+  int is;
   for (i = 0; i < 3; i++) {
     const size_t whole = i == 1 ? cut : len;
     if (i == 2 && len)
@@ -46,8 +47,8 @@ static void negotiation_read(uint8_t *packet, size_t len, size_t cut) {
     is = is && whole >= 7 + dcidlen + scidlen;
     memset(&header, 0x5a, sizeof header);
     same = header;
-    answer = quic_wire_negotiation_read(packet, whole, &header);
-    WANT(answer == (is ? 0 : QUIC_WIRE_ERR_MALFORMED));
+    end = quic_wire_negotiation_read(packet, whole, &header);
+    WANT(end == (is ? (int64_t)whole : QUIC_WIRE_ERR_KIND));
     if (!is) {
       WANT(!memcmp(&header, &same, sizeof header));
       continue;
@@ -58,20 +59,20 @@ static void negotiation_read(uint8_t *packet, size_t len, size_t cut) {
     WANT(header.version == 0 && header.end == whole);
     WANT(header.header_end == 7 + dcidlen + scidlen);
     WANT(header.token == 0 && header.tokenlen == 0 && header.len == 0);
-    answer = quic_wire_header_read(packet, whole, 0, one, 1, &same);
+    end = quic_wire_header_read(packet, whole, 0, one, 1, &same);
     if (dcidlen <= 20 && scidlen <= 20)
-      WANT(answer == 0 && !memcmp(&header, &same, sizeof header));
+      WANT(end == (int64_t)whole && !memcmp(&header, &same, sizeof header));
     else
-      WANT(answer == QUIC_WIRE_PACKET_MALFORMED_CID);
+      WANT(end == QUIC_WIRE_ERR_PACKET_CID);
   }
 }
 
 /* A version negotiation as RFC 9000, section 17.2.1, draws it; its length. */
-static size_t model_negotiation(uint8_t first, uint8_t *const ids[2],
+static size_t model_negotiation(uint8_t flags, uint8_t *const ids[2],
                                 const size_t lens[2], const uint32_t *versions,
                                 size_t n, uint8_t *model) {
   size_t at = 0, i, k;
-  model[at++] = first | 0x80;
+  model[at++] = (uint8_t)(0xc0 ^ (flags & 0x7f));
   for (k = 0; k < 4; k++)
     model[at++] = 0;
   for (i = 0; i < 2; i++) {
@@ -88,7 +89,7 @@ static size_t model_negotiation(uint8_t first, uint8_t *const ids[2],
  * ids of any length, and read back; any bytes are read as one just where that
  * section has one, and as quic_wire_header_read tells of ids of at most 20. */
 void negotiation_any(void) {
-  const uint8_t first = (uint8_t)any();
+  const uint8_t flags = (uint8_t)any();
   const size_t most = any() % 3 ? 24 : 260, n = any() % 5;
   size_t lens[2], room, want, written = 77, i, k;
   uint8_t *ids[2], *dest, model[7 + 2 * 255 + 4 * 4];
@@ -105,15 +106,15 @@ void negotiation_any(void) {
   room = any() % 3 ? want + any() % 8 : any() % (want + 1);
   dest = block(room);
   memset(dest, 0xa5, room);
-  answer = quic_wire_negotiation_write(first, ids[0], lens[0], ids[1], lens[1],
+  answer = quic_wire_negotiation_write(flags, ids[0], lens[0], ids[1], lens[1],
                                        versions, n, dest, room, &written);
   if (lens[0] > 255 || lens[1] > 255) {
-    WANT(answer == INVALID && written == 77);
+    WANT(answer == QUIC_WIRE_ERR_LENGTH && written == 77);
   } else if (room < want) {
     WANT(answer == QUIC_WIRE_ERR_NOBUF && written == want);
   } else {
     WANT(answer == 0 && written == want);
-    WANT(model_negotiation(first, ids, lens, versions, n, model) == want &&
+    WANT(model_negotiation(flags, ids, lens, versions, n, model) == want &&
          !memcmp(dest, model, want));
     negotiation_read(dest, want, any() % (want + 1));
   }

@@ -34,7 +34,7 @@ void number_len_any(void) {
   uint64_t twice = 2 * (number - acked);
   int answer = quic_wire_number_len(number, acked);
   if (number < acked || number - acked >= 1ull << 31)
-    WANT(answer == INVALID);
+    WANT(answer == QUIC_WIRE_ERR_NUMBER);
   else
     WANT(answer == (twice < 256 ? 1 : twice < 65536 ? 2 : twice < 16777216 ? 3 : 4));
 }

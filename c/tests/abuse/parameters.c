@@ -5,29 +5,33 @@ void params_nulls(void) {
   quic_wire_params params;
   uint8_t byte = 0, out[8];
   size_t n = 77;
-  WANT(quic_wire_params_read(QUIC_WIRE_CLIENT, NULL, 1, &params) == INVALID);
-  WANT(quic_wire_params_read(QUIC_WIRE_CLIENT, &byte, 1, NULL) == INVALID);
-  WANT(quic_wire_params_read(2, &byte, 1, &params) == INVALID);
-  WANT(quic_wire_params_read(QUIC_WIRE_SERVER, NULL, 0, &params) == 0);
+  WANT(quic_wire_params_read(QUIC_WIRE_CLIENT, NULL, 1, &params, sizeof params) == INVALID);
+  WANT(quic_wire_params_read(QUIC_WIRE_CLIENT, &byte, 1, NULL, sizeof params) ==
+       INVALID);
+  WANT(quic_wire_params_read(2, &byte, 1, &params, sizeof params) ==
+       QUIC_WIRE_ERR_KIND);
+  WANT(quic_wire_params_read(QUIC_WIRE_SERVER, NULL, 0, &params, sizeof params) == 0);
   WANT(params.max_ack_delay == 25 && params.present == 0);
-  WANT(quic_wire_params_write(QUIC_WIRE_CLIENT, NULL, out, 8, &n) == INVALID);
-  WANT(quic_wire_params_write(QUIC_WIRE_CLIENT, &params, NULL, 8, &n) ==
+  WANT(quic_wire_params_write(QUIC_WIRE_CLIENT, NULL, sizeof params, out, 8, &n) == INVALID);
+  WANT(quic_wire_params_write(QUIC_WIRE_CLIENT, &params, sizeof params, NULL, 8, &n) ==
        INVALID);
-  WANT(quic_wire_params_write(QUIC_WIRE_CLIENT, &params, out, 8, NULL) ==
+  WANT(quic_wire_params_write(QUIC_WIRE_CLIENT, &params, sizeof params, out, 8, NULL) ==
        INVALID);
-  WANT(quic_wire_params_write(2, &params, out, 8, &n) == INVALID && n == 77);
-  WANT(quic_wire_params_write(QUIC_WIRE_CLIENT, &params, NULL, 0, &n) == 0 &&
+  WANT(quic_wire_params_write(2, &params, sizeof params, out, 8, &n) ==
+           QUIC_WIRE_ERR_KIND &&
+       n == 77);
+  WANT(quic_wire_params_write(QUIC_WIRE_CLIENT, &params, sizeof params, NULL, 0, &n) == 0 &&
        n == 0);
   params.max_ack_delay = 26;
-  WANT(quic_wire_params_write(QUIC_WIRE_CLIENT, &params, NULL, 0, &n) ==
+  WANT(quic_wire_params_write(QUIC_WIRE_CLIENT, &params, sizeof params, NULL, 0, &n) ==
            QUIC_WIRE_ERR_NOBUF && n == 3);
-  WANT(quic_wire_params_read_sized(QUIC_WIRE_CLIENT, &byte, 0, &params,
-                                   sizeof params - 1) == INVALID);
+  WANT(quic_wire_params_read(QUIC_WIRE_CLIENT, &byte, 0, &params,
+                             sizeof params - 1) == QUIC_WIRE_ERR_LENGTH);
   n = 77;
-  WANT(quic_wire_params_write_sized(QUIC_WIRE_CLIENT, &params,
-                                    sizeof params + 8, out, 8, &n) == INVALID);
-  WANT(quic_wire_params_write_with_sized(QUIC_WIRE_CLIENT, &params, 0, NULL, 0,
-                                         NULL, 0, out, 8, &n) == INVALID);
+  WANT(quic_wire_params_write(QUIC_WIRE_CLIENT, &params, sizeof params + 8, out,
+                              8, &n) == QUIC_WIRE_ERR_LENGTH);
+  WANT(quic_wire_params_write_with(QUIC_WIRE_CLIENT, &params, 0, NULL, 0, NULL,
+                                   0, out, 8, &n) == QUIC_WIRE_ERR_LENGTH);
   WANT(n == 77);
 }
 
@@ -49,7 +53,8 @@ static void further_made(struct further *f) {
   static const uint8_t versions[] = {0, 0, 0, 1};
   size_t n = 0, m = 0;
   uint8_t k;
-  WANT(quic_wire_params_read(QUIC_WIRE_SERVER, NULL, 0, &f->params) == 0);
+  WANT(quic_wire_params_read(QUIC_WIRE_SERVER, NULL, 0, &f->params,
+                             sizeof f->params) == 0);
   f->params.max_idle_timeout = 5;
   f->params.initial_max_data = 9;
   WANT(quic_wire_param_write(QUIC_WIRE_PARAM_VERSION_INFORMATION, versions, 4,
@@ -73,16 +78,16 @@ static void further_written(const struct further *f) {
   quic_wire_params got;
   uint8_t out[32];
   size_t m = 0, w = 77;
-  WANT(quic_wire_params_write_with(side, &f->params, f->entries, f->len, NULL, 0,
+  WANT(quic_wire_params_write_with(side, &f->params, sizeof f->params, f->entries, f->len, NULL, 0,
                                    out, sizeof out, &w) == 0);
   WANT(w == sizeof in_order && !memcmp(out, in_order, w));
-  WANT(quic_wire_params_write_with(side, &f->params, f->entries, f->len,
+  WANT(quic_wire_params_write_with(side, &f->params, sizeof f->params, f->entries, f->len,
                                    f->order, sizeof f->order, out, sizeof out,
                                    &w) == 0);
   WANT(w == sizeof turned && !memcmp(out, turned, w));
-  WANT(quic_wire_params_read(QUIC_WIRE_SERVER, out, w, &got) == 0);
+  WANT(quic_wire_params_read(QUIC_WIRE_SERVER, out, w, &got, sizeof got) == 0);
   WANT(!memcmp(&got, &f->params, sizeof got));
-  WANT(quic_wire_params_write_with(side, &f->params, f->entries, f->len,
+  WANT(quic_wire_params_write_with(side, &f->params, sizeof f->params, f->entries, f->len,
                                    f->order, sizeof f->order, out, w - 1, &m) ==
            QUIC_WIRE_ERR_NOBUF && m == w);
 }
@@ -94,26 +99,26 @@ static void further_refused(struct further *f) {
   const uint8_t *further = f->entries;
   uint8_t out[32];
   size_t n = f->len, m = 77;
-  WANT(quic_wire_params_write_with(side, params, further, n, f->order,
-                                   sizeof f->order - 1, out, 32, &m) == INVALID);
+  WANT(quic_wire_params_write_with(side, params, sizeof *params, further, n, f->order,
+                                   sizeof f->order - 1, out, 32, &m) == QUIC_WIRE_ERR_PARAM);
   f->order[0] = 21;
-  WANT(quic_wire_params_write_with(side, params, further, n, f->order,
-                                   sizeof f->order, out, 32, &m) == INVALID);
-  WANT(quic_wire_params_write_with(side, params, in_order, 3, NULL, 0, out, 32,
-                                   &m) == INVALID); /* one that it has */
+  WANT(quic_wire_params_write_with(side, params, sizeof *params, further, n, f->order,
+                                   sizeof f->order, out, 32, &m) == QUIC_WIRE_ERR_PARAM);
+  WANT(quic_wire_params_write_with(side, params, sizeof *params, in_order, 3, NULL, 0, out, 32,
+                                   &m) == QUIC_WIRE_ERR_PARAM); /* one that it has */
   memcpy(out, further, 6), memcpy(out + 6, further, 6);
-  WANT(quic_wire_params_write_with(side, params, out, 12, NULL, 0, out + 12,
-                                   20, &m) == INVALID); /* one twice */
-  WANT(quic_wire_params_write_with(side, params, further, n - 1, NULL, 0, out,
-                                   32, &m) == INVALID); /* one is cut off */
-  WANT(quic_wire_params_write_with(side, params, NULL, 1, NULL, 0, out, 32,
+  WANT(quic_wire_params_write_with(side, params, sizeof *params, out, 12, NULL, 0, out + 12,
+                                   20, &m) == QUIC_WIRE_ERR_PARAM); /* one twice */
+  WANT(quic_wire_params_write_with(side, params, sizeof *params, further, n - 1, NULL, 0, out,
+                                   32, &m) == QUIC_WIRE_ERR_PARAM); /* one is cut off */
+  WANT(quic_wire_params_write_with(side, params, sizeof *params, NULL, 1, NULL, 0, out, 32,
                                    &m) == INVALID);
-  WANT(quic_wire_params_write_with(side, params, NULL, 0, NULL, 1, out, 32,
+  WANT(quic_wire_params_write_with(side, params, sizeof *params, NULL, 0, NULL, 1, out, 32,
                                    &m) == INVALID);
-  WANT(quic_wire_params_write_with(side, NULL, NULL, 0, NULL, 0, out, 32,
+  WANT(quic_wire_params_write_with(side, NULL, sizeof *params, NULL, 0, NULL, 0, out, 32,
                                    &m) == INVALID);
-  WANT(quic_wire_params_write_with(2, params, NULL, 0, NULL, 0, out, 32,
-                                   &m) == INVALID);
+  WANT(quic_wire_params_write_with(2, params, sizeof *params, NULL, 0, NULL, 0, out, 32,
+                                   &m) == QUIC_WIRE_ERR_KIND);
   WANT(m == 77);
 }
 
@@ -124,12 +129,13 @@ static void entries_nulls(void) {
   size_t m = 77;
   WANT(quic_wire_param_read(NULL, 1, &param) == INVALID);
   WANT(quic_wire_param_read(in_order, 1, NULL) == INVALID);
-  WANT(quic_wire_param_read(NULL, 0, &param) == QUIC_WIRE_ERR_EMPTY);
-  WANT(quic_wire_param_read(in_order, 2, &param) == QUIC_WIRE_ERR_MALFORMED);
-  WANT(quic_wire_param_read(in_order + 6, 9, &param) == 0 && param.id == 0x11);
+  WANT(quic_wire_param_read(NULL, 0, &param) == 0);
+  WANT(quic_wire_param_read(in_order, 2, &param) ==
+       QUIC_WIRE_ERR_PARAMS_MALFORMED);
+  WANT(quic_wire_param_read(in_order + 6, 9, &param) == 6 && param.id == 0x11);
   WANT(param.value == 2 && param.valuelen == 4);
   WANT(quic_wire_param_write((uint64_t)1 << 62, NULL, 0, out, 32, &m) ==
-       INVALID);
+       QUIC_WIRE_ERR_NUMBER);
   WANT(quic_wire_param_write(1, NULL, 1, out, 32, &m) == INVALID);
   WANT(quic_wire_param_write(1, NULL, 0, NULL, 32, &m) == INVALID);
   WANT(quic_wire_param_write(1, NULL, 0, out, 32, NULL) == INVALID && m == 77);
@@ -215,21 +221,21 @@ int params_written(uint32_t side) {
   int answer;
   params_rubbish(&given);
   memset(room, 0xaa, sizeof room);
-  answer = quic_wire_params_write(side ^ 1, &given, room, sizeof room, &n);
+  answer = quic_wire_params_write(side ^ 1, &given, sizeof given, room, sizeof room, &n);
   if (answer != QUIC_WIRE_OK) {
-    WANT(answer == INVALID && n == 0 && room[0] == 0xaa);
+    WANT(answer == QUIC_WIRE_ERR_PARAM && n == 0 && room[0] == 0xaa);
     return 0;
   }
   WANT(n <= sizeof room && (n == sizeof room || room[n] == 0xaa));
   dest = block(n);
   if (n) {
-    answer = quic_wire_params_write(side ^ 1, &given, dest, n - 1, &less);
+    answer = quic_wire_params_write(side ^ 1, &given, sizeof given, dest, n - 1, &less);
     WANT(answer == QUIC_WIRE_ERR_NOBUF && less == n);
   }
-  WANT(quic_wire_params_write(side ^ 1, &given, dest, n, &less) == QUIC_WIRE_OK);
+  WANT(quic_wire_params_write(side ^ 1, &given, sizeof given, dest, n, &less) == QUIC_WIRE_OK);
   WANT(less == n && (!n || !memcmp(dest, room, n)));
   memset(&got, 0xbb, sizeof got);
-  WANT(quic_wire_params_read(side, dest, n, &got) == QUIC_WIRE_OK);
+  WANT(quic_wire_params_read(side, dest, n, &got, sizeof got) == QUIC_WIRE_OK);
   WANT(!memcmp(&got, &given, sizeof got));
   free(dest);
   return 1;
@@ -243,23 +249,25 @@ static size_t params_entries(const uint8_t *list, size_t len, uint8_t *further,
                              size_t room, size_t *count) {
   quic_wire_param param, again, other;
   uint8_t out[64];
-  size_t at = 0, filled = 0, n, k;
-  int answer;
+  size_t at = 0, filled = 0, n, k, end;
+  int64_t answer;
   *count = 0;
-  while ((answer = quic_wire_param_read(list + at, len - at, &param)) == 0) {
+  while ((answer = quic_wire_param_read(list + at, len - at, &param)) > 0) {
     const uint8_t *value = list + at + param.value;
-    size_t end = param.value + param.valuelen;
-    WANT(param.value >= 2 && end <= len - at);
+    end = (size_t)answer;
+    WANT(param.value >= 2 && end == param.value + param.valuelen);
+    WANT(end <= len - at);
     at += end;
     if (param.valuelen > 40)
       continue;
     WANT(quic_wire_param_write(param.id, value, param.valuelen, out, sizeof out,
                                &n) == 0 && n <= end);
-    WANT(quic_wire_param_read(out, n, &again) == 0 && again.id == param.id);
-    WANT(again.valuelen == param.valuelen && again.value + again.valuelen == n);
+    WANT(quic_wire_param_read(out, n, &again) == (int64_t)n &&
+         again.id == param.id);
+    WANT(again.valuelen == param.valuelen);
     WANT(!memcmp(out + again.value, value, param.valuelen));
     for (k = 0; k < filled; k += other.value + other.valuelen)
-      if (quic_wire_param_read(further + k, filled - k, &other) != 0 ||
+      if (quic_wire_param_read(further + k, filled - k, &other) <= 0 ||
           other.id == param.id)
         break;
     if (k == filled && !quic_wire_param_is_known(param.id) &&
@@ -269,7 +277,7 @@ static size_t params_entries(const uint8_t *list, size_t len, uint8_t *further,
       ++*count;
     }
   }
-  WANT(answer == (at == len ? QUIC_WIRE_ERR_EMPTY : QUIC_WIRE_ERR_MALFORMED));
+  WANT(answer == (at == len ? 0 : QUIC_WIRE_ERR_PARAMS_MALFORMED));
   return filled;
 }
 
@@ -287,18 +295,18 @@ static void params_mixed(uint32_t side, const quic_wire_params *params,
     order[k] = order[other];
     order[other] = (uint8_t)k;
   }
-  answer = quic_wire_params_write_with(side ^ 1, params, further, filled, order,
+  answer = quic_wire_params_write_with(side ^ 1, params, sizeof *params, further, filled, order,
                                        any() % 4 ? all : 0, out, sizeof out, &n);
   WANT(answer == 0);
-  WANT(quic_wire_params_read(side, out, n, &got) == 0);
+  WANT(quic_wire_params_read(side, out, n, &got, sizeof got) == 0);
   WANT(!memcmp(&got, params, sizeof got));
   if (n) {
-    WANT(quic_wire_params_write_with(side ^ 1, params, further, filled, order,
+    WANT(quic_wire_params_write_with(side ^ 1, params, sizeof *params, further, filled, order,
                                      all, out, n - 1, &less) ==
              QUIC_WIRE_ERR_NOBUF && less == n);
   }
   order[any() % all] = (uint8_t)any();
-  quic_wire_params_write_with(side ^ 1, params, list, any() % (len + 1), order,
+  quic_wire_params_write_with(side ^ 1, params, sizeof *params, list, any() % (len + 1), order,
                               any() % all, out, any() % sizeof out, &n);
 }
 
@@ -311,21 +319,20 @@ void params_any(const uint8_t *list, size_t len) {
   int answer;
   memset(&got, 0xbb, sizeof got);
   memset(&same, 0xbb, sizeof same);
-  answer = quic_wire_params_read(side, list, len, &got);
-  WANT(side < 2 || answer == INVALID);
+  answer = quic_wire_params_read(side, list, len, &got, sizeof got);
+  WANT((side > 1) == (answer == QUIC_WIRE_ERR_KIND));
   if (answer == QUIC_WIRE_OK) {
-    WANT(quic_wire_params_write(side ^ 1, &got, dest, sizeof dest, &n) ==
+    WANT(quic_wire_params_write(side ^ 1, &got, sizeof got, dest, sizeof dest, &n) ==
          QUIC_WIRE_OK);
-    WANT(n <= len && got.reason == 0);
+    WANT(n <= len && got.reserved == 0);
     params_mixed(side, &got, list, len);
   } else {
-    if (answer == QUIC_WIRE_ERR_MALFORMED) {
-      WANT(got.reason == 1 || got.reason == 2);
-      got.reason = same.reason;
-    }
+    WANT(side > 1 || answer == QUIC_WIRE_ERR_PARAMS_MALFORMED ||
+         answer == QUIC_WIRE_ERR_PARAMS_ILLEGAL);
     WANT(!memcmp(&got, &same, sizeof got));
   }
   for (k = 0; k < sizeof got; k++)
     ((uint8_t *)&got)[k] = (uint8_t)(any() % 3 ? 0 : any());
-  quic_wire_params_write(side ^ 1, &got, dest, any() % sizeof dest, &n);
+  quic_wire_params_write(side ^ 1, &got, sizeof got, dest, any() % sizeof dest,
+                         &n);
 }

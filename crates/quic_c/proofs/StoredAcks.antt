@@ -1,6 +1,8 @@
 -- ACKs that words describe by gap and length are written, gap after gap, and their type last.
 use Rattle.std.proofs.Common.{append_assoc, ℤ, to_z, of_z, w32, ◌≡◌, ℕ, zero, suc, ◌+◌, ◌-◌, ◌<◌, ◌≤◌, ◌^◌, ◌⊎◌, inl, inr, List, [], ◌∷◌, ◌++◌, length, refl, sym, ap, subst, ◌∙◌, arith}
-use Rattle.std.specs.Prelude.{pos, negsuc, bit_or, drop, get_or, slice_index, take, ◌==◌, if◌then◌else◌}
+use Rattle.quic_results.specs.declared.results.Failure.TheVariants as failure
+use Rattle.quic_results.specs.Results.{failed}
+use Rattle.std.specs.Prelude.{pos, bit_or, drop, get_or, slice_index, take, ◌==◌, if◌then◌else◌}
 use Rattle.std.proofs.lemmas.Bool.Decides.{nat_tests}
 use Rattle.std.proofs.lemmas.Bool.{lt-ltb}
 use Rattle.std.proofs.lemmas.List.{append-nil, at_drop_more, drop-drop, drop_all, length-append, take-append-drop, take_all, take_more}
@@ -295,10 +297,10 @@ room_at gaps at i end old one lt room inv =
       length-append (shortest_varints (gap_numbers (take i gaps))) (shortest_varints (g.gap ∷ g.len ∷ [])),
     )
 
--- an answer as the word that it is reported by
-pub same_answer : (answer : ℤ) → (answer ≡ pos 0) ⊎ ((answer ≡ negsuc 3) ⊎ (answer ≡ negsuc 0))
-    → to_z w32 (of_z w32 answer) ≡ answer
-same_answer answer cases = elim cases [
+-- a result as the word that it is returned by
+pub same_answer : (result : ℤ) → (result ≡ pos 0) ⊎ ((result ≡ failed failure.NoRoom) ⊎ (result ≡ failed failure.Argument))
+    → to_z w32 (of_z w32 result) ≡ result
+same_answer result cases = elim cases [
   | inl done ↦ subst (λ (z : ℤ). to_z w32 (of_z w32 z) ≡ z) (sym done) refl
   | inr other ↦ elim other [
     | inl less ↦ subst (λ (z : ℤ). to_z w32 (of_z w32 z) ≡ z) (sym less) refl

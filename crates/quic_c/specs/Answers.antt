@@ -1,6 +1,5 @@
 -- What the calls answer.
-use Rattle.std.specs.Prelude.{◌≡◌, ℕ, ◌+◌, ◌<◌, ◌≤◌, ◌^◌, ◌⊎◌, ◌↔◌, ℤ, pos, negsuc, slice_range, length, List, [], ◌∷◌, ◌++◌, Bool, true, Some, codes, nat_eq, if◌then◌else◌}
-use Rattle.std.specs.Cmp.Lexicographic.{pointwise}
+use Rattle.std.specs.Prelude.{◌≡◌, ℕ, ◌+◌, ◌<◌, ◌≤◌, ◌^◌, ◌⊎◌, ◌↔◌, ℤ, pos, slice_range, length, List, [], ◌∷◌, ◌++◌, Bool, true, Some}
 use Rattle.quic_frames.specs.declared.frame.Frame.{Frame}
 use Rattle.quic_frame_fields.specs.declared.frame.fault.Fault.{Fault}
 use Rattle.quic_frame_fields.specs.AckPlace.{BeginsWithAck}
@@ -16,13 +15,8 @@ use Rattle.quic_c.specs.declared.words.CFrame.{CFrame}
 use Rattle.quic_c.specs.declared.words.CRange.{CRange}
 use Rattle.quic_c.specs.declared.words.CRangeIter.{CRangeIter}
 use Rattle.quic_c.specs.Shown.{state_of, type_word, frame_words, invalid_words, frame_kind_of, IsExtension}
-
--- the number of a reason: 1 unexpected end, 2 invalid frame ID, 3 malformed, 4 frame type not in shortest form
-abbrev pub reason_in : List ℕ → ℕ
-reason_in reason = if pointwise nat_eq reason (codes "unexpected end") then 1
-    else if pointwise nat_eq reason (codes "invalid frame ID") then 2
-    else if pointwise nat_eq reason (codes "frame type not in shortest form") then 4
-    else 3
+use Rattle.quic_results.specs.declared.results.Failure.TheVariants as failure
+use Rattle.quic_results.specs.Results.{failed, frame_failure}
 
 -- what is reported of a frame of a kind if its type is unknown
 abbrev pub unknown_type : ℕ → Invalid
@@ -49,25 +43,26 @@ pub record GivesFrameWords (basic : Bool) (old : CFrameIter) (payload : List ℕ
   pub known : (basic ≡ true) × IsExtension (frame_kind_of frame) → ⊥
   pub words : out ≡ frame_words old.offset new.offset finds.found.type frame
 
--- The next frame isn't given, and the reason is reported; nothing is left.
-pub record GivesInvalid (basic : Bool) (old : CFrameIter) (payload : List ℕ) (new : CFrameIter)
+-- The next frame isn't given, and the reason is returned, with the type; nothing is left.
+pub record GivesInvalid (basic : Bool) (old : CFrameIter) (payload : List ℕ) (result : ℤ) (new : CFrameIter)
     (out : CFrame) : Type 0 where
   pub reported : Invalid
   pub first : IsRefusedFrame basic (state_of old payload) reported
+  pub reason : result ≡ failed (frame_failure reported.reason)
   pub over : new ≡ record old { ended = 1 }
-  pub words : out ≡ invalid_words old.offset (type_word reported.type) (reason_in reported.reason)
+  pub words : out ≡ invalid_words old.offset (type_word reported.type)
 
--- What a call for the next frame answers and leaves; if `basic` is true, frames of that extension have unknown types. 1
--- with the frame; 0 if none is left; -3 with what is reported of a frame that isn't given; -1 exactly if the place is
--- outside of the payload. Nothing changes with 0 and -1.
-pub record AnswersNext (basic : Bool) (old : CFrameIter) (payload : List ℕ) (before : CFrame) (answer : ℤ)
+-- What a call for the next frame returns and leaves; if `basic` is true, frames of that extension have unknown types. 1
+-- with the frame; 0 if none is left; the reason why a frame isn't given, with its type; that the place is outside of
+-- the payload. Nothing changes with 0 and outside.
+pub record AnswersNext (basic : Bool) (old : CFrameIter) (payload : List ℕ) (before : CFrame) (result : ℤ)
     (new : CFrameIter) (after : CFrame) : Type 0 where
-  pub answers : (answer ≡ pos 1) ⊎ (answer ≡ pos 0) ⊎ (answer ≡ negsuc 2) ⊎ (answer ≡ negsuc 0)
-  pub frame : answer ≡ pos 1 → GivesFrameWords basic old payload new after
-  pub end : answer ≡ pos 0 → IsSpent (state_of old payload)
-  pub invalid : answer ≡ negsuc 2 → GivesInvalid basic old payload new after
-  pub outside : (answer ≡ negsuc 0) ↔ (length payload < old.offset)
-  pub same : (answer ≡ pos 1) ⊎ (answer ≡ negsuc 2) ⊎ ((new ≡ old) × (after ≡ before))
+  pub returns : (result ≡ pos 1) ⊎ (result ≡ pos 0) ⊎ (result ≡ failed failure.Place)
+      ⊎ GivesInvalid basic old payload result new after
+  pub frame : result ≡ pos 1 → GivesFrameWords basic old payload new after
+  pub end : result ≡ pos 0 → IsSpent (state_of old payload)
+  pub outside : (result ≡ failed failure.Place) ↔ (length payload < old.offset)
+  pub same : (result ≡ pos 1) ⊎ GivesInvalid basic old payload result new after ⊎ ((new ≡ old) × (after ≡ before))
 
 -- the bytes between two places
 abbrev pub blocks_in : CRangeIter → List ℕ → List ℕ

@@ -1,5 +1,5 @@
 -- Frames stored in a caller's array, many with one call (RFC 9000, section 19).
-use Rattle.std.specs.Prelude.{◌≡◌, ℕ, ◌<◌, ◌≤◌, ◌⊎◌, ◌↔◌, ℤ, pos, negsuc, List, [], ◌∷◌, length, take, drop, Bool, true, Option}
+use Rattle.std.specs.Prelude.{◌≡◌, ℕ, ◌<◌, ◌≤◌, ◌⊎◌, ◌↔◌, ℤ, pos, List, [], ◌∷◌, length, take, drop, Bool, true, Option}
 use Rattle.quic_frames.specs.declared.frame.Frame.{Frame}
 use Rattle.quic_frame_fields.specs.Reading.{Invalid}
 use Rattle.quic_frames.specs.IterState.{IterState}
@@ -11,6 +11,8 @@ use Rattle.quic_c.specs.Shown.{state_of, frame_kind_of, frame_words, IsExtension
 use Rattle.quic_c.specs.declared.words.CRange.{CRange}
 use Rattle.quic_c.specs.declared.words.CRangeIter.{CRangeIter}
 use Rattle.quic_c.specs.Answers.{GivesInvalid, GivesRange, IsRefusedFrame, NamesNone}
+use Rattle.quic_results.specs.declared.results.Failure.TheVariants as failure
+use Rattle.quic_results.specs.Results.{failed}
 
 -- One entry describes a frame, which is one of the extension for ACK frequency only if these are known; an entry of
 -- PADDING (RFC 9000, section 19.1) includes the PADDING that follows, each byte of which is a frame.
@@ -42,27 +44,28 @@ pub record Fills (basic : Bool) (old : IterState) (before : List CFrame) (new : 
   pub full : (count ≡ length before) ⊎ HasNoFrame basic new
 
 -- The next frame isn't given: the first entry reports that, and the others don't change.
-pub record ReportsInvalid (basic : Bool) (old : CFrameIter) (payload : List ℕ) (before : List CFrame) (new : CFrameIter)
-    (after : List CFrame) : Type 0 where
+pub record ReportsInvalid (basic : Bool) (old : CFrameIter) (payload : List ℕ) (before : List CFrame) (result : ℤ)
+    (new : CFrameIter) (after : List CFrame) : Type 0 where
   pub entry : CFrame
-  pub invalid : GivesInvalid basic old payload new entry
+  pub invalid : GivesInvalid basic old payload result new entry
   pub entries : after ≡ entry ∷ drop 1 before
 
--- What a call for the next frames answers and leaves; if `basic` is true, frames of that extension have unknown types.
--- 1 with how many entries were filled, at least one; 0 if no frame is left; -3 with what is reported of a frame that
--- isn't given; -4 exactly if there is no entry and the place is in the payload; -1 exactly if it is outside. Nothing
--- changes with 0, -4 and -1, and the count changes only with 1.
+-- What a call for the next frames returns and leaves; if `basic` is true, frames of that extension have unknown types.
+-- 1 with how many entries were filled, at least one; 0 if no frame is left; the reason why a frame isn't given, with its
+-- type in the first entry; that there is no entry, and the place is in the payload; that it is outside. Nothing changes
+-- with the last three but for that entry, and the count changes only with 1.
 pub record AnswersFill (basic : Bool) (old : CFrameIter) (payload : List ℕ) (before : List CFrame) (count_before : ℕ)
-    (answer : ℤ) (new : CFrameIter) (after : List CFrame) (count : ℕ) : Type 0 where
-  pub answers : (answer ≡ pos 1) ⊎ (answer ≡ pos 0) ⊎ (answer ≡ negsuc 2) ⊎ (answer ≡ negsuc 3) ⊎ (answer ≡ negsuc 0)
-  pub frames : answer ≡ pos 1
+    (result : ℤ) (new : CFrameIter) (after : List CFrame) (count : ℕ) : Type 0 where
+  pub returns : (result ≡ pos 1) ⊎ (result ≡ pos 0) ⊎ (result ≡ failed failure.NoRoom) ⊎ (result ≡ failed failure.Place)
+      ⊎ ReportsInvalid basic old payload before result new after
+  pub frames : result ≡ pos 1
       → (0 < count) × Fills basic (state_of old payload) before (state_of new payload) after count
-  pub end : answer ≡ pos 0 → IsSpent (state_of old payload)
-  pub invalid : answer ≡ negsuc 2 → ReportsInvalid basic old payload before new after
-  pub room : (answer ≡ negsuc 3) ↔ ((old.offset ≤ length payload) × (before ≡ []))
-  pub outside : (answer ≡ negsuc 0) ↔ (length payload < old.offset)
-  pub same : (answer ≡ pos 1) ⊎ (answer ≡ negsuc 2) ⊎ ((new ≡ old) × (after ≡ before))
-  pub counted : (answer ≡ pos 1) ⊎ (count ≡ count_before)
+  pub end : result ≡ pos 0 → IsSpent (state_of old payload)
+  pub room : (result ≡ failed failure.NoRoom) ↔ ((old.offset ≤ length payload) × (before ≡ []))
+  pub outside : (result ≡ failed failure.Place) ↔ (length payload < old.offset)
+  pub same : (result ≡ pos 1) ⊎ ReportsInvalid basic old payload before result new after
+      ⊎ ((new ≡ old) × (after ≡ before))
+  pub counted : (result ≡ pos 1) ⊎ (count ≡ count_before)
 
 -- an iterator further on over the same payload
 abbrev pub further : IterState → ℕ → Option ℕ → IterState

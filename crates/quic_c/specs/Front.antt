@@ -1,5 +1,5 @@
 -- The frame at the front of a payload, and the ranges of an ACK as gap and length.
-use Rattle.std.specs.Prelude.{◌≡◌, ℕ, ◌+◌, ◌-◌, ◌<◌, ◌≤◌, ◌⊎◌, ◌↔◌, ℤ, pos, negsuc, true, List, [], ◌∷◌, length, take, drop, nat_lt, Bool, Option, None, Some, if◌then◌else◌}
+use Rattle.std.specs.Prelude.{◌≡◌, ℕ, ◌+◌, ◌-◌, ◌<◌, ◌≤◌, ◌⊎◌, ◌↔◌, ℤ, pos, true, List, [], ◌∷◌, length, take, drop, nat_lt, Bool, Option, None, Some, if◌then◌else◌}
 use Rattle.quic_frames.specs.declared.frame.Frame.{Frame}
 use Rattle.quic_frames.specs.declared.frame.Frame.TheVariants as frames
 use Rattle.quic_frame_fields.specs.declared.frame.ack.Ack.{Ack}
@@ -10,8 +10,10 @@ use Rattle.quic_frames.specs.Padding.{PassesPadding}
 use Rattle.quic_frames.specs.Walk.{first_of, Finds}
 use Rattle.quic_c.specs.declared.words.CFrame.{CFrame}
 use Rattle.quic_c.specs.declared.words.CGap.{CGap}
-use Rattle.quic_c.specs.Answers.{IsRefusedFrame, reason_in}
+use Rattle.quic_c.specs.Answers.{IsRefusedFrame}
 use Rattle.quic_c.specs.Shown.{frame_kind_of, frame_words, invalid_words, type_word, counts_flag, IsExtension}
+use Rattle.quic_results.specs.declared.results.Failure.TheVariants as failure
+use Rattle.quic_results.specs.Results.{failed, frame_failure}
 
 -- a range, by its least and its greatest number, below one whose least number is low: the count of numbers between the
 -- two, less one, and the count of its own, less one (RFC 9000, section 19.3.1)
@@ -68,23 +70,23 @@ pub record ReadsFront (strict basic : Bool) (payload : List ℕ) (before : List 
   pub ends : stop ≡ rest.offset
   pub shows : ShowsFront stop finds.found.type frame before words after
 
--- The bytes don't begin with a valid frame, or only with one of that extension and `basic` is true, and that is
--- reported.
-pub record ReportsNone (strict basic : Bool) (payload : List ℕ) (words : CFrame) : Type 0 where
+-- The bytes don't begin with a valid frame, or only with one of that extension and `basic` is true, and the reason is
+-- returned, with the type.
+pub record ReportsNone (strict basic : Bool) (payload : List ℕ) (result : ℤ) (words : CFrame) : Type 0 where
   pub reported : Invalid
   pub first : IsRefusedFrame basic (first_of strict payload) reported
-  pub is : words ≡ invalid_words 0 (type_word reported.type) (reason_in reported.reason)
+  pub reason : result ≡ failed (frame_failure reported.reason)
+  pub is : words ≡ invalid_words 0 (type_word reported.type)
 
--- What a call for the frame at the front answers and leaves: where the frame ends, with its words; -2 exactly if there
--- is no byte, and nothing changes; -3 with what is reported of a frame that isn't given, and no entry changes.
-pub record AnswersRead (strict basic : Bool) (payload : List ℕ) (before : CFrame) (room : List CGap) (answer : ℤ)
+-- What a call for the frame at the front returns and leaves: where the frame ends, with its words; that there is no
+-- byte, and nothing changes; or the reason why a frame isn't given, with its type, and no entry changes.
+pub record AnswersRead (strict basic : Bool) (payload : List ℕ) (before : CFrame) (room : List CGap) (result : ℤ)
     (after : CFrame) (gaps : List CGap) : Type 0 where
-  pub answers : (answer ≡ negsuc 1) ⊎ (answer ≡ negsuc 2)
-      ⊎ ((stop : ℕ) × (answer ≡ pos stop) × ReadsFront strict basic payload room stop after gaps)
-  pub empty : (answer ≡ negsuc 1) ↔ (payload ≡ [])
-  pub invalid : answer ≡ negsuc 2 → ReportsNone strict basic payload after
-  pub same : answer ≡ negsuc 1 → after ≡ before
-  pub kept : (answer ≡ negsuc 1) ⊎ (answer ≡ negsuc 2) → gaps ≡ room
+  pub returns : (result ≡ failed failure.PayloadEmpty) ⊎ ReportsNone strict basic payload result after
+      ⊎ ((stop : ℕ) × (result ≡ pos stop) × ReadsFront strict basic payload room stop after gaps)
+  pub empty : (result ≡ failed failure.PayloadEmpty) ↔ (payload ≡ [])
+  pub same : result ≡ failed failure.PayloadEmpty → after ≡ before
+  pub kept : ((stop : ℕ) × (result ≡ pos stop)) ⊎ (gaps ≡ room)
 
 -- ---- reading on after a frame
 

@@ -133,12 +133,12 @@ frame_words start stop type frame = record {
   numbers = frame_numbers_of frame;
 }
 
--- the words for an error, with the last type and the number of its reason, at the end of the last frame
-abbrev pub invalid_words : ℕ → ℕ → ℕ → CFrame
-invalid_words start ty reason = record {
+-- the words for an error, with the last type, at the end of the last frame
+abbrev pub invalid_words : ℕ → ℕ → CFrame
+invalid_words start ty = record {
   kind = 2 ^ 16 - 1;
   ty = 0;
-  flags = reason;
+  flags = 0;
   begin = start;
   end = start;
   data_offset = start;

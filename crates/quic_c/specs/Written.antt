@@ -1,5 +1,5 @@
 -- The frames that words describe, and what the call that writes them answers.
-use Rattle.std.specs.Prelude.{◌≡◌, ℕ, ◌+◌, ◌<◌, ◌≤◌, ◌==◌, ℤ, pos, negsuc, List, [], ◌++◌, length, take, drop, Bool, not}
+use Rattle.std.specs.Prelude.{◌≡◌, ℕ, ◌+◌, ◌<◌, ◌≤◌, ◌==◌, ℤ, pos, List, [], ◌++◌, length, take, drop, Bool, not}
 use Rattle.quic_frame_fields.specs.Shortest.{shortest_frame}
 use Rattle.quic_frames.specs.declared.frame.Frame.{Frame}
 use Rattle.quic_frames.specs.declared.frame.Frame.TheVariants as frames
@@ -7,6 +7,8 @@ use Rattle.quic_frames.specs.InRange.{IsNoAck, IsTypedFrame, CanStand}
 use Rattle.quic_frames.specs.Meaning.{meaning_of}
 use Rattle.quic_c.specs.declared.words.CFrame.{CFrame}
 use Rattle.quic_c.specs.Shown.{frame_kind_of, flags_of, frame_numbers_of, data_of, tail_of}
+use Rattle.quic_results.specs.declared.results.Failure.TheVariants as failure
+use Rattle.quic_results.specs.Results.{failed}
 
 -- the reset token that follows the data of a NEW_CONNECTION_ID, which are its id
 abbrev pub token_of : Frame → List ℕ
@@ -53,9 +55,9 @@ pub record FrameNeedsMore (words : CFrame) (bytes : List ℕ) (last : Bool) (old
 abbrev pub DescribesNoFrame : CFrame → List ℕ → Bool → Type 0
 DescribesNoFrame words bytes last = (frame : Frame) → CanWriteFrame words bytes last frame → ⊥
 
--- The answer, and what the call leaves, are right for the words and these bytes.
-pub record IsAnswer (words : CFrame) (bytes : List ℕ) (last : Bool) (answer : ℤ) (old new : List ℕ)
+-- The result, and what the call leaves, are right for the words and these bytes.
+pub record IsAnswer (words : CFrame) (bytes : List ℕ) (last : Bool) (result : ℤ) (old new : List ℕ)
     (written : ℕ) : Type 0 where
-  pub wrote : answer ≡ pos 0 → WroteFrame words bytes last old new written
-  pub room : answer ≡ negsuc 3 → FrameNeedsMore words bytes last old written
-  pub refused : answer ≡ negsuc 0 → DescribesNoFrame words bytes last
+  pub wrote : result ≡ pos 0 → WroteFrame words bytes last old new written
+  pub room : result ≡ failed failure.NoRoom → FrameNeedsMore words bytes last old written
+  pub refused : result ≡ failed failure.Argument → DescribesNoFrame words bytes last

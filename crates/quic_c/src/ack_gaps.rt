@@ -1,15 +1,17 @@
 //! Writes ACKs from gaps and lengths, the numbers that the wire has (RFC 9000, section 19.3).
-ghost use Rattle.std.specs.Prelude.{◌≡◌, ◌⊎◌, ◌↔◌, ◌+◌, ◌*◌, ◌<◌, ◌≤◌, ◌^◌, ◌++◌, ◌∷◌, ℕ, List, [], Bool, Ok, Err, IsTrue, length, pos, negsuc, ◌==◌, if◌then◌else◌};
+ghost use Rattle.std.specs.Prelude.{◌≡◌, ◌⊎◌, ◌↔◌, ◌+◌, ◌*◌, ◌<◌, ◌≤◌, ◌^◌, ◌++◌, ◌∷◌, ℕ, List, [], Bool, Ok, Err, IsTrue, length, pos, ◌==◌, if◌then◌else◌};
 ghost use Rattle.quic_base.specs.Varint.{shortest_varint};
 ghost use Rattle.quic_frame_fields.specs.Numbers.{AreNumeric, shortest_varints};
 ghost use Rattle.quic_frame_fields.specs.Putting.{Stores, Puts};
 ghost use Rattle.quic_frame_fields.specs.Shortest.{shortest_frame};
 ghost use Rattle.quic_c.specs.AckGaps.{ack_bytes, ack_described, behind_type, counts_list, delay_in, gap_numbers, greatest_of_words, Fit, IsAck, DescribesAck};
+ghost use Rattle.quic_results.specs.Results.{failed};
 
 use crate::words::{CFrame, CGap};
 use quic_base::coding::store_array;
 use quic_base::varint::{IN_EIGHT, IN_FOUR, var_size};
 use quic_frame_fields::frame::write::numbers_len;
+use quic_results::results::Failure;
 
 // The type, which depends on whether there are counts.
 #[inline(always)]
@@ -214,20 +216,20 @@ fn are_numeric(ack: &CFrame) -> bool
 // Writes the ACK if it fits, after its bytes were counted, or refuses it.
 #[inline(never)]
 fn write_counted(ack: &CFrame, gaps: &[CGap], out: &mut [u8], written: &mut usize) -> i32
-    ensures answers { (result ≡ pos 0) ⊎ (result ≡ negsuc 3) ⊎ (result ≡ negsuc 0) }
-    ensures described { (result ≡ negsuc 0) ⊎ IsAck ack.now gaps.now }
+    ensures returns { (result ≡ pos 0) ⊎ (result ≡ failed Failure.NoRoom) ⊎ (result ≡ failed Failure.Argument) }
+    ensures described { (result ≡ failed Failure.Argument) ⊎ IsAck ack.now gaps.now }
     ensures wrote { result ≡ pos 0 → Puts (Ok written.new) (ack_bytes ack.now gaps.now) out.old out.new }
-    ensures room { result ≡ negsuc 3 → Puts (Err written.new) (ack_bytes ack.now gaps.now) out.old out.new }
-    ensures refused { result ≡ negsuc 0 → IsAck ack.now gaps.now → ⊥ }
-    ensures same { (result ≡ negsuc 0) → (written.new ≡ written.old) × (out.new ≡ out.old) }
+    ensures room { result ≡ failed Failure.NoRoom → Puts (Err written.new) (ack_bytes ack.now gaps.now) out.old out.new }
+    ensures refused { result ≡ failed Failure.Argument → IsAck ack.now gaps.now → ⊥ }
+    ensures same { (result ≡ failed Failure.Argument) → (written.new ≡ written.old) × (out.new ≡ out.old) }
 {
     if !is_ack(ack, gaps) {
-        return -1;
+        return Failure::Argument.number();
     }
     let needed = ack_len(ack, gaps);
     if out.len() < needed {
         *written = needed;
-        return -4;
+        return Failure::NoRoom.number();
     }
     *written = store_ack(ack, gaps, out);
     0
@@ -236,10 +238,10 @@ fn write_counted(ack: &CFrame, gaps: &[CGap], out: &mut [u8], written: &mut usiz
 /// Writes an ACK in its shortest encoding at the front of `out`, from the words and gaps that `quic_wire_frame_read_`
 /// fills: the numbers have the greatest packet number, the delay and, with flag 2, the counts; the length of data is
 /// the first range, less one; and `gaps` has the ranges below it, as gap and length. Of the other words only the kind
-/// and the flags are looked at. It answers 0 with how many bytes were written, and bytes after those don't change; -4
-/// with how many are needed, if `out` has fewer; -1 exactly if the words and gaps describe no ACK: the kind is another,
-/// the flags are neither 0 nor 2, a range goes below 0, or a number is 2^62 or more. `out` changes only with 0, and
-/// `written` doesn't change with -1.
+/// and the flags are looked at. It returns 0 with how many bytes were written, and bytes after those don't change;
+/// `NoRoom` with how many are needed, if `out` has fewer; `Argument` exactly if the words and gaps describe no ACK: the
+/// kind is another, the flags are neither 0 nor 2, a range goes below 0, or a number is 2^62 or more. `out` changes only
+/// with 0, and `written` doesn't change with `Argument`.
 #[unsafe(no_mangle)]
 pub extern "C" fn quic_wire_ack_gaps_write_(
     ack: &CFrame,
@@ -247,18 +249,18 @@ pub extern "C" fn quic_wire_ack_gaps_write_(
     out: &mut [u8],
     written: &mut usize,
 ) -> i32
-    ensures answers { (result ≡ pos 0) ⊎ (result ≡ negsuc 3) ⊎ (result ≡ negsuc 0) }
+    ensures returns { (result ≡ pos 0) ⊎ (result ≡ failed Failure.NoRoom) ⊎ (result ≡ failed Failure.Argument) }
     ensures wrote { result ≡ pos 0 → (last : Bool) (low : ℕ) (below : List (ℕ × ℕ))
         → DescribesAck ack.now gaps.now low below
         → Puts (Ok written.new) (shortest_frame last (ack_described ack.now low below)) out.old out.new }
-    ensures room { result ≡ negsuc 3 → (last : Bool) (low : ℕ) (below : List (ℕ × ℕ))
+    ensures room { result ≡ failed Failure.NoRoom → (last : Bool) (low : ℕ) (below : List (ℕ × ℕ))
         → DescribesAck ack.now gaps.now low below
         → Puts (Err written.new) (shortest_frame last (ack_described ack.now low below)) out.old out.new }
-    ensures described { (result ≡ negsuc 0)
+    ensures described { (result ≡ failed Failure.Argument)
         ⊎ ((low : ℕ) × (below : List (ℕ × ℕ)) × DescribesAck ack.now gaps.now low below) }
-    ensures refused { result ≡ negsuc 0 → (low : ℕ) (below : List (ℕ × ℕ))
+    ensures refused { result ≡ failed Failure.Argument → (low : ℕ) (below : List (ℕ × ℕ))
         → DescribesAck ack.now gaps.now low below → ⊥ }
-    ensures same { (result ≡ negsuc 0) → (written.new ≡ written.old) × (out.new ≡ out.old) }
+    ensures same { (result ≡ failed Failure.Argument) → (written.new ≡ written.old) × (out.new ≡ out.old) }
 {
     if has_room(gaps, out.len()) && is_ack(ack, gaps) {
         *written = store_ack(ack, gaps, out);

@@ -1,30 +1,32 @@
 //! The ranges of an ACK, one with each call.
-ghost use Rattle.std.specs.Prelude.{◌≡◌, ◌⊎◌, ◌<◌, ◌^◌, List, ℕ, IfOk, OnErr, pos, negsuc};
+ghost use Rattle.std.specs.Prelude.{◌≡◌, ◌⊎◌, ◌<◌, ◌^◌, List, ℕ, IfOk, OnErr, pos};
 ghost use Rattle.quic_c.specs.Answers.{BeginsAsAck, GivesFront, GivesPlace, GivesRange, IsWithin, LacksAck, LacksFront, NamesNone};
+ghost use Rattle.quic_results.specs.Results.{failed};
 
 use crate::words::{CFrame, CRange, CRangeIter};
 use quic_base::varint::split_var;
 use quic_frame_fields::frame::fault::Fault;
 use quic_frames::frame::{split_ack, split_first_range};
+use quic_results::results::Failure;
 
-/// Begins at the greatest range of the ACK at the place in the frame's words (RFC 9000, section 19.3). It answers 0, or
-/// -1 if the place is outside of the payload or no ACK can be read there; then nothing changes.
+/// Begins at the greatest range of the ACK at the place in the frame's words (RFC 9000, section 19.3). It returns 0, or
+/// `Place` if the place is outside of the payload or no ACK can be read there; then nothing changes.
 #[unsafe(no_mangle)]
 pub extern "C" fn quic_wire_ack_ranges_init_(
     ranges: &mut CRangeIter,
     payload: &[u8],
     frame: &CFrame,
 ) -> i32
-    ensures answers { (result ≡ pos 0) ⊎ (result ≡ negsuc 0) }
+    ensures returns { (result ≡ pos 0) ⊎ (result ≡ failed Failure.Place) }
     ensures place { result ≡ pos 0 → GivesPlace frame.now payload.now ranges.new }
-    ensures refused { result ≡ negsuc 0 → LacksAck frame.now payload.now × (ranges.new ≡ ranges.old) }
+    ensures refused { result ≡ failed Failure.Place → LacksAck frame.now payload.now × (ranges.new ≡ ranges.old) }
 {
     let (begin, end) = (frame.begin, frame.end);
     if begin > end || end > payload.len() {
-        return -1;
+        return Failure::Place.number();
     }
     let Some((largest, blocks, rest)) = split_ack(&payload[begin..end]) else {
-        return -1;
+        return Failure::Place.number();
     };
     let stop = end - rest.len();
     *ranges = CRangeIter {
@@ -37,24 +39,24 @@ pub extern "C" fn quic_wire_ack_ranges_init_(
 
 /// The same for an ACK that was already read from this payload (RFC 9000, section 19.3), without reading its blocks
 /// again: if the frame begins as an ACK without counts, everything after its count of ranges is taken for blocks, and
-/// invalid blocks are reported by the call that reaches them. It answers 0, or -1 if the place is outside of the
-/// payload or no ACK can be read there; then nothing changes.
+/// invalid blocks are reported by the call that reaches them. It returns 0, or `Place` if the place is outside of
+/// the payload or no ACK can be read there; then nothing changes.
 #[unsafe(no_mangle)]
 pub extern "C" fn quic_wire_ack_ranges_init_unchecked_(
     ranges: &mut CRangeIter,
     payload: &[u8],
     frame: &CFrame,
 ) -> i32
-    ensures answers { (result ≡ pos 0) ⊎ (result ≡ negsuc 0) }
+    ensures returns { (result ≡ pos 0) ⊎ (result ≡ failed Failure.Place) }
     ensures place { result ≡ pos 0
         → GivesFront frame.now payload.now ranges.new
         ⊎ (LacksFront frame.now payload.now × GivesPlace frame.now payload.now ranges.new) }
-    ensures refused { result ≡ negsuc 0
+    ensures refused { result ≡ failed Failure.Place
         → LacksFront frame.now payload.now × LacksAck frame.now payload.now × (ranges.new ≡ ranges.old) }
 {
     let (begin, end) = (frame.begin, frame.end);
     if begin > end || end > payload.len() {
-        return -1;
+        return Failure::Place.number();
     }
     let Ok((largest, blocks)) = split_front(&payload[begin..end]) else {
         return quic_wire_ack_ranges_init_(ranges, payload, frame);
@@ -84,35 +86,35 @@ fn split_front(bytes: &[u8]) -> Result<(u64, &[u8]), Fault>
     Ok((largest, blocks))
 }
 
-/// The next range of an ACK, the greatest first (RFC 9000, section 19.3.1). It answers 1 with the range; 0 exactly if
-/// the place is in the payload and no byte is left; -1 if the words describe no blocks: the place is outside of the
+/// The next range of an ACK, the greatest first (RFC 9000, section 19.3.1). It returns 1 with the range; 0 exactly if
+/// the place is in the payload and no byte is left; `Place` if the words describe no blocks: the place is outside of the
 /// payload, the greatest number is 2^62 or more, or the bytes don't begin with a valid block. Nothing changes unless it
-/// answers 1.
+/// returns 1.
 #[unsafe(no_mangle)]
 pub extern "C" fn quic_wire_ack_ranges_next_(
     ranges: &mut CRangeIter,
     payload: &[u8],
     out: &mut CRange,
 ) -> i32
-    ensures answers { (result ≡ pos 1) ⊎ (result ≡ pos 0) ⊎ (result ≡ negsuc 0) }
+    ensures returns { (result ≡ pos 1) ⊎ (result ≡ pos 0) ⊎ (result ≡ failed Failure.Place) }
     ensures range { result ≡ pos 1 → GivesRange ranges.old payload.now ranges.new out.new }
     ensures end { result ≡ pos 0 → IsWithin ranges.old payload.now × (ranges.old.begin ≡ ranges.old.end) }
-    ensures invalid { result ≡ negsuc 0 → NamesNone ranges.old payload.now }
+    ensures invalid { result ≡ failed Failure.Place → NamesNone ranges.old payload.now }
     ensures same { (result ≡ pos 1) ⊎ ((ranges.new ≡ ranges.old) × (out.new ≡ out.old)) }
 {
     let (begin, end) = (ranges.begin, ranges.end);
     if begin > end || end > payload.len() {
-        return -1;
+        return Failure::Place.number();
     }
     if begin == end {
         return 0;
     }
     let largest = ranges.largest;
     if largest >= 1 << 62 {
-        return -1;
+        return Failure::Place.number();
     }
     let Ok((least, next, rest)) = split_first_range(largest, &payload[begin..end]) else {
-        return -1;
+        return Failure::Place.number();
     };
     *out = CRange {
         start: least,

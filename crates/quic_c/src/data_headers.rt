@@ -1,5 +1,5 @@
 //! The headers of STREAM, CRYPTO and DATAGRAM frames, after which the caller puts the data.
-ghost use Rattle.std.specs.Prelude.{◌≡◌, ◌⊎◌, ◌↔◌, ◌<◌, ◌≤◌, ◌^◌, ◌++◌, List, ℕ, Bool, pos, negsuc, length, IsTrue, IfSome};
+ghost use Rattle.std.specs.Prelude.{◌≡◌, ◌⊎◌, ◌↔◌, ◌<◌, ◌≤◌, ◌^◌, ◌++◌, List, ℕ, Bool, pos, length, IsTrue, IfSome};
 ghost use Rattle.quic_frame_fields.specs.Numbers.{AreNumeric, shortest_varints};
 ghost use Rattle.quic_frame_fields.specs.Putting.{Puts};
 ghost use Rattle.quic_frame_fields.specs.Shortest.{shortest_frame, stream_header};
@@ -9,11 +9,13 @@ ghost use Rattle.quic_c.specs.Headers.{IsHeaded, HasHeader, WroteHeader, HeaderN
 ghost use Rattle.quic_c.specs.Shown.{data_of};
 ghost use Rattle.quic_c.specs.Written.{CanWriteFrame, flag_of};
 ghost use Rattle.quic_c.specs.declared.words.CFrame.{CFrame};
+ghost use Rattle.quic_results.specs.Results.{failed};
 
 use crate::ack_gaps::store;
 use crate::words::CFrame;
 use quic_frame_fields::frame::write_into;
 use quic_frames::frame::FrameType;
+use quic_results::results::Failure;
 
 // Whether the struct describes a frame that can be written without its data.
 fn has_header(words: &CFrame, last: bool) -> bool
@@ -90,9 +92,9 @@ fn put_header(words: &CFrame, last: bool, dest: &mut [u8]) -> Result<usize, usiz
 
 /// Writes the shortest encoding of a STREAM, CRYPTO or DATAGRAM, without its data, at the front of `out`; if `last`
 /// isn't 0, as the last frame of its payload (RFC 9000, sections 19.6 and 19.8; RFC 9221, section 4). The words have
-/// the length of the data; their place isn't looked at. It answers 0 with how many bytes were written, and bytes after
-/// those don't change; -4 with how many are needed, if `out` has fewer; -1 if the words describe no such frame that can
-/// be written. `out` changes only with 0, and `written` doesn't change with -1.
+/// the length of the data; their place isn't looked at. It returns 0 with how many bytes were written, and bytes after
+/// those don't change; `NoRoom` with how many are needed, if `out` has fewer; `Argument` if the words describe no such
+/// frame that can be written. `out` changes only with 0, and `written` doesn't change with `Argument`.
 #[unsafe(no_mangle)]
 pub extern "C" fn quic_wire_frame_header_write_(
     frame: &CFrame,
@@ -100,16 +102,16 @@ pub extern "C" fn quic_wire_frame_header_write_(
     out: &mut [u8],
     written: &mut usize,
 ) -> i32
-    ensures answers { (result ≡ pos 0) ⊎ (result ≡ negsuc 3) ⊎ (result ≡ negsuc 0) }
+    ensures returns { (result ≡ pos 0) ⊎ (result ≡ failed Failure.NoRoom) ⊎ (result ≡ failed Failure.Argument) }
     ensures wrote { result ≡ pos 0 → WroteHeader frame.now (flag_of last) out.old out.new written.new }
-    ensures room { result ≡ negsuc 3 → HeaderNeedsMore frame.now (flag_of last) out.old written.new }
-    ensures refused { (result ≡ negsuc 0) ↔ (HasHeader frame.now (flag_of last) → ⊥) }
-    ensures kept { result ≡ negsuc 0 → written.new ≡ written.old }
+    ensures room { result ≡ failed Failure.NoRoom → HeaderNeedsMore frame.now (flag_of last) out.old written.new }
+    ensures refused { (result ≡ failed Failure.Argument) ↔ (HasHeader frame.now (flag_of last) → ⊥) }
+    ensures kept { result ≡ failed Failure.Argument → written.new ≡ written.old }
     ensures same { (result ≡ pos 0) ⊎ (out.new ≡ out.old) }
 {
     let last = last != 0;
     if !has_header(frame, last) {
-        return -1;
+        return Failure::Argument.number();
     }
     match put_header(frame, last, out) {
         Ok(n) => {
@@ -118,7 +120,7 @@ pub extern "C" fn quic_wire_frame_header_write_(
         }
         Err(n) => {
             *written = n;
-            -4
+            Failure::NoRoom.number()
         }
     }
 }

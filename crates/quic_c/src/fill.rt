@@ -1,14 +1,16 @@
 //! Reads the frames of a payload, as many with one call as the caller has room for.
-ghost use Rattle.std.specs.Prelude.{◌≡◌, ◌<◌, ◌≤◌, ◌↔◌, ◌⊎◌, [], true, false, pos, negsuc, length, IfOk, IfErr};
+ghost use Rattle.std.specs.Prelude.{◌≡◌, ◌<◌, ◌≤◌, ◌↔◌, ◌⊎◌, [], true, false, pos, length, IfOk, IfErr};
 ghost use Rattle.quic_frames.specs.Walk.{first_of, invalid_of, IsSpent};
 ghost use Rattle.quic_c.specs.Shown.{state_of, at_front};
 ghost use Rattle.quic_c.specs.Answers.{IsRefusedFrame};
 ghost use Rattle.quic_c.specs.Filling.{AnswersFill, Fills, ReportsInvalid, further};
+ghost use Rattle.quic_results.specs.Results.{failed};
 
 use crate::frames::{is_unknown, show_invalid, type_in, type_read, type_word, unknown};
 use crate::show::{parts_of, show_parts};
 use crate::words::{CFrame, CFrameIter};
 use quic_frames::frame::{FrameType, InvalidFrame, Iter};
+use quic_results::results::{Failure, frame_failure};
 
 // How far entries were filled.
 #[derive(Clone, Copy)]
@@ -81,10 +83,10 @@ fn fill_on<const COPY: usize>(
     let begin = frames.offset;
     let strict = frames.strict != 0;
     let Some(mut iter) = Iter::resume(payload, begin, type_in(frames.last_type), strict) else {
-        return -1;
+        return Failure::Place.number();
     };
     if out.is_empty() {
-        return -4;
+        return Failure::NoRoom.number();
     }
     if frames.ended != 0 {
         return 0;
@@ -102,16 +104,16 @@ fn fill_on<const COPY: usize>(
         Err(invalid) => {
             frames.ended = 1;
             out[0] = show_invalid(begin, &invalid);
-            -3
+            frame_failure(invalid.reason).number()
         }
     }
 }
 
 /// The next frames (RFC 9000, section 19), as many as `out` has room for; a run of PADDING, each byte of which is a
-/// frame, is one entry. It answers 1 with how many entries were filled, at least one; 0 if no frame is left; -3, once,
-/// with the type and the reason in the first entry, if the next bytes aren't a valid frame; -4 exactly if `out` has no
-/// entry and the place is in the payload; -1 exactly if the place is outside of it. `count` changes only with 1, and
-/// nothing changes with 0, -4 and -1.
+/// frame, is one entry. It returns 1 with how many entries were filled, at least one; 0 if no frame is left; the reason,
+/// once, with the type in the first entry, if the next bytes aren't a valid frame; `NoRoom` exactly if `out` has no entry
+/// and the place is in the payload; `Place` exactly if the place is outside of it. `count` changes only with 1, and
+/// nothing changes with 0, `NoRoom` and `Place`.
 #[unsafe(no_mangle)]
 pub extern "C" fn quic_wire_frames_fill_(
     frames: &mut CFrameIter,
@@ -124,7 +126,7 @@ pub extern "C" fn quic_wire_frames_fill_(
     fill_on::<1>(frames, payload, false, out, count)
 }
 
-/// The same, but a frame of the extension for ACK frequency has an unknown type, and is reported by -3.
+/// The same, but a frame of the extension for ACK frequency has an unknown type: `FrameType`.
 #[unsafe(no_mangle)]
 pub extern "C" fn quic_wire_frames_fill_basic_(
     frames: &mut CFrameIter,
@@ -138,10 +140,10 @@ pub extern "C" fn quic_wire_frames_fill_basic_(
 }
 
 /// Begins at the front of a payload and reads its first frames (RFC 9000, section 19), as `quic_wire_frames_init_` and
-/// then `quic_wire_frames_fill_` do. It answers 1 with how many entries were filled, at least one; -2 exactly if the
-/// payload is empty, which is a PROTOCOL_VIOLATION (section 12.4); -3, with the type and the reason in the first entry,
-/// if the payload doesn't begin with a valid frame; -4 exactly if the payload isn't empty and `out` has no entry.
-/// `count` changes only with 1, and nothing changes with -2 and -4.
+/// then `quic_wire_frames_fill_` do. It returns 1 with how many entries were filled, at least one; `PayloadEmpty` exactly
+/// if the payload is empty, which is a PROTOCOL_VIOLATION (section 12.4); the reason, with the type in the first entry, if
+/// the payload doesn't begin with a valid frame; `NoRoom` exactly if the payload isn't empty and `out` has no entry.
+/// `count` changes only with 1, and nothing changes with `PayloadEmpty` and `NoRoom`.
 #[unsafe(no_mangle)]
 pub extern "C" fn quic_wire_frames_first_(
     frames: &mut CFrameIter,
@@ -149,24 +151,25 @@ pub extern "C" fn quic_wire_frames_first_(
     out: &mut [CFrame],
     count: &mut usize,
 ) -> i32
-    ensures answers { (result ≡ pos 1) ⊎ (result ≡ negsuc 1) ⊎ (result ≡ negsuc 2) ⊎ (result ≡ negsuc 3) }
+    ensures returns { (result ≡ pos 1) ⊎ (result ≡ failed Failure.PayloadEmpty) ⊎ (result ≡ failed Failure.NoRoom)
+        ⊎ ReportsInvalid false (at_front 0) payload.now out.old result frames.new out.new }
     ensures frames { result ≡ pos 1
         → (0 < count.new)
         × Fills false (first_of false payload.now) out.old (state_of frames.new payload.now) out.new count.new }
-    ensures empty { (result ≡ negsuc 1) ↔ (payload.now ≡ []) }
-    ensures invalid { result ≡ negsuc 2 → ReportsInvalid false (at_front 0) payload.now out.old frames.new out.new }
-    ensures room { (result ≡ negsuc 3) ↔ ((0 < length payload.now) × (out.old ≡ [])) }
-    ensures same { (result ≡ pos 1) ⊎ (result ≡ negsuc 2) ⊎ ((frames.new ≡ frames.old) × (out.new ≡ out.old)) }
+    ensures empty { (result ≡ failed Failure.PayloadEmpty) ↔ (payload.now ≡ []) }
+    ensures room { (result ≡ failed Failure.NoRoom) ↔ ((0 < length payload.now) × (out.old ≡ [])) }
+    ensures same { (result ≡ pos 1) ⊎ ReportsInvalid false (at_front 0) payload.now out.old result frames.new out.new
+        ⊎ ((frames.new ≡ frames.old) × (out.new ≡ out.old)) }
     ensures counted { (result ≡ pos 1) ⊎ (count.new ≡ count.old) }
 {
     if payload.is_empty() {
-        return -2;
+        return Failure::PayloadEmpty.number();
     }
     let Some(mut iter) = Iter::resume(payload, 0, None, false) else {
-        return -2;
+        return Failure::PayloadEmpty.number();
     };
     if out.is_empty() {
-        return -4;
+        return Failure::NoRoom.number();
     }
     match fill::<0>(&mut iter, false, out) {
         Ok(filled) => {
@@ -187,7 +190,7 @@ pub extern "C" fn quic_wire_frames_first_(
                 strict: 0,
             };
             out[0] = show_invalid(0, &invalid);
-            -3
+            frame_failure(invalid.reason).number()
         }
     }
 }

@@ -1,10 +1,12 @@
 //! Reads the ranges of an ACK, as many with one call as the caller has room for.
-ghost use Rattle.std.specs.Prelude.{◌≡◌, ◌⊎◌, ◌↔◌, ◌-◌, ◌<◌, ◌≤◌, [], pos, negsuc, length};
+ghost use Rattle.std.specs.Prelude.{◌≡◌, ◌⊎◌, ◌↔◌, ◌-◌, ◌<◌, ◌≤◌, [], pos, length};
 ghost use Rattle.quic_c.specs.Answers.{IsWithin, NamesNone};
 ghost use Rattle.quic_c.specs.Filling.{FillsRanges};
+ghost use Rattle.quic_results.specs.Results.{failed};
 
 use crate::words::{CRange, CRangeIter};
 use quic_frames::frame::split_first_range;
+use quic_results::results::Failure;
 
 // Fills entries with the first ranges in blocks: how many, and the blocks that are left.
 #[inline(always)]
@@ -44,10 +46,10 @@ fn words_at(end: usize, left: &[u8], largest: u64) -> CRangeIter
     }
 }
 
-/// The next ranges of an ACK, the greatest first (RFC 9000, section 19.3.1), as many as `out` has room for. It answers
-/// 1 with how many entries were filled, at least one; 0 if no byte is left; -4 exactly if `out` has no entry and the
-/// place is in the payload; -1 if the words describe no blocks, as for `quic_wire_ack_ranges_next_`. Ranges before an
-/// invalid block are given first. Nothing changes unless it answers 1.
+/// The next ranges of an ACK, the greatest first (RFC 9000, section 19.3.1), as many as `out` has room for. It returns
+/// 1 with how many entries were filled, at least one; 0 if no byte is left; `NoRoom` exactly if `out` has no entry and
+/// the place is in the payload; `Place` if the words describe no blocks, as for `quic_wire_ack_ranges_next_`. Ranges before an
+/// invalid block are given first. Nothing changes unless it returns 1.
 #[unsafe(no_mangle)]
 pub extern "C" fn quic_wire_ack_ranges_fill_(
     ranges: &mut CRangeIter,
@@ -55,27 +57,27 @@ pub extern "C" fn quic_wire_ack_ranges_fill_(
     out: &mut [CRange],
     count: &mut usize,
 ) -> i32
-    ensures answers { (result ≡ pos 1) ⊎ (result ≡ pos 0) ⊎ (result ≡ negsuc 3) ⊎ (result ≡ negsuc 0) }
+    ensures returns { (result ≡ pos 1) ⊎ (result ≡ pos 0) ⊎ (result ≡ failed Failure.NoRoom) ⊎ (result ≡ failed Failure.Place) }
     ensures ranges { result ≡ pos 1
         → (0 < count.new) × FillsRanges ranges.old payload.now out.old ranges.new out.new count.new }
     ensures end { result ≡ pos 0 → IsWithin ranges.old payload.now × (ranges.old.begin ≡ ranges.old.end) }
-    ensures room { (result ≡ negsuc 3) ↔ (IsWithin ranges.old payload.now × (out.old ≡ [])) }
-    ensures invalid { result ≡ negsuc 0 → NamesNone ranges.old payload.now }
+    ensures room { (result ≡ failed Failure.NoRoom) ↔ (IsWithin ranges.old payload.now × (out.old ≡ [])) }
+    ensures invalid { result ≡ failed Failure.Place → NamesNone ranges.old payload.now }
     ensures same { (result ≡ pos 1) ⊎ ((ranges.new ≡ ranges.old) × (out.new ≡ out.old) × (count.new ≡ count.old)) }
 {
     let from = *ranges;
     if from.begin > from.end || from.end > payload.len() {
-        return -1;
+        return Failure::Place.number();
     }
     if out.is_empty() {
-        return -4;
+        return Failure::NoRoom.number();
     }
     if from.begin == from.end {
         return 0;
     }
     let (filled, at) = fill_ranges(from, payload, out);
     if filled == 0 {
-        return -1;
+        return Failure::Place.number();
     }
     *ranges = at;
     *count = filled;

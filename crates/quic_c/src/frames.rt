@@ -1,15 +1,17 @@
 //! Reads the frames of a payload, one with each call.
-ghost use Rattle.std.specs.Prelude.{◌≡◌, ◌<◌, ◌≤◌, ◌^◌, ◌-◌, ◌↔◌, ◌⊎◌, ℕ, [], ◌∷◌, pos, negsuc, length, codes, IsTrue, true, false, None};
+ghost use Rattle.std.specs.Prelude.{◌≡◌, ◌<◌, ◌≤◌, ◌^◌, ◌-◌, ◌↔◌, ◌⊎◌, ℕ, [], ◌∷◌, pos, length, codes, IsTrue, true, false, None};
 ghost use Rattle.quic_frames.specs.declared.frame.Frame.{Frame};
 ghost use Rattle.quic_frame_fields.specs.Reading.{Invalid, Broken, invalid};
 ghost use Rattle.quic_frames.specs.IterState.{IterState};
 ghost use Rattle.quic_frames.specs.Walk.{first_of, invalid_of, Finds};
 ghost use Rattle.quic_c.specs.Shown.{state_of, at_front, is_strict, frame_kind_of, type_in, type_word, frame_words, invalid_words, IsExtension};
-ghost use Rattle.quic_c.specs.Answers.{AnswersNext, reason_in, unknown_type};
+ghost use Rattle.quic_c.specs.Answers.{AnswersNext, GivesInvalid, unknown_type};
+ghost use Rattle.quic_results.specs.Results.{failed, frame_failure};
 
 use crate::show::{parts_of, show};
 use crate::words::{CFrame, CFrameIter};
 use quic_frames::frame::{Frame, FrameType, InvalidFrame, Iter};
+use quic_results::results::{Failure, frame_failure};
 
 // The type in a word, if there is one.
 pub(crate) fn type_in(word: u64) -> Option<FrameType>
@@ -45,18 +47,6 @@ pub(crate) fn type_read(iter: &Iter<'_>) -> u64
     ty.into_inner()
 }
 
-// The number of a reason.
-fn reason_in(reason: &str) -> u32
-    ensures { result ≡ reason_in reason.now }
-{
-    match reason {
-        "unexpected end" => 1,
-        "invalid frame ID" => 2,
-        "frame type not in shortest form" => 4,
-        _ => 3,
-    }
-}
-
 // Whether the frame is one of the extension for ACK frequency, if `basic` makes these unknown.
 #[inline(always)]
 pub(crate) fn is_unknown(basic: bool, frame: &Frame<'_>) -> bool
@@ -83,14 +73,14 @@ pub(crate) fn unknown(kind: u16) -> InvalidFrame
 // Begins at the front of a payload, with the word for strict reading.
 #[inline(always)]
 fn begin(frames: &mut CFrameIter, payload: &[u8], strict: u32) -> i32
-    ensures answers { (result ≡ pos 0) ⊎ (result ≡ negsuc 1) }
-    ensures empty { (result ≡ negsuc 1) ↔ (payload.now ≡ []) }
+    ensures returns { (result ≡ pos 0) ⊎ (result ≡ failed Failure.PayloadEmpty) }
+    ensures empty { (result ≡ failed Failure.PayloadEmpty) ↔ (payload.now ≡ []) }
     ensures front { result ≡ pos 0 → frames.new ≡ at_front strict }
     ensures first { result ≡ pos 0 → state_of frames.new payload.now ≡ first_of (is_strict strict) payload.now }
-    ensures refused { result ≡ negsuc 1 → frames.new ≡ frames.old }
+    ensures refused { result ≡ failed Failure.PayloadEmpty → frames.new ≡ frames.old }
 {
     if payload.is_empty() {
-        return -2;
+        return Failure::PayloadEmpty.number();
     }
     *frames = CFrameIter {
         offset: 0,
@@ -101,15 +91,15 @@ fn begin(frames: &mut CFrameIter, payload: &[u8], strict: u32) -> i32
     0
 }
 
-/// Begins at the front of a payload. It answers 0, or -2 exactly if the payload is empty, which is a PROTOCOL_VIOLATION
-/// (RFC 9000, section 12.4); then nothing changes.
+/// Begins at the front of a payload. It returns 0, or `PayloadEmpty` exactly if the payload is empty, which is a
+/// PROTOCOL_VIOLATION (RFC 9000, section 12.4); then nothing changes.
 #[unsafe(no_mangle)]
 pub extern "C" fn quic_wire_frames_init_(frames: &mut CFrameIter, payload: &[u8]) -> i32
-    ensures answers { (result ≡ pos 0) ⊎ (result ≡ negsuc 1) }
-    ensures empty { (result ≡ negsuc 1) ↔ (payload.now ≡ []) }
+    ensures returns { (result ≡ pos 0) ⊎ (result ≡ failed Failure.PayloadEmpty) }
+    ensures empty { (result ≡ failed Failure.PayloadEmpty) ↔ (payload.now ≡ []) }
     ensures front { result ≡ pos 0 → frames.new ≡ at_front 0 }
     ensures first { result ≡ pos 0 → state_of frames.new payload.now ≡ first_of false payload.now }
-    ensures refused { result ≡ negsuc 1 → frames.new ≡ frames.old }
+    ensures refused { result ≡ failed Failure.PayloadEmpty → frames.new ≡ frames.old }
 {
     begin(frames, payload, 0)
 }
@@ -118,23 +108,23 @@ pub extern "C" fn quic_wire_frames_init_(frames: &mut CFrameIter, payload: &[u8]
 /// have any width.
 #[unsafe(no_mangle)]
 pub extern "C" fn quic_wire_frames_init_strict_(frames: &mut CFrameIter, payload: &[u8]) -> i32
-    ensures answers { (result ≡ pos 0) ⊎ (result ≡ negsuc 1) }
-    ensures empty { (result ≡ negsuc 1) ↔ (payload.now ≡ []) }
+    ensures returns { (result ≡ pos 0) ⊎ (result ≡ failed Failure.PayloadEmpty) }
+    ensures empty { (result ≡ failed Failure.PayloadEmpty) ↔ (payload.now ≡ []) }
     ensures front { result ≡ pos 0 → frames.new ≡ at_front 1 }
     ensures first { result ≡ pos 0 → state_of frames.new payload.now ≡ first_of true payload.now }
-    ensures refused { result ≡ negsuc 1 → frames.new ≡ frames.old }
+    ensures refused { result ≡ failed Failure.PayloadEmpty → frames.new ≡ frames.old }
 {
     begin(frames, payload, 1)
 }
 
 // An error as words.
 pub(crate) fn show_invalid(begin: usize, invalid: &InvalidFrame) -> CFrame
-    ensures { result ≡ invalid_words begin (type_word invalid.now.ty) (reason_in invalid.now.reason.now) }
+    ensures { result ≡ invalid_words begin (type_word invalid.now.ty) }
 {
     CFrame {
         kind: u16::MAX,
         ty: 0,
-        flags: reason_in(invalid.reason),
+        flags: 0,
         begin,
         end: begin,
         data_offset: begin,
@@ -146,13 +136,13 @@ pub(crate) fn show_invalid(begin: usize, invalid: &InvalidFrame) -> CFrame
 // Reports, once, why the frame at a place isn't given.
 #[inline(always)]
 fn refuse(begin: usize, invalid: &InvalidFrame, frames: &mut CFrameIter, out: &mut CFrame) -> i32
-    ensures answer { result ≡ negsuc 2 }
+    ensures reason { result ≡ failed (frame_failure invalid.now.reason.now) }
     ensures over { frames.new ≡ record frames.old { ended = 1 } }
-    ensures words { out.new ≡ invalid_words begin (type_word invalid.now.ty) (reason_in invalid.now.reason.now) }
+    ensures words { out.new ≡ invalid_words begin (type_word invalid.now.ty) }
 {
     frames.ended = 1;
     *out = show_invalid(begin, invalid);
-    -3
+    frame_failure(invalid.reason).number()
 }
 
 // The next frame of an iterator at the place in the words. There is a copy for a first byte 0, PADDING, so that the
@@ -198,7 +188,7 @@ fn next_on<const PADDING: usize, const OTHER: usize>(
     let begin = frames.offset;
     let strict = frames.strict != 0;
     let Some(mut iter) = Iter::resume(payload, begin, type_in(frames.last_type), strict) else {
-        return -1;
+        return Failure::Place.number();
     };
     if frames.ended != 0 {
         return 0;
@@ -209,28 +199,28 @@ fn next_on<const PADDING: usize, const OTHER: usize>(
     }
 }
 
-/// The next frame (RFC 9000, section 19). It answers 1 with the frame; 0 if none is left, and nothing changes; -3,
-/// once, with the type and the reason, if the next bytes aren't a valid frame; -1 exactly if the place is outside of
-/// the payload, and nothing changes.
+/// The next frame (RFC 9000, section 19). It returns 1 with the frame; 0 if none is left, and nothing changes; the
+/// reason, once, with the type, if the next bytes aren't a valid frame; `Place` exactly if the place is outside of the
+/// payload, and nothing changes.
 #[unsafe(no_mangle)]
 pub extern "C" fn quic_wire_frames_next_(
     frames: &mut CFrameIter,
     payload: &[u8],
     out: &mut CFrame,
 ) -> i32
-    ensures answers { AnswersNext false frames.old payload.now out.old result frames.new out.new }
+    ensures returns { AnswersNext false frames.old payload.now out.old result frames.new out.new }
 {
     next_on::<0, 1>(frames, payload, false, out)
 }
 
-/// The same, but a frame of the extension for ACK frequency has an unknown type, and is reported by -3.
+/// The same, but a frame of the extension for ACK frequency has an unknown type: `FrameType`.
 #[unsafe(no_mangle)]
 pub extern "C" fn quic_wire_frames_next_basic_(
     frames: &mut CFrameIter,
     payload: &[u8],
     out: &mut CFrame,
 ) -> i32
-    ensures answers { AnswersNext true frames.old payload.now out.old result frames.new out.new }
+    ensures returns { AnswersNext true frames.old payload.now out.old result frames.new out.new }
 {
     next_on::<2, 3>(frames, payload, true, out)
 }

@@ -4,15 +4,17 @@ ghost use Rattle.quic_frame_fields.specs.Field.{AreBelow};
 ghost use Rattle.quic_frames.specs.declared.frame.Frame.TheVariants as frames;
 ghost use Rattle.quic_frames.specs.Padding.{PassesPadding};
 ghost use Rattle.quic_frames.specs.Walk.{left, first_of, resumed};
-ghost use Rattle.quic_c.specs.Shown.{frame_kind_of, frame_words, is_strict};
+ghost use Rattle.quic_c.specs.Shown.{frame_kind_of, frame_words, invalid_words, is_strict, type_word};
 ghost use Rattle.quic_c.specs.Front.{AnswersRead, FillsGaps, ShowsAck, ShowsFront, moved_by, reported_behind};
+ghost use Rattle.quic_results.specs.Results.{failed, frame_failure};
 
 use crate::frames::{is_unknown, show_invalid, type_read, unknown};
 use crate::show::{parts_of, show};
 use crate::words::{CFrame, CGap};
 use quic_base::coding::are_bytes;
 use quic_base::varint::split_var;
-use quic_frames::frame::{Ack, Frame, Iter};
+use quic_frames::frame::{Ack, Frame, InvalidFrame, Iter};
+use quic_results::results::{Failure, frame_failure};
 
 // Fills entries with the ranges below another one, as gap and length: how many, and whether none is left.
 #[inline(always)]
@@ -101,6 +103,23 @@ fn pass_run(iter: &mut Iter<'_>, frame: &Frame<'_>) -> usize
     iter.offset()
 }
 
+// Reports why the frame at the front isn't given.
+fn refuse(invalid: &InvalidFrame, out: &mut CFrame) -> i64
+    ensures reason { result ≡ failed (frame_failure invalid.now.reason.now) }
+    ensures words { out.new ≡ invalid_words 0 (type_word invalid.now.ty) }
+{
+    *out = show_invalid(0, invalid);
+    i64::from(frame_failure(invalid.reason).number())
+}
+
+// What is returned if there is no byte.
+#[inline(always)]
+fn none_left() -> i64
+    ensures { result ≡ failed Failure.PayloadEmpty }
+{
+    i64::from(Failure::PayloadEmpty.number())
+}
+
 // Reads the frame at the front. There is a copy for each kind of first byte, without tests for other kinds.
 #[inline(always)]
 fn read_front<const COPY: usize>(
@@ -113,27 +132,23 @@ fn read_front<const COPY: usize>(
     ensures { AnswersRead strict basic payload.now out.old gaps.old result out.new gaps.new }
 {
     if payload.is_empty() {
-        return -2;
+        return none_left();
     }
     let Some(mut iter) = Iter::resume(payload, 0, None, strict) else {
-        return -2;
+        return none_left();
     };
     match iter.next() {
-        None => -2,
+        None => none_left(),
         Some(Ok(frame)) => {
             if is_unknown(basic, &frame) {
-                *out = show_invalid(0, &unknown(parts_of(&frame).kind));
-                return -3;
+                return refuse(&unknown(parts_of(&frame).kind), out);
             }
             let ty = type_read(&iter);
             let end = pass_run(&mut iter, &frame);
             *out = show_front(end, ty as u16, &frame, gaps);
             end as i64
         }
-        Some(Err(invalid)) => {
-            *out = show_invalid(0, &invalid);
-            -3
-        }
+        Some(Err(invalid)) => refuse(&invalid, out),
     }
 }
 
@@ -160,7 +175,7 @@ fn read_by<const STREAM: usize>(
     ensures { AnswersRead strict basic payload.now out.old gaps.old result out.new gaps.new }
 {
     if payload.is_empty() {
-        return -2;
+        return none_left();
     }
     if payload[0] & 0xf8 == 0x08 {
         return read_front::<STREAM>(payload, strict, basic, out, gaps);
@@ -169,12 +184,12 @@ fn read_by<const STREAM: usize>(
 }
 
 /// Reads the frame at the front of the rest of a payload (RFC 9000, section 19). If `strict` isn't 0, a type that is
-/// not in its shortest encoding is an error (section 12.4). It answers where the frame ends, with its words, whose
+/// not in its shortest encoding is an error (section 12.4). It returns where the frame ends, with its words, whose
 /// places count from this front; a run of PADDING, each byte of which is a frame, is one. For an ACK the length of data
 /// is the first range, less one, and the ranges below it are filled into `gaps` as gap and length, as many as there is
-/// room for; the offset of data is how many were filled, and `flags` has 4 if there are more. It answers -2 exactly if
-/// nothing is left; -3 with the type and the reason in `out`, if the bytes don't begin with a valid frame. `out`
-/// doesn't change with -2, and `gaps` changes only for an ACK.
+/// room for; the offset of data is how many were filled, and `flags` has 4 if there are more. It returns `PayloadEmpty`
+/// exactly if nothing is left; the reason, with the type in `out`, if the bytes don't begin with a valid frame. `out`
+/// doesn't change with `PayloadEmpty`, and `gaps` changes only for an ACK.
 #[unsafe(no_mangle)]
 pub extern "C" fn quic_wire_frame_read_(
     payload: &[u8],
@@ -187,7 +202,7 @@ pub extern "C" fn quic_wire_frame_read_(
     read_by::<2>(payload, strict != 0, false, out, gaps)
 }
 
-/// The same, but a frame of the extension for ACK frequency has an unknown type, and is reported by -3.
+/// The same, but a frame of the extension for ACK frequency has an unknown type: `FrameType`.
 #[unsafe(no_mangle)]
 pub extern "C" fn quic_wire_frame_read_basic_(
     payload: &[u8],

@@ -4,6 +4,7 @@
 
 mod ack_gaps;
 mod acks;
+mod codes;
 mod data_headers;
 mod fill;
 mod fill_ranges;

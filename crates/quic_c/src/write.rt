@@ -1,5 +1,5 @@
 //! Writes frames from words into the caller's bytes.
-ghost use Rattle.std.specs.Prelude.{◌≡◌, ◌<◌, ◌≤◌, ◌^◌, ◌⊎◌, ◌↔◌, ℕ, Bool, List, [], ◌∷◌, pos, negsuc, length, false, IsTrue, IfSome, IsNone, None};
+ghost use Rattle.std.specs.Prelude.{◌≡◌, ◌<◌, ◌≤◌, ◌^◌, ◌⊎◌, ◌↔◌, ℕ, Bool, List, [], ◌∷◌, pos, length, false, IsTrue, IfSome, IsNone, None};
 ghost use Rattle.quic_frame_fields.specs.Numbers.{AreNumeric};
 ghost use Rattle.quic_frames.specs.declared.frame.Frame.{Frame};
 ghost use Rattle.quic_frames.specs.declared.frame.Frame.TheVariants as frames;
@@ -8,6 +8,7 @@ ghost use Rattle.quic_frame_fields.specs.declared.frame.close.Close.TheVariants 
 ghost use Rattle.quic_c.specs.Shapes.{IsSound, FillsShape, AreDataAndToken, IsShown, LacksData, LacksDataOrToken, shape_of, token_room};
 ghost use Rattle.quic_c.specs.Written.{CanWriteFrame, DescribesNoFrame, WroteFrame, FrameNeedsMore, IsAnswer, flag_of};
 ghost use Rattle.quic_c.specs.declared.words.CFrame.{CFrame};
+ghost use Rattle.quic_results.specs.Results.{failed};
 
 use crate::show::parts_of;
 use crate::words::CFrame;
@@ -18,6 +19,7 @@ use quic_frames::frame::{
     NewConnectionId, NewToken, ResetStream, StopSending, Stream,
 };
 use quic_frames::transport_error::Code;
+use quic_results::results::Failure;
 
 fn are_varints(numbers: [u64; 5]) -> bool
     ensures { IsTrue result ↔ AreNumeric numbers }
@@ -310,9 +312,9 @@ fn described<'a>(words: &CFrame, data: &'a [u8], last: bool) -> Option<Frame<'a>
 /// last frame of its payload (RFC 9000, section 19). Its data are read from `data` at the place in the words; for a
 /// NEW_CONNECTION_ID they are the id, and the sixteen bytes of its token follow it. If the words describe no data, or a
 /// kind that has none, neither `data` nor that place is looked at; the words for where the frame begins and ends never
-/// are. It answers 0 with how many bytes were written, and bytes after those don't change; -4 with how many are needed,
-/// if `out` has fewer; -1 if the words describe no frame that can be written, or an ACK: ACKs are written from sets.
-/// `out` changes only with 0, and `written` doesn't change with -1.
+/// are. It returns 0 with how many bytes were written, and bytes after those don't change; `NoRoom` with how many are
+/// needed, if `out` has fewer; `Argument` if the words describe no frame that can be written, or an ACK: ACKs are written
+/// from sets. `out` changes only with 0, and `written` doesn't change with `Argument`.
 #[unsafe(no_mangle)]
 pub extern "C" fn quic_wire_frame_write_(
     frame: &CFrame,
@@ -321,10 +323,10 @@ pub extern "C" fn quic_wire_frame_write_(
     out: &mut [u8],
     written: &mut usize,
 ) -> i32
-    ensures answers { (result ≡ pos 0) ⊎ (result ≡ negsuc 3) ⊎ (result ≡ negsuc 0) }
+    ensures returns { (result ≡ pos 0) ⊎ (result ≡ failed Failure.NoRoom) ⊎ (result ≡ failed Failure.Argument) }
     ensures wrote { result ≡ pos 0 → WroteFrame frame.now data.now (flag_of last) out.old out.new written.new }
-    ensures room { result ≡ negsuc 3 → FrameNeedsMore frame.now data.now (flag_of last) out.old written.new }
-    ensures refused { result ≡ negsuc 0
+    ensures room { result ≡ failed Failure.NoRoom → FrameNeedsMore frame.now data.now (flag_of last) out.old written.new }
+    ensures refused { result ≡ failed Failure.Argument
         → DescribesNoFrame frame.now data.now (flag_of last) × (written.new ≡ written.old) }
     ensures same { (result ≡ pos 0) ⊎ (out.new ≡ out.old) }
     ensures any_data { LacksData frame.now → (others : List ℕ)
@@ -332,7 +334,7 @@ pub extern "C" fn quic_wire_frame_write_(
 {
     let last = last != 0;
     let Some(frame) = described(frame, data, last) else {
-        return -1;
+        return Failure::Argument.number();
     };
     match frame.encode_into(last, out) {
         Ok(n) => {
@@ -341,7 +343,7 @@ pub extern "C" fn quic_wire_frame_write_(
         }
         Err(n) => {
             *written = n;
-            -4
+            Failure::NoRoom.number()
         }
     }
 }

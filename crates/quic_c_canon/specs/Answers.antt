@@ -1,22 +1,17 @@
 -- What the call answers that writes the shortest payload of a meaning.
-use Rattle.std.specs.Prelude.{◌≡◌, ◌≢◌, ℕ, ◌-◌, ◌<◌, ◌^◌, List, [], ◌++◌, length, map, drop, Option, None, Some, false, codes, nat_eq, if◌then◌else◌}
-use Rattle.std.specs.Cmp.Lexicographic.{pointwise}
+use Rattle.std.specs.Prelude.{◌≡◌, ◌≢◌, ℕ, ℤ, ◌-◌, ◌<◌, ◌^◌, List, [], ◌++◌, length, map, drop, Option, None, Some, false}
 use Rattle.quic_frame_fields.specs.declared.frame.fault.Fault.{Fault}
 use Rattle.quic_frame_fields.specs.Payload.{TypedFrame, AreFrames, IsBroken}
 use Rattle.quic_frame_fields.specs.Reading.{Invalid, invalid}
 use Rattle.quic_frames.specs.Least.{frame_in, shortest_frames}
 use Rattle.quic_canon.specs.Least.{IsLeast}
 use Rattle.quic_c_canon.specs.declared.words.CCanonical.{CCanonical}
+use Rattle.quic_results.specs.Results.{failed, frame_failure}
 
 -- the word of a type
 abbrev pub type_word : Option ℕ → ℕ
 type_word None = 2 ^ 64 - 1
 type_word (Some n) = n
-
--- the number of a reason: 1 unexpected end, 2 invalid frame ID, 3 malformed
-abbrev pub reason_word : List ℕ → ℕ
-reason_word reason = if pointwise nat_eq reason (codes "unexpected end") then 1
-    else if pointwise nat_eq reason (codes "invalid frame ID") then 2 else 3
 
 -- The shortest payload of the meaning was written at the front, the bytes after it didn't change, and its length was
 -- reported.
@@ -41,11 +36,12 @@ pub record IsReportedOf (payload : List ℕ) (reported : Invalid) : Type 0 where
   pub broken : IsBroken false None found payload type reason
   pub reported_is : reported ≡ invalid type reason
 
--- Something in the payload is no frame, and that is reported.
-pub record ReportsInvalidPayload (payload : List ℕ) (old new : CCanonical) : Type 0 where
+-- Something in the payload is no frame, and that is returned, with the type.
+pub record ReportsInvalidPayload (payload : List ℕ) (old : CCanonical) (result : ℤ) (new : CCanonical) : Type 0 where
   pub reported : Invalid
   pub of_it : IsReportedOf payload reported
-  pub words : new ≡ record old { last_type = type_word reported.type; reason = reason_word reported.reason }
+  pub reason : result ≡ failed (frame_failure reported.reason)
+  pub words : new ≡ record old { last_type = type_word reported.type }
 
 -- The payload has frames and nothing else, which take so many bytes in their shortest encodings.
 pub record HasLength (payload : List ℕ) (n : ℕ) : Type 0 where

@@ -1,17 +1,19 @@
 //! The shortest payload of each meaning, written into the caller's bytes.
-ghost use Rattle.std.specs.Prelude.{◌≡◌, ◌≢◌, ◌+◌, ◌<◌, ◌≤◌, ◌⊎◌, ◌↔◌, ◌++◌, [], List, pos, negsuc, length, map, take, drop, replicate, IfOk, IfErr, IsErr, None, false};
+ghost use Rattle.std.specs.Prelude.{◌≡◌, ◌≢◌, ◌+◌, ◌<◌, ◌≤◌, ◌⊎◌, ◌↔◌, ◌++◌, [], List, pos, length, map, take, drop, replicate, IfOk, IfErr, IsErr, None, false};
 ghost use Rattle.quic_frame_fields.specs.Payload.{TypedFrame, AreFrames};
 ghost use Rattle.quic_frame_fields.specs.Shortest.{shortest_frame};
 ghost use Rattle.quic_frames.specs.InRange.{CanStand};
 ghost use Rattle.quic_frames.specs.Least.{frame_in, shortest_frames};
 ghost use Rattle.quic_frames.specs.Meaning.{meaning_of};
 ghost use Rattle.quic_frames.specs.Walk.{invalid_of, first_of};
-ghost use Rattle.quic_c_canon.specs.Answers.{type_word, reason_word, GivesLeastLen, LeastNeedsMore, IsReportedOf, ReportsInvalidPayload, HasLength};
+ghost use Rattle.quic_c_canon.specs.Answers.{type_word, GivesLeastLen, LeastNeedsMore, IsReportedOf, ReportsInvalidPayload, HasLength};
+ghost use Rattle.quic_results.specs.Results.{failed};
 
 use crate::words::CCanonical;
 use quic_canon::laws::one_least;
 use quic_frames::frame::{Frame, FrameType, InvalidFrame, Iter};
 use quic_frames::laws::{least_encoding, one_reading, read_back};
+use quic_results::results::{Failure, frame_failure};
 
 // The number for a type.
 fn type_word(ty: Option<FrameType>) -> u64
@@ -20,17 +22,6 @@ fn type_word(ty: Option<FrameType>) -> u64
     match ty {
         Some(ty) => ty.into_inner(),
         None => u64::MAX,
-    }
-}
-
-// The number of a reason.
-fn reason_word(reason: &str) -> u64
-    ensures { result ≡ reason_word reason.now }
-{
-    match reason {
-        "unexpected end" => 1,
-        "invalid frame ID" => 2,
-        _ => 3,
     }
 }
 
@@ -166,34 +157,31 @@ fn write(payload: &[u8], len: usize, dest: &mut [u8])
 
 /// Writes the one shortest payload with the meaning of the payload at the front of `dest`: equal frames in equal order,
 /// each in its shortest form, where the last frame of a payload needs no length (RFC 9000, sections 12.4 and 19). It
-/// answers 0 with its length, and the bytes after it don't change; -4 with the length if `dest` has less room; -2
-/// exactly if the payload is empty; -3 exactly if it has an invalid frame, with the last type that was read and the
-/// reason. `dest` changes with 0 alone, and `out` only in the words that are named here. It allocates no memory.
+/// returns 0 with its length, and the bytes after it don't change; `NoRoom` with the length if `dest` has less room;
+/// `PayloadEmpty` exactly if the payload is empty; `FrameEnd`, `FrameType` or `FrameMalformed` if it has an invalid
+/// frame, with the last type that was read. `dest` changes only with 0, and `out` only in the words that are named here.
+/// It doesn't allocate.
 #[unsafe(no_mangle)]
 pub extern "C" fn quic_wire_canonical_(payload: &[u8], dest: &mut [u8], out: &mut CCanonical) -> i32
-    ensures answers { (result ≡ pos 0) ⊎ (result ≡ negsuc 3) ⊎ (result ≡ negsuc 1) ⊎ (result ≡ negsuc 2) }
-    ensures least { result ≡ pos 0 → GivesLeastLen payload.now dest.old dest.new out.old out.new }
-    ensures room { result ≡ negsuc 3 → LeastNeedsMore payload.now dest.old out.old out.new }
-    ensures empty { (result ≡ negsuc 1) ↔ (payload.now ≡ []) }
-    ensures invalid { result ≡ negsuc 2 → ReportsInvalidPayload payload.now out.old out.new }
-    ensures same { (result ≡ pos 0) ⊎ (dest.new ≡ dest.old) }
-    ensures kept { result ≡ negsuc 1 → out.new ≡ out.old }
+    ensures { (result ≡ pos 0) × GivesLeastLen payload.now dest.old dest.new out.old out.new
+        ⊎ (dest.new ≡ dest.old) × ((result ≡ failed Failure.NoRoom) × LeastNeedsMore payload.now dest.old out.old out.new
+        ⊎ (result ≡ failed Failure.PayloadEmpty) × (payload.now ≡ []) × (out.new ≡ out.old)
+        ⊎ ReportsInvalidPayload payload.now out.old result out.new) }
 {
     one_least();
     if payload.is_empty() {
-        return -2;
+        return Failure::PayloadEmpty.number();
     }
     let len = match shortest_len(payload) {
         Ok(len) => len,
         Err(invalid) => {
             out.last_type = type_word(invalid.ty);
-            out.reason = reason_word(invalid.reason);
-            return -3;
+            return frame_failure(invalid.reason).number();
         }
     };
     out.len = len;
     if dest.len() < len {
-        return -4;
+        return Failure::NoRoom.number();
     }
     write(payload, len, dest);
     0

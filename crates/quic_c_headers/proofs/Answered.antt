@@ -16,7 +16,9 @@ use Rattle.quic_header_decode.specs.Places.{any_fixed, dst_part, src_part, dst_p
 use Rattle.quic_header_decode.specs.Reading.{DecodeOptions}
 use Rattle.quic_header_decode.specs.Refusal.{Refusal, Unsupported, Invalid, NoMemory}
 use Rattle.quic_c_headers.specs.declared.words.CHeader.{CHeader}
-use Rattle.quic_c_headers.specs.Reading.{answer_word, header_words, Reported}
+use Rattle.quic_c_headers.specs.Reading.{header_words, outcome_of, Reported}
+use Rattle.quic_results.specs.declared.results.Failure.{Failure}
+use Rattle.quic_results.specs.declared.results.Failure.TheVariants as failure
 use Rattle.std.specs.Option.{option_map_or}
 
 -- ---- what a header has at its places
@@ -233,8 +235,8 @@ same_read packet (Ok x) (Err y) e one two f g = absurd cc
 same_read packet (Err x) (Ok y) e one two f g = absurd cc
 same_read packet (Err x) (Err y) e one two f g = ap Err (same_reported packet x y (reported_is _ _ e) one two)
 
--- what is reported of one packet is one answer
-pub one_answer : (id_len : ℕ) (versions packet : List ℕ) (old new words : CHeader) (answer other : ℕ)
+-- what is reported of one packet is one outcome
+pub one_answer : (id_len : ℕ) (versions packet : List ℕ) (old new words : CHeader) (answer other : Result ℕ Failure)
     → ((id_len : ℕ) (versions bytes : List ℕ) (one other : Result (ProtectedHeader × List ℕ) Refusal) → AreBytes bytes
     → ReadAnswer (any_fixed id_len versions) bytes one → ReadAnswer (any_fixed id_len versions) bytes other
     → one ≡ other)
@@ -243,15 +245,15 @@ pub one_answer : (id_len : ℕ) (versions packet : List ℕ) (old new words : CH
 one_answer id_len versions packet old new words answer other law fits t u =
     let seen = law id_len versions packet (seen_in packet t.read) (seen_in packet u.read) fits t.right u.right in
     let same = same_read packet t.read u.read seen t.stored u.stored t.first u.first in (
-      t.answers ∙ ap (λ r. answer_word r (length packet)) same ∙ sym u.answers,
+      t.outcome_is ∙ ap (λ r. outcome_of r (length packet)) same ∙ sym u.outcome_is,
       t.words ∙ ap (λ r. header_words packet r old) same ∙ sym u.words,
     )
 
 -- ---- where a whole packet ends
 
--- a packet is cut at the place in the words
-abbrev IsCut : DecodeOptions → List ℕ → CHeader → Type 0
-IsCut options packet words = (h : ProtectedHeader) × Cut options packet h words.header_end words.end
+-- a packet is cut at the place in the words, and ends there
+abbrev IsCut : DecodeOptions → List ℕ → CHeader → ℕ → Type 0
+IsCut options packet words end = (h : ProtectedHeader) × Cut options packet h words.header_end end
 
 abbrev Law : Type 0
 Law =
@@ -260,32 +262,35 @@ Law =
     ≤ length bytes
     → ends_at x (length bytes) ≡ Some q → Cut options bytes (header_in bytes x) x.header_end q
 
-ended : (options : DecodeOptions) (packet : List ℕ) (x : HeaderPlaces) (end : Option ℕ) (old new : CHeader) → Law
-    → HeaderAt options (length packet) packet (header_in packet x) (drop x.header_end packet)
-    → x.header_end ≤ length packet → ends_at x (length packet) ≡ end → (let none : ℕ = 0 in none) ≡ option_map_or (λ (q : ℕ). let none : ℕ = 0 in none) end 7
-    → new ≡ header_words packet (Ok x) old → IsCut options packet new
-ended options packet x None old new law head within ends zero words = absurd (omega (arith, zero))
-ended options packet x (Some q) old new law head within ends zero words =
-    let stop : new.end ≡ q =
-    ap (λ (w : CHeader). w.end) words ∙ ap (λ (o : Option ℕ). unwrap_or o (length packet)) ends in
+found_end : (q end : ℕ) → (let r : Result ℕ Failure = Ok end in r) ≡ Ok q → q ≡ end
+found_end q end is = cc
+
+ended : (options : DecodeOptions) (packet : List ℕ) (x : HeaderPlaces) (found : Option ℕ) (old new : CHeader) (end : ℕ)
+    → Law → HeaderAt options (length packet) packet (header_in packet x) (drop x.header_end packet)
+    → x.header_end ≤ length packet → ends_at x (length packet) ≡ found
+    → (let r : Result ℕ Failure = Ok end in r) ≡ option_map_or (λ (q : ℕ). Ok q) found (Err failure.PacketCut)
+    → new ≡ header_words packet (Ok x) old → IsCut options packet new end
+ended options packet x None old new end law head within ends is words = absurd cc
+ended options packet x (Some q) old new end law head within ends is words =
     let start : new.header_end ≡ x.header_end = ap (λ (w : CHeader). w.header_end) words in
+    let stop : end ≡ q = sym (found_end q end is) in
     (header_in packet x, rw (start, stop) (law options packet x q head within ends))
 
-cut_there : (options : DecodeOptions) (packet : List ℕ) (read : Result HeaderPlaces ReadError) (old new : CHeader) → Law
-    → ReadAnswer options packet (seen_in packet read) → IsSeen read (length packet)
-    → 0 ≡ answer_word read (length packet) → new ≡ header_words packet read old → IsCut options packet new
-cut_there options packet (Ok x) old new law right stored zero words =
-    ended options packet x (ends_at x (length packet)) old new law right stored.head refl zero words
-cut_there options packet (Err (error.UnsupportedVersion version dst_len src_len)) old new law right stored zero words =
-    absurd (omega (arith, zero))
-cut_there options packet (Err error.UnexpectedEnd) old new law right stored zero words = absurd (omega (arith, zero))
-cut_there options packet (Err error.SmallPacket) old new law right stored zero words = absurd (omega (arith, zero))
-cut_there options packet (Err error.MalformedCid) old new law right stored zero words = absurd (omega (arith, zero))
-cut_there options packet (Err error.TokenOutOfBounds) old new law right stored zero words = absurd (omega (arith, zero))
+cut_there : (options : DecodeOptions) (packet : List ℕ) (read : Result HeaderPlaces ReadError) (old new : CHeader)
+    (end : ℕ) → Law → ReadAnswer options packet (seen_in packet read) → IsSeen read (length packet)
+    → Ok end ≡ outcome_of read (length packet) → new ≡ header_words packet read old → IsCut options packet new end
+cut_there options packet (Ok x) old new end law right stored is words =
+    ended options packet x (ends_at x (length packet)) old new end law right stored.head refl is words
+cut_there options packet (Err (error.UnsupportedVersion version dst_len src_len)) old new end law right stored is words =
+    absurd cc
+cut_there options packet (Err error.UnexpectedEnd) old new end law right stored is words = absurd cc
+cut_there options packet (Err error.SmallPacket) old new end law right stored is words = absurd cc
+cut_there options packet (Err error.MalformedCid) old new end law right stored is words = absurd cc
+cut_there options packet (Err error.TokenOutOfBounds) old new end law right stored is words = absurd cc
 
--- a packet that is reported to be complete is cut at the place in the words
-pub whole_cut : (id_len : ℕ) (versions packet : List ℕ) (old new : CHeader) (answer : ℕ) → Law
-    → Reported id_len versions packet old answer new → answer ≡ 0
-    → (h : ProtectedHeader) × Cut (any_fixed id_len versions) packet h new.header_end new.end
-whole_cut id_len versions packet old new answer law t zero =
-    cut_there (any_fixed id_len versions) packet t.read old new law t.right t.stored (sym zero ∙ t.answers) t.words
+-- a packet that is reported to be complete is cut at its end
+pub whole_cut : (id_len : ℕ) (versions packet : List ℕ) (old new : CHeader) (outcome : Result ℕ Failure) (end : ℕ) → Law
+    → Reported id_len versions packet old outcome new → outcome ≡ Ok end
+    → (h : ProtectedHeader) × Cut (any_fixed id_len versions) packet h new.header_end end
+whole_cut id_len versions packet old new outcome end law t is =
+    cut_there (any_fixed id_len versions) packet t.read old new end law t.right t.stored (sym is ∙ t.outcome_is) t.words

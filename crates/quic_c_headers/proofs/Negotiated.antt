@@ -1,6 +1,6 @@
 -- Version negotiation packets: one has its ids in one way, and is reported as a header of its kind; and their bytes.
 use Rattle.std.proofs.Common.{◌≡◌, ℕ, ◌+◌, ◌-◌, ◌*◌, ◌%◌, ◌<◌, ◌≤◌, List, [], ◌∷◌, ◌++◌, length, take, drop, refl, sym, ap, ◌∙◌, arith}
-use Rattle.std.specs.Prelude.{bit_or, get_or, slice_index, slice_range, Ok}
+use Rattle.std.specs.Prelude.{bit_or, bit_xor, get_or, slice_index, slice_range, Ok}
 use Rattle.std.specs.Int.{w32, from_be_bytes}
 use Rattle.std.proofs.lemmas.Bool.Decides.{nat_tests}
 use Rattle.std.proofs.lemmas.Grind.{flat_map-append}
@@ -128,7 +128,7 @@ header_at options packet dst src rest d s left random e f g h = rw (e, f, g) h
 
 pub reported : (id_len : ℕ) (versions packet dst src rest : List ℕ) (old : CHeader) → IsNegotiation packet dst src rest
     → length dst ≤ 20 → length src ≤ 20
-    → Reported id_len versions packet old 0 (negotiation_words packet dst src)
+    → Reported id_len versions packet old (Ok (length packet)) (negotiation_words packet dst src)
 unfolding places
 reported id_len versions packet dst src rest old (first, number, whole, long, word) few less =
     let options : DecodeOptions = any_fixed id_len versions in
@@ -179,7 +179,7 @@ reported id_len versions packet dst src rest old (first, number, whole, long, wo
         head = within;
       };
       first = refl;
-      answers = refl;
+      outcome_is = refl;
       words = refl;
     }
 
@@ -230,9 +230,9 @@ stored_all versions at i end old new le inv =
 
 -- ---- all of the packet
 
-pub bytes_long : (first : ℕ) (dst src versions : List ℕ)
-    → length (negotiation_bytes first dst src versions) ≡ 7 + length dst + length src + 4 * length versions
-bytes_long first dst src versions =
+pub bytes_long : (flags : ℕ) (dst src versions : List ℕ)
+    → length (negotiation_bytes flags dst src versions) ≡ 7 + length dst + length src + 4 * length versions
+bytes_long flags dst src versions =
     let front : List ℕ = bytes_of 4 0 ++ (long_id dst ++ long_id src) in
     omega (
       arith,
@@ -243,13 +243,13 @@ bytes_long first dst src versions =
       versions_long versions,
     )
 
-pub bytes_stored : (first : ℕ) (dst src versions one two three four all : List ℕ) → one ≡ bit_or 128 (first % 128) ∷ []
+pub bytes_stored : (flags : ℕ) (dst src versions one two three four all : List ℕ) → one ≡ bit_or 128 (bit_xor 64 (flags % 128)) ∷ []
     → two ≡ one ++ (0 ∷ 0 ∷ 0 ∷ 0 ∷ [])
     → three ≡ two ++ long_id dst → four ≡ three ++ long_id src → all ≡ four ++ version_bytes versions
-    → all ≡ negotiation_bytes first dst src versions
+    → all ≡ negotiation_bytes flags dst src versions
 unfolding bytes_of
-bytes_stored first dst src versions one two three four all e f g h i =
-    let start : List ℕ = bit_or 128 (first % 128) ∷ 0 ∷ 0 ∷ 0 ∷ 0 ∷ [] in
+bytes_stored flags dst src versions one two three four all e f g h i =
+    let start : List ℕ = bit_or 128 (bit_xor 64 (flags % 128)) ∷ 0 ∷ 0 ∷ 0 ∷ 0 ∷ [] in
     let both : four ≡ start ++ (long_id dst ++ long_id src) =
     h
     ∙ ap (λ (xs : List ℕ). xs ++ long_id src) (g ∙ ap (λ (xs : List ℕ). xs ++ long_id dst)
@@ -257,11 +257,11 @@ bytes_stored first dst src versions one two three four all e f g h i =
     ∙ append_assoc start (long_id dst) (long_id src) in
     i ∙ ap (λ (xs : List ℕ). xs ++ version_bytes versions) both
 
-pub read_back : (first : ℕ) (dst src versions bytes : List ℕ) → bytes ≡ negotiation_bytes first dst src versions
+pub read_back : (flags : ℕ) (dst src versions bytes : List ℕ) → bytes ≡ negotiation_bytes flags dst src versions
     → IsNegotiation bytes dst src (version_bytes versions)
-read_back first dst src versions bytes is =
-    let x : ℕ = bit_or 128 (first % 128) in
-    let high : 128 ≤ x = le_or_l 128 (first % 128) in
+read_back flags dst src versions bytes is =
+    let x : ℕ = bit_or 128 (bit_xor 64 (flags % 128)) in
+    let high : 128 ≤ x = le_or_l 128 (bit_xor 64 (flags % 128)) in
     let ids : List ℕ = long_id dst ++ long_id src in
     let split : (bytes_of 4 0 ++ ids) ++ version_bytes versions ≡ bytes_of 4 0 ++ (long_id dst ++ (long_id src ++ version_bytes versions)) =
     append_assoc (bytes_of 4 0) ids (version_bytes versions)

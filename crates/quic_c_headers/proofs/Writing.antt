@@ -1,6 +1,6 @@
 -- The header that words describe, and its bytes.
 use Rattle.std.proofs.Common.{◌≡◌, ℕ, ◌+◌, ◌-◌, ◌*◌, ◌/◌, ◌%◌, ◌<◌, ◌≤◌, ◌^◌, ◌⊎◌, Bool, false, List, [], ◌∷◌, ◌++◌, length, take, drop, replicate, IsTrue, refl, sym, ap, subst, ◌∙◌, inl, inr, arith, rules}
-use Rattle.std.specs.Prelude.{◌≢◌, nat_eq}
+use Rattle.std.specs.Prelude.{◌≢◌, bit_xor, nat_eq}
 use Rattle.std.proofs.lemmas.Bool.{cases_eq}
 use Rattle.std.proofs.lemmas.List.{append-nil, length-append, length-replicate, length-take-le, take-append-drop}
 use Rattle.std.proofs.lemmas.Bool.Decides.{nat_tests}
@@ -48,7 +48,7 @@ header_described kind.Handshake words dst src token =
 header_described kind.Retry words dst src token = header.Retry dst src words.version
 header_described kind.Short words dst src token =
     header.Short (has_bit 0x20 words.flags) (has_bit 0x04 words.flags) dst (part_of words.number_len words.number)
-header_described kind.VersionNegotiate words dst src token = header.VersionNegotiate (words.flags % 128) src dst
+header_described kind.VersionNegotiate words dst src token = header.VersionNegotiate (bit_xor 0x40 (words.flags % 0x80)) src dst
 
 bit_at : (x n : ℕ) → x < 2 → bit_value (nat_eq x 1) n ≡ n * x
 bit_at x n lt = grind (arith, nat_tests)

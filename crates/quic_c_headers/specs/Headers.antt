@@ -1,6 +1,6 @@
 -- The headers that words describe (RFC 9000, section 17), and what the calls that write them answer.
 use Rattle.quic_base.specs.Number.{has_bit}
-use Rattle.std.specs.Prelude.{◌≡◌, ◌≢◌, IsTrue, is_some, ℕ, ◌+◌, ◌-◌, ◌*◌, ◌/◌, ◌%◌, ◌<◌, ◌≤◌, ◌^◌, ◌⊎◌, Bool, false, List, [], ◌++◌, length, take, drop, replicate, bit_or, Option, None, Some, ◌==◌, if◌then◌else◌}
+use Rattle.std.specs.Prelude.{◌≡◌, ◌≢◌, IsTrue, is_some, ℕ, ◌+◌, ◌-◌, ◌*◌, ◌/◌, ◌%◌, ◌<◌, ◌≤◌, ◌^◌, ◌⊎◌, Bool, false, List, [], ◌++◌, length, take, drop, replicate, bit_or, bit_xor, pos, ℤ, Option, None, Some, ◌==◌, if◌then◌else◌}
 use Rattle.std.specs.Option.{option_map_or}
 use Rattle.quic_crypto.specs.declared.packet_number.PacketNumber.{PacketNumber}
 use Rattle.quic_crypto.specs.declared.packet_number.PacketNumber.TheVariants.{U8, U16, U24, U32}
@@ -14,6 +14,9 @@ use Rattle.quic_header_encode.specs.Kinds.{dst_in, number_in}
 use Rattle.quic_header_encode.specs.Types.{type_code}
 use Rattle.quic_header_encode.specs.Writing.{IsWritable}
 use Rattle.quic_c_headers.specs.declared.words.HeaderFields.{HeaderFields}
+use Rattle.quic_results.specs.declared.results.Failure.{Failure}
+use Rattle.quic_results.specs.declared.results.Failure.TheVariants as failure
+use Rattle.quic_results.specs.Results.{failed}
 
 -- the part of a number that is written in so many bytes
 abbrev pub part_of : ℕ → ℕ → PacketNumber
@@ -27,12 +30,12 @@ part_of len number =
 abbrev pub word_of : Row → ℕ
 word_of row = option_map_or type_code row.type (if row.is_long then 5 else 4)
 
--- For a short header 0x20 is the spin bit and 0x04 the key phase; for a version negotiation they are the seven low bits
--- of the first byte; for the others and for a short header 0x40 clears the fixed bit (RFC 9287).
+-- With 0 a first byte is what RFC 9000 has. 0x40 clears the fixed bit of each kind (RFC 9287). For a short header 0x20
+-- is the spin bit and 0x04 the key phase; of a version negotiation each of the seven low bits is turned.
 abbrev pub DescribesFlags : ℕ → Bool → Header → Type 0
 DescribesFlags flags clear (header.Short spin key_phase dst number) =
     (clear ≡ has_bit 0x40 flags) × (spin ≡ has_bit 0x20 flags) × (key_phase ≡ has_bit 0x04 flags)
-DescribesFlags flags clear (header.VersionNegotiate random src dst) = (clear ≡ false) × (random ≡ flags % 128)
+DescribesFlags flags clear (header.VersionNegotiate random src dst) = (clear ≡ false) × (random ≡ bit_xor 0x40 (flags % 0x80))
 DescribesFlags flags clear _ = clear ≡ has_bit 0x40 flags
 
 -- A number below 2^62, in so many bytes (RFC 9000, section 17.1), if the header has one.
@@ -91,6 +94,26 @@ abbrev pub DescribesNoHeader : HeaderFields → List ℕ → List ℕ → List �
 DescribesNoHeader words dst src token =
     (clear : Bool) (header : Header) → CanWriteHeader words dst src token clear header → ⊥
 
+-- The version and the number of the words are possible in a header of their kind, if it has them.
+pub record HasPossibleNumbers (words : HeaderFields) : Type 0 where
+  pub named : words.kind < 4 → 0 < words.version
+  pub numbered : (words.kind ≤ 2) ⊎ (words.kind ≡ 4) → words.number < 2 ^ 62
+
+-- What is reported where no header can be written: that there is no such kind; else the version or the number, if that
+-- isn't possible; else a length.
+abbrev pub IsReason : HeaderFields → Failure → Type 0
+IsReason words why =
+    (5 < words.kind) × (why ≡ failure.Kind)
+    ⊎ (words.kind ≤ 5) × (HasPossibleNumbers words → ⊥) × (why ≡ failure.Number)
+    ⊎ (words.kind ≤ 5) × HasPossibleNumbers words × (why ≡ failure.Length)
+
+-- A header is written, and counted; or nothing changes, since there is too little room, or no header can be written.
+abbrev pub WritesHeader : HeaderFields → List ℕ → List ℕ → List ℕ → List ℕ → ℤ → List ℕ → Type 0
+WritesHeader words dst src token old result new =
+    ((count : ℕ) × (result ≡ pos count) × WrotePacketHeader words dst src token old new count)
+    ⊎ (new ≡ old) × ((result ≡ failed failure.NoRoom) × PacketHeaderNeedsMore words dst src token (length old)
+    ⊎ ((why : Failure) × (result ≡ failed why) × IsReason words why × DescribesNoHeader words dst src token))
+
 -- ---- No public clause cites what follows: what a kind of header has.
 
 -- A header of the kind can have this number and these sizes of the number and the length.
@@ -116,7 +139,7 @@ pub record IsShaped (words : HeaderFields) (dst src token : List ℕ) : Type 0 w
 abbrev pub first_word : HeaderKind → ℕ → ℕ
 first_word kind.Short flags =
     0x40 - bit_value (has_bit 0x40 flags) 0x40 + bit_value (has_bit 0x20 flags) 0x20 + bit_value (has_bit 0x04 flags) 0x04
-first_word kind.VersionNegotiate flags = bit_or 0x80 (flags % 0x80)
+first_word kind.VersionNegotiate flags = bit_or 0x80 (bit_xor 0x40 (flags % 0x80))
 first_word _ flags = 0xc0 - bit_value (has_bit 0x40 flags) 0x40
 
 -- the bytes of a header of the kind, with so many zeros as its length

@@ -1,6 +1,6 @@
 -- Headers as C sees them, and what the call that reads them answers; version negotiation packets (RFC 9000, section
 -- 17.2.1), whose ids have up to 255 bytes (RFC 8999, section 6).
-use Rattle.std.specs.Prelude.{◌≡◌, ℕ, ◌+◌, ◌-◌, List, length, Option, None, Some, Result, Ok, Err, IfOk, slice_index, unwrap_or, ◌%◌, ◌++◌}
+use Rattle.std.specs.Prelude.{◌≡◌, ℕ, ◌+◌, ◌-◌, List, length, Option, None, Some, Result, Ok, Err, IfOk, slice_index, unwrap_or, ◌%◌, ◌++◌, bit_xor}
 use Rattle.quic_header_encode.specs.Kinds.{row}
 use Rattle.quic_header_decode.specs.declared.places.HeaderPlaces.{HeaderPlaces}
 use Rattle.quic_header_decode.specs.declared.places.ReadError.{ReadError}
@@ -13,15 +13,17 @@ use Rattle.quic_base.specs.Number.{bytes_of}
 use Rattle.quic_header_encode.specs.declared.header.Header.TheVariants as header
 use Rattle.quic_header_encode.specs.Writing.{header_bytes}
 use Rattle.std.specs.Option.{option_map_or}
+use Rattle.quic_results.specs.declared.results.Failure.{Failure}
+use Rattle.quic_results.specs.declared.results.Failure.TheVariants as failure
 
--- the answer to what was read in so many bytes: 0, 7 where the packet is cut off, or the number of the reason
-abbrev pub answer_word : Result HeaderPlaces ReadError → ℕ → ℕ
-answer_word (Ok x) whole = option_map_or (λ _. 0) (ends_at x whole) 7
-answer_word (Err (error.UnsupportedVersion version dst_len src_len)) whole = 1
-answer_word (Err error.UnexpectedEnd) whole = 2
-answer_word (Err error.SmallPacket) whole = 4
-answer_word (Err error.MalformedCid) whole = 5
-answer_word (Err error.TokenOutOfBounds) whole = 6
+-- what is reported of what was read in so many bytes: where the packet ends, or why it isn't complete
+abbrev pub outcome_of : Result HeaderPlaces ReadError → ℕ → Result ℕ Failure
+outcome_of (Ok x) whole = option_map_or (λ end. Ok end) (ends_at x whole) (Err failure.PacketCut)
+outcome_of (Err (error.UnsupportedVersion version dst_len src_len)) whole = Err failure.PacketVersion
+outcome_of (Err error.UnexpectedEnd) whole = Err failure.PacketEnd
+outcome_of (Err error.SmallPacket) whole = Err failure.PacketSmall
+outcome_of (Err error.MalformedCid) whole = Err failure.PacketId
+outcome_of (Err error.TokenOutOfBounds) whole = Err failure.PacketToken
 
 -- the words for a packet whose header is read up to its ids
 abbrev pub ids_words : List ℕ → ℕ → ℕ → ℕ → ℕ → ℕ → CHeader
@@ -56,13 +58,14 @@ header_words packet (Err (error.UnsupportedVersion version dst_len src_len)) old
     ids_words packet 6 version dst_len src_len (6 + dst_len + 1 + src_len)
 header_words packet _ old = old
 
--- The front of the bytes was read, and is reported by the answer and the words.
-pub record Reported (id_len : ℕ) (versions packet : List ℕ) (old : CHeader) (answer : ℕ) (new : CHeader) : Type 0 where
+-- The front of the bytes was read, and is reported by the outcome and the words.
+pub record Reported (id_len : ℕ) (versions packet : List ℕ) (old : CHeader) (outcome : Result ℕ Failure) (new : CHeader)
+    : Type 0 where
   pub read : Result HeaderPlaces ReadError
   pub right : ReadAnswer (any_fixed id_len versions) packet (seen_in packet read)
   pub stored : IsSeen read (length packet)
   pub first : IfOk read (λ x. x.first ≡ slice_index packet 0)
-  pub answers : answer ≡ answer_word read (length packet)
+  pub outcome_is : outcome ≡ outcome_of read (length packet)
   pub words : new ≡ header_words packet read old
 
 -- ---- version negotiation
@@ -80,7 +83,8 @@ negotiation_words packet dst src =
 abbrev pub version_bytes : List ℕ → List ℕ
 version_bytes = flat_map (bytes_of 4)
 
--- a packet: its header, with these seven low bits of the first byte, and versions
+-- a packet: its header, whose first byte has the fixed bit and no other of its seven low bits, but where the flags turn
+-- them, and versions
 abbrev pub negotiation_bytes : ℕ → List ℕ → List ℕ → List ℕ → List ℕ
-negotiation_bytes first dst src versions =
-    header_bytes (header.VersionNegotiate (first % 128) src dst) ++ version_bytes versions
+negotiation_bytes flags dst src versions =
+    header_bytes (header.VersionNegotiate (bit_xor 0x40 (flags % 0x80)) src dst) ++ version_bytes versions

@@ -1,16 +1,19 @@
 //! Reads packet headers, which are still protected.
-ghost use Rattle.std.specs.Prelude.{◌≡◌, ◌+◌, ◌<◌, ◌≤◌, ◌⊎◌, ◌↔◌, ◌^◌, ◌∷◌, ℕ, List, [], Ok, drop, length, pos, negsuc, slice_index};
+ghost use Rattle.std.specs.Prelude.{◌≡◌, ◌≢◌, ◌+◌, ◌<◌, ◌≤◌, ◌⊎◌, ◌↔◌, ◌^◌, ◌∷◌, ℕ, List, [], Result, Ok, Err, drop, length, pos, slice_index};
 ghost use Rattle.quic_header_decode.specs.Grammar.{Cut, HeaderAt};
 ghost use Rattle.quic_header_decode.specs.Places.{any_fixed, ArePlacesWithin, IsSeen};
 ghost use Rattle.quic_header_decode.specs.declared.protected.ProtectedHeader.{ProtectedHeader};
 ghost use Rattle.quic_header_encode.specs.Kinds.{row};
 ghost use Rattle.quic_c_headers.specs.Headers.{word_of};
-ghost use Rattle.quic_c_headers.specs.Reading.{answer_word, header_words, Reported};
+ghost use Rattle.quic_c_headers.specs.Reading.{header_words, outcome_of, Reported};
+ghost use Rattle.quic_results.specs.Results.{failed, returned};
 
 use crate::words::CHeader;
 use quic_base::coding::are_bytes;
 use quic_header_decode::laws::{one_reading, places_cut};
 use quic_header_decode::places::{HeaderKind, HeaderPlaces, ReadError, read_header, read_long};
+use quic_results::laws::distinct;
+use quic_results::results::{Failure, returned};
 
 // The word for a kind.
 #[inline(always)]
@@ -27,19 +30,19 @@ fn kind_word(kind: HeaderKind) -> u8
     }
 }
 
-// The words of a header, and whether its packet is complete (0) or cut off (7).
+// Stores the words of a header, and gives where its packet ends, if it is complete.
 #[inline(always)]
-fn show_header(packet: &[u8], places: HeaderPlaces, head: &mut CHeader) -> u32
+fn show_header(packet: &[u8], places: HeaderPlaces, head: &mut CHeader) -> Result<u32, Failure>
     requires whole { length packet.now < 2 ^ 32 }
     requires placed { ArePlacesWithin places.kind places (length packet.now) }
-    ensures answer { result ≡ answer_word (Ok places) (length packet.now) }
-    ensures few { result ≤ 7 }
+    ensures outcome { result ≡ outcome_of (Ok places) (length packet.now) }
+    ensures other { result ≢ Err Failure.Length }
     ensures words { head.new ≡ header_words packet.now (Ok places) head.old }
 {
     let whole = packet.len();
-    let (end, answer) = match places.packet_end(whole) {
-        Some(end) => (end, 0),
-        None => (whole, 7),
+    let (end, outcome) = match places.packet_end(whole) {
+        Some(end) => (end, Ok(end as u32)),
+        None => (whole, Err(Failure::PacketCut)),
     };
     *head = CHeader {
         kind: kind_word(places.kind),
@@ -53,16 +56,20 @@ fn show_header(packet: &[u8], places: HeaderPlaces, head: &mut CHeader) -> u32
         token_len: (places.token.end - places.token.start) as u32,
         len: places.len,
     };
-    answer
+    outcome
 }
 
-// Stores what was read in words, and answers 0, 7 or the reason.
+// Stores what was read in words, and gives where the packet ends, or why it isn't complete.
 #[inline(always)]
-fn show(packet: &[u8], read: Result<HeaderPlaces, ReadError>, head: &mut CHeader) -> u32
+fn show(
+    packet: &[u8],
+    read: Result<HeaderPlaces, ReadError>,
+    head: &mut CHeader,
+) -> Result<u32, Failure>
     requires whole { length packet.now < 2 ^ 32 }
     requires seen { IsSeen read (length packet.now) }
-    ensures answer { result ≡ answer_word read (length packet.now) }
-    ensures few { result ≤ 7 }
+    ensures outcome { result ≡ outcome_of read (length packet.now) }
+    ensures other { result ≢ Err Failure.Length }
     ensures words { head.new ≡ header_words packet.now read head.old }
 {
     match read {
@@ -86,33 +93,36 @@ fn show(packet: &[u8], read: Result<HeaderPlaces, ReadError>, head: &mut CHeader
                 token_len: 0,
                 len: 0,
             };
-            1
+            Err(Failure::PacketVersion)
         }
-        Err(ReadError::UnexpectedEnd) => 2,
-        Err(ReadError::SmallPacket) => 4,
-        Err(ReadError::MalformedCid) => 5,
-        Err(ReadError::TokenOutOfBounds) => 6,
+        Err(ReadError::UnexpectedEnd) => Err(Failure::PacketEnd),
+        Err(ReadError::SmallPacket) => Err(Failure::PacketSmall),
+        Err(ReadError::MalformedCid) => Err(Failure::PacketId),
+        Err(ReadError::TokenOutOfBounds) => Err(Failure::PacketToken),
     }
 }
 
 // Stores a long header in words. It is a function of its own, so that a short header's caller saves no registers.
 #[inline(never)]
-fn show_long(packet: &[u8], first: u8, versions: &[u32], head: &mut CHeader) -> u32
+fn show_long(packet: &[u8], first: u8, versions: &[u32], head: &mut CHeader) -> i64
     requires whole { length packet.now < 2 ^ 32 }
     requires begins { packet.now ≡ first ∷ drop 1 packet.now }
     requires long { 128 ≤ first }
-    ensures reported { (id_len : ℕ) → Reported id_len versions.now packet.now head.old result head.new }
-    ensures few { result ≤ 7 }
+    ensures reported { (outcome : Result ℕ Failure) × (result ≡ returned outcome)
+        × ((id_len : ℕ) → Reported id_len versions.now packet.now head.old outcome head.new) }
+    ensures other { result ≢ failed Failure.Length }
 {
-    show(packet, read_long(packet, first, versions), head)
+    distinct();
+    returned(show(packet, read_long(packet, first, versions), head))
 }
 
 /// Reads the header of the packet at the front of the bytes, whether the packet is complete or ends after its header.
 /// Ids of short headers have `id_len` bytes; of versions other than `versions` only the ids are read. The fixed bit
-/// isn't looked at. It answers 0 with the header of a complete packet, and the place where that ends; 7 with the header
-/// of a packet that is cut off; 1 with the version and the ids, of up to 255 bytes (RFC 8999, section 5.1), if the
-/// version isn't known; 2, 4, 5 or 6 if the bytes don't begin with a header, by the first field that can't be read; -1
-/// exactly if there are 2^32 bytes or more, or `id_len` is above 20. `head` changes only with 0, 7 and 1.
+/// isn't looked at. It returns where the packet ends, with its header; `PacketCut` with the header of a packet that is
+/// cut off; `PacketVersion` with the version and the ids, of up to 255 bytes (RFC 8999, section 5.1), if the version
+/// isn't known; `PacketEnd`, `PacketSmall`, `PacketId` or `PacketToken` if the bytes don't begin with a header, by the
+/// first field that can't be read; `Length` exactly if there are 2^32 bytes or more, or `id_len` is above 20. `head`
+/// changes only with the first three.
 ///
 /// The fixed bit is in `head.first`. Clients ignore it in a version negotiation (RFC 9000, section 17.2.1).
 #[unsafe(no_mangle)]
@@ -121,31 +131,34 @@ pub extern "C" fn quic_wire_header_read_(
     id_len: u32,
     versions: &[u32],
     head: &mut CHeader,
-) -> i32
-    ensures invalid { (result ≡ negsuc 0) ↔ ((2 ^ 32 ≤ length packet.now) ⊎ (20 < id_len)) }
-    ensures reported { (result ≡ negsuc 0)
-        ⊎ ((answer : ℕ) × (result ≡ pos answer) × Reported id_len versions.now packet.now head.old answer head.new) }
-    ensures same { result ≡ negsuc 0 → head.new ≡ head.old }
-    // Only one answer with its words is right.
-    ensures one { (result ≡ negsuc 0)
-        ⊎ ((answer : ℕ) (words : CHeader) → Reported id_len versions.now packet.now head.old answer words
-        → (result ≡ pos answer) × (head.new ≡ words)) }
-    // The complete packet is the one that is cut from the bytes.
-    ensures whole { result ≡ pos 0
-        → (h : ProtectedHeader) × Cut (any_fixed id_len versions.now) packet.now h head.new.header_end head.new.end }
+) -> i64
+    ensures invalid { (result ≡ failed Failure.Length) ↔ ((2 ^ 32 ≤ length packet.now) ⊎ (20 < id_len)) }
+    ensures reported { (result ≡ failed Failure.Length)
+        ⊎ ((outcome : Result ℕ Failure) × (result ≡ returned outcome)
+        × Reported id_len versions.now packet.now head.old outcome head.new) }
+    ensures same { result ≡ failed Failure.Length → head.new ≡ head.old }
+    // Only one outcome with its words is right.
+    ensures one { (result ≡ failed Failure.Length)
+        ⊎ ((outcome : Result ℕ Failure) (words : CHeader)
+        → Reported id_len versions.now packet.now head.old outcome words
+        → (result ≡ returned outcome) × (head.new ≡ words)) }
+    // A complete packet is the one that is cut from the bytes.
+    ensures whole { (end : ℕ) → result ≡ pos end
+        → (h : ProtectedHeader) × Cut (any_fixed id_len versions.now) packet.now h head.new.header_end end }
 {
+    distinct();
     one_reading();
     places_cut();
     are_bytes(packet);
     if packet.len() > u32::MAX as usize || id_len > 20 {
-        return -1;
+        return i64::from(Failure::Length.number());
     }
     if let Some(first) = packet.first() {
         if *first >= 0x80 {
-            return show_long(packet, *first, versions, head) as i32;
+            return show_long(packet, *first, versions, head);
         }
     }
-    show(packet, read_header(packet, id_len as usize, versions), head) as i32
+    returned(show(packet, read_header(packet, id_len as usize, versions), head))
 }
 
 /// Where the short header at the front of a packet ends, whose id has `id_len` bytes (RFC 9000, section 17.3); 0

@@ -1,13 +1,15 @@
 //! Version negotiation packets, whose ids may have up to 255 bytes (RFC 8999, section 6; RFC 9000, section 17.2.1).
-ghost use Rattle.std.specs.Prelude.{◌≡◌, ◌+◌, ◌*◌, ◌^◌, ◌<◌, ◌≤◌, ◌⊎◌, ◌↔◌, ◌++◌, ℕ, List, length, take, drop, pos, negsuc, IfSome, MatchOption};
+ghost use Rattle.std.specs.Prelude.{◌≡◌, ◌+◌, ◌*◌, ◌^◌, ◌<◌, ◌≤◌, ◌⊎◌, ◌↔◌, ◌++◌, ℕ, List, length, take, drop, pos, Ok, IfSome, MatchOption};
 ghost use Rattle.quic_base.specs.ConnectionId.{long_id};
 ghost use Rattle.quic_c_headers.specs.Reading.{negotiation_bytes, negotiation_words, version_bytes, IsNegotiation};
 ghost use Rattle.quic_c_headers.specs.Reading.{Reported};
+ghost use Rattle.quic_results.specs.Results.{failed};
 
 use crate::words::CHeader;
 use crate::write::first_word;
 use quic_base::coding::{are_bytes, store_array};
 use quic_header_encode::long_type::HeaderKind;
+use quic_results::results::Failure;
 
 // The id at the front of the bytes, after its length, and what follows it.
 #[inline(always)]
@@ -40,28 +42,32 @@ fn ids_of(packet: &[u8]) -> Option<(&[u8], &[u8])>
 }
 
 /// Reads the header of the version negotiation at the front of a packet, whose ids have up to 255 bytes; the versions
-/// are the bytes after the header, up to the packet's end. It answers 0 with the header; -3 exactly if there is none:
-/// the highest bit of the first byte is clear, the version isn't 0, or the bytes end within the ids; -1 exactly if
-/// there are 2^32 bytes or more. `head` changes only with 0. If both ids have at most 20 bytes, the header is the one
-/// that `quic_wire_header_read_` gives.
+/// are the bytes after the header, up to the packet's end. It returns where the packet ends, which is where the bytes
+/// do, with the header; `Kind` exactly if there is none: the highest bit of the first byte is clear, the version isn't
+/// 0, or the bytes end within the ids; `Length` exactly if there are 2^32 bytes or more. `head` changes only with the
+/// first. If both ids have at most 20 bytes, the header is the one that `quic_wire_header_read_` gives.
 #[unsafe(no_mangle)]
-pub extern "C" fn quic_wire_negotiation_read_(packet: &[u8], head: &mut CHeader) -> i32
-    ensures answers { (result ≡ pos 0) ⊎ (result ≡ negsuc 2) ⊎ (result ≡ negsuc 0) }
-    ensures invalid { (result ≡ negsuc 0) ↔ (2 ^ 32 ≤ length packet.now) }
-    ensures read { result ≡ pos 0 → (dst src rest : List ℕ) × IsNegotiation packet.now dst src rest }
-    ensures reported { result ≡ pos 0 → (dst src rest : List ℕ) → IsNegotiation packet.now dst src rest
-        → head.new ≡ negotiation_words packet.now dst src }
-    ensures none { result ≡ negsuc 2 → (dst src rest : List ℕ) → IsNegotiation packet.now dst src rest → ⊥ }
-    ensures same { (result ≡ pos 0) ⊎ (head.new ≡ head.old) }
+pub extern "C" fn quic_wire_negotiation_read_(packet: &[u8], head: &mut CHeader) -> i64
+    ensures returns { (result ≡ pos (length packet.now)) ⊎ (result ≡ failed Failure.Kind)
+        ⊎ (result ≡ failed Failure.Length) }
+    ensures invalid { (result ≡ failed Failure.Length) ↔ (2 ^ 32 ≤ length packet.now) }
+    ensures read { result ≡ pos (length packet.now)
+        → (dst src rest : List ℕ) × IsNegotiation packet.now dst src rest }
+    ensures reported { result ≡ pos (length packet.now) → (dst src rest : List ℕ)
+        → IsNegotiation packet.now dst src rest → head.new ≡ negotiation_words packet.now dst src }
+    ensures none { result ≡ failed Failure.Kind → (dst src rest : List ℕ)
+        → IsNegotiation packet.now dst src rest → ⊥ }
+    ensures same { (result ≡ pos (length packet.now)) ⊎ (head.new ≡ head.old) }
     // It agrees with what is reported for headers of all kinds.
-    ensures agrees { result ≡ pos 0 → head.new.dst_len ≤ 20 → head.new.src_len ≤ 20
-        → (id_len : ℕ) (versions : List ℕ) → Reported id_len versions packet.now head.old 0 head.new }
+    ensures agrees { result ≡ pos (length packet.now) → head.new.dst_len ≤ 20 → head.new.src_len ≤ 20
+        → (id_len : ℕ) (versions : List ℕ)
+        → Reported id_len versions packet.now head.old (Ok (length packet.now)) head.new }
 {
     if packet.len() > u32::MAX as usize {
-        return -1;
+        return i64::from(Failure::Length.number());
     }
     let Some((dst, src)) = ids_of(packet) else {
-        return -3;
+        return i64::from(Failure::Kind.number());
     };
     *head = CHeader {
         kind: 5,
@@ -75,7 +81,7 @@ pub extern "C" fn quic_wire_negotiation_read_(packet: &[u8], head: &mut CHeader)
         token_len: 0,
         len: 0,
     };
-    0
+    packet.len() as i64
 }
 
 // Stores an id after its length, and answers where it ends.
@@ -113,54 +119,56 @@ fn store_versions(dest: &mut [u8], at: usize, versions: &[u32]) -> usize
 
 // Stores the packet at the front, and answers how many bytes it has.
 #[inline(always)]
-fn store_packet(first: u8, dst: &[u8], src: &[u8], versions: &[u32], dest: &mut [u8]) -> usize
+fn store_packet(flags: u8, dst: &[u8], src: &[u8], versions: &[u32], dest: &mut [u8]) -> usize
     requires dst_few { length dst.now ≤ 255 }
     requires src_few { length src.now ≤ 255 }
     requires room { 7 + length dst.now + length src.now + 4 * length versions.now ≤ length dest.old }
     ensures end { result ≡ 7 + length dst.now + length src.now + 4 * length versions.now }
-    ensures wrote { dest.new ≡ negotiation_bytes first dst.now src.now versions.now ++ drop result dest.old }
+    ensures wrote { dest.new ≡ negotiation_bytes flags dst.now src.now versions.now ++ drop result dest.old }
 {
-    let at = store_array(dest, 0, [first_word(HeaderKind::VersionNegotiate, first)]);
+    let at = store_array(dest, 0, [first_word(HeaderKind::VersionNegotiate, flags)]);
     let at = store_array(dest, at, [0; 4]);
     let at = store_id(dest, at, dst);
     let at = store_id(dest, at, src);
     store_versions(dest, at, versions)
 }
 
-/// Writes a version negotiation at the front of `dest`: the first byte, with its highest bit set, version 0, the ids of
-/// the receiver and of the sender, each after its length, and the versions. It answers 0 with how many bytes were
-/// written, and bytes after those don't change; -4 with how many are needed, if `dest` has fewer; -1 exactly if an id
-/// has more than 255 bytes. `dest` changes only with 0, and `written` doesn't change with -1.
+/// Writes a version negotiation at the front of `dest`: the first byte 0xc0, but for the seven low bits that `flags` has,
+/// version 0, the ids of the receiver and of the sender, each after its length, and the versions. It returns 0 with how
+/// many bytes were written, and bytes after those don't change; `NoRoom` with how many are needed, if `dest` has fewer;
+/// `Length` exactly if an id has more than 255 bytes. `dest` changes only with 0, and `written` doesn't change with
+/// `Length`.
 #[unsafe(no_mangle)]
 pub extern "C" fn quic_wire_negotiation_write_(
-    first: u8,
+    flags: u8,
     dst: &[u8],
     src: &[u8],
     versions: &[u32],
     dest: &mut [u8],
     written: &mut usize,
 ) -> i32
-    ensures answers { (result ≡ pos 0) ⊎ (result ≡ negsuc 3) ⊎ (result ≡ negsuc 0) }
-    ensures invalid { (result ≡ negsuc 0) ↔ ((255 < length dst.now) ⊎ (255 < length src.now)) }
+    ensures returns { (result ≡ pos 0) ⊎ (result ≡ failed Failure.NoRoom) ⊎ (result ≡ failed Failure.Length) }
+    ensures invalid { (result ≡ failed Failure.Length) ↔ ((255 < length dst.now) ⊎ (255 < length src.now)) }
     ensures wrote { result ≡ pos 0
-        → dest.new ≡ negotiation_bytes first dst.now src.now versions.now ++ drop written.new dest.old }
-    ensures count { (result ≡ negsuc 0)
-        ⊎ (written.new ≡ length (negotiation_bytes first dst.now src.now versions.now)) }
-    ensures room { result ≡ negsuc 3 → length dest.old < length (negotiation_bytes first dst.now src.now versions.now) }
+        → dest.new ≡ negotiation_bytes flags dst.now src.now versions.now ++ drop written.new dest.old }
+    ensures count { (result ≡ failed Failure.Length)
+        ⊎ (written.new ≡ length (negotiation_bytes flags dst.now src.now versions.now)) }
+    ensures room { result ≡ failed Failure.NoRoom
+        → length dest.old < length (negotiation_bytes flags dst.now src.now versions.now) }
     ensures same { (result ≡ pos 0) ⊎ (dest.new ≡ dest.old) }
-    ensures kept { result ≡ negsuc 0 → written.new ≡ written.old }
+    ensures kept { result ≡ failed Failure.Length → written.new ≡ written.old }
     // It is read back.
     ensures again { result ≡ pos 0
         → IsNegotiation (take written.new dest.new) dst.now src.now (version_bytes versions.now) }
 {
     if dst.len() > 255 || src.len() > 255 {
-        return -1;
+        return Failure::Length.number();
     }
     let needed = 7 + dst.len() + src.len() + 4 * versions.len();
     *written = needed;
     if dest.len() < needed {
-        return -4;
+        return Failure::NoRoom.number();
     }
-    store_packet(first, dst, src, versions, dest);
+    store_packet(flags, dst, src, versions, dest);
     0
 }

@@ -1,13 +1,15 @@
 //! Numbers of variable length, and packet numbers.
-ghost use Rattle.std.specs.Prelude.{◌≡◌, ◌+◌, ◌-◌, ◌*◌, ◌%◌, ◌^◌, ◌<◌, ◌≤◌, ◌⊎◌, ◌↔◌, ◌++◌, ℕ, length, take, drop, pos, negsuc};
+ghost use Rattle.std.specs.Prelude.{◌≡◌, ◌+◌, ◌-◌, ◌*◌, ◌%◌, ◌^◌, ◌<◌, ◌≤◌, ◌⊎◌, ◌↔◌, ◌++◌, ℕ, length, take, drop, pos};
 ghost use Rattle.quic_base.specs.Codec.{NoFront, Takes};
 ghost use Rattle.quic_base.specs.Varint.{Encodes, size};
 ghost use Rattle.quic_crypto.specs.PacketNumbers.{Expands, SizeFor};
 ghost use Rattle.quic_c_headers.specs.Numbers.{encoding_in, CanExpand, CanEncode, IsWidth};
+ghost use Rattle.quic_results.specs.Results.{failed};
 
 use quic_base::coding::store_array;
 use quic_base::varint::{IN_EIGHT, IN_FOUR, IN_TWO, split_var, var_size};
 use quic_crypto::packet_number::PacketNumber;
+use quic_results::results::Failure;
 
 /// Reads the number at the front of the bytes (RFC 9000, section 16), and answers how many bytes it takes; 0 exactly if
 /// the bytes end within it, and then `value` doesn't change.
@@ -69,18 +71,18 @@ pub extern "C" fn quic_wire_varint_write_(value: u64, width: u32, dest: &mut [u8
 
 /// In how many bytes a packet number is written to a receiver that has acknowledged `largest_acked`, chosen as
 /// quinn-proto does: 1 to 4, as twice the distance is below 2^8, 2^16, 2^24 or 2^32. A receiver that expects a number
-/// from `largest_acked` up to the one after `number` finds `number` then (RFC 9000, appendix A.3). It answers -1
+/// from `largest_acked` up to the one after `number` finds `number` then (RFC 9000, appendix A.3). It returns `Number`
 /// exactly if `largest_acked` is above `number`, or 2^31 or more below it.
 #[unsafe(no_mangle)]
 pub extern "C" fn quic_wire_number_len_(number: u64, largest_acked: u64) -> i32
-    ensures invalid { (result ≡ negsuc 0) ↔ ((number < largest_acked) ⊎ (largest_acked + 2 ^ 31 ≤ number)) }
-    ensures chosen { (result ≡ negsuc 0)
+    ensures invalid { (result ≡ failed Failure.Number) ↔ ((number < largest_acked) ⊎ (largest_acked + 2 ^ 31 ≤ number)) }
+    ensures chosen { (result ≡ failed Failure.Number)
         ⊎ ((size : ℕ) × (result ≡ pos size) × (1 ≤ size) × (size ≤ 4) × SizeFor (number - largest_acked) size
         × ((expected m : ℕ) → largest_acked ≤ expected → expected ≤ number + 1
         → Expands (number % 2 ^ (8 * size)) (2 ^ (8 * size)) expected m → m ≡ number)) }
 {
     if number < largest_acked || number - largest_acked >= 1 << 31 {
-        return -1;
+        return Failure::Number.number();
     }
     PacketNumber::new(number, largest_acked).len() as i32
 }

@@ -1,13 +1,15 @@
 //! Puts protection on headers and takes it off, by masks that the caller makes (RFC 9001, section 5.4).
-ghost use Rattle.std.specs.Prelude.{◌≡◌, ◌⊎◌, ◌↔◌, ◌<◌, ◌≤◌, ◌+◌, ◌^◌, ℕ, pos, negsuc, length, slice_index, slice_set, IsTrue};
+ghost use Rattle.std.specs.Prelude.{◌≡◌, ◌⊎◌, ◌↔◌, ◌<◌, ◌≤◌, ◌+◌, ◌^◌, ◌++◌, ℕ, pos, length, take, drop, slice_index, slice_set, IsTrue};
 ghost use Rattle.quic_crypto.specs.Keys.{number_len};
 ghost use Rattle.quic_crypto.specs.PacketNumbers.{number_size};
 ghost use Rattle.quic_header_encode.specs.Writing.{with_len, TakesLen};
 ghost use Rattle.quic_c_headers.specs.Protection.{masked_packet};
 ghost use Rattle.quic_c_headers.specs.Protection.{unmasked_first, unmasked_at, unmasked, GivesNumber, HasNumber, StandsAt};
+ghost use Rattle.quic_results.specs.Results.{failed};
 
 use quic_crypto::packet_number::PacketNumber;
 use quic_header_encode::store::set_len;
+use quic_results::results::Failure;
 
 // Applies a mask to the first byte: to five bits in a short header, to four in a long one.
 #[inline(always)]
@@ -72,12 +74,32 @@ fn has_number(packet: &[u8], place: usize) -> bool
     packet.len() >= 4 && place != 0 && place <= packet.len() - 4
 }
 
+// Takes the protection off the header of a packet whose number begins at a place, gives the whole number, and returns
+// how many bytes it has.
+#[inline(always)]
+fn open_header(
+    packet: &mut [u8],
+    place: usize,
+    mask: &[u8; 5],
+    expected: u64,
+    number: &mut u64,
+) -> i32
+    requires there { HasNumber place (length packet.old) }
+    requires small { expected < 2 ^ 62 }
+    ensures { (count : ℕ) × (result ≡ pos count)
+        × GivesNumber place mask.now expected packet.old packet.new number.new count }
+{
+    let written = unmask(packet, place, mask);
+    *number = written.expand(expected);
+    written.len() as i32
+}
+
 /// Takes the protection off the header of a packet whose number begins at `place`, by the mask that the caller made
 /// from the sample (RFC 9001, section 5.4.1), and gives the whole number, found from the `expected` one (RFC 9000,
-/// appendix A.3). It answers how many bytes the number has: the payload begins after them. It answers -1 exactly if
-/// `expected` is 2^62 or more; -3 exactly if it isn't and the place is 0 or fewer than four bytes follow it. Nothing
-/// changes then; otherwise only the low bits of the first byte, five in a short header and four in a long one, and the
-/// number's bytes change.
+/// appendix A.3). It returns how many bytes the number has: the payload begins after them. It returns `Number` exactly if
+/// `expected` is 2^62 or more; `PacketSmall` exactly if it isn't and the place is 0 or fewer than four bytes follow it.
+/// Nothing changes then; otherwise only the low bits of the first byte, five in a short header and four in a long one,
+/// and the number's bytes change.
 #[unsafe(no_mangle)]
 pub extern "C" fn quic_wire_unprotect_(
     packet: &mut [u8],
@@ -86,38 +108,73 @@ pub extern "C" fn quic_wire_unprotect_(
     expected: u64,
     number: &mut u64,
 ) -> i32
-    ensures opened { (result ≡ negsuc 2) ⊎ (result ≡ negsuc 0)
+    ensures opened { (result ≡ failed Failure.PacketSmall) ⊎ (result ≡ failed Failure.Number)
         ⊎ ((count : ℕ) × (result ≡ pos count)
         × GivesNumber place mask.now expected packet.old packet.new number.new count) }
-    ensures short { (result ≡ negsuc 2) ↔ ((expected < 2 ^ 62) × (HasNumber place (length packet.old) → ⊥)) }
-    ensures invalid { (result ≡ negsuc 0) ↔ (2 ^ 62 ≤ expected) }
-    ensures same { (result ≡ negsuc 2) ⊎ (result ≡ negsuc 0) → (packet.new ≡ packet.old) × (number.new ≡ number.old) }
+    ensures short { (result ≡ failed Failure.PacketSmall) ↔ ((expected < 2 ^ 62) × (HasNumber place (length packet.old) → ⊥)) }
+    ensures invalid { (result ≡ failed Failure.Number) ↔ (2 ^ 62 ≤ expected) }
+    ensures same { (result ≡ failed Failure.PacketSmall) ⊎ (result ≡ failed Failure.Number) → (packet.new ≡ packet.old) × (number.new ≡ number.old) }
 {
     if expected >= 1 << 62 {
-        return -1;
+        return Failure::Number.number();
     }
     if !has_number(packet, place) {
-        return -3;
+        return Failure::PacketSmall.number();
     }
-    let written = unmask(packet, place, mask);
-    *number = written.expand(expected);
-    written.len() as i32
+    open_header(packet, place, mask, expected, number)
+}
+
+/// The same of a packet that doesn't change: its bytes up to the place and the four after it are written to the front of
+/// `dest`, and the protection is taken off there. It returns `NoRoom` exactly if `dest` has fewer bytes than these, and
+/// `quic_wire_unprotect_` would return none of its failures; then and with those nothing changes.
+#[unsafe(no_mangle)]
+pub extern "C" fn quic_wire_unprotect_copy_(
+    packet: &[u8],
+    place: usize,
+    mask: &[u8; 5],
+    expected: u64,
+    dest: &mut [u8],
+    number: &mut u64,
+) -> i32
+    ensures opened { (result ≡ failed Failure.PacketSmall) ⊎ (result ≡ failed Failure.Number)
+        ⊎ (result ≡ failed Failure.NoRoom) ⊎ ((count : ℕ) × (result ≡ pos count)
+        × GivesNumber place mask.now expected (take (place + 4) packet.now ++ drop (place + 4) dest.old) dest.new
+        number.new count) }
+    ensures short { (result ≡ failed Failure.PacketSmall)
+        ↔ ((expected < 2 ^ 62) × (HasNumber place (length packet.now) → ⊥)) }
+    ensures invalid { (result ≡ failed Failure.Number) ↔ (2 ^ 62 ≤ expected) }
+    ensures room { (result ≡ failed Failure.NoRoom)
+        ↔ ((expected < 2 ^ 62) × HasNumber place (length packet.now) × (length dest.old < place + 4)) }
+    ensures same { ((count : ℕ) × (result ≡ pos count)) ⊎ ((dest.new ≡ dest.old) × (number.new ≡ number.old)) }
+{
+    if expected >= 1 << 62 {
+        return Failure::Number.number();
+    }
+    if !has_number(packet, place) {
+        return Failure::PacketSmall.number();
+    }
+    let end = place + 4;
+    if dest.len() < end {
+        return Failure::NoRoom.number();
+    }
+    dest[..end].copy_from_slice(&packet[..end]);
+    open_header(dest, place, mask, expected, number)
 }
 
 /// Puts the protection on the header of a packet whose payload is sealed and whose number begins at `place`, by the
-/// mask that the caller made from the sample (RFC 9001, section 5.4.1), and answers how many bytes the number has. It
-/// answers -3 exactly if the place is 0 or fewer than four bytes follow it, and then nothing changes. Taking the
-/// protection off by the same mask gives the bytes that were there.
+/// mask that the caller made from the sample (RFC 9001, section 5.4.1), and returns how many bytes the number has. It
+/// returns `PacketSmall` exactly if the place is 0 or fewer than four bytes follow it, and then nothing changes. Taking
+/// the protection off by the same mask gives the bytes that were there.
 #[unsafe(no_mangle)]
 pub extern "C" fn quic_wire_protect_(packet: &mut [u8], place: usize, mask: &[u8; 5]) -> i32
-    ensures answers { (result ≡ negsuc 2) ⊎ (result ≡ pos (number_len (slice_index packet.old 0))) }
-    ensures protected { (result ≡ negsuc 2) ⊎ (packet.new ≡ masked_packet place mask.now packet.old) }
-    ensures back { (result ≡ negsuc 2) ⊎ (unmasked place mask.now packet.new ≡ packet.old) }
-    ensures short { (result ≡ negsuc 2) ↔ (HasNumber place (length packet.old) → ⊥) }
-    ensures same { result ≡ negsuc 2 → packet.new ≡ packet.old }
+    ensures answers { (result ≡ failed Failure.PacketSmall) ⊎ (result ≡ pos (number_len (slice_index packet.old 0))) }
+    ensures protected { (result ≡ failed Failure.PacketSmall) ⊎ (packet.new ≡ masked_packet place mask.now packet.old) }
+    ensures back { (result ≡ failed Failure.PacketSmall) ⊎ (unmasked place mask.now packet.new ≡ packet.old) }
+    ensures short { (result ≡ failed Failure.PacketSmall) ↔ (HasNumber place (length packet.old) → ⊥) }
+    ensures same { result ≡ failed Failure.PacketSmall → packet.new ≡ packet.old }
 {
     if !has_number(packet, place) {
-        return -3;
+        return Failure::PacketSmall.number();
     }
     let count = PacketNumber::decode_len(packet[0]);
     mask_first(packet, mask);
@@ -126,12 +183,12 @@ pub extern "C" fn quic_wire_protect_(packet: &mut [u8], place: usize, mask: &[u8
 }
 
 /// Sets the length in the header of a packet whose number begins at `place` to the count of bytes from there on. The
-/// length is in the `length_len` bytes before the place, 2 or 4 (RFC 9000, section 17.2). It answers 0; -1 exactly if
-/// `length_len` is another number, there is no such place, or there are 2^14 (with 2) or 2^30 (with 4) bytes or more,
+/// length is in the `length_len` bytes before the place, 2 or 4 (RFC 9000, section 17.2). It returns 0; `Length` exactly
+/// if `length_len` is another number, there is no such place, or there are 2^14 (with 2) or 2^30 (with 4) bytes or more,
 /// and then nothing changes.
 #[unsafe(no_mangle)]
 pub extern "C" fn quic_wire_set_len_(packet: &mut [u8], place: usize, length_len: u32) -> i32
-    ensures answers { (result ≡ pos 0) ⊎ (result ≡ negsuc 0) }
+    ensures answers { (result ≡ pos 0) ⊎ (result ≡ failed Failure.Length) }
     ensures set { result ≡ pos 0 → packet.new ≡ with_len length_len place packet.old }
     ensures taken { (result ≡ pos 0) ↔ TakesLen length_len place (length packet.old) }
     ensures same { (result ≡ pos 0) ⊎ (packet.new ≡ packet.old) }
@@ -139,6 +196,6 @@ pub extern "C" fn quic_wire_set_len_(packet: &mut [u8], place: usize, length_len
     if set_len(packet, place, length_len as usize) {
         0
     } else {
-        -1
+        Failure::Length.number()
     }
 }

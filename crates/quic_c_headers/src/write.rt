@@ -1,5 +1,5 @@
 //! Writes headers from words into the caller's bytes.
-ghost use Rattle.std.specs.Prelude.{◌≡◌, ◌≢◌, ◌+◌, ◌-◌, ◌*◌, ◌/◌, ◌%◌, ◌^◌, ◌<◌, ◌≤◌, ◌⊎◌, ◌↔◌, ◌++◌, ℕ, [], IsTrue, length, take, drop, replicate, pos, negsuc};
+ghost use Rattle.std.specs.Prelude.{◌≡◌, ◌≢◌, ◌+◌, ◌-◌, ◌*◌, ◌/◌, ◌%◌, ◌^◌, ◌<◌, ◌≤◌, ◌⊎◌, ◌↔◌, ◌++◌, ℕ, [], IsTrue, length, take, drop, replicate};
 ghost use Rattle.quic_base.specs.Number.{bytes_of};
 ghost use Rattle.quic_crypto.specs.PacketNumbers.{IsInRange};
 ghost use Rattle.quic_header_encode.specs.declared.long_type.HeaderKind.TheVariants as kind;
@@ -8,7 +8,8 @@ ghost use Rattle.quic_header_encode.specs.Writing.{token_by, type_bits, IsTyped}
 ghost use Rattle.quic_header_encode.specs.Kinds.{long_front};
 ghost use Rattle.quic_c_headers.specs.Headers.{part_of};
 ghost use Rattle.quic_c_headers.specs.Headers.{first_word, short_size, word_of, worded_bytes, AreParts, HasShortRoom, IsNumbered, IsShaped, StoresShort};
-ghost use Rattle.quic_c_headers.specs.Headers.{PacketHeaderNeedsMore, DescribesNoHeader, WrotePacketHeader};
+ghost use Rattle.quic_c_headers.specs.Headers.{HasPossibleNumbers, IsReason, WritesHeader};
+ghost use Rattle.quic_results.specs.Results.{failed};
 
 use crate::words::HeaderFields;
 use quic_base::coding::store_array;
@@ -18,6 +19,7 @@ use quic_header_encode::long_type::HeaderKind;
 use quic_header_encode::store::{
     Exact, HeaderRef, StoredId, store_long_start, store_no_length, store_short, store_token,
 };
+use quic_results::results::Failure;
 
 // Whether a header of the kind can have this number and these sizes of the number and the length.
 #[inline(always)]
@@ -49,6 +51,29 @@ fn is_shaped(words: &HeaderFields, dst: &[u8], src: &[u8], token: &[u8]) -> bool
         && (words.kind >= 4 || words.version != 0)
         && is_numbered(words)
         && are_parts(words.kind, dst, src, token)
+}
+
+// Whether the version and the number are possible in a header of the kind, if it has them.
+fn has_possible_numbers(words: &HeaderFields) -> bool
+    requires { words.now.kind ≤ 5 }
+    ensures { IsTrue result ↔ HasPossibleNumbers words.now }
+{
+    (words.kind >= 4 || words.version != 0)
+        && (words.kind == 3 || words.kind == 5 || words.number < 1 << 62)
+}
+
+// Why no header with these words can be written, if none can.
+#[inline(never)]
+fn why_not(words: &HeaderFields) -> Failure
+    ensures { IsReason words.now result }
+{
+    if words.kind > 5 {
+        Failure::Kind
+    } else if has_possible_numbers(words) {
+        Failure::Length
+    } else {
+        Failure::Number
+    }
 }
 
 // The sender's id, if the header has one.
@@ -92,7 +117,7 @@ pub(crate) fn first_word(kind: HeaderKind, flags: u8) -> u8
     let clear = 64 * (flags / 64 % 2);
     match kind {
         HeaderKind::Short => 64 - clear + 32 * (flags / 32 % 2) + 4 * (flags / 4 % 2),
-        HeaderKind::VersionNegotiate => 128 | (flags % 128),
+        HeaderKind::VersionNegotiate => 128 | (64 ^ (flags % 128)),
         _ => 192 - clear,
     }
 }
@@ -147,25 +172,21 @@ fn store_short_covered(words: &HeaderFields, dst: &[u8], dest: &mut [u8]) -> usi
 }
 
 /// Writes the short header that the words describe, with the receiver's id, at the front of `dest`, as
-/// `quic_wire_header_write_` does but in fewer instructions, and answers how many bytes it has. It answers -4 if `dest`
-/// has fewer; -1 exactly if the words describe no short header that can be written: the kind isn't 4, the id has more
-/// than 20 bytes, the number is 2^62 or more, or the number isn't written in 1 to 4 bytes. Bytes after the header don't
-/// change, and none changes if nothing is written.
+/// `quic_wire_header_write_` does but in fewer instructions. It returns `Kind` for another kind, and then nothing changes.
 #[unsafe(no_mangle)]
 pub extern "C" fn quic_wire_short_write_(words: &HeaderFields, dst: &[u8], dest: &mut [u8]) -> i64
-    ensures wrote { (result ≡ negsuc 3) ⊎ (result ≡ negsuc 0) ⊎ ((count : ℕ) × (result ≡ pos count)
-        × WrotePacketHeader words.now dst.now [] [] dest.old dest.new count) }
-    ensures room { result ≡ negsuc 3 → PacketHeaderNeedsMore words.now dst.now [] [] (length dest.old) }
-    ensures refused { result ≡ negsuc 0 → (words.now.kind ≢ 4) ⊎ DescribesNoHeader words.now dst.now [] [] }
-    ensures short { (result ≡ negsuc 0) ⊎ (words.now.kind ≡ 4) }
-    ensures same { (result ≡ negsuc 3) ⊎ (result ≡ negsuc 0) → dest.new ≡ dest.old }
+    ensures short { words.now.kind ≡ 4 → WritesHeader words.now dst.now [] [] dest.old result dest.new }
+    ensures other { words.now.kind ≢ 4 → (result ≡ failed Failure.Kind) × (dest.new ≡ dest.old) }
 {
-    if words.kind != 4 || !is_shaped(words, dst, &[], &[]) {
-        return -1;
+    if words.kind != 4 {
+        return i64::from(Failure::Kind.number());
+    }
+    if !is_shaped(words, dst, &[], &[]) {
+        return i64::from(why_not(words).number());
     }
     let behind_first = dst.len() + words.number_len as usize;
     if dest.len() <= behind_first {
-        return -4;
+        return i64::from(Failure::NoRoom.number());
     }
     if behind_first < 4 {
         return store_short_parts(words, dst, dest) as i64;
@@ -273,14 +294,10 @@ fn write_as(
     dest: &mut [u8],
 ) -> i64
     requires kind { word_of (row kind) ≡ words.now.kind }
-    ensures wrote { (result ≡ negsuc 3) ⊎ (result ≡ negsuc 0) ⊎ ((count : ℕ) × (result ≡ pos count)
-        × WrotePacketHeader words.now dst.now src.now token.now dest.old dest.new count) }
-    ensures room { result ≡ negsuc 3 → PacketHeaderNeedsMore words.now dst.now src.now token.now (length dest.old) }
-    ensures refused { result ≡ negsuc 0 → DescribesNoHeader words.now dst.now src.now token.now }
-    ensures same { (result ≡ negsuc 3) ⊎ (result ≡ negsuc 0) → dest.new ≡ dest.old }
+    ensures { WritesHeader words.now dst.now src.now token.now dest.old result dest.new }
 {
     if !is_shaped(words, dst, src, token) {
-        return -1;
+        return i64::from(why_not(words).number());
     }
     let number = written_part(words.number, words.number_len);
     let source = source_of(words.kind, src);
@@ -296,7 +313,7 @@ fn write_as(
         length_len: stored_length_len(words),
     };
     if !head.fits(dest.len()) {
-        return -4;
+        return i64::from(Failure::NoRoom.number());
     }
     if kind.has_len() {
         store_numbered(kind, words, dst, src, own, dest) as i64
@@ -306,13 +323,13 @@ fn write_as(
 }
 
 /// Writes the header that the words describe, with the ids of the receiver and of the sender and the token,
-/// unprotected, at the front of `dest` (RFC 9000, section 17), and answers how many bytes it has; a number is at their
+/// unprotected, at the front of `dest` (RFC 9000, section 17), and returns how many bytes it has; a number is at their
 /// end. The length of an Initial, 0-RTT or Handshake packet is 0, until `quic_wire_set_len_`. What the kind lacks isn't
-/// looked at. Bytes after the header don't change. It answers -4 if `dest` has fewer bytes; -1 exactly if the arguments
-/// describe no header that can be written: a kind above 5, an id of more than 20 bytes, a number of 2^62 or more or one
-/// that isn't written in 1 to 4 bytes, a length of other than 2 or 4 bytes, a token of 2^62 bytes or more, or version 0
-/// in an Initial, 0-RTT, Handshake or Retry header, which would be a version negotiation (RFC 9000, section 17.2.1).
-/// Nothing changes then. A version negotiation is written with any low bits of its first byte.
+/// looked at. Bytes after the header don't change. It returns `NoRoom` if `dest` has fewer bytes; `Kind` for a kind above
+/// 5; `Number` for a number of 2^62 or more, or version 0 in an Initial, 0-RTT, Handshake or Retry header, which would be
+/// a version negotiation (RFC 9000, section 17.2.1); `Length` for an id of more than 20 bytes, a number that isn't
+/// written in 1 to 4 bytes, a length of other than 2 or 4 bytes, or a token of 2^62 bytes or more. Nothing changes then.
+/// With flags of 0 the first byte is what RFC 9000 has.
 #[unsafe(no_mangle)]
 pub extern "C" fn quic_wire_header_write_(
     words: &HeaderFields,
@@ -321,11 +338,7 @@ pub extern "C" fn quic_wire_header_write_(
     token: &[u8],
     dest: &mut [u8],
 ) -> i64
-    ensures wrote { (result ≡ negsuc 3) ⊎ (result ≡ negsuc 0) ⊎ ((count : ℕ) × (result ≡ pos count)
-        × WrotePacketHeader words.now dst.now src.now token.now dest.old dest.new count) }
-    ensures room { result ≡ negsuc 3 → PacketHeaderNeedsMore words.now dst.now src.now token.now (length dest.old) }
-    ensures refused { result ≡ negsuc 0 → DescribesNoHeader words.now dst.now src.now token.now }
-    ensures same { (result ≡ negsuc 3) ⊎ (result ≡ negsuc 0) → dest.new ≡ dest.old }
+    ensures { WritesHeader words.now dst.now src.now token.now dest.old result dest.new }
 {
     match words.kind {
         0 => write_as(HeaderKind::Initial, words, dst, src, token, dest),
@@ -334,6 +347,6 @@ pub extern "C" fn quic_wire_header_write_(
         3 => write_as(HeaderKind::Retry, words, dst, src, token, dest),
         4 => write_as(HeaderKind::Short, words, dst, src, token, dest),
         5 => write_as(HeaderKind::VersionNegotiate, words, dst, src, token, dest),
-        _ => -1,
+        _ => i64::from(why_not(words).number()),
     }
 }

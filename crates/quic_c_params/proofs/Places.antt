@@ -36,3 +36,20 @@ gives_entry list value rest id t =
           (subst (λ (r : List ℕ). Takes (IsEntry id value) list r) (sym left) t);
       within = omega (arith, long);
     }
+
+-- the entry ends where its value does
+pub entry_end : (list value rest : List ℕ) (id : ℕ) → Takes (IsEntry id value) list rest
+    → length list - length rest - length value + length value ≡ length list - length rest
+entry_end list value rest id t =
+    let f = t.is in
+    let g = f.second in
+    let whole : list ≡ (f.front ++ (g.front ++ value)) ++ rest =
+    t.split
+    ∙ ap (λ l. l ++ rest) (f.whole ∙ ap (λ l. f.front ++ l) (g.whole ∙ ap (λ l. g.front ++ l) g.second)) in
+    omega (
+      arith,
+      ap length whole,
+      length-append (f.front ++ (g.front ++ value)) rest,
+      length-append f.front (g.front ++ value),
+      length-append g.front value,
+    )

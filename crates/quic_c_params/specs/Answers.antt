@@ -8,16 +8,18 @@ use Rattle.quic_params.specs.declared.error.Error.TheVariants.{IllegalValue, Mal
 use Rattle.quic_params.specs.declared.record.TransportParameters.{TransportParameters}
 use Rattle.quic_c_params.specs.declared.words.CParams.{CParams}
 use Rattle.quic_c_params.specs.Shown.{params_words}
+use Rattle.quic_results.specs.declared.results.Failure.{Failure}
+use Rattle.quic_results.specs.declared.results.Failure.TheVariants as failure
 
 -- the word of a side
 abbrev pub IsSide : ℕ → Side → Type 0
 IsSide word Client = word ≡ 0
 IsSide word Server = word ≡ 1
 
--- the number of a reason
-abbrev pub reason_word_of : Error → ℕ
-reason_word_of Malformed = 1
-reason_word_of IllegalValue = 2
+-- what is returned for an error
+abbrev pub failure_of : Error → Failure
+failure_of Malformed = failure.ParametersMalformed
+failure_of IllegalValue = failure.ParametersIllegal
 
 -- The side takes the list, and the words of its record were given.
 pub record GivesParams (side : ℕ) (bytes : List ℕ) (new : CParams) : Type 0 where
@@ -27,10 +29,8 @@ pub record GivesParams (side : ℕ) (bytes : List ℕ) (new : CParams) : Type 0 
   pub answer : IsReadAnswer reader bytes (Ok params)
   pub words : new ≡ params_words params
 
--- The side refuses the list, and why was reported; no other word changes.
-pub record GivesRefusal (side : ℕ) (bytes : List ℕ) (old new : CParams) : Type 0 where
+-- The side refuses the list with this error.
+pub record RefusesList (side : ℕ) (bytes : List ℕ) (error : Error) : Type 0 where
   pub reader : Side
   pub is_side : IsSide side reader
-  pub reason : Error
-  pub answer : IsReadAnswer reader bytes (Err reason)
-  pub words : new ≡ record old { reason = reason_word_of reason }
+  pub answer : IsReadAnswer reader bytes (Err error)

@@ -92,7 +92,7 @@ present_in params =
 abbrev pub params_words : TransportParameters → CParams
 params_words params = record {
   present = bits (present_in params);
-  reason = 0;
+  reserved = 0;
   max_idle_timeout = params.max_idle_timeout;
   max_udp_payload_size = params.max_udp_payload_size;
   initial_max_data = params.initial_max_data;

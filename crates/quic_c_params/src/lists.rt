@@ -1,5 +1,5 @@
 //! A list of transport parameters with further entries among those of a record.
-ghost use Rattle.std.specs.Prelude.{◌≡◌, ◌⊎◌, ◌+◌, ◌*◌, ◌<◌, ◌≤◌, ◌^◌, ◌++◌, ◌↔◌, ℕ, List, [], get_or, length, take, drop, pos, negsuc, IfOk, IfErr, IfSome, IsNone, OnErr};
+ghost use Rattle.std.specs.Prelude.{◌≡◌, ◌⊎◌, ◌+◌, ◌*◌, ◌<◌, ◌≤◌, ◌^◌, ◌++◌, ◌↔◌, ℕ, List, [], get_or, length, take, drop, pos, IfOk, IfErr, IfSome, IsNone, OnErr};
 ghost use Rattle.std.specs.List.{flat_map};
 ghost use Rattle.quic_params.specs.Entry.{Entry};
 ghost use Rattle.quic_params.specs.Further.{AreInOrder, IsOrderOf, asked, listed, encoded_entries};
@@ -8,6 +8,7 @@ ghost use Rattle.quic_params.specs.Table.{parameter_count};
 ghost use Rattle.quic_params.specs.Writing.{shortest_entry, written_for};
 ghost use Rattle.quic_params.specs.declared.record.TransportParameters.{TransportParameters};
 ghost use Rattle.quic_c_params.specs.Lists.{CanList, IsFurther, StoresBytes, ListNeedsMore, DescribesNoList, WroteList};
+ghost use Rattle.quic_results.specs.Results.{failed};
 
 use crate::further::{ROWS, count_further, index_at, is_order, nth};
 use crate::read::side_of;
@@ -17,6 +18,7 @@ use quic_params::laws;
 use quic_params::transport_parameters::{
     TransportParameterId, TransportParameters, write_entry_into,
 };
+use quic_results::results::Failure;
 
 // The parameter of a row.
 fn row_at(index: usize) -> TransportParameterId
@@ -131,10 +133,10 @@ fn store_list(
 /// `further` is a list of entries that no record has, none of them twice, as `quic_wire_param_write_` writes them. The
 /// rows of the table (quinn-proto's `SUPPORTED`) have the numbers 0 to 20, and the further entries those from 21 on,
 /// 235 at most; `order` has each of these numbers once, or is empty, and then the entries are in the order of their
-/// numbers. It answers 0 with how many bytes were written, and the bytes after them don't change: reading them for this
-/// side gives the same words. It answers -4 with how many bytes are needed if `dest` has fewer; -1 where
-/// `quic_wire_params_write_` does, or if `further` or `order` aren't such, or `further` has 2^40 bytes or more. `dest`
-/// changes with 0 alone, and `written` not with -1.
+/// numbers. It returns 0 with how many bytes were written, and the bytes after them don't change: reading them for this
+/// side gives the same words. It returns `NoRoom` with how many bytes are needed if `dest` has fewer; `Kind` exactly if
+/// `side` is above 1; `Parameter` where `quic_wire_params_write_` does, or if `further` or `order` aren't such, or
+/// `further` has 2^40 bytes or more. `dest` changes only with 0, and `written` only with 0 and `NoRoom`.
 #[unsafe(no_mangle)]
 pub extern "C" fn quic_wire_params_write_with_(
     side: u32,
@@ -144,29 +146,33 @@ pub extern "C" fn quic_wire_params_write_with_(
     dest: &mut [u8],
     written: &mut usize,
 ) -> i32
-    ensures answers { (result ≡ pos 0) ⊎ (result ≡ negsuc 3) ⊎ (result ≡ negsuc 0) }
+    ensures returns { (result ≡ pos 0) ⊎ (result ≡ failed Failure.NoRoom) ⊎ (result ≡ failed Failure.Kind)
+        ⊎ (result ≡ failed Failure.Parameter) }
     ensures wrote { result ≡ pos 0
         → WroteList side words.now further.now order.now dest.old dest.new written.new }
-    ensures room { result ≡ negsuc 3 → ListNeedsMore side words.now further.now order.now dest.old written.new }
-    ensures refused { result ≡ negsuc 0 → DescribesNoList side words.now further.now order.now }
+    ensures room { result ≡ failed Failure.NoRoom
+        → ListNeedsMore side words.now further.now order.now dest.old written.new }
+    ensures side { (result ≡ failed Failure.Kind) ↔ (1 < side) }
+    ensures refused { result ≡ failed Failure.Parameter → DescribesNoList side words.now further.now order.now }
     ensures same { (result ≡ pos 0) ⊎ (dest.new ≡ dest.old) }
-    ensures same_count { result ≡ negsuc 0 → written.new ≡ written.old }
+    ensures kept { (result ≡ failed Failure.Kind) ⊎ (result ≡ failed Failure.Parameter)
+        → written.new ≡ written.old }
 {
     let Some(reader) = side_of(side) else {
-        return -1;
+        return Failure::Kind.number();
     };
     let Some(params) = described(reader, words) else {
-        return -1;
+        return Failure::Parameter.number();
     };
     let Some(count) = count_entries(further, order) else {
-        return -1;
+        return Failure::Parameter.number();
     };
     laws::further();
     params.type_bounds();
     let len = list_len(&params, further, count, order);
     *written = len;
     if dest.len() < len {
-        return -4;
+        return Failure::NoRoom.number();
     }
     store_list(&params, further, count, order, dest);
     0

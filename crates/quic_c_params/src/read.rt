@@ -1,11 +1,13 @@
 //! Reads a list of transport parameters into a struct of words.
-ghost use Rattle.std.specs.Prelude.{◌≡◌, ◌⊎◌, ◌↔◌, ◌<◌, pos, negsuc, MatchOption};
-ghost use Rattle.quic_c_params.specs.Answers.{IsSide, reason_word_of, GivesParams, GivesRefusal};
+ghost use Rattle.std.specs.Prelude.{◌≡◌, ◌⊎◌, ◌<◌, pos, MatchOption};
+ghost use Rattle.quic_c_params.specs.Answers.{IsSide, failure_of, GivesParams, RefusesList};
+ghost use Rattle.quic_results.specs.Results.{failed};
 
 use crate::show::show;
 use crate::words::CParams;
 use quic_base::ids::Side;
 use quic_params::transport_parameters::{Error, TransportParameters};
+use quic_results::results::Failure;
 
 // The side of a word.
 pub(crate) fn side_of(word: u32) -> Option<Side>
@@ -18,35 +20,34 @@ pub(crate) fn side_of(word: u32) -> Option<Side>
     }
 }
 
-// The number of a reason.
-fn reason_word_of(error: Error) -> u32
-    ensures { result ≡ reason_word_of error }
+// What is returned for an error.
+fn failure_of(error: Error) -> Failure
+    ensures { result ≡ failure_of error }
 {
     match error {
-        Error::Malformed => 1,
-        Error::IllegalValue => 2,
+        Error::Malformed => Failure::ParametersMalformed,
+        Error::IllegalValue => Failure::ParametersIllegal,
     }
 }
 
 /// Reads a list of transport parameters that a side got from its peer, to the list's end (RFC 9000, sections 7.4 and
-/// 18): `side` is 0 if a client reads the list of a server, 1 if a server reads that of a client. It answers 0 with
-/// the words of the record: numbers that are not in the list have their defaults, and other values that are absent are
-/// 0 in all of their words and bytes, without a bit. It answers -3 with the reason in `out.reason`, and no other word
-/// changes, exactly if the side refuses the list: 1 malformed, if the first entry that is refused is cut off, has an
-/// invalid value, or is a repeat; 2 an illegal value. It answers -1 exactly if `side` is above 1, and nothing changes.
+/// 18): `side` is 0 if a client reads the list of a server, 1 if a server reads that of a client. It returns 0 with the
+/// words of the record: numbers that are not in the list have their defaults, and other values that are absent are 0 in
+/// all of their words and bytes, without a bit. It returns `ParametersMalformed` if the first entry that the side
+/// refuses is cut off, has an invalid value, or is a repeat, and `ParametersIllegal` if it refuses a value; `Kind`
+/// exactly if `side` is above 1. Nothing changes then.
 ///
 /// An integer with a default in a longer encoding than its shortest is an invalid value, though RFC 9000, section 16,
 /// allows it; `max_datagram_frame_size` and `min_ack_delay` may be in any encoding.
 #[unsafe(no_mangle)]
 pub extern "C" fn quic_wire_params_read_(side: u32, bytes: &[u8], out: &mut CParams) -> i32
-    ensures answers { (result ≡ pos 0) ⊎ (result ≡ negsuc 2) ⊎ (result ≡ negsuc 0) }
-    ensures params { result ≡ pos 0 → GivesParams side bytes.now out.new }
-    ensures refused { result ≡ negsuc 2 → GivesRefusal side bytes.now out.old out.new }
-    ensures invalid { (result ≡ negsuc 0) ↔ (1 < side) }
-    ensures same { result ≡ negsuc 0 → out.new ≡ out.old }
+    ensures { (result ≡ pos 0) × GivesParams side bytes.now out.new
+        ⊎ (result ≡ failed Failure.Kind) × (1 < side) × (out.new ≡ out.old)
+        ⊎ ((error : Error) × (result ≡ failed (failure_of error)) × RefusesList side bytes.now error
+        × (out.new ≡ out.old)) }
 {
     let Some(reader) = side_of(side) else {
-        return -1;
+        return Failure::Kind.number();
     };
     let mut rest = bytes;
     match TransportParameters::read(reader, &mut rest) {
@@ -54,9 +55,6 @@ pub extern "C" fn quic_wire_params_read_(side: u32, bytes: &[u8], out: &mut CPar
             *out = show(&params);
             0
         }
-        Err(error) => {
-            out.reason = reason_word_of(error);
-            -3
-        }
+        Err(error) => failure_of(error).number(),
     }
 }

@@ -152,7 +152,7 @@ pub(crate) fn show(p: &TransportParameters) -> CParams
     let preferred_id = id_in(address);
     CParams {
         present: present(p),
-        reason: 0,
+        reserved: 0,
         max_idle_timeout: p.max_idle_timeout.into_inner(),
         max_udp_payload_size: p.max_udp_payload_size.into_inner(),
         initial_max_data: p.initial_max_data.into_inner(),

@@ -9,8 +9,8 @@ pub struct CParams {
     /// 2 `max_datagram_frame_size`, 3 a preferred address, 4 its address of IPv4, 5 that of IPv6,
     /// 6 `original_dst_cid`, 7 `initial_src_cid`, 8 `retry_src_cid`, 9 `grease_quic_bit`, 10 `min_ack_delay`.
     pub present: u32,
-    /// Of a refused list: 1 malformed, 2 an illegal value. Of parameters: 0.
-    pub reason: u32,
+    /// 0.
+    pub reserved: u32,
     /// In milliseconds; 0 means no limit.
     pub max_idle_timeout: u64,
     /// In bytes, at least 1200.

@@ -1,5 +1,5 @@
 //! Writes a struct of words as a list of transport parameters.
-ghost use Rattle.std.specs.Prelude.{◌≡◌, ◌⊎◌, ◌<◌, ◌≤◌, ◌^◌, ℕ, List, Bool, Option, pos, negsuc, length, IsTrue, ◌↔◌, IfSome, IsNone, is_some, None, Ok};
+ghost use Rattle.std.specs.Prelude.{◌≡◌, ◌⊎◌, ◌<◌, ◌≤◌, ◌^◌, ℕ, List, Bool, Option, pos, length, IsTrue, ◌↔◌, IfSome, IsNone, is_some, None, Ok};
 ghost use Rattle.std.specs.declared.net.socket_addr.SocketAddrV4.{SocketAddrV4};
 ghost use Rattle.std.specs.declared.net.socket_addr.SocketAddrV6.{SocketAddrV6};
 ghost use Rattle.quic_base.specs.declared.ids.Side.{Side};
@@ -9,6 +9,7 @@ ghost use Rattle.quic_params.specs.Writing.{written};
 ghost use Rattle.quic_params.specs.declared.record.TransportParameters.{TransportParameters};
 ghost use Rattle.quic_c_params.specs.Shown.{flag_bit, bits, present_in, number_word, reset_token_of, padded, id_of, len_of, octets_of_v4, port_of_v4, octets_of_v6, port_of_v6, params_words};
 ghost use Rattle.quic_c_params.specs.Written.{DescribesParams, CanWriteParams, WroteParams, ParamsNeedMore, DescribesNoParams, HasFlags};
+ghost use Rattle.quic_results.specs.Results.{failed};
 
 use crate::read::side_of;
 use crate::show::show;
@@ -17,6 +18,7 @@ use quic_base::ids::{ConnectionId, ResetToken, Side};
 use quic_base::varint::VarInt;
 use quic_params::laws;
 use quic_params::transport_parameters::{PreferredAddress, TransportParameters};
+use quic_results::results::Failure;
 use std::net::{Ipv4Addr, Ipv6Addr, SocketAddrV4, SocketAddrV6};
 
 // The lowest bit, and the others.
@@ -221,11 +223,12 @@ pub(crate) fn described(side: Side, words: &CParams) -> Option<TransportParamete
 
 /// Writes the list of the parameters in a struct at the front of `dest`, those that differ from their defaults and
 /// those that are present, each in its least widths (RFC 9000, section 18): `side` is 0 if a client is to read it, 1 if
-/// a server is. It answers 0 with how many bytes were written, and the bytes after them don't change: reading them for
-/// this side gives the same words. It answers -4 with how many bytes are needed if `dest` has fewer; -1 if `side` is
-/// above 1, or if the side wouldn't read the struct back: a number is out of range, a bit or a byte of an absent value
-/// is not 0, an id is longer than 20 bytes, a value is there that only servers send, an address is unspecified with
-/// port 0, or a preferred address has no address or no id. `dest` changes with 0 alone, and `written` not with -1.
+/// a server is. It returns 0 with how many bytes were written, and the bytes after them don't change: reading them for
+/// this side gives the same words. It returns `NoRoom` with how many bytes are needed if `dest` has fewer; `Kind` exactly
+/// if `side` is above 1; `Parameter` if the side wouldn't read the struct back: a number is out of range, a bit or a byte
+/// of an absent value is not 0, an id is longer than 20 bytes, a value is there that only servers send, an address is
+/// unspecified with port 0, or a preferred address has no address or no id. `dest` changes only with 0, and `written`
+/// only with 0 and `NoRoom`.
 #[unsafe(no_mangle)]
 pub extern "C" fn quic_wire_params_write_(
     side: u32,
@@ -233,17 +236,21 @@ pub extern "C" fn quic_wire_params_write_(
     dest: &mut [u8],
     written: &mut usize,
 ) -> i32
-    ensures answers { (result ≡ pos 0) ⊎ (result ≡ negsuc 3) ⊎ (result ≡ negsuc 0) }
+    ensures returns { (result ≡ pos 0) ⊎ (result ≡ failed Failure.NoRoom) ⊎ (result ≡ failed Failure.Kind)
+        ⊎ (result ≡ failed Failure.Parameter) }
     ensures wrote { result ≡ pos 0 → WroteParams side words.now dest.old dest.new written.new }
-    ensures room { result ≡ negsuc 3 → ParamsNeedMore side words.now dest.old written.new }
-    ensures refused { result ≡ negsuc 0 → DescribesNoParams side words.now × (written.new ≡ written.old) }
+    ensures room { result ≡ failed Failure.NoRoom → ParamsNeedMore side words.now dest.old written.new }
+    ensures side { (result ≡ failed Failure.Kind) ↔ (1 < side) }
+    ensures refused { result ≡ failed Failure.Parameter → DescribesNoParams side words.now }
+    ensures kept { (result ≡ failed Failure.Kind) ⊎ (result ≡ failed Failure.Parameter)
+        → written.new ≡ written.old }
     ensures same { (result ≡ pos 0) ⊎ (dest.new ≡ dest.old) }
 {
     let Some(reader) = side_of(side) else {
-        return -1;
+        return Failure::Kind.number();
     };
     let Some(params) = described(reader, words) else {
-        return -1;
+        return Failure::Parameter.number();
     };
     match params.write_into(dest) {
         Ok(n) => {
@@ -252,7 +259,7 @@ pub extern "C" fn quic_wire_params_write_(
         }
         Err(n) => {
             *written = n;
-            -4
+            Failure::NoRoom.number()
         }
     }
 }

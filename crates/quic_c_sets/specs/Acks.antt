@@ -1,10 +1,13 @@
 -- ACKs of the sets that words describe (RFC 9000, section 19.3).
-use Rattle.std.specs.Prelude.{◌≡◌, ℕ, ◌<◌, ◌^◌, ◌⊎◌, true, List, [], ◌∷◌, length, Option, Some, None}
+use Rattle.std.specs.Prelude.{◌≡◌, ℕ, ◌<◌, ◌^◌, ◌⊎◌, ◌≢◌, ℤ, true, List, [], ◌∷◌, length, Option, Some, None}
 use Rattle.quic_ranges.specs.Runs.{member}
 use Rattle.quic_frame_fields.specs.declared.frame.ack.EcnCounts.{EcnCounts}
 use Rattle.quic_frame_fields.specs.Numbers.{AreNumeric}
 use Rattle.quic_c_sets.specs.declared.words.CRange.{CRange}
 use Rattle.quic_c_sets.specs.Sets.{IsSet, first_runs}
+use Rattle.quic_results.specs.declared.results.Failure.{Failure}
+use Rattle.quic_results.specs.declared.results.Failure.TheVariants as failure
+use Rattle.quic_results.specs.Results.{failed}
 
 -- the counts of ECT(0), ECT(1) and ECN-CE, or none
 abbrev pub counts_in : List ℕ → Option EcnCounts
@@ -20,3 +23,15 @@ pub record DescribesSetAck (delay : ℕ) (words : List CRange) (count : ℕ) (co
   pub delayed : delay < 2 ^ 62
   pub three : (length counts ≡ 0) ⊎ (length counts ≡ 3)
   pub counted : AreNumeric counts
+
+-- What is reported where no ACK is described: the runs, if they are no set or an empty one; else how many counts there
+-- are, if that isn't possible; else that a number has no encoding.
+abbrev pub IsReason : List CRange → ℕ → List ℕ → Failure → Type 0
+IsReason words count counts why =
+    (IsSet words count × (0 < count) → ⊥) × (why ≡ failure.Ranges)
+    ⊎ IsSet words count × (0 < count) × (length counts ≢ 0) × (length counts ≢ 3) × (why ≡ failure.Length)
+    ⊎ IsSet words count × (0 < count) × ((length counts ≡ 0) ⊎ (length counts ≡ 3)) × (why ≡ failure.Number)
+
+-- A call returned that.
+abbrev pub IsRefusal : List CRange → ℕ → List ℕ → ℤ → Type 0
+IsRefusal words count counts result = (why : Failure) × (result ≡ failed why) × IsReason words count counts why

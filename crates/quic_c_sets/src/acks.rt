@@ -1,11 +1,12 @@
 //! Writes ACKs of sets into the caller's bytes (RFC 9000, section 19.3).
-ghost use Rattle.std.specs.Prelude.{◌≡◌, ◌<◌, ◌≤◌, ◌+◌, ◌^◌, ◌∷◌, ◌++◌, ◌⊎◌, ◌↔◌, [], Bool, Ok, Err, pos, negsuc, length, IsTrue};
+ghost use Rattle.std.specs.Prelude.{◌≡◌, ◌<◌, ◌≤◌, ◌+◌, ◌^◌, ◌∷◌, ◌++◌, ◌⊎◌, ◌↔◌, [], Bool, Ok, Err, pos, length, IsTrue};
 ghost use Rattle.quic_ranges.specs.Runs.{IsMaximalRuns};
 ghost use Rattle.quic_frame_fields.specs.Numbers.{AreNumeric};
 ghost use Rattle.quic_frame_fields.specs.Putting.{Stores, Puts};
 ghost use Rattle.quic_frame_fields.specs.Sets.{ack_of, ack_type, ranges_in};
 ghost use Rattle.quic_frame_fields.specs.Shortest.{shortest_below, shortest_frame};
-ghost use Rattle.quic_c_sets.specs.Acks.{DescribesSetAck, counts_in};
+ghost use Rattle.quic_c_sets.specs.Acks.{DescribesSetAck, IsReason, IsRefusal, counts_in};
+ghost use Rattle.quic_results.specs.Results.{failed};
 ghost use Rattle.quic_c_sets.specs.Sets.{first_runs, range_of, runs_of};
 
 use crate::places::is_set;
@@ -13,6 +14,7 @@ use crate::words::CRange;
 use quic_base::varint::var_size;
 use quic_frame_fields::frame::write::numbers_len;
 use quic_frame_fields::frame::write_into::numbers_at;
+use quic_results::results::Failure;
 
 // Whether each number has an encoding.
 fn are_numeric(numbers: &[u64]) -> bool
@@ -41,6 +43,20 @@ fn describes_ack(delay: u64, runs: &[CRange], count: usize, counts: &[u64]) -> b
         return true;
     }
     if few == 3 { are_numeric(counts) } else { false }
+}
+
+// Why the words describe no ACK, if they don't.
+#[inline(never)]
+fn why_not(runs: &[CRange], count: usize, counts: &[u64]) -> Failure
+    ensures { IsReason runs.now count counts.now result }
+{
+    if !is_set(runs, count) || count == 0 {
+        Failure::Ranges
+    } else if !counts.is_empty() && counts.len() != 3 {
+        Failure::Length
+    } else {
+        Failure::Number
+    }
 }
 
 // The type of an ACK with these counts or with none.
@@ -133,10 +149,11 @@ fn store_ack(
 }
 
 /// Writes an ACK of the set that the first `count` entries are, in its shortest form, at the front of `dest`.
-/// `counts` has the numbers of packets marked ECT(0), ECT(1) and ECN-CE, or nothing. It answers 0 with how many bytes
-/// were written, and the bytes after them don't change; -4 with how many are needed if `dest` has fewer; -1 exactly if
-/// the entries are no runs, as for `quic_wire_set_insert_`, or there are none, or a number in them, the delay or a
-/// count is 2^62 or more, or `counts` has another length. `dest` changes with 0 alone, and `written` not with -1.
+/// `counts` has the numbers of packets marked ECT(0), ECT(1) and ECN-CE, or nothing. It returns 0 with how many bytes
+/// were written, and the bytes after them don't change; `NoRoom` with how many are needed if `dest` has fewer; `Ranges`
+/// exactly if the entries are no runs, as for `quic_wire_set_insert_`, or there are none; else `Length` exactly if
+/// `counts` has another length; else `Number` exactly if a number in the runs, the delay or a count is 2^62 or more.
+/// `dest` changes only with 0, and `written` only with 0 and `NoRoom`.
 #[unsafe(no_mangle)]
 pub extern "C" fn quic_wire_ack_write_(
     delay: u64,
@@ -146,19 +163,21 @@ pub extern "C" fn quic_wire_ack_write_(
     dest: &mut [u8],
     written: &mut usize,
 ) -> i32
-    ensures answers { (result ≡ pos 0) ⊎ (result ≡ negsuc 3) ⊎ (result ≡ negsuc 0) }
-    ensures described { (result ≡ negsuc 0) ⊎ DescribesSetAck delay runs.now count counts.now }
+    ensures returns { (result ≡ pos 0) ⊎ (result ≡ failed Failure.NoRoom) ⊎ IsRefusal runs.now count counts.now result }
+    ensures described { IsRefusal runs.now count counts.now result ⊎ DescribesSetAck delay runs.now count counts.now }
     ensures wrote { result ≡ pos 0 → (last : Bool)
         → Puts (Ok written.new) (shortest_frame last
         (ack_of delay (first_runs count runs.now) (counts_in counts.now))) dest.old dest.new }
-    ensures room { result ≡ negsuc 3 → (last : Bool)
+    ensures room { result ≡ failed Failure.NoRoom → (last : Bool)
         → Puts (Err written.new) (shortest_frame last
         (ack_of delay (first_runs count runs.now) (counts_in counts.now))) dest.old dest.new }
-    ensures refused { (result ≡ negsuc 0) ↔ (DescribesSetAck delay runs.now count counts.now → ⊥) }
-    ensures same { (result ≡ negsuc 0) → (written.new ≡ written.old) × (dest.new ≡ dest.old) }
+    ensures refused { IsRefusal runs.now count counts.now result
+        ↔ (DescribesSetAck delay runs.now count counts.now → ⊥) }
+    ensures same { IsRefusal runs.now count counts.now result
+        → (written.new ≡ written.old) × (dest.new ≡ dest.old) }
 {
     if !describes_ack(delay, runs, count, counts) {
-        return -1;
+        return why_not(runs, count, counts).number();
     }
     match store_ack(delay, runs, count, counts, dest) {
         Ok(len) => {
@@ -167,7 +186,7 @@ pub extern "C" fn quic_wire_ack_write_(
         }
         Err(needed) => {
             *written = needed;
-            -4
+            Failure::NoRoom.number()
         }
     }
 }

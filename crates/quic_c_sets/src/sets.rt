@@ -1,17 +1,19 @@
 //! Sets of packet numbers, each the first runs of an array.
-ghost use Rattle.std.specs.Prelude.{◌≡◌, ◌⊎◌, ◌↔◌, pos, negsuc, true, false};
+ghost use Rattle.std.specs.Prelude.{◌≡◌, ◌⊎◌, ◌↔◌, pos, true, false};
 ghost use Rattle.quic_ranges.specs.Runs.{in_union, in_difference, member};
 ghost use Rattle.quic_c_sets.specs.Sets.{Becomes, IsSet, LacksRoom, Stays, first_runs, span};
+ghost use Rattle.quic_results.specs.Results.{failed};
 
 use crate::change::{insertion, make, removal};
 use crate::places::{contains, is_set};
 use crate::words::CRange;
+use quic_results::results::Failure;
 
 /// Puts the numbers from `start` to below `end` into the set of the first `count` entries: sorted runs, none empty,
-/// none touching another. An empty or reversed range puts in nothing. It answers 1 if the set changed, with its number
-/// of runs in `count`, and the entries after them don't change; 0 if all the numbers were in it; -4 exactly if one run
-/// more is needed than there are entries; -1 exactly if `count` is above the number of entries or they are no such
-/// runs. Nothing changes but with 1.
+/// none touching another. An empty or reversed range puts in nothing. It returns 1 if the set changed, with its number
+/// of runs in `count`, and the entries after them don't change; 0 if all the numbers were in it; `NoRoom` exactly if one
+/// run more is needed than there are entries; `Ranges` exactly if `count` is above the number of entries or they are no
+/// such runs. Nothing changes except with 1.
 #[unsafe(no_mangle)]
 pub extern "C" fn quic_wire_set_insert_(
     runs: &mut [CRange],
@@ -19,28 +21,32 @@ pub extern "C" fn quic_wire_set_insert_(
     start: u64,
     end: u64,
 ) -> i32
-    ensures answers { (result ≡ pos 1) ⊎ (result ≡ pos 0) ⊎ (result ≡ negsuc 3) ⊎ (result ≡ negsuc 0) }
+    ensures returns { (result ≡ pos 1) ⊎ (result ≡ pos 0) ⊎ (result ≡ failed Failure.NoRoom) ⊎ (result ≡ failed Failure.Ranges) }
     ensures changed { result ≡ pos 1
         → Becomes (in_union (first_runs count.old runs.old) (span start end)) runs.old count.old runs.new count.new }
     ensures kept { result ≡ pos 0
         → Stays (in_union (first_runs count.old runs.old) (span start end)) runs.old count.old }
-    ensures room { result ≡ negsuc 3
+    ensures room { result ≡ failed Failure.NoRoom
         → LacksRoom (in_union (first_runs count.old runs.old) (span start end)) runs.old count.old }
-    ensures invalid { (result ≡ negsuc 0) ↔ (IsSet runs.old count.old → ⊥) }
+    ensures invalid { (result ≡ failed Failure.Ranges) ↔ (IsSet runs.old count.old → ⊥) }
     ensures same { (result ≡ pos 1) ⊎ ((runs.new ≡ runs.old) × (count.new ≡ count.old)) }
 {
     let len = *count;
     if !is_set(runs, len) {
-        return -1;
+        return Failure::Ranges.number();
     }
     let Some(change) = insertion(&runs[..len], CRange { start, end }) else {
         return 0;
     };
-    if make(runs, count, change) { 1 } else { -4 }
+    if make(runs, count, change) {
+        1
+    } else {
+        Failure::NoRoom.number()
+    }
 }
 
-/// Takes the numbers from `start` to below `end` out of the set, with the answers of `quic_wire_set_insert_`: 0 if
-/// none of them was in it; -4 exactly if a run is split in two and there is no entry for one more.
+/// Takes the numbers from `start` to below `end` out of the set, and returns what `quic_wire_set_insert_` does: 0 if none
+/// of them was in it; `NoRoom` exactly if a run is split in two and there is no entry for one more.
 #[unsafe(no_mangle)]
 pub extern "C" fn quic_wire_set_remove_(
     runs: &mut [CRange],
@@ -48,39 +54,43 @@ pub extern "C" fn quic_wire_set_remove_(
     start: u64,
     end: u64,
 ) -> i32
-    ensures answers { (result ≡ pos 1) ⊎ (result ≡ pos 0) ⊎ (result ≡ negsuc 3) ⊎ (result ≡ negsuc 0) }
+    ensures returns { (result ≡ pos 1) ⊎ (result ≡ pos 0) ⊎ (result ≡ failed Failure.NoRoom) ⊎ (result ≡ failed Failure.Ranges) }
     ensures changed { result ≡ pos 1
         → Becomes (in_difference (first_runs count.old runs.old)
         (span start end)) runs.old count.old runs.new count.new }
     ensures kept { result ≡ pos 0
         → Stays (in_difference (first_runs count.old runs.old) (span start end)) runs.old count.old }
-    ensures room { result ≡ negsuc 3
+    ensures room { result ≡ failed Failure.NoRoom
         → LacksRoom (in_difference (first_runs count.old runs.old) (span start end)) runs.old count.old }
-    ensures invalid { (result ≡ negsuc 0) ↔ (IsSet runs.old count.old → ⊥) }
+    ensures invalid { (result ≡ failed Failure.Ranges) ↔ (IsSet runs.old count.old → ⊥) }
     ensures same { (result ≡ pos 1) ⊎ ((runs.new ≡ runs.old) × (count.new ≡ count.old)) }
 {
     let len = *count;
     if !is_set(runs, len) {
-        return -1;
+        return Failure::Ranges.number();
     }
     let Some(change) = removal(&runs[..len], CRange { start, end }) else {
         return 0;
     };
-    if make(runs, count, change) { 1 } else { -4 }
+    if make(runs, count, change) {
+        1
+    } else {
+        Failure::NoRoom.number()
+    }
 }
 
-/// Whether a number is in the set of the first `count` entries. It answers 1 if it is, 0 if it isn't, and -1 exactly if
-/// they are no such runs, as for `quic_wire_set_insert_`.
+/// Whether a number is in the set of the first `count` entries. It returns 1 if it is, 0 if it isn't, and `Ranges`
+/// exactly if they are no such runs, as for `quic_wire_set_insert_`.
 #[unsafe(no_mangle)]
 pub extern "C" fn quic_wire_set_contains_(runs: &[CRange], count: usize, number: u64) -> i32
-    ensures answers { (result ≡ pos 1) ⊎ (result ≡ pos 0) ⊎ (result ≡ negsuc 0) }
-    ensures set { (result ≡ negsuc 0) ⊎ IsSet runs.now count }
+    ensures returns { (result ≡ pos 1) ⊎ (result ≡ pos 0) ⊎ (result ≡ failed Failure.Ranges) }
+    ensures set { (result ≡ failed Failure.Ranges) ⊎ IsSet runs.now count }
     ensures present { result ≡ pos 1 → member (first_runs count runs.now) number ≡ true }
     ensures absent { result ≡ pos 0 → member (first_runs count runs.now) number ≡ false }
-    ensures invalid { (result ≡ negsuc 0) ↔ (IsSet runs.now count → ⊥) }
+    ensures invalid { (result ≡ failed Failure.Ranges) ↔ (IsSet runs.now count → ⊥) }
 {
     if !is_set(runs, count) {
-        return -1;
+        return Failure::Ranges.number();
     }
     if contains(&runs[..count], number) {
         1

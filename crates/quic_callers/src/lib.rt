@@ -9,4 +9,5 @@ pub mod ids;
 pub mod lists;
 pub mod params;
 pub mod payloads;
+pub mod results;
 pub mod sets;

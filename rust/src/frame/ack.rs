@@ -6,7 +6,7 @@ use crate::text::Short;
 use crate::{sys, WriteError};
 use core::fmt;
 use core::iter::FusedIterator;
-use core::ops::RangeInclusive;
+use core::ops::{Range, RangeInclusive};
 
 /// Counts of marked packets (RFC 9000, section 19.3.2).
 ///
@@ -31,8 +31,8 @@ impl EcnCounts {
     pub const ZERO: EcnCounts = EcnCounts { ect0: 0, ect1: 0, ce: 0 };
 }
 
-/// An acknowledgement that was read (RFC 9000, section 19.3). It borrows its frame's bytes, which are all there is to
-/// keep of it: [`Ack::from_bytes`] makes it of them again.
+/// An acknowledgement that was read (RFC 9000, section 19.3). It borrows its frame's bytes. Who keeps the payload keeps
+/// an [`AckPlace`] beside it; who doesn't keeps the bytes, which [`Ack::from_bytes`] reads again.
 ///
 /// ```
 /// use quic_wire::frame::{Ack, Frame, Iter};
@@ -114,6 +114,24 @@ impl<'a> Ack<'a> {
     /// ```
     pub fn as_bytes(&self) -> &'a [u8] {
         self.bytes
+    }
+
+    /// What is to be kept of it beside its payload, without a borrow of that. `None` if its bytes aren't a part of
+    /// `payload`.
+    ///
+    /// ```
+    /// use quic_wire::frame::{Frame, Iter};
+    /// let payload = vec![0x01, 0x02, 9, 5, 1, 2, 0, 3];
+    /// let Some(Ok(Frame::Ack(ack))) = Iter::new(&payload)?.nth(1) else { panic!() };
+    /// let kept = ack.place_in(&payload).unwrap();
+    /// assert_eq!(kept.range(), 1..8);
+    /// assert_eq!(ack.place_in(&[0; 8]), None);
+    /// # Ok::<(), quic_wire::Error>(())
+    /// ```
+    pub fn place_in(&self, payload: &[u8]) -> Option<AckPlace> {
+        let start = (self.bytes.as_ptr() as usize).checked_sub(payload.as_ptr() as usize)?;
+        let end = start.checked_add(self.bytes.len()).filter(|end| *end <= payload.len())?;
+        Some(AckPlace { largest: self.largest, delay: self.delay, ecn: self.ecn, range: start..end })
     }
 
     /// The greatest number.
@@ -244,6 +262,58 @@ impl fmt::Debug for Ack<'_> {
             .field("ecn", &self.ecn)
             .field("additional", &Short(self.additional()))
             .finish()
+    }
+}
+
+/// An acknowledgement without a borrow of its payload: its numbers, and where it is.
+///
+/// ```
+/// use quic_wire::frame::{AckPlace, Frame, Iter};
+/// struct Kept {
+///     payload: Vec<u8>,
+///     ack: AckPlace,
+/// }
+/// let payload = vec![0x01, 0x02, 9, 5, 1, 2, 0, 3];
+/// let Some(Ok(Frame::Ack(ack))) = Iter::new(&payload)?.nth(1) else { panic!() };
+/// let kept = Kept { ack: ack.place_in(&payload).unwrap(), payload };
+/// let ack = kept.ack.ack(&kept.payload).unwrap();
+/// assert_eq!(ack.iter().collect::<Vec<_>>(), [7..=9, 2..=5]);
+/// # Ok::<(), quic_wire::Error>(())
+/// ```
+#[derive(Clone, Debug, PartialEq, Eq, Hash)]
+pub struct AckPlace {
+    largest: u64,
+    delay: u64,
+    ecn: Option<EcnCounts>,
+    range: Range<usize>,
+}
+
+impl AckPlace {
+    /// The ACK at its place in the payload, which must be the same or a copy of it: with other bytes its ranges are
+    /// others or none. `None` if the payload ends before it does.
+    ///
+    /// ```
+    /// use quic_wire::frame::Ack;
+    /// let bytes = [0x02, 9, 5, 0, 2];
+    /// let ack = Ack::from_bytes(&bytes)?;
+    /// assert_eq!(ack.place_in(&bytes).unwrap().ack(&bytes.clone()), Some(ack));
+    /// # Ok::<(), quic_wire::frame::AckError>(())
+    /// ```
+    pub fn ack<'a>(&self, payload: &'a [u8]) -> Option<Ack<'a>> {
+        let bytes = payload.get(self.range.clone())?;
+        Some(Ack { largest: self.largest, delay: self.delay, ecn: self.ecn, bytes })
+    }
+
+    /// Where the frame is in its payload, in bytes.
+    ///
+    /// ```
+    /// use quic_wire::frame::Ack;
+    /// let bytes = [0x02, 9, 5, 0, 2];
+    /// assert_eq!(Ack::from_bytes(&bytes)?.place_in(&bytes).unwrap().range(), 0..5);
+    /// # Ok::<(), quic_wire::frame::AckError>(())
+    /// ```
+    pub fn range(&self) -> Range<usize> {
+        self.range.clone()
     }
 }
 

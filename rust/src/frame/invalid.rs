@@ -1,5 +1,6 @@
 //! Invalid frames.
 use super::FrameType;
+use crate::sys;
 use core::fmt;
 
 /// A payload without frames (`PROTOCOL_VIOLATION`; RFC 9000, section 12.4).
@@ -93,13 +94,14 @@ impl fmt::Display for InvalidFrame {
 
 impl core::error::Error for InvalidFrame {}
 
-pub(crate) fn invalid_by(last_type: u64, reason: u64) -> InvalidFrame {
+// By the library's answer.
+pub(crate) fn invalid_by(last_type: u64, answer: i32) -> InvalidFrame {
     InvalidFrame {
         ty: FrameType::new(last_type),
-        reason: match reason {
-            1 => Reason::UnexpectedEnd,
-            2 => Reason::InvalidFrameId,
-            4 => Reason::LongType,
+        reason: match answer {
+            sys::FRAME_END => Reason::UnexpectedEnd,
+            sys::FRAME_TYPE => Reason::InvalidFrameId,
+            sys::FRAME_LONG_TYPE => Reason::LongType,
             _ => Reason::Malformed,
         },
     }

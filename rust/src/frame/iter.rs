@@ -145,6 +145,21 @@ impl<'a> Iter<'a> {
         FrameType::new(self.state.last_type)
     }
 
+    /// How far it has come, without a borrow of the payload.
+    ///
+    /// ```
+    /// use quic_wire::frame::{Frame, Iter};
+    /// let payload = [0x01, 0x10, 0x05];
+    /// let mut frames = Iter::new(&payload)?;
+    /// frames.next();
+    /// assert_eq!(frames.progress().next(&payload), Some(Ok(Frame::MaxData(5))));
+    /// # Ok::<(), quic_wire::Error>(())
+    /// ```
+    #[inline]
+    pub fn progress(&self) -> Progress {
+        Progress { state: self.state, basic: self.basic }
+    }
+
     /// The bytes that aren't read yet.
     ///
     /// ```
@@ -184,7 +199,9 @@ impl<'a> Iter<'a> {
         let mut count = 0;
         match sys::frames_fill(&mut self.state, self.payload, self.basic, entries, &mut count) {
             sys::ITEM => Some(Ok(Batch { payload: self.payload, entries: entries[..count].iter() })),
-            sys::MALFORMED => Some(Err(invalid_of(entries[0].get()))),
+            answer @ sys::FRAME_LONG_TYPE..=sys::FRAME_END => {
+                Some(Err(invalid_by(entries[0].get().numbers[0], answer)))
+            }
             _ => None,
         }
     }
@@ -206,13 +223,105 @@ impl<'a> Iterator for Iter<'a> {
         let mut room = MaybeUninit::uninit();
         match sys::frames_next(&mut self.state, self.payload, self.basic, &mut room) {
             (sys::ITEM, Some(frame)) => Some(Ok(frame_of(self.payload, frame))),
-            (_, Some(reported)) => Some(Err(invalid_of(reported))),
+            (answer, Some(reported)) => Some(Err(invalid_by(reported.numbers[0], answer))),
             (_, None) => None,
         }
     }
 }
 
 impl FusedIterator for Iter<'_> {}
+
+/// How far a payload was read, without a borrow of it: for an owner of the payload, which reads it frame by frame. It is
+/// 32 bytes.
+///
+/// ```
+/// use quic_wire::frame::{Frame, InvalidFrame, Iter, Progress};
+/// struct Packet {
+///     payload: Vec<u8>,
+///     read: Progress,
+/// }
+/// impl Packet {
+///     fn next_frame(&mut self) -> Option<Result<Frame<'_>, InvalidFrame>> {
+///         self.read.next(&self.payload)
+///     }
+/// }
+/// let payload = vec![0x01, 0x10, 0x05, 0x40];
+/// let read = Iter::strict(&payload)?.progress();
+/// let mut packet = Packet { payload, read };
+/// assert_eq!(packet.next_frame(), Some(Ok(Frame::Ping)));
+/// assert_eq!(packet.next_frame(), Some(Ok(Frame::MaxData(5))));
+/// assert!(packet.next_frame().unwrap().is_err());
+/// assert_eq!(packet.next_frame(), None);
+/// # Ok::<(), quic_wire::Error>(())
+/// ```
+#[derive(Clone, Copy, PartialEq, Eq, Hash)]
+pub struct Progress {
+    state: sys::Frames,
+    basic: bool,
+}
+
+impl Progress {
+    /// The next frame of the payload, which is the same with each call, as [`Iter`] gives it: `None` after the last one,
+    /// after an invalid one, and if the payload ends before the place.
+    ///
+    /// ```
+    /// use quic_wire::frame::{Frame, Iter};
+    /// let payload = [0x01, 0x1e];
+    /// let mut read = Iter::new(&payload)?.progress();
+    /// assert_eq!(read.next(&payload), Some(Ok(Frame::Ping)));
+    /// assert_eq!(read.next(&payload), Some(Ok(Frame::HandshakeDone)));
+    /// assert_eq!(read.next(&payload), None);
+    /// # Ok::<(), quic_wire::Error>(())
+    /// ```
+    #[inline]
+    pub fn next<'a>(&mut self, payload: &'a [u8]) -> Option<Result<Frame<'a>, InvalidFrame>> {
+        let mut frames = Iter { payload, state: self.state, basic: self.basic };
+        let item = frames.next();
+        self.state = frames.state;
+        item
+    }
+
+    /// Goes on as an iterator. `None` if the payload ends before the place.
+    ///
+    /// ```
+    /// use quic_wire::frame::{Frame, Iter};
+    /// let payload = [0x01, 0x1e];
+    /// let read = Iter::new(&payload)?.progress();
+    /// assert_eq!(read.iter(&payload).unwrap().count(), 2);
+    /// # Ok::<(), quic_wire::Error>(())
+    /// ```
+    #[inline]
+    pub fn iter<'a>(&self, payload: &'a [u8]) -> Option<Iter<'a>> {
+        let Progress { state, basic } = *self;
+        (state.offset <= payload.len()).then_some(Iter { payload, state, basic })
+    }
+
+    /// The end of the last whole frame in the payload, in bytes.
+    ///
+    /// ```
+    /// use quic_wire::frame::Iter;
+    /// let payload = [0x10, 0x05, 0x01];
+    /// let mut read = Iter::new(&payload)?.progress();
+    /// read.next(&payload);
+    /// assert_eq!(read.offset(), 2);
+    /// # Ok::<(), quic_wire::Error>(())
+    /// ```
+    #[inline]
+    pub fn offset(&self) -> usize {
+        self.state.offset
+    }
+}
+
+impl fmt::Debug for Progress {
+    fn fmt(&self, f: &mut fmt::Formatter<'_>) -> fmt::Result {
+        f.debug_struct("Progress")
+            .field("offset", &self.state.offset)
+            .field("last_type", &FrameType::new(self.state.last_type))
+            .field("strict", &(self.state.strict != 0))
+            .field("ack_frequency", &!self.basic)
+            .finish()
+    }
+}
 
 impl fmt::Debug for Iter<'_> {
     fn fmt(&self, f: &mut fmt::Formatter<'_>) -> fmt::Result {
@@ -295,10 +404,6 @@ impl fmt::Debug for Batch<'_, '_> {
     fn fmt(&self, f: &mut fmt::Formatter<'_>) -> fmt::Result {
         f.debug_list().entries(self.clone()).finish()
     }
-}
-
-fn invalid_of(reported: &sys::Frame) -> InvalidFrame {
-    invalid_by(reported.numbers[0], u64::from(reported.flags))
 }
 
 // Slices are taken with Rust's own tests, though the library proves the places.

@@ -17,12 +17,12 @@ mod invalid;
 mod iter;
 mod ty;
 
-pub use ack::{Ack, AckError, AckIter, EcnCounts};
+pub use ack::{Ack, AckError, AckIter, AckPlace, EcnCounts};
 pub use close::{ApplicationClose, Close, ConnectionClose};
 pub use headers::{CryptoMeta, DatagramMeta, StreamMeta};
 pub(crate) use invalid::invalid_by;
 pub use invalid::{EmptyPayload, InvalidFrame, Reason};
-pub use iter::{Batch, Entry, Iter};
+pub use iter::{Batch, Entry, Iter, Progress};
 pub use ty::{FrameType, NoFrameType};
 
 pub use crate::ids::{Dir, StreamId};

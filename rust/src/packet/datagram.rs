@@ -17,10 +17,10 @@ fn read_packet(rest: &[u8], how: &How<'_>) -> Result<HeaderPlaces, HeaderError> 
 #[cold]
 fn error_of(rest: &[u8], error: HeaderError) -> PacketDecodeError<'_> {
     match error {
-        HeaderError::UnsupportedVersion(places) => PacketDecodeError::UnsupportedVersion {
-            src_cid: places.src_cid(rest),
-            dst_cid: places.dst_cid(rest),
-            version: places.version(),
+        HeaderError::UnsupportedVersion(packet) => PacketDecodeError::UnsupportedVersion {
+            src_cid: packet.src_cid(rest),
+            dst_cid: packet.dst_cid(rest),
+            version: packet.version(),
         },
         _ => PacketDecodeError::InvalidHeader(error.reason()),
     }

@@ -286,7 +286,7 @@ impl Header<'_> {
             Header::VersionNegotiate { random, .. } if fixed == 0 && random & 0x40 == 0 => {
                 return Err(WriteError::OutOfRange("a version negotiation without the fixed bit"));
             }
-            Header::VersionNegotiate { random, .. } => (random & 0x7f, 0),
+            Header::VersionNegotiate { random, .. } => (random & 0x7f ^ 0x40, 0),
             _ => (fixed, version),
         };
         let PacketNumber { number, len } = number.unwrap_or(PacketNumber { number: 0, len: 0 });

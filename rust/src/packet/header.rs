@@ -31,8 +31,8 @@ pub struct HeaderPlaces(sys::HeaderPlaces);
 /// ```
 #[derive(Clone, Copy, Debug, PartialEq, Eq, Hash)]
 pub enum HeaderError {
-    /// The version isn't among those that were given. It is given with the ids, of up to 255 bytes (RFC 8999).
-    UnsupportedVersion(HeaderPlaces),
+    /// The version isn't among those that were given. Nothing after its ids can be read.
+    UnsupportedVersion(UnsupportedVersion),
     /// The bytes end within the packet. All of its header is given.
     CutOff(HeaderPlaces),
     /// No header can be read.
@@ -52,13 +52,84 @@ impl HeaderError {
 impl fmt::Display for HeaderError {
     fn fmt(&self, f: &mut fmt::Formatter<'_>) -> fmt::Result {
         match self {
-            HeaderError::UnsupportedVersion(places) => write!(f, "unsupported version {:x}", places.version()),
+            HeaderError::UnsupportedVersion(packet) => write!(f, "unsupported version {:x}", packet.version()),
             _ => f.write_str(self.reason()),
         }
     }
 }
 
 impl core::error::Error for HeaderError {}
+
+/// The front of a packet of another version, which all versions of QUIC share (RFC 8999, section 5.1). A server that
+/// doesn't support it responds with a version negotiation (RFC 9000, section 6.1).
+///
+/// ```
+/// use quic_wire::packet::{HeaderError, HeaderPlaces};
+/// let bytes = [0xc0, 0x0a, 0x0a, 0x0a, 0x0a, 1, 0xaa, 2, 0xbb, 0xcc, 0, 5];
+/// let Err(HeaderError::UnsupportedVersion(packet)) = HeaderPlaces::read(&bytes, 0, &[1]) else { panic!() };
+/// assert_eq!(packet.version(), 0x0a0a_0a0a);
+/// assert_eq!((packet.dst_cid(&bytes), packet.src_cid(&bytes)), (&[0xaa][..], &[0xbb, 0xcc][..]));
+/// ```
+#[derive(Clone, Copy, PartialEq, Eq, Hash)]
+pub struct UnsupportedVersion(HeaderPlaces);
+
+impl UnsupportedVersion {
+    /// The version of QUIC.
+    ///
+    /// ```
+    /// use quic_wire::packet::{HeaderError, HeaderPlaces};
+    /// let error = HeaderPlaces::read(&[0xc0, 0, 0, 0, 9, 0, 0], 0, &[1]).unwrap_err();
+    /// assert!(matches!(error, HeaderError::UnsupportedVersion(packet) if packet.version() == 9));
+    /// ```
+    #[inline]
+    pub fn version(&self) -> u32 {
+        self.0.version()
+    }
+
+    /// The receiver's id, of up to 255 bytes: the source id of a version negotiation in response.
+    ///
+    /// ```
+    /// use quic_wire::packet::{HeaderError, HeaderPlaces};
+    /// let bytes = [0xc0, 0, 0, 0, 9, 1, 0xaa, 0];
+    /// let Err(HeaderError::UnsupportedVersion(packet)) = HeaderPlaces::read(&bytes, 0, &[1]) else { panic!() };
+    /// assert_eq!(packet.dst_cid(&bytes), [0xaa]);
+    /// ```
+    ///
+    /// # Panics
+    ///
+    /// If `bytes` end before the id does: they aren't those that the packet was read from.
+    #[inline]
+    pub fn dst_cid<'a>(&self, bytes: &'a [u8]) -> &'a [u8] {
+        self.0.dst_cid(bytes)
+    }
+
+    /// The sender's id, of up to 255 bytes.
+    ///
+    /// ```
+    /// use quic_wire::packet::{HeaderError, HeaderPlaces};
+    /// let bytes = [0xc0, 0, 0, 0, 9, 0, 1, 0xbb];
+    /// let Err(HeaderError::UnsupportedVersion(packet)) = HeaderPlaces::read(&bytes, 0, &[1]) else { panic!() };
+    /// assert_eq!(packet.src_cid(&bytes), [0xbb]);
+    /// ```
+    ///
+    /// # Panics
+    ///
+    /// If `bytes` end before the id does: they aren't those that the packet was read from.
+    #[inline]
+    pub fn src_cid<'a>(&self, bytes: &'a [u8]) -> &'a [u8] {
+        self.0.src_cid(bytes)
+    }
+}
+
+impl fmt::Debug for UnsupportedVersion {
+    fn fmt(&self, f: &mut fmt::Formatter<'_>) -> fmt::Result {
+        f.debug_struct("UnsupportedVersion")
+            .field("version", &format_args!("{:08x}", self.0.version()))
+            .field("dst_cid_len", &self.0 .0.dcidlen)
+            .field("src_cid_len", &self.0 .0.scidlen)
+            .finish()
+    }
+}
 
 // The kinds that the library tells.
 const INITIAL: u8 = 0;
@@ -94,8 +165,8 @@ impl HeaderPlaces {
     pub fn read(bytes: &[u8], cid_len: usize, versions: &[u32]) -> Result<HeaderPlaces, HeaderError> {
         let mut places = sys::HeaderPlaces::default();
         match sys::header_read(bytes, u32::try_from(cid_len).unwrap_or(u32::MAX), versions, &mut places) {
-            0 => Ok(HeaderPlaces(places)),
-            reason => Err(HeaderPlaces(places).error(reason, cid_len)),
+            1.. => Ok(HeaderPlaces(places)),
+            answer => Err(HeaderPlaces(places).error(answer, cid_len)),
         }
     }
 
@@ -137,21 +208,21 @@ impl HeaderPlaces {
     pub fn read_version_negotiation(packet: &[u8]) -> Option<HeaderPlaces> {
         let mut places = sys::HeaderPlaces::default();
         match sys::negotiation_read(packet, &mut places) {
-            0 => Some(HeaderPlaces(places)),
+            1.. => Some(HeaderPlaces(places)),
             _ => None,
         }
     }
 
     #[cold]
-    fn error(self, reason: i32, cid_len: usize) -> HeaderError {
+    fn error(self, answer: i64, cid_len: usize) -> HeaderError {
         assert!(cid_len <= crate::ids::MAX_CID_SIZE, "the ids of short headers have at most 20 bytes");
-        HeaderError::InvalidHeader(match reason {
-            1 => return HeaderError::UnsupportedVersion(self),
-            2 => "unexpected end of packet",
-            4 => "packet too small",
-            5 => "malformed cid",
-            6 => "token out of bounds",
-            7 => return HeaderError::CutOff(self),
+        HeaderError::InvalidHeader(match i32::try_from(answer).unwrap_or(0) {
+            sys::PACKET_VERSION => return HeaderError::UnsupportedVersion(UnsupportedVersion(self)),
+            sys::PACKET_CUT => return HeaderError::CutOff(self),
+            sys::PACKET_END => "unexpected end of packet",
+            sys::PACKET_SMALL => "packet too small",
+            sys::PACKET_CID => "malformed cid",
+            sys::PACKET_TOKEN => "token out of bounds",
             // Places have 32 bits.
             _ => "packet of 4 GiB or more",
         })

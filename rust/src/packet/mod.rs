@@ -35,7 +35,7 @@ mod protection;
 
 pub use datagram::{Packets, PacketsMut, PartialDecode};
 pub use encode::{Header, PartialEncode};
-pub use header::{HeaderError, HeaderPlaces, Versions};
+pub use header::{HeaderError, HeaderPlaces, UnsupportedVersion, Versions};
 pub use negotiation::VersionNegotiation;
 pub use number::PacketNumber;
 pub use opening::{Packet, PacketMut};

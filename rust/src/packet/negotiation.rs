@@ -56,7 +56,9 @@ impl VersionNegotiation<'_> {
     ///
     /// Where an id has more than 255 bytes, or there is too little room.
     pub fn encode<B: Buffer + ?Sized>(&self, out: &mut B) -> Result<usize, WriteError> {
-        out.put(|room| match sys::negotiation_write(self.random, [self.dst_cid, self.src_cid], self.versions, room) {
+        // What differs from the first byte of RFC 9000, section 17.2.1.
+        let flags = self.random ^ 0x40;
+        out.put(|room| match sys::negotiation_write(flags, [self.dst_cid, self.src_cid], self.versions, room) {
             Ok(filled) => Ok((filled, filled.len())),
             Err((sys::NO_ROOM, needed)) => Err(WriteError::NoRoom(needed)),
             Err(_) => Err(WriteError::OutOfRange("a connection id has more than 255 bytes")),

@@ -1,5 +1,5 @@
 //! Packet numbers (RFC 9000, section 17.1).
-use crate::sys;
+use crate::{sys, varint};
 
 /// A packet number, and how many of its low bytes are written (RFC 9000, section 17.1).
 ///
@@ -20,15 +20,20 @@ pub struct PacketNumber {
 
 impl PacketNumber {
     /// As few bytes as let a receiver find the number that has acknowledged `largest_acked` (RFC 9000, appendix A.2),
-    /// as `quinn-proto` chooses them. None where `largest_acked` is above the number, or 2^31 or more below it.
+    /// as `quinn-proto` chooses them. None if the number is 2^62 or more, or if `largest_acked` is above it, or 2^31 or
+    /// more below it.
     ///
     /// ```
     /// use quic_wire::packet::PacketNumber;
     /// assert_eq!(PacketNumber::new(300, 299).map(|number| number.len), Some(1));
     /// assert_eq!(PacketNumber::new(300, 301), None);
+    /// assert_eq!(PacketNumber::new(1 << 62, 1 << 62), None);
     /// ```
     #[inline]
     pub const fn new(number: u64, largest_acked: u64) -> Option<Self> {
+        if number > varint::MAX {
+            return None;
+        }
         let Some(distance) = number.checked_sub(largest_acked) else { return None };
         // As `quic_wire_number_len_` answers, which the test below asks.
         let len = match distance {
@@ -83,13 +88,14 @@ mod tests {
         for distance in distances.map(|distance: u64| [distance.saturating_sub(1), distance, distance + 1]).concat() {
             for largest_acked in [0, 1, 0xff, 0xabe8_b3c1, (1 << 62) - 1, u64::MAX / 2] {
                 let number = largest_acked + distance;
-                let reported = sys::number_len(number, largest_acked);
-                let len = PacketNumber::new(number, largest_acked).map_or(-1, |number| number.len as i32);
+                // The library doesn't look at the number itself.
+                let reported = if number > varint::MAX { -5 } else { sys::number_len(number, largest_acked) };
+                let len = PacketNumber::new(number, largest_acked).map_or(-5, |number| number.len as i32);
                 assert_eq!(len, reported, "of {number}, {largest_acked} acknowledged");
                 if distance != 0 {
                     assert_eq!(
                         (PacketNumber::new(largest_acked, number), sys::number_len(largest_acked, number)),
-                        (None, -1)
+                        (None, -5)
                     );
                 }
             }

@@ -203,7 +203,7 @@ impl PacketPlace {
                 let number_len = len as usize;
                 Ok(Opened { number, number_len, payload: self.number() + number_len, first: packet[0] })
             }
-            sys::MALFORMED => Err(UnprotectError::TooShort),
+            sys::PACKET_SMALL => Err(UnprotectError::TooShort),
             _ => Err(UnprotectError::Expected),
         }
     }

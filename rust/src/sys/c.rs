@@ -5,7 +5,7 @@ use super::words::{Canon, Frame, Frames, HeaderFields, HeaderPlaces, Param, Para
 
 extern "C" {
     /// An archive of another version lacks it, so that it isn't linked.
-    pub static quic_wire_abi_6: u8;
+    pub static quic_wire_abi_7: u8;
 
     pub fn quic_wire_frames_fill_(
         frames: *mut Frames,
@@ -56,9 +56,9 @@ extern "C" {
         versions: *const u32,
         versions_len: usize,
         out: *mut HeaderPlaces,
-    ) -> i32;
+    ) -> i64;
     pub fn quic_wire_short_read_(packet: *const u8, len: usize, cid_len: u32) -> usize;
-    pub fn quic_wire_negotiation_read_(packet: *const u8, len: usize, out: *mut HeaderPlaces) -> i32;
+    pub fn quic_wire_negotiation_read_(packet: *const u8, len: usize, out: *mut HeaderPlaces) -> i64;
     pub fn quic_wire_unprotect_(
         packet: *mut u8,
         len: usize,
@@ -87,7 +87,7 @@ extern "C" {
         out_len: usize,
     ) -> i64;
     pub fn quic_wire_negotiation_write_(
-        first: u8,
+        flags: u8,
         dst: *const u8,
         dst_len: usize,
         src: *const u8,
@@ -123,7 +123,7 @@ extern "C" {
         out_len: usize,
         written: *mut usize,
     ) -> i32;
-    pub fn quic_wire_param_read_(list: *const u8, len: usize, out: *mut Param) -> i32;
+    pub fn quic_wire_param_read_(list: *const u8, len: usize, out: *mut Param) -> i64;
     pub fn quic_wire_param_write_(
         id: u64,
         value: *const u8,

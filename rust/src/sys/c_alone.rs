@@ -3,13 +3,15 @@
 extern crate std;
 
 use super::words::Gap;
-use super::{c, Entry, Frame, Frames, Range, Ranges, EMPTY, ITEM, MALFORMED, NO_ROOM, OK};
-use crate::frame::{Ack, FrameType, Iter};
+use super::{c, Entry, Frame, Frames, Range, Ranges, ITEM, NO_ROOM, OK, PAYLOAD_EMPTY};
+use crate::frame::{Ack, FrameType, Iter, Reason};
 use crate::varint;
 use std::vec;
 use std::vec::Vec;
 
 const INVALID: i32 = -1;
+const NOT_THERE: i32 = -2;
+const NO_LENGTH: i32 = -6;
 
 fn frames_init(frames: &mut Frames, payload: &[u8], strict: bool) -> i32 {
     let init = if strict { c::quic_wire_frames_init_strict_ } else { c::quic_wire_frames_init_ };
@@ -123,6 +125,16 @@ fn rounds(one: impl Fn(&mut Random)) {
     (0..20_000).for_each(|_| one(&mut random));
 }
 
+// What the header has for each reason.
+fn answer_of(reason: Reason) -> i32 {
+    match reason {
+        Reason::UnexpectedEnd => -21,
+        Reason::InvalidFrameId => -22,
+        Reason::Malformed => -23,
+        Reason::LongType => -24,
+    }
+}
+
 const NO_GAP: Gap = Gap { gap: 0xa5, len: 0x5a };
 const NO_RANGE: Range = Range { start: 0xa5, end: 0x5a };
 
@@ -135,7 +147,7 @@ fn an_iterator_begins_at_the_front_of_a_payload() {
         let begun = Frames { offset: 0, last_type: u64::MAX, ended: 0, strict: u32::from(strict) };
         match frames_init(&mut frames, &payload, strict) {
             OK => assert_eq!((frames, payload.is_empty()), (begun, false)),
-            answer => assert_eq!((answer, payload.len()), (EMPTY, 0)),
+            answer => assert_eq!((answer, payload.len()), (PAYLOAD_EMPTY, 0)),
         }
     });
 }
@@ -149,18 +161,18 @@ fn the_first_frames_are_those_of_an_iterator() {
         let (mut frames, mut out, mut count) = (before, [rubbish; 6], 77);
         let answer = frames_first(&mut frames, &payload, &mut out[..room], &mut count);
         if payload.is_empty() || room == 0 {
-            assert_eq!(answer, if payload.is_empty() { EMPTY } else { NO_ROOM });
+            assert_eq!(answer, if payload.is_empty() { PAYLOAD_EMPTY } else { NO_ROOM });
             assert_eq!((frames, out, count), (before, [rubbish; 6], 77));
             return;
         }
         let (mut iter, mut entries) = (Iter::new(&payload).unwrap(), [Entry(rubbish); 6]);
         let reported = match iter.fill(&mut entries[..room]).unwrap() {
             Ok(batch) => (ITEM, batch.len()),
-            Err(_) => (MALFORMED, 77),
+            Err(invalid) => (answer_of(invalid.reason), 77),
         };
         assert_eq!(((answer, count), out), (reported, entries.map(|entry| entry.0)));
         assert_eq!((frames.offset, FrameType::new(frames.last_type)), (iter.offset(), iter.last_type()));
-        assert_eq!((frames.ended != 0, frames.strict), (answer == MALFORMED, 0));
+        assert_eq!((frames.ended != 0, frames.strict), (answer < 0, 0));
     });
 }
 
@@ -182,15 +194,15 @@ fn front(random: &mut Random, payload: &[u8], strict: u32, basic: bool) -> Optio
     let (mut frame, mut gaps) = (before, [NO_GAP; 5]);
     let answer = frame_read(payload, strict, basic, &mut frame, &mut gaps[..room]);
     let Ok(iter) = (if strict == 0 { Iter::new(payload) } else { Iter::strict(payload) }) else {
-        assert_eq!((answer, frame, gaps), (EMPTY.into(), before, [NO_GAP; 5]));
+        assert_eq!((answer, frame, gaps), (PAYLOAD_EMPTY.into(), before, [NO_GAP; 5]));
         return None;
     };
     let (mut iter, mut entries) = (if basic { iter.without_ack_frequency() } else { iter }, [Entry::default()]);
-    let is_read = iter.fill(&mut entries).unwrap().is_ok();
+    let refused = iter.fill(&mut entries).unwrap().err();
     let [Entry(reported)] = entries;
-    if !is_read {
-        assert_eq!((answer, gaps), (MALFORMED.into(), [NO_GAP; 5]));
-        assert_eq!((frame.ty, frame.numbers[0], frame.flags), (0, reported.numbers[0], reported.flags));
+    if let Some(invalid) = refused {
+        assert_eq!((answer, gaps), (answer_of(invalid.reason).into(), [NO_GAP; 5]));
+        assert_eq!((frame.ty, frame.numbers[0], frame.flags), (0, reported.numbers[0], 0));
         return None;
     }
     assert_eq!((answer, frame.end), (iter.offset() as i64, iter.offset()));
@@ -239,7 +251,7 @@ fn filled_from(random: &mut Random, state: &mut Ranges, bytes: &[u8], filled: &m
         filled.extend(&out[..count]);
         assert!(out[count..].iter().all(|range| *range == NO_RANGE));
     } else {
-        assert!(answer == OK || answer == INVALID, "{answer}");
+        assert!(answer == OK || answer == NOT_THERE, "{answer}");
         assert_eq!((*state, out, count), (before, [NO_RANGE; 5], 77));
     }
     answer
@@ -266,7 +278,7 @@ fn ranges_begin_at_an_ack() {
         } else if answer == OK {
             assert!(frame.begin < ranges.begin && ranges.begin < ranges.end && ranges.end <= frame.end);
         } else {
-            assert_eq!((answer, ranges), (INVALID, before));
+            assert_eq!((answer, ranges), (NOT_THERE, before));
         }
     });
 }
@@ -291,7 +303,7 @@ fn ranges_are_filled_as_single_calls_give_them() {
         assert_eq!((super::ack_ranges_next(&mut one, &payload, &mut range), one), (answer, many));
         let (mut none, mut count) = (before, 77);
         let answer = ack_ranges_fill(&mut none, &payload, &mut [], &mut count);
-        assert!([OK, INVALID, NO_ROOM].contains(&answer) && (none, count) == (before, 77));
+        assert!([OK, NOT_THERE, NO_ROOM].contains(&answer) && (none, count) == (before, 77));
     });
 }
 
@@ -345,7 +357,7 @@ fn a_length_is_set_where_it_fits() {
         let len = [random.below(80), (1 << 14) + random.below(80)][random.below(2)];
         let (packet, place, width) = (&mut packet[..len], random.place(), random.below(6));
         let fits = (width == 2 && len < place.saturating_add(1 << 14) || width == 4) && width <= place && place <= len;
-        assert_eq!(super::set_len(packet, place, width as u32), if fits { OK } else { INVALID });
+        assert_eq!(super::set_len(packet, place, width as u32), if fits { OK } else { NO_LENGTH });
         if fits {
             let set = &mut packet[place - width..place];
             assert_eq!(varint::read(set), Some(((len - place) as u64, width)));

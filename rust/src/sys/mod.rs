@@ -56,9 +56,19 @@ pub fn copied<'r>(bytes: &[u8], out: &'r mut Room) -> (Filled, &'r mut [u8]) {
 pub const OK: i32 = 0;
 pub const ITEM: i32 = 1;
 pub const CHANGED: i32 = 1;
-pub const EMPTY: i32 = -2;
-pub const MALFORMED: i32 = -3;
-pub const NO_ROOM: i32 = -4;
+pub const NO_ROOM: i32 = -9;
+pub const PAYLOAD_EMPTY: i32 = -20;
+/// From here down to `FRAME_LONG_TYPE` a frame is invalid.
+pub const FRAME_END: i32 = -21;
+pub const FRAME_TYPE: i32 = -22;
+pub const FRAME_LONG_TYPE: i32 = -24;
+pub const PACKET_END: i32 = -40;
+pub const PACKET_SMALL: i32 = -42;
+pub const PACKET_CID: i32 = -43;
+pub const PACKET_TOKEN: i32 = -44;
+pub const PACKET_VERSION: i32 = -45;
+pub const PACKET_CUT: i32 = -46;
+pub const PARAMS_ILLEGAL: i32 = -61;
 
 // Keeps the symbol of the version in whatever links this crate.
 struct Linked(#[allow(dead_code)] *const u8);
@@ -67,7 +77,7 @@ struct Linked(#[allow(dead_code)] *const u8);
 unsafe impl Sync for Linked {}
 
 #[used]
-static LINKED: Linked = Linked(&raw const c::quic_wire_abi_6);
+static LINKED: Linked = Linked(&raw const c::quic_wire_abi_7);
 
 // What a writer answers: the bytes at the front of its room, or its answer and how many it asks for.
 fn wrote(answer: i32, written: usize) -> Result<Filled, (i32, usize)> {
@@ -95,7 +105,7 @@ pub fn frames_fill(frames: &mut Frames, payload: &[u8], basic: bool, out: &mut [
     }
 }
 
-/// Reads one frame into its room: `ITEM` with it, `MALFORMED` with its type and the reason, or 0. With `basic`
+/// Reads one frame into its room: `ITEM` with it, why it is invalid with its type, or 0. With `basic`
 /// ACK_FREQUENCY and IMMEDIATE_ACK are of unknown types.
 #[inline]
 pub fn frames_next<'r>(
@@ -115,8 +125,8 @@ pub fn frames_next<'r>(
             c::quic_wire_frames_next_(frames, bytes, len, out)
         }
     };
-    if answer == ITEM || answer == MALFORMED {
-        // SAFETY: with these two answers the library has written all words of the frame, of which any are valid.
+    if matches!(answer, ITEM | FRAME_LONG_TYPE..=FRAME_END) {
+        // SAFETY: with these answers the library has written all words of the frame, of which any are valid.
         (answer, Some(unsafe { room.assume_init_ref() }))
     } else {
         (answer, None)
@@ -171,7 +181,7 @@ pub fn canonical(payload: &[u8], out: &mut Room) -> Result<Filled, (i32, Canon)>
 }
 
 #[inline]
-pub fn header_read(bytes: &[u8], cid_len: u32, versions: &[u32], out: &mut HeaderPlaces) -> i32 {
+pub fn header_read(bytes: &[u8], cid_len: u32, versions: &[u32], out: &mut HeaderPlaces) -> i64 {
     let (first, count) = (versions.as_ptr(), versions.len());
     // SAFETY: `bytes` and `versions` each give their own pointer and length; `out` is borrowed alone. The library looks
     // at no other memory and keeps no pointer.
@@ -185,7 +195,7 @@ pub fn short_read(packet: &[u8], cid_len: u32) -> usize {
 }
 
 #[inline]
-pub fn negotiation_read(packet: &[u8], out: &mut HeaderPlaces) -> i32 {
+pub fn negotiation_read(packet: &[u8], out: &mut HeaderPlaces) -> i64 {
     // SAFETY: `packet` gives its own pointer and length; `out` is borrowed alone. The library looks at no other memory
     // and keeps no pointer.
     unsafe { c::quic_wire_negotiation_read_(packet.as_ptr(), packet.len(), out) }
@@ -233,7 +243,7 @@ pub fn header_write(fields: &HeaderFields, [dst, src, token]: [&[u8]; 3], out: &
 }
 
 pub fn negotiation_write(
-    first: u8,
+    flags: u8,
     [dst, src]: [&[u8]; 2],
     versions: &[u32],
     out: &mut Room,
@@ -247,7 +257,7 @@ pub fn negotiation_write(
     // alone. With 0 the first `written` bytes of `out` are initialised. The library looks at no other memory and keeps
     // no pointer.
     let answer = unsafe {
-        c::quic_wire_negotiation_write_(first, dst, dst_len, src, src_len, named, count, to, room, &mut written)
+        c::quic_wire_negotiation_write_(flags, dst, dst_len, src, src_len, named, count, to, room, &mut written)
     };
     wrote(answer, written)
 }
@@ -331,7 +341,7 @@ pub fn params_write_with(
 }
 
 #[inline]
-pub fn param_read(list: &[u8], out: &mut Param) -> i32 {
+pub fn param_read(list: &[u8], out: &mut Param) -> i64 {
     // SAFETY: `list` gives its own pointer and length; `out` is borrowed alone. The library looks at no other memory
     // and keeps no pointer.
     unsafe { c::quic_wire_param_read_(list.as_ptr(), list.len(), out) }

@@ -59,13 +59,12 @@ pub struct Ranges {
     pub largest: u64,
 }
 
-/// The length of a payload's shortest form, or why it has none.
+/// The length of a payload's shortest form, or the type because of which it has none.
 #[repr(C)]
 #[derive(Clone, Copy, Debug, Default, PartialEq, Eq, Hash)]
 pub struct Canon {
     pub len: usize,
     pub last_type: u64,
-    pub reason: u64,
 }
 
 /// The header of a packet as places in it.
@@ -101,7 +100,7 @@ pub struct HeaderFields {
 #[derive(Clone, Copy, Debug, Default, PartialEq, Eq, Hash)]
 pub struct Params {
     pub present: u32,
-    pub reason: u32,
+    pub reserved: u32,
     pub max_idle_timeout: u64,
     pub max_udp_payload_size: u64,
     pub initial_max_data: u64,
@@ -161,11 +160,11 @@ layout!(Range, 16, 8: start 0 8, end 8 8,);
 #[cfg(test)]
 layout!(Gap, 16, 8: gap 0 8, len 8 8,);
 layout!(Ranges, 24, 8: begin 0 8, end 8 8, largest 16 8,);
-layout!(Canon, 24, 8: len 0 8, last_type 8 8, reason 16 8,);
+layout!(Canon, 16, 8: len 0 8, last_type 8 8,);
 layout!(HeaderPlaces, 32, 8: kind 0 1, first 1 1, dcidlen 2 1, scidlen 3 1, version 4 4, header_end 8 4, end 12 4, token 16 4,
     tokenlen 20 4, len 24 8,);
 layout!(HeaderFields, 16, 8: kind 0 1, flags 1 1, numberlen 2 1, lengthlen 3 1, version 4 4, number 8 8,);
-layout!(Params, 264, 8: present 0 4, reason 4 4, max_idle_timeout 8 8, max_udp_payload_size 16 8, initial_max_data 24 8,
+layout!(Params, 264, 8: present 0 4, reserved 4 4, max_idle_timeout 8 8, max_udp_payload_size 16 8, initial_max_data 24 8,
     initial_max_stream_data_bidi_local 32 8, initial_max_stream_data_bidi_remote 40 8, initial_max_stream_data_uni 48 8,
     initial_max_streams_bidi 56 8, initial_max_streams_uni 64 8, ack_delay_exponent 72 8, max_ack_delay 80 8,
     active_connection_id_limit 88 8, max_datagram_frame_size 96 8, min_ack_delay 104 8, original_dst_cidlen 112 4,

@@ -115,12 +115,12 @@ impl<'a> Iterator for Entries<'a> {
     fn next(&mut self) -> Option<Self::Item> {
         let mut read = sys::Param::default();
         match sys::param_read(self.0, &mut read) {
-            sys::OK => {
-                let (front, rest) = self.0.split_at(read.value + read.valuelen);
+            end @ 1.. => {
+                let (front, rest) = self.0.split_at(end as usize);
                 self.0 = rest;
                 Some(Ok(Entry { id: read.id, value: &front[read.value..] }))
             }
-            sys::EMPTY => None,
+            0 => None,
             _ => {
                 self.0 = &[];
                 Some(Err(Error::Malformed))

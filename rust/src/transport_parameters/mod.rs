@@ -176,7 +176,7 @@ impl TransportParameters {
         let mut words = sys::Params::default();
         match sys::params_read(side as u32, list, &mut words) {
             sys::OK => Ok(TransportParameters::of(&words)),
-            _ if words.reason == 2 => Err(Error::IllegalValue),
+            sys::PARAMS_ILLEGAL => Err(Error::IllegalValue),
             _ => Err(Error::Malformed),
         }
     }

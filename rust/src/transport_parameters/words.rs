@@ -9,7 +9,7 @@ const NO_TOKEN: [u8; 16] = [0; 16];
 /// What a list without entries says.
 pub const DEFAULT: sys::Params = sys::Params {
     present: 0,
-    reason: 0,
+    reserved: 0,
     max_idle_timeout: 0,
     max_udp_payload_size: 65527,
     initial_max_data: 0,

@@ -99,7 +99,7 @@ static quic_wire_header_fields header_fields(const line *in) {
   fields.number = number(in, "number", 0);
   fields.numberlen = (uint8_t)number(in, "number_length", 0);
   fields.lengthlen = 2;
-  fields.flags = (uint8_t)((item(in, "grease") ? QUIC_WIRE_FIXED_BIT : 0) |
+  fields.flags = (uint8_t)((item(in, "grease") ? QUIC_WIRE_CLEAR_FIXED_BIT : 0) |
                            (item(in, "spin") ? QUIC_WIRE_SPIN_BIT : 0) |
                            (item(in, "key_phase") ? QUIC_WIRE_KEY_PHASE : 0));
   return fields;
@@ -110,13 +110,13 @@ static void answer_negotiation_write(const line *in, const uint8_t *dcid,
                                      size_t dcidlen, const uint8_t *scid,
                                      size_t scidlen) {
   const char *at = item(in, "supported");
+  const unsigned long unused = strtoul(item(in, "unused"), NULL, 16);
   uint32_t versions[8];
   uint8_t out[4096];
   size_t count = 0, len;
   for (; at && count < 8; at = *at == '+' ? at + 1 : NULL)
     versions[count++] = (uint32_t)strtoul(at, (char **)&at, 16);
-  if (quic_wire_negotiation_write((uint8_t)strtoul(item(in, "unused"), NULL, 16),
-                                  dcid, dcidlen, scid, scidlen, versions, count,
+  if (quic_wire_negotiation_write((uint8_t)(unused ^ QUIC_WIRE_FIXED_BIT), dcid, dcidlen, scid, scidlen, versions, count,
                                   out, sizeof out, &len)) {
     puts("invalid");
     return;
@@ -171,7 +171,7 @@ static int write_frame(const line *in, const quic_wire_frame *frame,
                                  frame->end == in->len, out, room, len);
   if (quic_wire_frame_read(in->bytes + frame->begin, in->len - frame->begin, 0,
                            &ack, gaps, GAPS) < 0)
-    return QUIC_WIRE_ERR_MALFORMED;
+    return QUIC_WIRE_ERR_FRAME_MALFORMED;
   return quic_wire_ack_gaps_write(&ack, gaps, ack.data, out, room, len);
 }
 

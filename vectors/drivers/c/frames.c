@@ -133,7 +133,7 @@ void answer_payload(const line *in, FILE *items, char **read) {
   quic_wire_frame frame;
   int answer = (item(in, "strict") ? quic_wire_frames_init_strict
                                    : quic_wire_frames_init)(&frames, in->bytes, in->len);
-  if (answer == QUIC_WIRE_ERR_EMPTY) {
+  if (answer == QUIC_WIRE_ERR_PAYLOAD_EMPTY) {
     puts("invalid PROTOCOL_VIOLATION {\"at\":0,\"before\":[]}");
     return;
   }
@@ -144,7 +144,7 @@ void answer_payload(const line *in, FILE *items, char **read) {
     printf("valid [%s]\n", *read);
   else
     printf("invalid %s {\"at\":%zu,\"before\":[%s]}\n",
-           quic_wire_error_reason(&frame) == QUIC_WIRE_REASON_LONG_TYPE
+           quic_wire_close_code(answer) == QUIC_WIRE_CODE_PROTOCOL_VIOLATION
                ? "PROTOCOL_VIOLATION"
                : "FRAME_ENCODING_ERROR",
            frames.offset, *read);

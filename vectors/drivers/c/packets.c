@@ -57,14 +57,14 @@ static void print_packet(FILE *out, const uint8_t *packet, size_t begin,
 /* Whether a packet is there, with its header.  The fixed bit is the caller's to
  * check: only in packets of versions 1 and 2 has it a meaning. */
 static int read_packet(const line *in, size_t begin, quic_wire_header *header) {
-  static const uint32_t versions[] = {0x00000001, 0x6b3343cf};
+  static const uint32_t versions[] = {QUIC_WIRE_VERSION_1, QUIC_WIRE_VERSION_2};
   const uint8_t *packet = in->bytes + begin;
-  int answer = quic_wire_header_read(packet, in->len - begin,
-                                     (uint32_t)number(in, "cid_len", 8), versions,
-                                     item(in, "versions") ? 1 : 2, header);
-  if (answer == QUIC_WIRE_PACKET_UNSUPPORTED_VERSION)
+  const int64_t end = quic_wire_header_read(packet, in->len - begin,
+                                            (uint32_t)number(in, "cid_len", 8), versions,
+                                            item(in, "versions") ? 1 : 2, header);
+  if (end == QUIC_WIRE_ERR_PACKET_VERSION)
     return 1;
-  if (answer != QUIC_WIRE_OK)
+  if (end < 0)
     return 0;
   return packet[0] & QUIC_WIRE_FIXED_BIT || item(in, "grease") ||
          header->kind == QUIC_WIRE_VERSION_NEGOTIATION;
@@ -145,8 +145,8 @@ void answer_params_write(const line *in) {
   quic_wire_params params;
   uint8_t out[1024];
   size_t len;
-  if (quic_wire_params_read(reader, in->bytes, in->len, &params) != QUIC_WIRE_OK ||
-      quic_wire_params_write(sender, &params, out, sizeof out, &len) != QUIC_WIRE_OK) {
+  if (quic_wire_params_read(reader, in->bytes, in->len, &params, sizeof params) != QUIC_WIRE_OK ||
+      quic_wire_params_write(sender, &params, sizeof params, out, sizeof out, &len) != QUIC_WIRE_OK) {
     puts("invalid");
     return;
   }
@@ -158,7 +158,7 @@ void answer_params_write(const line *in) {
 void answer_params(const line *in) {
   uint32_t side = item(in, "from") ? QUIC_WIRE_SERVER : QUIC_WIRE_CLIENT;
   quic_wire_params params;
-  if (quic_wire_params_read(side, in->bytes, in->len, &params) != QUIC_WIRE_OK) {
+  if (quic_wire_params_read(side, in->bytes, in->len, &params, sizeof params) != QUIC_WIRE_OK) {
     puts("invalid TRANSPORT_PARAMETER_ERROR");
     return;
   }

@@ -95,8 +95,8 @@ fn is_negotiation(places: &HeaderPlaces) -> bool {
 // What a refusal tells of the header.
 fn reported<'a>(error: &HeaderError, rest: &'a [u8], begin: usize) -> Vec<Field<'a>> {
     match error {
-        HeaderError::UnsupportedVersion(places) => {
-            vec![("dst", Value::bytes(places.dst_cid(rest))), ("src", Value::bytes(places.src_cid(rest)))]
+        HeaderError::UnsupportedVersion(packet) => {
+            vec![("dst", Value::bytes(packet.dst_cid(rest))), ("src", Value::bytes(packet.src_cid(rest)))]
         }
         HeaderError::CutOff(places) => fields(places, rest, begin).1,
         HeaderError::InvalidHeader(_) => vec![],

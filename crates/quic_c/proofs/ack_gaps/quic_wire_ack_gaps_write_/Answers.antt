@@ -18,23 +18,23 @@ returns-then-is_ack-clause-described c = inr (ack_of_words c.args.ack.now c.args
 
 pub returns-clause-wrote : goal.returns-clause-wrote
 returns-clause-wrote c = λ e last low below s.
-    let zero = sym (same_answer c.write_counted.result c.write_counted.ensures.answers) ∙ e in
+    let zero = sym (same_answer c.write_counted.result c.write_counted.ensures.returns) ∙ e in
     subst (λ (b : List ℕ). Puts (Ok c.write_counted.new.written) b c.args.out.now c.write_counted.new.out)
     (sym (whole last c.args.ack.now c.args.gaps.now low below s)) (c.write_counted.ensures.wrote zero)
 
 pub returns-clause-room : goal.returns-clause-room
 returns-clause-room c = λ e last low below s.
-    let less = sym (same_answer c.write_counted.result c.write_counted.ensures.answers) ∙ e in
+    let less = sym (same_answer c.write_counted.result c.write_counted.ensures.returns) ∙ e in
     subst (λ (b : List ℕ). Puts (Err c.write_counted.new.written) b c.args.out.now c.write_counted.new.out)
     (sym (whole last c.args.ack.now c.args.gaps.now low below s)) (c.write_counted.ensures.room less)
 
 pub returns-clause-described : goal.returns-clause-described
 returns-clause-described c = elim c.write_counted.ensures.described [
-  | inl none ↦ inl (same_answer c.write_counted.result c.write_counted.ensures.answers ∙ none)
+  | inl none ↦ inl (same_answer c.write_counted.result c.write_counted.ensures.returns ∙ none)
   | inr is ↦ inr (ack_of_words c.args.ack.now c.args.gaps.now is)
 ]
 
 pub returns-clause-refused : goal.returns-clause-refused
 returns-clause-refused c = λ e low below s.
-    let none = sym (same_answer c.write_counted.result c.write_counted.ensures.answers) ∙ e in
+    let none = sym (same_answer c.write_counted.result c.write_counted.ensures.returns) ∙ e in
     c.write_counted.ensures.refused none (is_of c.args.ack.now c.args.gaps.now low below s)

@@ -15,7 +15,7 @@ returns-clause-refused c = grind (arith, common_steps)
 pub returns-in_default-clause-place : goal.returns-in_default-clause-place
 returns-in_default-clause-place c = λ zero.
     let none = c.in_default.ensures.none in
-    elim c.quic_wire_ack_ranges_init_.ensures.answers [
+    elim c.quic_wire_ack_ranges_init_.ensures.returns [
       | inl is ↦ inr (inr (inr none), c.quic_wire_ack_ranges_init_.ensures.place is)
       | inr is ↦ let differ = rw is at zero in absurd (cc (differ))
     ]
@@ -23,7 +23,7 @@ returns-in_default-clause-place c = λ zero.
 pub returns-in_default-clause-refused : goal.returns-in_default-clause-refused
 returns-in_default-clause-refused c = λ refused.
     let none = c.in_default.ensures.none in
-    elim c.quic_wire_ack_ranges_init_.ensures.answers [
+    elim c.quic_wire_ack_ranges_init_.ensures.returns [
       | inl is ↦ let differ = rw is at refused in absurd (cc (differ))
       | inr is ↦
           let lacks = c.quic_wire_ack_ranges_init_.ensures.refused is in

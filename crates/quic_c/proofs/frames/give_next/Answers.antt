@@ -1,4 +1,5 @@
-use Rattle.std.proofs.Common.{rules, arith, inl, inr, sym, subst, ap, refl, ◌∙◌, ◌≡◌, [], ◌∷◌, Some}
+use Rattle.std.proofs.Common.{rules, arith, inl, inr, sym, subst, ap, refl, ◌∙◌, ◌≡◌, [], ◌∷◌, Some, to_z, of_z, w32}
+use Rattle.quic_results.proofs.FrameFailures.{not_count, not_place}
 use Rattle.std.proofs.lemmas.Grind.{common_steps}
 use Rattle.quic_frames.specs.IterState.{IterState}
 use Rattle.quic_frames.specs.Walk.{invalid_of, Advances, Finds, LacksFrame, IsSpent}
@@ -10,10 +11,9 @@ use Rattle.quic_c.proofs.frames.give_next.Goals as goal
 
 pub returns-in-None : goal.returns-in-None
 returns-in-None g c = record {
-  answers = inr (inl refl);
+  returns = inr (inl refl);
   frame = search rules;
   end = λ _. subst IsSpent (sym c.requires.state) c.in-None.ensures.steps.0;
-  invalid = search rules;
   outside = grind (arith, common_steps);
   same = inr (inr (refl, refl));
 }
@@ -24,21 +24,27 @@ returns-in-Some-Err g c =
     subst (λ f. Advances c.args.iter.now (Some f) c.next.new.self) c.in-Some-Err.field-0-is c.in-Some-Err.ensures.steps in
     let here : LacksFrame (state_of c.args.frames.now c.args.iter.now.payload) (invalid_of c.in-Some-Err.invalid) =
     subst (λ (w : IterState). LacksFrame w (invalid_of c.in-Some-Err.invalid)) (sym c.requires.state) s.lacks in
-    let gives : GivesInvalid c.args.basic c.args.frames.now c.args.iter.now.payload c.refuse-in-Some-Err.new.frames
+    let result = to_z w32 (of_z w32 c.refuse-in-Some-Err.result) in
+    let count : result ≡ c.refuse-in-Some-Err.result = search rules in
+    let reason = count ∙ c.refuse-in-Some-Err.ensures.reason in
+    let gives : GivesInvalid c.args.basic c.args.frames.now c.args.iter.now.payload result c.refuse-in-Some-Err.new.frames
     c.refuse-in-Some-Err.new.out =
     record {
       reported = invalid_of c.in-Some-Err.invalid;
       first = inl here;
+      reason = reason;
       over = c.refuse-in-Some-Err.ensures.over;
       words = c.refuse-in-Some-Err.ensures.words;
     } in
     record {
-      answers = search rules;
-      frame = search rules;
-      end = search rules;
-      invalid = λ _. gives;
-      outside = grind (arith, common_steps);
-      same = search rules;
+      returns = inr (inr (inr gives));
+      frame = λ e. absurd (not_count (invalid_of c.in-Some-Err.invalid).reason 1 (sym reason ∙ e));
+      end = λ e. absurd (not_count (invalid_of c.in-Some-Err.invalid).reason 0 (sym reason ∙ e));
+      outside = (
+        λ e. absurd (not_place (invalid_of c.in-Some-Err.invalid).reason (sym reason ∙ e)),
+        λ beyond. absurd (omega (arith, beyond, c.requires.within)),
+      );
+      same = inr (inl gives);
     }
 
 pub returns-else-is_unknown : goal.returns-else-is_unknown
@@ -53,11 +59,10 @@ returns-else-is_unknown g c =
     behind_frame c.args.iter.now c.next.new.self frame finds stop type c.offset-end.ensures.value begins c.type_read-ty.ensures.fits in
     let known = is_kept c.args.basic _ frame c.is_unknown.ensures c.if-is_unknown.false in
     record {
-      answers = inl refl;
+      returns = inl refl;
       frame = λ _. gives_frame c.args.basic _ _ _ _ c.args.iter.now c.next.new.self frame type finds known c.requires.state
           (ap (λ (w : IterState). further w stop (type_in type)) c.requires.state ∙ on) begins c.show.ensures;
       end = search rules;
-      invalid = search rules;
       outside = grind (arith, common_steps);
       same = inl refl;
     }
@@ -75,13 +80,18 @@ returns-then-is_unknown g c =
     (c.is_unknown.ensures.0 c.if-is_unknown.true) reports in
     let first : IsRefusedFrame c.args.basic (state_of c.args.frames.now c.args.iter.now.payload) reported =
     subst (λ (w : IterState). IsRefusedFrame c.args.basic w reported) (sym c.requires.state) here in
-    let gives : GivesInvalid c.args.basic c.args.frames.now c.args.iter.now.payload c.refuse.new.frames c.refuse.new.out =
-    record { reported = reported; first = first; over = c.refuse.ensures.over; words = c.refuse.ensures.words } in
+    let result = to_z w32 (of_z w32 c.refuse.result) in
+    let count : result ≡ c.refuse.result = search rules in
+    let reason = count ∙ c.refuse.ensures.reason in
+    let gives : GivesInvalid c.args.basic c.args.frames.now c.args.iter.now.payload result c.refuse.new.frames c.refuse.new.out =
+    record { reported = reported; first = first; reason = reason; over = c.refuse.ensures.over; words = c.refuse.ensures.words } in
     record {
-      answers = search rules;
-      frame = search rules;
-      end = search rules;
-      invalid = λ _. gives;
-      outside = grind (arith, common_steps);
-      same = search rules;
+      returns = inr (inr (inr gives));
+      frame = λ e. absurd (not_count (invalid_of c.unknown.result).reason 1 (sym reason ∙ e));
+      end = λ e. absurd (not_count (invalid_of c.unknown.result).reason 0 (sym reason ∙ e));
+      outside = (
+        λ e. absurd (not_place (invalid_of c.unknown.result).reason (sym reason ∙ e)),
+        λ beyond. absurd (omega (arith, beyond, c.requires.within)),
+      );
+      same = inr (inl gives);
     }

@@ -1,4 +1,5 @@
-use Rattle.std.proofs.Common.{ap, ◌∙◌, inl, inr, refl, pos, to_z, w64, ◌≡◌, [], ◌∷◌, None, Some, subst, rules}
+use Rattle.std.proofs.Common.{ap, ◌∙◌, inl, inr, refl, sym, pos, to_z, of_z, w64, ◌≡◌, [], ◌∷◌, None, Some, subst, rules}
+use Rattle.quic_results.proofs.FrameFailures.{not_empty}
 use Rattle.quic_frames.proofs.Turns.{spent_is_empty}
 use Rattle.quic_frames.specs.Walk.{invalid_of, first_of, Advances, Finds, LacksFrame, IsSpent}
 use Rattle.quic_c.specs.Shown.{frame_kind_of}
@@ -20,14 +21,17 @@ returns-in-Some-Err g c =
     subst (λ f. Advances c.in-Some.iter (Some f) c.next.new.self) c.in-Some-Err.field-0-is c.in-Some-Err.ensures.steps in
     let first : LacksFrame (first_of c.args.strict c.args.payload.now) (invalid_of c.in-Some-Err.invalid) =
     subst (λ w. LacksFrame w (invalid_of c.in-Some-Err.invalid)) c.in-Some.ensures.state s.lacks in
-    let reports : ReportsNone c.args.strict c.args.basic c.args.payload.now c.show_invalid-in-Some-Err.result =
-    record { reported = invalid_of c.in-Some-Err.invalid; first = inl first; is = c.show_invalid-in-Some-Err.ensures } in
+    let result = to_z w64 (of_z w64 c.refuse-in-Some-Err.result) in
+    let count : result ≡ c.refuse-in-Some-Err.result = search rules in
+    let reason = count ∙ c.refuse-in-Some-Err.ensures.reason in
+    let reports : ReportsNone c.args.strict c.args.basic c.args.payload.now result c.refuse-in-Some-Err.new.out =
+    record { reported = invalid_of c.in-Some-Err.invalid; first = inl first; reason = reason; is = c.refuse-in-Some-Err.ensures.words } in
+    let some : c.args.payload.now ≡ [] → ⊥ = search rules in
     record {
-      answers = inr (inl refl);
-      empty = search rules;
-      invalid = λ _. reports;
-      same = search rules;
-      kept = λ _. refl;
+      returns = inr (inl reports);
+      empty = (λ e. absurd (not_empty (invalid_of c.in-Some-Err.invalid).reason (sym reason ∙ e)), λ e. absurd (some e));
+      same = λ e. absurd (not_empty (invalid_of c.in-Some-Err.invalid).reason (sym reason ∙ e));
+      kept = inr refl;
     }
 
 pub returns-else-is_unknown : goal.returns-else-is_unknown
@@ -47,11 +51,10 @@ returns-else-is_unknown g c =
     c.type_read-ty.result finds known ends.run ends.one ends.end begins c.show_front.ensures in
     let is : to_z w64 c.pass_run-end.result ≡ pos c.pass_run-end.result = search rules in
     record {
-      answers = inr (inr (c.pass_run-end.result, is, reads));
+      returns = inr (inr (c.pass_run-end.result, is, reads));
       empty = search rules;
-      invalid = search rules;
       same = search rules;
-      kept = search rules;
+      kept = inl (c.pass_run-end.result, is);
     }
 
 pub returns-then-is_unknown : goal.returns-then-is_unknown
@@ -67,12 +70,15 @@ returns-then-is_unknown g c =
     let first =
     unknown_refused c.args.basic (first_of c.args.strict c.args.payload.now) c.next.new.self frame reported finds
     (c.is_unknown.ensures.0 c.if-is_unknown.true) is_unknown in
-    let reports : ReportsNone c.args.strict c.args.basic c.args.payload.now c.show_invalid.result =
-    record { reported = reported; first = first; is = c.show_invalid.ensures } in
+    let result = to_z w64 (of_z w64 c.refuse.result) in
+    let count : result ≡ c.refuse.result = search rules in
+    let reason = count ∙ c.refuse.ensures.reason in
+    let reports : ReportsNone c.args.strict c.args.basic c.args.payload.now result c.refuse.new.out =
+    record { reported = reported; first = first; reason = reason; is = c.refuse.ensures.words } in
+    let some : c.args.payload.now ≡ [] → ⊥ = search rules in
     record {
-      answers = inr (inl refl);
-      empty = search rules;
-      invalid = λ _. reports;
-      same = search rules;
-      kept = λ _. refl;
+      returns = inr (inl reports);
+      empty = (λ e. absurd (not_empty (invalid_of c.unknown.result).reason (sym reason ∙ e)), λ e. absurd (some e));
+      same = λ e. absurd (not_empty (invalid_of c.unknown.result).reason (sym reason ∙ e));
+      kept = inr refl;
     }

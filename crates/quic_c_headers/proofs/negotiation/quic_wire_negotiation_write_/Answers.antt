@@ -7,25 +7,25 @@ use Rattle.quic_c_headers.proofs.negotiation.quic_wire_negotiation_write_.Goals 
 
 pub returns-then-dest-needed-clause-count : goal.returns-then-dest-needed-clause-count
 returns-then-dest-needed-clause-count c =
-    inr (sym (bytes_long c.args.first c.args.dst.now c.args.src.now c.args.versions.now))
+    inr (sym (bytes_long c.args.flags c.args.dst.now c.args.src.now c.args.versions.now))
 
 pub returns-then-dest-needed-clause-room : goal.returns-then-dest-needed-clause-room
 returns-then-dest-needed-clause-room c = λ _.
     let full = c.if-dest-needed.true in
-    omega (arith, full, bytes_long c.args.first c.args.dst.now c.args.src.now c.args.versions.now)
+    omega (arith, full, bytes_long c.args.flags c.args.dst.now c.args.src.now c.args.versions.now)
 
 pub returns-clause-count : goal.returns-clause-count
-returns-clause-count c = inr (sym (bytes_long c.args.first c.args.dst.now c.args.src.now c.args.versions.now))
+returns-clause-count c = inr (sym (bytes_long c.args.flags c.args.dst.now c.args.src.now c.args.versions.now))
 
 pub returns-clause-wrote : goal.returns-clause-wrote
 returns-clause-wrote c = λ _.
-    let bytes : List ℕ = negotiation_bytes c.args.first c.args.dst.now c.args.src.now c.args.versions.now in
+    let bytes : List ℕ = negotiation_bytes c.args.flags c.args.dst.now c.args.src.now c.args.versions.now in
     c.store_packet.ensures.wrote ∙ ap (λ (k : ℕ). bytes ++ drop k c.args.dest.now) c.store_packet.ensures.end
 
 pub returns-clause-again : goal.returns-clause-again
 returns-clause-again c = λ _.
-    let bytes : List ℕ = negotiation_bytes c.args.first c.args.dst.now c.args.src.now c.args.versions.now in
+    let bytes : List ℕ = negotiation_bytes c.args.flags c.args.dst.now c.args.src.now c.args.versions.now in
     let count : ℕ = 7 + length c.args.dst.now + length c.args.src.now + 4 * length c.args.versions.now in
-    let long : length bytes ≡ count = bytes_long c.args.first c.args.dst.now c.args.src.now c.args.versions.now in
-    read_back c.args.first c.args.dst.now c.args.src.now c.args.versions.now _
+    let long : length bytes ≡ count = bytes_long c.args.flags c.args.dst.now c.args.src.now c.args.versions.now in
+    read_back c.args.flags c.args.dst.now c.args.src.now c.args.versions.now _
     (ap (take count) c.store_packet.ensures.wrote ∙ take_front bytes _ count long)

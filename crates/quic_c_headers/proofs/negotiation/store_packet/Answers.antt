@@ -8,11 +8,11 @@ use Rattle.quic_c_headers.proofs.negotiation.store_packet.Goals as goal
 
 pub returns-clause-wrote : goal.returns-clause-wrote
 returns-clause-wrote c =
-    let bytes : List ℕ = negotiation_bytes c.args.first c.args.dst.now c.args.src.now c.args.versions.now in
+    let bytes : List ℕ = negotiation_bytes c.args.flags c.args.dst.now c.args.src.now c.args.versions.now in
     let n : ℕ = c.store_versions.result in
     let all : List ℕ = c.store_versions.new.dest in
     let front : take n all ≡ bytes =
-    bytes_stored c.args.first c.args.dst.now c.args.src.now c.args.versions.now
+    bytes_stored c.args.flags c.args.dst.now c.args.src.now c.args.versions.now
     (take c.store_array-at.result c.store_array-at.new.bytes)
     (take c.store_array-at-2.result c.store_array-at-2.new.bytes)
     (take c.store_id-at.result c.store_id-at.new.dest) (take c.store_id-at-2.result c.store_id-at-2.new.dest) (take n all)

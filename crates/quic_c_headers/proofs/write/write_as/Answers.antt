@@ -10,14 +10,23 @@ use Rattle.quic_c_headers.proofs.Shaping.{shaped}
 use Rattle.quic_c_headers.proofs.Writing.{stored_as, bytes_described, can_described, clear_by, header_described, stored_described, with_length, written}
 use Rattle.quic_c_headers.proofs.write.write_as.Goals as goal
 
-pub returns-then-not-is_shaped-clause-refused : goal.returns-then-not-is_shaped-clause-refused
-returns-then-not-is_shaped-clause-refused c = λ _ clear head can.
-    let yes =
-    c.is_shaped.ensures.1 (shaped c.args.words.now c.args.dst.now c.args.src.now c.args.token.now clear head can) in
-    search (rules, yes, c.if-not-is_shaped)
+pub returns-then-not-is_shaped : goal.returns-then-not-is_shaped
+returns-then-not-is_shaped c =
+    inr (
+      refl,
+      inr (
+        c.why_not.result,
+        search rules,
+        c.why_not.ensures,
+        λ clear head can.
+            let yes =
+            c.is_shaped.ensures.1 (shaped c.args.words.now c.args.dst.now c.args.src.now c.args.token.now clear head can) in
+            search (rules, yes, c.if-not-is_shaped),
+      ),
+    )
 
-pub returns-then-not-fits-clause-room : goal.returns-then-not-fits-clause-room
-returns-then-not-fits-clause-room c = λ _.
+pub returns-then-not-fits : goal.returns-then-not-fits
+returns-then-not-fits c =
     let words = c.args.words.now in
     let k = c.args.kind in
     let dst : List ℕ = c.args.dst.now in
@@ -36,16 +45,22 @@ returns-then-not-fits-clause-room c = λ _.
     let same : stored_described k len words dst src token ≡ described_bytes words.length_len (clear_by k words.flags)
     (header_described k words dst src token) =
     bytes_described k len words dst src token is.numbered c.requires.kind c.stored_length_len.ensures.same in
-    record {
-      clear = clear_by k words.flags;
-      head = header_described k words dst src token;
-      can = can_described k words dst c.args.src.now c.args.token.now src token is c.requires.kind
-          c.source_of-source.ensures.has c.token_of-own.ensures.has;
-      full = omega (arith, small, ap length stored, ap length same);
-    }
+    inr (
+      refl,
+      inl (
+        search rules,
+        record {
+          clear = clear_by k words.flags;
+          head = header_described k words dst src token;
+          can = can_described k words dst c.args.src.now c.args.token.now src token is c.requires.kind
+              c.source_of-source.ensures.has c.token_of-own.ensures.has;
+          full = omega (arith, small, ap length stored, ap length same);
+        },
+      ),
+    )
 
-pub returns-then-has_len-clause-wrote : goal.returns-then-has_len-clause-wrote
-returns-then-has_len-clause-wrote c =
+pub returns-then-has_len : goal.returns-then-has_len
+returns-then-has_len c =
     let words = c.args.words.now in
     let k = c.args.kind in
     let dst : List ℕ = c.args.dst.now in
@@ -61,7 +76,7 @@ returns-then-has_len-clause-wrote c =
     let all =
     written n c.args.dest.now new _ _ within c.store_numbered.ensures.front c.store_numbered.ensures.back same in
     let count : to_z w64 n ≡ pos n = search rules in
-    inr (inr (
+    inl (
       n,
       count,
       record {
@@ -71,10 +86,10 @@ returns-then-has_len-clause-wrote c =
         front = all.0;
         count_is = all.1;
       },
-    ))
+    )
 
-pub returns-else-has_len-clause-wrote : goal.returns-else-has_len-clause-wrote
-returns-else-has_len-clause-wrote c =
+pub returns-else-has_len : goal.returns-else-has_len
+returns-else-has_len c =
     let words = c.args.words.now in
     let k = c.args.kind in
     let dst : List ℕ = c.args.dst.now in
@@ -94,7 +109,7 @@ returns-else-has_len-clause-wrote c =
     let within : n ≤ length new = search rules in
     let all = written n c.args.dest.now new _ _ within front back same in
     let count : to_z w64 n ≡ pos n = search rules in
-    inr (inr (
+    inl (
       n,
       count,
       record {
@@ -105,7 +120,7 @@ returns-else-has_len-clause-wrote c =
         front = all.0;
         count_is = all.1;
       },
-    ))
+    )
 
 pub store_numbered-requires-clause-room : goal.store_numbered-requires-clause-room
 store_numbered-requires-clause-room c =

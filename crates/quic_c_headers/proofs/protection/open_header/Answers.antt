@@ -4,7 +4,7 @@ use Rattle.quic_base.proofs.PublicLaws.{num_below}
 use Rattle.quic_crypto.specs.declared.packet_number.PacketNumber.{PacketNumber}
 use Rattle.quic_crypto.specs.declared.packet_number.PacketNumber.TheVariants.{U8, U16, U24, U32}
 use Rattle.quic_crypto.specs.PacketNumbers.{IsInRange, NumberAt, number_size, window_of}
-use Rattle.quic_c_headers.proofs.protection.quic_wire_unprotect_.Goals as goal
+use Rattle.quic_c_headers.proofs.protection.open_header.Goals as goal
 
 windows : (number : PacketNumber) → 256 ^ number_size number ≡ window_of number
 windows (U8 x) = refl

@@ -1,0 +1,31 @@
+-- What is returned for an invalid frame is returned for nothing else.
+use Rattle.std.proofs.Common.{◌≡◌, ℕ, List, Bool, true, false}
+use Rattle.std.specs.Prelude.{ℤ, pos, if◌then◌else◌}
+use Rattle.quic_results.specs.declared.results.Failure.{Failure}
+use Rattle.quic_results.specs.declared.results.Failure.TheVariants as failure
+use Rattle.quic_results.specs.Results.{failed, frame_failure}
+
+abbrev chosen : Bool → Bool → Bool → Failure
+chosen one two three = if one then failure.FrameEnd else if two then failure.FrameType
+    else if three then failure.FrameLongType else failure.FrameMalformed
+
+-- something that is not said of the four numbers is not said of what is chosen
+four : (P : ℤ → Type 0) (one two three : Bool) → (P (failed failure.FrameEnd) → ⊥) → (P (failed failure.FrameType) → ⊥)
+    → (P (failed failure.FrameLongType) → ⊥) → (P (failed failure.FrameMalformed) → ⊥) → P (failed (chosen one two three))
+    → ⊥
+four P true two three a b c d p = a p
+four P false true three a b c d p = b p
+four P false false true a b c d p = c p
+four P false false false a b c d p = d p
+
+pub not_count : (reason : List ℕ) (n : ℕ) → failed (frame_failure reason) ≡ pos n → ⊥
+not_count reason n = four (λ (z : ℤ). z ≡ pos n) _ _ _ (λ e. cc) (λ e. cc) (λ e. cc) (λ e. cc)
+
+pub not_place : (reason : List ℕ) → failed (frame_failure reason) ≡ failed failure.Place → ⊥
+not_place reason = four (λ (z : ℤ). z ≡ failed failure.Place) _ _ _ (λ e. cc) (λ e. cc) (λ e. cc) (λ e. cc)
+
+pub not_room : (reason : List ℕ) → failed (frame_failure reason) ≡ failed failure.NoRoom → ⊥
+not_room reason = four (λ (z : ℤ). z ≡ failed failure.NoRoom) _ _ _ (λ e. cc) (λ e. cc) (λ e. cc) (λ e. cc)
+
+pub not_empty : (reason : List ℕ) → failed (frame_failure reason) ≡ failed failure.PayloadEmpty → ⊥
+not_empty reason = four (λ (z : ℤ). z ≡ failed failure.PayloadEmpty) _ _ _ (λ e. cc) (λ e. cc) (λ e. cc) (λ e. cc)

@@ -1,0 +1,2 @@
+mod Distinct
+pub mod FrameFailures

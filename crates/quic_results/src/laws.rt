@@ -1,0 +1,11 @@
+//! Laws for callers. The functions do nothing at run time.
+ghost use Rattle.std.specs.Prelude.{◌≡◌, ℕ, Result};
+ghost use Rattle.quic_results.specs.Results.{returned};
+
+use crate::results::Failure;
+
+/// Results that are returned alike are the same: a number says which failure it is, and a count that it is none.
+#[tactic(auto, using(crate::proofs::Distinct::distinct))]
+pub fn distinct()
+    ensures { (one other : Result ℕ Failure) → returned one ≡ returned other → one ≡ other }
+{}

@@ -1,0 +1,5 @@
+//! What functions exported to C return, as names and as numbers.
+#![tactic(auto)]
+
+pub mod laws;
+pub mod results;

@@ -1,0 +1,122 @@
+//! The results of functions exported to C.
+ghost use Rattle.std.specs.Prelude.{◌≡◌, ℕ, pos};
+ghost use Rattle.quic_results.specs.Results.{code_of, failed, frame_failure, returned};
+
+/// Why a function exported to C fails. Each reason has a number, which never changes.
+#[derive(Clone, Copy, Debug, PartialEq, Eq)]
+pub enum Failure {
+    /// The arguments describe nothing that the function can write.
+    Argument,
+    /// A place is outside of the bytes, or what is there isn't what the function reads.
+    Place,
+    /// There is no such kind, or not for this function.
+    Kind,
+    /// A number is too large for its field, or 0 where that isn't possible.
+    Number,
+    /// A length or width isn't possible in its field.
+    Length,
+    /// The ranges are none, or aren't sorted with a number between any two.
+    Ranges,
+    /// A transport parameter is one that the peer would refuse.
+    Parameter,
+    /// The buffer has less room than is needed.
+    NoRoom,
+    /// A payload has no frame (RFC 9000, section 12.4).
+    PayloadEmpty,
+    /// The bytes end within a frame.
+    FrameEnd,
+    /// The type of a frame is unknown.
+    FrameType,
+    /// A field of a frame has no value of its kind.
+    FrameMalformed,
+    /// The type of a frame isn't in its shortest encoding (RFC 9000, section 12.4).
+    FrameLongType,
+    /// The bytes end within a packet's header.
+    PacketEnd,
+    /// The packet is too short for its id, or for its number and a sample.
+    PacketSmall,
+    /// A connection id isn't complete, or is too long.
+    PacketId,
+    /// The bytes end within a packet's token.
+    PacketToken,
+    /// The packet's version isn't among those that were given.
+    PacketVersion,
+    /// The bytes end within the packet, after its header.
+    PacketCut,
+    /// A transport parameter is cut off, has no value of its kind, or is there twice.
+    ParametersMalformed,
+    /// A transport parameter has a value out of range, or may not come from that side.
+    ParametersIllegal,
+}
+
+impl Failure {
+    /// The number that C sees, below 0.
+    #[inline(always)]
+    pub fn number(self) -> i32
+        ensures { result ≡ failed self }
+    {
+        match self {
+            Failure::Argument => -1,
+            Failure::Place => -2,
+            Failure::Kind => -3,
+            Failure::Number => -5,
+            Failure::Length => -6,
+            Failure::Ranges => -7,
+            Failure::Parameter => -8,
+            Failure::NoRoom => -9,
+            Failure::PayloadEmpty => -20,
+            Failure::FrameEnd => -21,
+            Failure::FrameType => -22,
+            Failure::FrameMalformed => -23,
+            Failure::FrameLongType => -24,
+            Failure::PacketEnd => -40,
+            Failure::PacketSmall => -42,
+            Failure::PacketId => -43,
+            Failure::PacketToken => -44,
+            Failure::PacketVersion => -45,
+            Failure::PacketCut => -46,
+            Failure::ParametersMalformed => -60,
+            Failure::ParametersIllegal => -61,
+        }
+    }
+}
+
+/// The code with which an endpoint closes the connection because of a failure with this number (RFC 9000, section 20.1):
+/// `FRAME_ENCODING_ERROR`, `PROTOCOL_VIOLATION` or `TRANSPORT_PARAMETER_ERROR` if its peer broke a rule,
+/// `INTERNAL_ERROR` if the caller passed impossible arguments, and `NO_ERROR`, 0, if nothing is closed: a packet that
+/// can't be read is dropped, and other numbers are no failures.
+pub fn close_code(number: i32) -> u32
+    ensures failure { (f : Failure) → number ≡ failed f → result ≡ code_of f }
+    ensures success { (count : ℕ) → number ≡ pos count → result ≡ 0x00 }
+{
+    match number {
+        -1 | -2 | -3 | -5 | -6 | -7 | -8 | -9 => 0x01,
+        -21 | -22 | -23 => 0x07,
+        -20 | -24 => 0x0a,
+        -60 | -61 => 0x08,
+        _ => 0x00,
+    }
+}
+
+/// What C sees of a result: the count, or the number of the failure.
+#[inline(always)]
+pub fn returned(outcome: Result<u32, Failure>) -> i64
+    ensures { result ≡ returned outcome }
+{
+    match outcome {
+        Ok(count) => i64::from(count),
+        Err(failure) => i64::from(failure.number()),
+    }
+}
+
+/// What is returned for the reason why a frame is invalid.
+pub fn frame_failure(reason: &str) -> Failure
+    ensures { result ≡ frame_failure reason.now }
+{
+    match reason {
+        "unexpected end" => Failure::FrameEnd,
+        "invalid frame ID" => Failure::FrameType,
+        "frame type not in shortest form" => Failure::FrameLongType,
+        _ => Failure::FrameMalformed,
+    }
+}

@@ -2,7 +2,7 @@
 ghost use Rattle.std.specs.Prelude.{◌≡◌, ◌↔◌, true, Err};
 
 use quic_results::laws::distinct;
-use quic_results::results::{returned, Failure};
+use quic_results::results::{Failure, returned};
 
 /// Whether a result is this failure, by its number alone, which is all that C sees.
 pub fn is_failure(outcome: Result<u32, Failure>, failure: Failure) -> bool

@@ -313,8 +313,8 @@ def any_version():
     most = 8 * (stated(NUMBER, "AreBytes", "b", "(i : ℕ) → slice_index b i < <above>")["above"] - 1)
     zero = stated(NEGOTIATION, "IsNegotiation", "bytes dst src rest", "AnyVersion bytes <zero> dst src rest")["zero"]
     one = stated(NEGOTIATION, "version_bytes", "", "flat_map (bytes_of <width>)")["width"]
-    stated(NEGOTIATION, "negotiation_bytes", "first dst src versions", (
-        "header_bytes (header.VersionNegotiate (first % 128) src dst) ++ version_bytes versions"))
+    stated(NEGOTIATION, "negotiation_bytes", "flags dst src versions", (
+        "header_bytes (header.VersionNegotiate (bit_xor 0x40 (flags % 0x80)) src dst) ++ version_bytes versions"))
     widths = [" Length (8)", f" (0..{most})"]
     ids = [f"{end} Connection ID{width}" for end in ("Destination", "Source") for width in widths]
     yield "### Long headers of any version (RFC 8999, 5.1)"

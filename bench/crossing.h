@@ -15,36 +15,36 @@ static u64 counted;
 // count_frames looks at; of an ACK, where it ends in place of how many bytes its blocks have.
 static inline __attribute__((always_inline)) u64 sum_of(const quic_wire_frame *frame) {
     switch (frame->kind) {
-    case QUIC_WIRE_ACK:
+    case QUIC_WIRE_FRAME_ACK:
         return frame->ack.largest + frame->ack.delay + frame->end;
-    case QUIC_WIRE_RESET_STREAM:
+    case QUIC_WIRE_FRAME_RESET_STREAM:
         return frame->reset_stream.final_size;
-    case QUIC_WIRE_STOP_SENDING:
+    case QUIC_WIRE_FRAME_STOP_SENDING:
         return frame->stop_sending.error_code;
-    case QUIC_WIRE_CRYPTO:
+    case QUIC_WIRE_FRAME_CRYPTO:
         return frame->crypto.offset + frame->datalen;
-    case QUIC_WIRE_NEW_TOKEN:
-    case QUIC_WIRE_DATAGRAM:
+    case QUIC_WIRE_FRAME_NEW_TOKEN:
+    case QUIC_WIRE_FRAME_DATAGRAM:
         return frame->datalen;
-    case QUIC_WIRE_STREAM:
+    case QUIC_WIRE_FRAME_STREAM:
         return frame->stream.stream_id + frame->stream.offset + frame->datalen;
-    case QUIC_WIRE_MAX_DATA:
-    case QUIC_WIRE_MAX_STREAM_DATA:
-    case QUIC_WIRE_MAX_STREAMS_BIDI:
-    case QUIC_WIRE_MAX_STREAMS_UNI:
-    case QUIC_WIRE_DATA_BLOCKED:
-    case QUIC_WIRE_STREAM_DATA_BLOCKED:
-    case QUIC_WIRE_STREAMS_BLOCKED_BIDI:
-    case QUIC_WIRE_STREAMS_BLOCKED_UNI:
+    case QUIC_WIRE_FRAME_MAX_DATA:
+    case QUIC_WIRE_FRAME_MAX_STREAM_DATA:
+    case QUIC_WIRE_FRAME_MAX_STREAMS_BIDI:
+    case QUIC_WIRE_FRAME_MAX_STREAMS_UNI:
+    case QUIC_WIRE_FRAME_DATA_BLOCKED:
+    case QUIC_WIRE_FRAME_STREAM_DATA_BLOCKED:
+    case QUIC_WIRE_FRAME_STREAMS_BLOCKED_BIDI:
+    case QUIC_WIRE_FRAME_STREAMS_BLOCKED_UNI:
         return frame->limit.limit;
-    case QUIC_WIRE_NEW_CONNECTION_ID:
+    case QUIC_WIRE_FRAME_NEW_CONNECTION_ID:
         return frame->new_connection_id.sequence + frame->datalen;
-    case QUIC_WIRE_RETIRE_CONNECTION_ID:
+    case QUIC_WIRE_FRAME_RETIRE_CONNECTION_ID:
         return frame->retire_connection_id.sequence;
-    case QUIC_WIRE_PATH_CHALLENGE:
-    case QUIC_WIRE_PATH_RESPONSE:
+    case QUIC_WIRE_FRAME_PATH_CHALLENGE:
+    case QUIC_WIRE_FRAME_PATH_RESPONSE:
         return frame->path.data;
-    case QUIC_WIRE_ACK_FREQUENCY:
+    case QUIC_WIRE_FRAME_ACK_FREQUENCY:
         return frame->ack_frequency.max_ack_delay;
     default:
         return 1;
@@ -73,7 +73,7 @@ static u64 ranges_of(const uint8_t *payload, size_t len) {
     while (quic_wire_frames_next(&frames, payload, len, &frame) == QUIC_WIRE_ITEM) {
         quic_wire_ack_ranges at;
         quic_wire_range range;
-        if (frame.kind != QUIC_WIRE_ACK || quic_wire_ack_ranges_init_unchecked(&at, payload, len, &frame))
+        if (frame.kind != QUIC_WIRE_FRAME_ACK || quic_wire_ack_ranges_init_unchecked(&at, payload, len, &frame))
             continue;
         while (quic_wire_ack_ranges_next(&at, payload, len, &range) == QUIC_WIRE_ITEM) {
             sum += range.start ^ range.end;
@@ -128,6 +128,6 @@ static u64 many_acks_of(const uint8_t *payload, size_t len) {
     while (frames.offset < len &&
            quic_wire_frames_fill(&frames, payload, len, filled, MANY, &count) == QUIC_WIRE_ITEM)
         for (size_t k = 0; k < count; k++)
-            sum += filled[k].kind == QUIC_WIRE_ACK ? many_ranges_of(payload, len, &filled[k]) : 0;
+            sum += filled[k].kind == QUIC_WIRE_FRAME_ACK ? many_ranges_of(payload, len, &filled[k]) : 0;
     return sum;
 }

@@ -174,13 +174,13 @@ static void print_ack(const uint8_t *payload, size_t len, const quic_wire_frame 
 static void print_frame(const uint8_t *payload, size_t len, const quic_wire_frame *frame) {
   printf("  %s", quic_wire_type_name(frame->type));
   switch (frame->kind) {
-  case QUIC_WIRE_PADDING: printf(" %zu", quic_wire_padding_count(payload, len, frame)); break;
-  case QUIC_WIRE_PING: break;
-  case QUIC_WIRE_ACK: print_ack(payload, len, frame); break;
-  case QUIC_WIRE_CRYPTO:
+  case QUIC_WIRE_FRAME_PADDING: printf(" %zu", quic_wire_padding_count(payload, len, frame)); break;
+  case QUIC_WIRE_FRAME_PING: break;
+  case QUIC_WIRE_FRAME_ACK: print_ack(payload, len, frame); break;
+  case QUIC_WIRE_FRAME_CRYPTO:
     printf(" offset %" PRIu64 " length %zu", frame->crypto.offset, frame->datalen);
     break;
-  case QUIC_WIRE_CONNECTION_CLOSE:
+  case QUIC_WIRE_FRAME_CONNECTION_CLOSE:
     printf(" error %" PRIx64 " frame %" PRIx64 " reason %zu", frame->close.error_code,
            frame->close.frame_type, frame->datalen);
     break;

@@ -26,7 +26,7 @@
  *   while (answer >= 0 &&
  *          (answer = quic_wire_frames_next(&frames, payload, len, &frame)) ==
  *              QUIC_WIRE_ITEM)
- *     if (frame.kind == QUIC_WIRE_STREAM)
+ *     if (frame.kind == QUIC_WIRE_FRAME_STREAM)
  *       deliver(frame.stream.stream_id, frame.stream.offset,
  *               payload + frame.data, frame.datalen);
  *   // 0: all are read; below 0: the payload is refused from frames.offset on
@@ -229,32 +229,32 @@ typedef enum quic_wire_code {
 
 /* The kinds of frames: the type, and one kind for all types of STREAM, of ACK
  * and of DATAGRAM. */
-#define QUIC_WIRE_PADDING 0x00
-#define QUIC_WIRE_PING 0x01
-#define QUIC_WIRE_ACK 0x02
-#define QUIC_WIRE_RESET_STREAM 0x04
-#define QUIC_WIRE_STOP_SENDING 0x05
-#define QUIC_WIRE_CRYPTO 0x06
-#define QUIC_WIRE_NEW_TOKEN 0x07
-#define QUIC_WIRE_STREAM 0x08
-#define QUIC_WIRE_MAX_DATA 0x10
-#define QUIC_WIRE_MAX_STREAM_DATA 0x11
-#define QUIC_WIRE_MAX_STREAMS_BIDI 0x12
-#define QUIC_WIRE_MAX_STREAMS_UNI 0x13
-#define QUIC_WIRE_DATA_BLOCKED 0x14
-#define QUIC_WIRE_STREAM_DATA_BLOCKED 0x15
-#define QUIC_WIRE_STREAMS_BLOCKED_BIDI 0x16
-#define QUIC_WIRE_STREAMS_BLOCKED_UNI 0x17
-#define QUIC_WIRE_NEW_CONNECTION_ID 0x18
-#define QUIC_WIRE_RETIRE_CONNECTION_ID 0x19
-#define QUIC_WIRE_PATH_CHALLENGE 0x1a
-#define QUIC_WIRE_PATH_RESPONSE 0x1b
-#define QUIC_WIRE_CONNECTION_CLOSE 0x1c
-#define QUIC_WIRE_APPLICATION_CLOSE 0x1d
-#define QUIC_WIRE_HANDSHAKE_DONE 0x1e
-#define QUIC_WIRE_IMMEDIATE_ACK 0x1f
-#define QUIC_WIRE_DATAGRAM 0x30
-#define QUIC_WIRE_ACK_FREQUENCY 0xaf
+#define QUIC_WIRE_FRAME_PADDING 0x00
+#define QUIC_WIRE_FRAME_PING 0x01
+#define QUIC_WIRE_FRAME_ACK 0x02
+#define QUIC_WIRE_FRAME_RESET_STREAM 0x04
+#define QUIC_WIRE_FRAME_STOP_SENDING 0x05
+#define QUIC_WIRE_FRAME_CRYPTO 0x06
+#define QUIC_WIRE_FRAME_NEW_TOKEN 0x07
+#define QUIC_WIRE_FRAME_STREAM 0x08
+#define QUIC_WIRE_FRAME_MAX_DATA 0x10
+#define QUIC_WIRE_FRAME_MAX_STREAM_DATA 0x11
+#define QUIC_WIRE_FRAME_MAX_STREAMS_BIDI 0x12
+#define QUIC_WIRE_FRAME_MAX_STREAMS_UNI 0x13
+#define QUIC_WIRE_FRAME_DATA_BLOCKED 0x14
+#define QUIC_WIRE_FRAME_STREAM_DATA_BLOCKED 0x15
+#define QUIC_WIRE_FRAME_STREAMS_BLOCKED_BIDI 0x16
+#define QUIC_WIRE_FRAME_STREAMS_BLOCKED_UNI 0x17
+#define QUIC_WIRE_FRAME_NEW_CONNECTION_ID 0x18
+#define QUIC_WIRE_FRAME_RETIRE_CONNECTION_ID 0x19
+#define QUIC_WIRE_FRAME_PATH_CHALLENGE 0x1a
+#define QUIC_WIRE_FRAME_PATH_RESPONSE 0x1b
+#define QUIC_WIRE_FRAME_CONNECTION_CLOSE 0x1c
+#define QUIC_WIRE_FRAME_APPLICATION_CLOSE 0x1d
+#define QUIC_WIRE_FRAME_HANDSHAKE_DONE 0x1e
+#define QUIC_WIRE_FRAME_IMMEDIATE_ACK 0x1f
+#define QUIC_WIRE_FRAME_DATAGRAM 0x30
+#define QUIC_WIRE_FRAME_ACK_FREQUENCY 0xaf
 
 /* Flags of a frame. */
 #define QUIC_WIRE_FLAG_FIN 1 /* STREAM: the data end the stream */
@@ -326,7 +326,7 @@ typedef struct quic_wire_ack_frequency {
  * for those of paths.  Whether data end below 2^62, and whether limits of
  * streams are at most 2^60, isn't looked at: that is the connection's. */
 typedef struct quic_wire_frame {
-  uint16_t kind;  /* QUIC_WIRE_PADDING and so on */
+  uint16_t kind;  /* QUIC_WIRE_FRAME_PADDING and so on */
   uint16_t type;  /* the type as it is in the payload: 0x08 to 0x0f of a
                      STREAM, 0x02 and 0x03 of an ACK, 0x30 and 0x31 of a
                      DATAGRAM, of others |kind|.  What writes a frame doesn't

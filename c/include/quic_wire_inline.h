@@ -227,7 +227,7 @@ QUIC_WIRE_API size_t quic_wire_padding_count(const uint8_t *payload,
                                              size_t payloadlen,
                                              const quic_wire_frame *frame) {
   /* The first type may have more bytes than one, as its first two bits say. */
-  return payload && frame && frame->kind == QUIC_WIRE_PADDING &&
+  return payload && frame && frame->kind == QUIC_WIRE_FRAME_PADDING &&
                  frame->end <= payloadlen && frame->begin < frame->end &&
                  (frame->end - frame->begin) >> (payload[frame->begin] >> 6)
              ? frame->end + 1 - frame->begin -
@@ -238,7 +238,7 @@ QUIC_WIRE_API size_t quic_wire_padding_count(const uint8_t *payload,
 QUIC_WIRE_API const uint8_t *
 quic_wire_reset_token(const uint8_t *payload, size_t payloadlen,
                       const quic_wire_frame *frame) {
-  return payload && frame && frame->kind == QUIC_WIRE_NEW_CONNECTION_ID &&
+  return payload && frame && frame->kind == QUIC_WIRE_FRAME_NEW_CONNECTION_ID &&
                  frame->data <= payloadlen &&
                  frame->datalen <= payloadlen - frame->data &&
                  payloadlen - frame->data - frame->datalen >= 16
@@ -250,8 +250,8 @@ QUIC_WIRE_API const uint8_t *quic_wire_path_data(const uint8_t *payload,
                                                  size_t payloadlen,
                                                  const quic_wire_frame *frame) {
   return payload && frame &&
-                 (frame->kind == QUIC_WIRE_PATH_CHALLENGE ||
-                  frame->kind == QUIC_WIRE_PATH_RESPONSE) &&
+                 (frame->kind == QUIC_WIRE_FRAME_PATH_CHALLENGE ||
+                  frame->kind == QUIC_WIRE_FRAME_PATH_RESPONSE) &&
                  frame->end <= payloadlen && frame->end >= 8
              ? payload + frame->end - 8
              : NULL;

@@ -76,7 +76,7 @@ static size_t seal_a_packet(uint8_t *packet, size_t room) {
   uint8_t mask[5];
   size_t payloadlen = 0;
   memset(&frame, 0, sizeof frame);
-  frame.kind = QUIC_WIRE_STREAM;
+  frame.kind = QUIC_WIRE_FRAME_STREAM;
   frame.datalen = datalen;
   frame.stream.stream_id = 4;
   frame.stream.offset = 9;

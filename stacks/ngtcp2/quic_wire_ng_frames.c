@@ -58,48 +58,48 @@ static void datagram_of(NG_BESIDE(ngtcp2_frame_decoder *room)
 static int numbers_of(ngtcp2_frame *dest, const quic_wire_frame *f,
                       const uint8_t *payload) {
   switch (f->kind) {
-  case QUIC_WIRE_PADDING:
+  case QUIC_WIRE_FRAME_PADDING:
     dest->padding.len = f->end - f->begin;
     return 0;
-  case QUIC_WIRE_PING:
-  case QUIC_WIRE_HANDSHAKE_DONE:
+  case QUIC_WIRE_FRAME_PING:
+  case QUIC_WIRE_FRAME_HANDSHAKE_DONE:
     return 0;
-  case QUIC_WIRE_RESET_STREAM:
+  case QUIC_WIRE_FRAME_RESET_STREAM:
     dest->reset_stream.stream_id = (int64_t)f->reset_stream.stream_id;
     dest->reset_stream.app_error_code = f->reset_stream.error_code;
     dest->reset_stream.final_size = f->reset_stream.final_size;
     return 0;
-  case QUIC_WIRE_STOP_SENDING:
+  case QUIC_WIRE_FRAME_STOP_SENDING:
     dest->stop_sending.stream_id = (int64_t)f->stop_sending.stream_id;
     dest->stop_sending.app_error_code = f->stop_sending.error_code;
     return 0;
-  case QUIC_WIRE_MAX_DATA:
+  case QUIC_WIRE_FRAME_MAX_DATA:
     dest->max_data.max_data = f->limit.limit;
     return 0;
-  case QUIC_WIRE_MAX_STREAM_DATA:
+  case QUIC_WIRE_FRAME_MAX_STREAM_DATA:
     dest->max_stream_data.stream_id = (int64_t)f->limit.stream_id;
     dest->max_stream_data.max_stream_data = f->limit.limit;
     return 0;
-  case QUIC_WIRE_MAX_STREAMS_BIDI:
-  case QUIC_WIRE_MAX_STREAMS_UNI:
+  case QUIC_WIRE_FRAME_MAX_STREAMS_BIDI:
+  case QUIC_WIRE_FRAME_MAX_STREAMS_UNI:
     dest->max_streams.max_streams = f->limit.limit;
     return 0;
-  case QUIC_WIRE_DATA_BLOCKED:
+  case QUIC_WIRE_FRAME_DATA_BLOCKED:
     dest->data_blocked.offset = f->limit.limit;
     return 0;
-  case QUIC_WIRE_STREAM_DATA_BLOCKED:
+  case QUIC_WIRE_FRAME_STREAM_DATA_BLOCKED:
     dest->stream_data_blocked.stream_id = (int64_t)f->limit.stream_id;
     dest->stream_data_blocked.offset = f->limit.limit;
     return 0;
-  case QUIC_WIRE_STREAMS_BLOCKED_BIDI:
-  case QUIC_WIRE_STREAMS_BLOCKED_UNI:
+  case QUIC_WIRE_FRAME_STREAMS_BLOCKED_BIDI:
+  case QUIC_WIRE_FRAME_STREAMS_BLOCKED_UNI:
     dest->streams_blocked.max_streams = f->limit.limit;
     return 0;
-  case QUIC_WIRE_RETIRE_CONNECTION_ID:
+  case QUIC_WIRE_FRAME_RETIRE_CONNECTION_ID:
     dest->retire_connection_id.seq = f->retire_connection_id.sequence;
     return 0;
-  case QUIC_WIRE_PATH_CHALLENGE:
-  case QUIC_WIRE_PATH_RESPONSE:
+  case QUIC_WIRE_FRAME_PATH_CHALLENGE:
+  case QUIC_WIRE_FRAME_PATH_RESPONSE:
     memcpy(&dest->path_challenge.data, payload + f->end - 8, 8);
     return 0;
   default: /* none: IMMEDIATE_ACK and ACK_FREQUENCY are unknown types here */
@@ -122,17 +122,17 @@ OUT_OF_LINE static int frame_of(NG_BESIDE(ngtcp2_frame_decoder *room)
                                 const uint8_t *payload) {
   dest->ping.type = (uint8_t)f->type; /* where all kinds have it */
   switch (f->kind) {
-  case QUIC_WIRE_ACK:
+  case QUIC_WIRE_FRAME_ACK:
     (void)NG_PLACE(dest->ack.ranges, room->buf.ack_ranges);
     return ack_of(&dest->ack, f);
-  case QUIC_WIRE_CRYPTO:
+  case QUIC_WIRE_FRAME_CRYPTO:
     crypto_of(NG_BESIDE(room) (quic_wire_ng_crypto *)dest, f, payload);
     return 0;
-  case QUIC_WIRE_NEW_TOKEN:
+  case QUIC_WIRE_FRAME_NEW_TOKEN:
     NG_TOKENLEN(&dest->new_token) = f->datalen;
     NG_TOKEN(&dest->new_token) = (uint8_t *)payload + f->data;
     return 0;
-  case QUIC_WIRE_NEW_CONNECTION_ID:
+  case QUIC_WIRE_FRAME_NEW_CONNECTION_ID:
     dest->new_connection_id.seq = f->new_connection_id.sequence;
     dest->new_connection_id.retire_prior_to =
         f->new_connection_id.retire_prior_to;
@@ -141,15 +141,15 @@ OUT_OF_LINE static int frame_of(NG_BESIDE(ngtcp2_frame_decoder *room)
     memcpy(NG_RESET_TOKEN(&dest->new_connection_id),
            payload + f->data + f->datalen, NGTCP2_STATELESS_RESET_TOKENLEN);
     return 0;
-  case QUIC_WIRE_CONNECTION_CLOSE:
-  case QUIC_WIRE_APPLICATION_CLOSE:
+  case QUIC_WIRE_FRAME_CONNECTION_CLOSE:
+  case QUIC_WIRE_FRAME_APPLICATION_CLOSE:
     dest->connection_close.error_code = f->close.error_code;
     dest->connection_close.frame_type = f->close.frame_type;
     dest->connection_close.reasonlen = f->datalen;
     dest->connection_close.reason =
         f->datalen ? (uint8_t *)payload + f->data : NULL;
     return 0;
-  case QUIC_WIRE_DATAGRAM:
+  case QUIC_WIRE_FRAME_DATAGRAM:
     datagram_of(NG_BESIDE(room) &dest->datagram, f, payload);
     return 0;
   default:
@@ -176,7 +176,7 @@ ngtcp2_ssize ngtcp2_pkt_decode_frame(NG_BESIDE(ngtcp2_frame_decoder *room)
                                  NGTCP2_MAX_ACK_RANGES) < 0) {
     return NGTCP2_ERR_FRAME_ENCODING;
   }
-  if (f.kind == QUIC_WIRE_STREAM) {
+  if (f.kind == QUIC_WIRE_FRAME_STREAM) {
     dest->stream.type = NGTCP2_FRAME_STREAM;
     dest->stream.flags = f.type & 0x7;
     dest->stream.fin = (uint8_t)f.flags;
@@ -253,29 +253,29 @@ static ngtcp2_ssize put(uint8_t *out, size_t outlen, uint16_t kind, uint64_t a,
     (void)fr;                                                                  \
     return put(out, outlen, KIND, A, B, C, NULL, 0, 0);                        \
   }
-WRITER(ping, QUIC_WIRE_PING, 0, 0, 0)
-WRITER(handshake_done, QUIC_WIRE_HANDSHAKE_DONE, 0, 0, 0)
-WRITER(reset_stream, QUIC_WIRE_RESET_STREAM, (uint64_t)fr->stream_id,
+WRITER(ping, QUIC_WIRE_FRAME_PING, 0, 0, 0)
+WRITER(handshake_done, QUIC_WIRE_FRAME_HANDSHAKE_DONE, 0, 0, 0)
+WRITER(reset_stream, QUIC_WIRE_FRAME_RESET_STREAM, (uint64_t)fr->stream_id,
        fr->app_error_code, fr->final_size)
-WRITER(stop_sending, QUIC_WIRE_STOP_SENDING, (uint64_t)fr->stream_id,
+WRITER(stop_sending, QUIC_WIRE_FRAME_STOP_SENDING, (uint64_t)fr->stream_id,
        fr->app_error_code, 0)
-WRITER(max_data, QUIC_WIRE_MAX_DATA, 0, fr->max_data, 0)
-WRITER(max_stream_data, QUIC_WIRE_MAX_STREAM_DATA, (uint64_t)fr->stream_id,
+WRITER(max_data, QUIC_WIRE_FRAME_MAX_DATA, 0, fr->max_data, 0)
+WRITER(max_stream_data, QUIC_WIRE_FRAME_MAX_STREAM_DATA, (uint64_t)fr->stream_id,
        fr->max_stream_data, 0)
 WRITER(max_streams, (uint16_t)fr->type, 0, fr->max_streams, 0)
-WRITER(data_blocked, QUIC_WIRE_DATA_BLOCKED, 0, fr->offset, 0)
-WRITER(stream_data_blocked, QUIC_WIRE_STREAM_DATA_BLOCKED,
+WRITER(data_blocked, QUIC_WIRE_FRAME_DATA_BLOCKED, 0, fr->offset, 0)
+WRITER(stream_data_blocked, QUIC_WIRE_FRAME_STREAM_DATA_BLOCKED,
        (uint64_t)fr->stream_id, fr->offset, 0)
 WRITER(streams_blocked, (uint16_t)fr->type, 0, fr->max_streams, 0)
-WRITER(retire_connection_id, QUIC_WIRE_RETIRE_CONNECTION_ID, fr->seq, 0, 0)
+WRITER(retire_connection_id, QUIC_WIRE_FRAME_RETIRE_CONNECTION_ID, fr->seq, 0, 0)
 
 static uint64_t path_number(const void *data) {
   uint64_t number;
   ngtcp2_get_uint64be(&number, data);
   return number;
 }
-WRITER(path_challenge, QUIC_WIRE_PATH_CHALLENGE, path_number(&fr->data), 0, 0)
-WRITER(path_response, QUIC_WIRE_PATH_RESPONSE, path_number(&fr->data), 0, 0)
+WRITER(path_challenge, QUIC_WIRE_FRAME_PATH_CHALLENGE, path_number(&fr->data), 0, 0)
+WRITER(path_response, QUIC_WIRE_FRAME_PATH_RESPONSE, path_number(&fr->data), 0, 0)
 
 ngtcp2_ssize
 ngtcp2_pkt_encode_connection_close_frame(uint8_t *out, size_t outlen,
@@ -287,7 +287,7 @@ ngtcp2_pkt_encode_connection_close_frame(uint8_t *out, size_t outlen,
 
 ngtcp2_ssize ngtcp2_pkt_encode_new_token_frame(uint8_t *out, size_t outlen,
                                                const ngtcp2_new_token *fr) {
-  return put(out, outlen, QUIC_WIRE_NEW_TOKEN, 0, 0, 0, NG_TOKEN(fr),
+  return put(out, outlen, QUIC_WIRE_FRAME_NEW_TOKEN, 0, 0, 0, NG_TOKEN(fr),
              NG_TOKENLEN(fr), 0);
 }
 
@@ -299,7 +299,7 @@ ngtcp2_pkt_encode_new_connection_id_frame(uint8_t *out, size_t outlen,
 
   memcpy(data, fr->cid.data, len);
   memcpy(data + len, NG_RESET_TOKEN(fr), NGTCP2_STATELESS_RESET_TOKENLEN);
-  return put(out, outlen, QUIC_WIRE_NEW_CONNECTION_ID, fr->seq,
+  return put(out, outlen, QUIC_WIRE_FRAME_NEW_CONNECTION_ID, fr->seq,
              fr->retire_prior_to, 0, data, len,
              NGTCP2_STATELESS_RESET_TOKENLEN);
 }
@@ -347,7 +347,7 @@ ngtcp2_ssize ngtcp2_pkt_encode_stream_frame(uint8_t *out, size_t outlen,
   quic_wire_frame f;
   ngtcp2_ssize n;
 
-  header_of(&f, QUIC_WIRE_STREAM, fr->fin ? QUIC_WIRE_FLAG_FIN : 0,
+  header_of(&f, QUIC_WIRE_FRAME_STREAM, fr->fin ? QUIC_WIRE_FLAG_FIN : 0,
             (uint64_t)fr->stream_id, fr->offset);
   n = put_pieces(out, outlen, &f, 0, fr->data, fr->datacnt);
   if (n > 0) {
@@ -360,7 +360,7 @@ ngtcp2_ssize ngtcp2_pkt_encode_crypto_frame(uint8_t *out, size_t outlen,
                                             const quic_wire_ng_crypto *fr) {
   quic_wire_frame f;
 
-  header_of(&f, QUIC_WIRE_CRYPTO, 0, 0, fr->offset);
+  header_of(&f, QUIC_WIRE_FRAME_CRYPTO, 0, 0, fr->offset);
   return put_pieces(out, outlen, &f, 0, fr->data, fr->datacnt);
 }
 
@@ -368,7 +368,7 @@ ngtcp2_ssize ngtcp2_pkt_encode_datagram_frame(uint8_t *out, size_t outlen,
                                               const ngtcp2_datagram *fr) {
   quic_wire_frame f;
 
-  header_of(&f, QUIC_WIRE_DATAGRAM, 0, 0, 0);
+  header_of(&f, QUIC_WIRE_FRAME_DATAGRAM, 0, 0, 0);
   return put_pieces(out, outlen, &f, fr->type == NGTCP2_FRAME_DATAGRAM,
                     fr->data, fr->datacnt);
 }
@@ -379,7 +379,7 @@ ngtcp2_ssize ngtcp2_pkt_encode_ack_frame(uint8_t *out, size_t outlen,
   size_t n = 0;
   int rv;
 
-  f.kind = QUIC_WIRE_ACK;
+  f.kind = QUIC_WIRE_FRAME_ACK;
   f.flags = fr->type == NGTCP2_FRAME_ACK_ECN ? QUIC_WIRE_FLAG_ECN : 0;
   f.datalen = fr->first_ack_range;
   f.ack.largest = (uint64_t)fr->largest_ack;

@@ -34,7 +34,7 @@ void acks_nulls(void) {
   uint8_t out[8];
   size_t n = 0;
   memset(&frame, 0, sizeof frame);
-  frame.kind = QUIC_WIRE_CRYPTO;
+  frame.kind = QUIC_WIRE_FRAME_CRYPTO;
   ranges_nulls();
   WANT(quic_wire_ack_gaps_write(NULL, NULL, 0, out, 8, &n) == INVALID);
   WANT(quic_wire_ack_gaps_write(&frame, NULL, 1, out, 8, &n) == INVALID);

@@ -22,9 +22,9 @@ static void same_frame(const uint8_t *a, size_t alen, const quic_wire_frame *x,
   WANT(x->kind == y->kind && x->flags == y->flags && x->datalen == y->datalen);
   WANT(!memcmp(x->numbers, y->numbers, sizeof x->numbers));
   WANT(!x->datalen || !memcmp(a + x->data, b + y->data, x->datalen));
-  if (x->kind == QUIC_WIRE_NEW_CONNECTION_ID)
+  if (x->kind == QUIC_WIRE_FRAME_NEW_CONNECTION_ID)
     WANT(!memcmp(a + x->data + x->datalen, b + y->data + y->datalen, 16));
-  if (x->kind != QUIC_WIRE_ACK)
+  if (x->kind != QUIC_WIRE_FRAME_ACK)
     return;
   WANT(quic_wire_ack_ranges_init(&some, a, alen, x) == 0);
   WANT(quic_wire_ack_ranges_init(&others, b, blen, y) == 0);
@@ -46,7 +46,7 @@ static size_t shortest_len(const uint8_t *payload, size_t len,
   uint64_t before = 0;
   quic_wire_ack_ranges ranges;
   quic_wire_range range;
-  if (f->kind != QUIC_WIRE_ACK) {
+  if (f->kind != QUIC_WIRE_FRAME_ACK) {
     WANT(quic_wire_frame_write(f, payload, len, last, out, sizeof out, &n) == 0);
     return n;
   }

@@ -21,8 +21,8 @@ int64_t read_by(int basic, const uint8_t *payload, size_t len, int strict,
 }
 
 int is_extension(const quic_wire_frame *frame) {
-  return frame->kind == QUIC_WIRE_ACK_FREQUENCY ||
-         frame->kind == QUIC_WIRE_IMMEDIATE_ACK;
+  return frame->kind == QUIC_WIRE_FRAME_ACK_FREQUENCY ||
+         frame->kind == QUIC_WIRE_FRAME_IMMEDIATE_ACK;
 }
 
 static quic_wire_frames begin(int strict) {
@@ -69,13 +69,13 @@ static void left_out(const uint8_t *bytes, size_t len, uint64_t type) {
   memcpy(payload + 6, bytes, len);
   WANT(fill_by(1, &frames, payload, 6 + len, filled, 4, &count) == 1);
   WANT(count == 3 && frames.offset == 6 && !frames.ended &&
-       frames.last_type == QUIC_WIRE_MAX_DATA);
+       frames.last_type == QUIC_WIRE_FRAME_MAX_DATA);
   one = frames; /* the other call gives it */
   WANT(next_by(0, &one, payload, 6 + len, &frame) == 1 && frame.kind == type);
   one = frames;
   WANT(next_by(1, &one, payload, 6 + len, &frame) == QUIC_WIRE_ERR_FRAME_TYPE);
   reported(&frame, 6, type);
-  WANT(one.offset == 6 && one.ended && one.last_type == QUIC_WIRE_MAX_DATA);
+  WANT(one.offset == 6 && one.ended && one.last_type == QUIC_WIRE_FRAME_MAX_DATA);
   WANT(next_by(1, &one, payload, 6 + len, &frame) == 0);
   WANT(next_by(0, &one, payload, 6 + len, &frame) == 0);
   WANT(fill_by(1, &frames, payload, 6 + len, filled, 4, &count) ==
@@ -95,8 +95,8 @@ void extension_examples(void) {
   static const uint8_t frequency[] = {0x40, 0xaf, 1, 2, 3, 4};
   quic_wire_frames frames = begin(0);
   quic_wire_frame frame;
-  left_out(immediate, sizeof immediate, QUIC_WIRE_IMMEDIATE_ACK);
-  left_out(frequency, sizeof frequency, QUIC_WIRE_ACK_FREQUENCY);
+  left_out(immediate, sizeof immediate, QUIC_WIRE_FRAME_IMMEDIATE_ACK);
+  left_out(frequency, sizeof frequency, QUIC_WIRE_FRAME_ACK_FREQUENCY);
   WANT(next_by(1, &frames, frequency, 5, &frame) == QUIC_WIRE_ERR_FRAME_END);
 }
 

@@ -61,8 +61,8 @@ static void path_bytes(const uint8_t *payload, size_t len,
   const uint8_t *bytes = quic_wire_path_data(payload, len, frame);
   uint64_t number = 0;
   size_t k;
-  WANT(!bytes == (frame->kind != QUIC_WIRE_PATH_CHALLENGE &&
-                  frame->kind != QUIC_WIRE_PATH_RESPONSE));
+  WANT(!bytes == (frame->kind != QUIC_WIRE_FRAME_PATH_CHALLENGE &&
+                  frame->kind != QUIC_WIRE_FRAME_PATH_RESPONSE));
   for (k = 0; bytes && k < 8; k++)
     number = number << 8 | bytes[k];
   WANT(!bytes || number == frame->path.data);
@@ -76,11 +76,11 @@ static size_t padding_in(const uint8_t *payload, const quic_wire_frame *entry) {
   quic_wire_frames frames;
   quic_wire_frame frame;
   size_t count = 0;
-  if (entry->kind != QUIC_WIRE_PADDING)
+  if (entry->kind != QUIC_WIRE_FRAME_PADDING)
     return 0;
   WANT(quic_wire_frames_init(&frames, run, len) == QUIC_WIRE_OK);
   while (quic_wire_frames_next(&frames, run, len, &frame) == QUIC_WIRE_ITEM) {
-    WANT(frame.kind == QUIC_WIRE_PADDING);
+    WANT(frame.kind == QUIC_WIRE_FRAME_PADDING);
     count++;
   }
   WANT(frames.offset == len && count);
@@ -100,7 +100,7 @@ void padding_any(void) {
     bytes[len] = (uint8_t)(width << 6);
     len += ((size_t)1 << width) + any() % 24;
     if (any() % 2)
-      bytes[len++] = QUIC_WIRE_PING;
+      bytes[len++] = QUIC_WIRE_FRAME_PING;
   }
   payload = block(len);
   memcpy(payload, bytes, len);
@@ -149,11 +149,11 @@ static void read_on_rubbish(const uint8_t *payload, size_t len,
                                &type) &&
          frame->type == type && type == frames.last_type);
     WANT(quic_wire_padding_count(payload, len, frame) ==
-         (frame->kind == QUIC_WIRE_PADDING));
+         (frame->kind == QUIC_WIRE_FRAME_PADDING));
     WANT(quic_wire_padding_count(payload, len, frame) ==
          padding_in(payload, frame));
     token = quic_wire_reset_token(payload, len, frame);
-    WANT(frame->kind == QUIC_WIRE_NEW_CONNECTION_ID
+    WANT(frame->kind == QUIC_WIRE_FRAME_NEW_CONNECTION_ID
              ? token + 16 == payload + frame->end
              : !token);
     path_bytes(payload, len, frame);
@@ -177,7 +177,7 @@ void read_rubbish(const uint8_t *payload, size_t len) {
   token = quic_wire_path_data(payload, len, &frame);
   WANT(!token || (payload <= token && token + 8 <= payload + len));
   if (any() % 2)
-    frame.kind = QUIC_WIRE_PADDING;
+    frame.kind = QUIC_WIRE_FRAME_PADDING;
   WANT(quic_wire_padding_count(payload, len, &frame) <= len);
   token = quic_wire_reset_token(payload, len, &frame);
   WANT(!token || token + 16 <= payload + len);
@@ -188,13 +188,13 @@ void next_is(int basic, quic_wire_frames *one, const uint8_t *payload,
              size_t len, const quic_wire_frame *entry) {
   quic_wire_frame frame, more;
   WANT(next_by(basic, one, payload, len, &frame) == 1);
-  while (frame.kind == QUIC_WIRE_PADDING && frame.end < entry->end) {
+  while (frame.kind == QUIC_WIRE_FRAME_PADDING && frame.end < entry->end) {
     WANT(payload[frame.end] == 0);
     WANT(next_by(basic, one, payload, len, &more) == 1);
-    WANT(more.kind == QUIC_WIRE_PADDING && more.begin == frame.end);
+    WANT(more.kind == QUIC_WIRE_FRAME_PADDING && more.begin == frame.end);
     frame.end = frame.data = more.end;
   }
-  WANT(frame.kind != QUIC_WIRE_PADDING || frame.end == len ||
+  WANT(frame.kind != QUIC_WIRE_FRAME_PADDING || frame.end == len ||
        payload[frame.end]);
   WANT(!memcmp(&frame, entry, sizeof frame));
 }

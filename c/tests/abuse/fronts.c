@@ -26,7 +26,7 @@ static void front_is_next(int basic, const uint8_t *payload, size_t len,
   WANT(fill_by(basic, frames, payload, len, &want, 1, &count) == 1);
   WANT(n > 0 && n == frame->end && frames->offset == at + frame->end);
   count = 0;
-  if (frame->kind == QUIC_WIRE_ACK) {
+  if (frame->kind == QUIC_WIRE_FRAME_ACK) {
     front_ranges(payload + at, len - at, frame, gaps, room, &entry);
     count = frame->data;
     gaps_written(payload + at, n, frame, gaps);

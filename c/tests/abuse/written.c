@@ -13,7 +13,7 @@ void written_nulls(void) {
   WANT(quic_wire_frame_write(&frame, NULL, 0, 0, out, 8, NULL) == 0);
   WANT(quic_wire_frame_len(NULL, NULL, 0, 0, &n) == INVALID);
   WANT(quic_wire_frame_len(&frame, NULL, 0, 0, NULL) == INVALID);
-  frame.kind = QUIC_WIRE_CRYPTO;
+  frame.kind = QUIC_WIRE_FRAME_CRYPTO;
   frame.datalen = 1;
   WANT(quic_wire_frame_write(&frame, NULL, 1, 0, out, 8, &n) == INVALID);
   WANT(quic_wire_frame_len(&frame, NULL, 1, 0, &n) == INVALID);
@@ -39,7 +39,7 @@ void without_data(void) {
   WANT(quic_wire_frames_init(&frames, payload, sizeof payload) == 0);
   WANT(quic_wire_frames_next(&frames, payload, sizeof payload, &frame) == 1);
   WANT(quic_wire_frames_next(&frames, payload, sizeof payload, &frame) == 1);
-  WANT(frame.kind == QUIC_WIRE_PING && frame.begin == 5 && frame.data == 6);
+  WANT(frame.kind == QUIC_WIRE_FRAME_PING && frame.begin == 5 && frame.data == 6);
   for (k = 0; k < sizeof places / sizeof *places; k++) {
     frame.data = places[k];
     WANT(quic_wire_frame_write(&frame, NULL, 0, 0, out, 8, &n) == 0);
@@ -53,7 +53,7 @@ void without_data(void) {
   WANT(quic_wire_frame_write(&frame, payload, 9, 0, out, 8, &n) == INVALID);
   WANT(quic_wire_frame_write(&frame, NULL, 0, 0, out, 8, &n) == INVALID);
   WANT(quic_wire_frames_next(&frames, payload, sizeof payload, &frame) == 1);
-  WANT(frame.kind == QUIC_WIRE_STREAM && frame.flags == QUIC_WIRE_FLAG_FIN);
+  WANT(frame.kind == QUIC_WIRE_FRAME_STREAM && frame.flags == QUIC_WIRE_FLAG_FIN);
   WANT(quic_wire_frame_write(&frame, NULL, 0, 1, out, 8, &n) == 0 && n == 3);
   WANT(!memcmp(out, payload + 6, 3));
   frame.datalen = 1;
@@ -100,8 +100,8 @@ void write_rubbish(const uint8_t *data, size_t len) {
 /* The header of a frame of any words is the front of what is written of it with
  * data, and what can be written whole has the length that is reported before. */
 void header_rubbish(void) {
-  static const uint16_t kinds[] = {QUIC_WIRE_CRYPTO, QUIC_WIRE_STREAM,
-                                   QUIC_WIRE_DATAGRAM};
+  static const uint16_t kinds[] = {QUIC_WIRE_FRAME_CRYPTO, QUIC_WIRE_FRAME_STREAM,
+                                   QUIC_WIRE_FRAME_DATAGRAM};
   static uint8_t data[70], whole[128];
   uint8_t header[48];
   size_t room = any() % 48, n = 77, all = 77, counted = 77, k;

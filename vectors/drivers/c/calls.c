@@ -161,12 +161,12 @@ static int write_frame(const line *in, const quic_wire_frame *frame,
                        uint8_t *out, size_t room, size_t *len) {
   quic_wire_frame ack;
   quic_wire_gap gaps[GAPS];
-  if (frame->kind == QUIC_WIRE_PADDING) {
+  if (frame->kind == QUIC_WIRE_FRAME_PADDING) {
     *len = quic_wire_padding_count(in->bytes, in->len, frame);
     memset(out, 0, *len);
     return QUIC_WIRE_OK;
   }
-  if (frame->kind != QUIC_WIRE_ACK)
+  if (frame->kind != QUIC_WIRE_FRAME_ACK)
     return quic_wire_frame_write(frame, in->bytes, in->len,
                                  frame->end == in->len, out, room, len);
   if (quic_wire_frame_read(in->bytes + frame->begin, in->len - frame->begin, 0,

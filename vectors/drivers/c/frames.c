@@ -12,42 +12,42 @@ typedef struct kind {
 } kind;
 
 static const kind kinds[] = {
-    {QUIC_WIRE_PADDING, "PADDING", {0}, NULL},
-    {QUIC_WIRE_PING, "PING", {0}, NULL},
-    {QUIC_WIRE_ACK, "ACK", {"largest_acknowledged", "ack_delay"}, NULL},
-    {QUIC_WIRE_RESET_STREAM, "RESET_STREAM",
+    {QUIC_WIRE_FRAME_PADDING, "PADDING", {0}, NULL},
+    {QUIC_WIRE_FRAME_PING, "PING", {0}, NULL},
+    {QUIC_WIRE_FRAME_ACK, "ACK", {"largest_acknowledged", "ack_delay"}, NULL},
+    {QUIC_WIRE_FRAME_RESET_STREAM, "RESET_STREAM",
      {"stream_id", "application_protocol_error_code", "final_size"}, NULL},
-    {QUIC_WIRE_STOP_SENDING, "STOP_SENDING",
+    {QUIC_WIRE_FRAME_STOP_SENDING, "STOP_SENDING",
      {"stream_id", "application_protocol_error_code"}, NULL},
-    {QUIC_WIRE_CRYPTO, "CRYPTO", {NULL, "offset"}, "crypto_data"},
-    {QUIC_WIRE_NEW_TOKEN, "NEW_TOKEN", {0}, "token"},
-    {QUIC_WIRE_STREAM, "STREAM", {"stream_id", "offset"}, "stream_data"},
-    {QUIC_WIRE_MAX_DATA, "MAX_DATA", {NULL, "maximum_data"}, NULL},
-    {QUIC_WIRE_MAX_STREAM_DATA, "MAX_STREAM_DATA",
+    {QUIC_WIRE_FRAME_CRYPTO, "CRYPTO", {NULL, "offset"}, "crypto_data"},
+    {QUIC_WIRE_FRAME_NEW_TOKEN, "NEW_TOKEN", {0}, "token"},
+    {QUIC_WIRE_FRAME_STREAM, "STREAM", {"stream_id", "offset"}, "stream_data"},
+    {QUIC_WIRE_FRAME_MAX_DATA, "MAX_DATA", {NULL, "maximum_data"}, NULL},
+    {QUIC_WIRE_FRAME_MAX_STREAM_DATA, "MAX_STREAM_DATA",
      {"stream_id", "maximum_stream_data"}, NULL},
-    {QUIC_WIRE_MAX_STREAMS_BIDI, "MAX_STREAMS", {NULL, "maximum_streams"}, NULL},
-    {QUIC_WIRE_MAX_STREAMS_UNI, "MAX_STREAMS", {NULL, "maximum_streams"}, NULL},
-    {QUIC_WIRE_DATA_BLOCKED, "DATA_BLOCKED", {NULL, "maximum_data"}, NULL},
-    {QUIC_WIRE_STREAM_DATA_BLOCKED, "STREAM_DATA_BLOCKED",
+    {QUIC_WIRE_FRAME_MAX_STREAMS_BIDI, "MAX_STREAMS", {NULL, "maximum_streams"}, NULL},
+    {QUIC_WIRE_FRAME_MAX_STREAMS_UNI, "MAX_STREAMS", {NULL, "maximum_streams"}, NULL},
+    {QUIC_WIRE_FRAME_DATA_BLOCKED, "DATA_BLOCKED", {NULL, "maximum_data"}, NULL},
+    {QUIC_WIRE_FRAME_STREAM_DATA_BLOCKED, "STREAM_DATA_BLOCKED",
      {"stream_id", "maximum_stream_data"}, NULL},
-    {QUIC_WIRE_STREAMS_BLOCKED_BIDI, "STREAMS_BLOCKED",
+    {QUIC_WIRE_FRAME_STREAMS_BLOCKED_BIDI, "STREAMS_BLOCKED",
      {NULL, "maximum_streams"}, NULL},
-    {QUIC_WIRE_STREAMS_BLOCKED_UNI, "STREAMS_BLOCKED",
+    {QUIC_WIRE_FRAME_STREAMS_BLOCKED_UNI, "STREAMS_BLOCKED",
      {NULL, "maximum_streams"}, NULL},
-    {QUIC_WIRE_NEW_CONNECTION_ID, "NEW_CONNECTION_ID",
+    {QUIC_WIRE_FRAME_NEW_CONNECTION_ID, "NEW_CONNECTION_ID",
      {"sequence_number", "retire_prior_to"}, "connection_id"},
-    {QUIC_WIRE_RETIRE_CONNECTION_ID, "RETIRE_CONNECTION_ID",
+    {QUIC_WIRE_FRAME_RETIRE_CONNECTION_ID, "RETIRE_CONNECTION_ID",
      {"sequence_number"}, NULL},
-    {QUIC_WIRE_PATH_CHALLENGE, "PATH_CHALLENGE", {0}, NULL},
-    {QUIC_WIRE_PATH_RESPONSE, "PATH_RESPONSE", {0}, NULL},
-    {QUIC_WIRE_CONNECTION_CLOSE, "CONNECTION_CLOSE",
+    {QUIC_WIRE_FRAME_PATH_CHALLENGE, "PATH_CHALLENGE", {0}, NULL},
+    {QUIC_WIRE_FRAME_PATH_RESPONSE, "PATH_RESPONSE", {0}, NULL},
+    {QUIC_WIRE_FRAME_CONNECTION_CLOSE, "CONNECTION_CLOSE",
      {"error_code", "frame_type"}, "reason_phrase"},
-    {QUIC_WIRE_APPLICATION_CLOSE, "CONNECTION_CLOSE", {"error_code"},
+    {QUIC_WIRE_FRAME_APPLICATION_CLOSE, "CONNECTION_CLOSE", {"error_code"},
      "reason_phrase"},
-    {QUIC_WIRE_HANDSHAKE_DONE, "HANDSHAKE_DONE", {0}, NULL},
-    {QUIC_WIRE_IMMEDIATE_ACK, "IMMEDIATE_ACK", {0}, NULL},
-    {QUIC_WIRE_DATAGRAM, "DATAGRAM", {0}, "datagram_data"},
-    {QUIC_WIRE_ACK_FREQUENCY, "ACK_FREQUENCY",
+    {QUIC_WIRE_FRAME_HANDSHAKE_DONE, "HANDSHAKE_DONE", {0}, NULL},
+    {QUIC_WIRE_FRAME_IMMEDIATE_ACK, "IMMEDIATE_ACK", {0}, NULL},
+    {QUIC_WIRE_FRAME_DATAGRAM, "DATAGRAM", {0}, "datagram_data"},
+    {QUIC_WIRE_FRAME_ACK_FREQUENCY, "ACK_FREQUENCY",
      {"sequence_number", "ack_eliciting_threshold", "requested_max_ack_delay",
       "reordering_threshold"}, NULL},
 };
@@ -73,10 +73,10 @@ static void print_ranges(FILE *out, const line *in,
 static void print_more(FILE *out, const line *in, const quic_wire_frame *frame) {
   static const char *const directions[] = {"bidirectional", "unidirectional"};
   switch (frame->kind) {
-  case QUIC_WIRE_PADDING:
+  case QUIC_WIRE_FRAME_PADDING:
     print_number(out, "count", quic_wire_padding_count(in->bytes, in->len, frame));
     break;
-  case QUIC_WIRE_ACK:
+  case QUIC_WIRE_FRAME_ACK:
     if (frame->flags & QUIC_WIRE_FLAG_ECN) {
       print_number(out, "ect0_count", frame->ack.ect0);
       print_number(out, "ect1_count", frame->ack.ect1);
@@ -84,27 +84,27 @@ static void print_more(FILE *out, const line *in, const quic_wire_frame *frame) 
     }
     print_ranges(out, in, frame);
     break;
-  case QUIC_WIRE_STREAM:
+  case QUIC_WIRE_FRAME_STREAM:
     print_number(out, "fin", frame->flags & QUIC_WIRE_FLAG_FIN);
     break;
-  case QUIC_WIRE_MAX_STREAMS_BIDI:
-  case QUIC_WIRE_MAX_STREAMS_UNI:
-  case QUIC_WIRE_STREAMS_BLOCKED_BIDI:
-  case QUIC_WIRE_STREAMS_BLOCKED_UNI:
+  case QUIC_WIRE_FRAME_MAX_STREAMS_BIDI:
+  case QUIC_WIRE_FRAME_MAX_STREAMS_UNI:
+  case QUIC_WIRE_FRAME_STREAMS_BLOCKED_BIDI:
+  case QUIC_WIRE_FRAME_STREAMS_BLOCKED_UNI:
     fprintf(out, ",\"direction\":\"%s\"", directions[frame->kind & 1]);
     break;
-  case QUIC_WIRE_NEW_CONNECTION_ID:
+  case QUIC_WIRE_FRAME_NEW_CONNECTION_ID:
     print_bytes(out, "stateless_reset_token",
                 quic_wire_reset_token(in->bytes, in->len, frame), 16);
     break;
-  case QUIC_WIRE_PATH_CHALLENGE:
-  case QUIC_WIRE_PATH_RESPONSE:
+  case QUIC_WIRE_FRAME_PATH_CHALLENGE:
+  case QUIC_WIRE_FRAME_PATH_RESPONSE:
     print_bytes(out, "data", quic_wire_path_data(in->bytes, in->len, frame), 8);
     break;
-  case QUIC_WIRE_CONNECTION_CLOSE:
+  case QUIC_WIRE_FRAME_CONNECTION_CLOSE:
     fprintf(out, ",\"layer\":\"transport\"");
     break;
-  case QUIC_WIRE_APPLICATION_CLOSE:
+  case QUIC_WIRE_FRAME_APPLICATION_CLOSE:
     fprintf(out, ",\"layer\":\"application\"");
     break;
   default: break;

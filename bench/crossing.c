@@ -76,16 +76,16 @@ static u64 ack_write(u64 turn) {
 static inline __attribute__((always_inline)) u64 header_of(uint8_t kind, u64 turn) {
     quic_wire_header_fields said = {
         .kind = kind, .numberlen = 2, .lengthlen = 2, .version = QUIC_WIRE_VERSION_1, .number = turn};
-    size_t token_len = kind == QUIC_WIRE_INITIAL ? sizeof token : 0;
+    size_t token_len = kind == QUIC_WIRE_PACKET_INITIAL ? sizeof token : 0;
     return (u64)quic_wire_header_write(&said, id, id_len, id, id_len, token, token_len, dest, sizeof dest);
 }
 
-static u64 initial(u64 turn) { return header_of(QUIC_WIRE_INITIAL, turn); }
-static u64 zero_rtt(u64 turn) { return header_of(QUIC_WIRE_0RTT, turn); }
-static u64 handshake(u64 turn) { return header_of(QUIC_WIRE_HANDSHAKE, turn); }
-static u64 retry(u64 turn) { return header_of(QUIC_WIRE_RETRY, turn); }
-static u64 one_rtt(u64 turn) { return header_of(QUIC_WIRE_1RTT, turn); }
-static u64 negotiation(u64 turn) { return header_of(QUIC_WIRE_VERSION_NEGOTIATION, turn); }
+static u64 initial(u64 turn) { return header_of(QUIC_WIRE_PACKET_INITIAL, turn); }
+static u64 zero_rtt(u64 turn) { return header_of(QUIC_WIRE_PACKET_0RTT, turn); }
+static u64 handshake(u64 turn) { return header_of(QUIC_WIRE_PACKET_HANDSHAKE, turn); }
+static u64 retry(u64 turn) { return header_of(QUIC_WIRE_PACKET_RETRY, turn); }
+static u64 one_rtt(u64 turn) { return header_of(QUIC_WIRE_PACKET_1RTT, turn); }
+static u64 negotiation(u64 turn) { return header_of(QUIC_WIRE_PACKET_VERSION_NEGOTIATION, turn); }
 
 static const struct {
     const char *name;

@@ -149,10 +149,10 @@ static void print_header(const datagram *d, unsigned from, const uint8_t *packet
   static const char *const kinds[] = {"initial", "0rtt", "handshake", "retry", "short",
                                       "version-negotiation", "unknown"};
   printf("%lu %c %s", d->frame, "cs"[from], kinds[header->kind]);
-  if (header->kind != QUIC_WIRE_1RTT)
+  if (header->kind != QUIC_WIRE_PACKET_1RTT)
     printf(" version %08" PRIx32, header->version);
   print_id("dst", quic_wire_dcid(packet, header), header->dcidlen);
-  if (header->kind != QUIC_WIRE_1RTT)
+  if (header->kind != QUIC_WIRE_PACKET_1RTT)
     print_id("src", quic_wire_scid(packet, header), header->scidlen);
 }
 
@@ -215,13 +215,13 @@ static int print_versions(const uint8_t *packet, const quic_wire_header *header)
 static void print_packet(const datagram *d, flow *f, unsigned *from, const uint8_t *packet,
                          const quic_wire_header *header, const char *why) {
   static opened o;
-  const int is_tried = !why && header->kind == QUIC_WIRE_INITIAL;
+  const int is_tried = !why && header->kind == QUIC_WIRE_PACKET_INITIAL;
   const int is_open = is_tried && !(why = open_initial(f, from, packet, header, &o));
   print_header(d, *from, packet, header);
   if (is_open)
     printf(" number %" PRIu64, o.number);
   printf(" length %" PRIu32, header->end);
-  if (header->kind == QUIC_WIRE_VERSION_NEGOTIATION && !print_versions(packet, header))
+  if (header->kind == QUIC_WIRE_PACKET_VERSION_NEGOTIATION && !print_versions(packet, header))
     why = "the last version is cut off";
   if (is_open && o.first & QUIC_WIRE_RESERVED_LONG)
     why = "reserved bits are set";
@@ -268,11 +268,11 @@ static void print_datagram(const datagram *d, flow *f, unsigned from) {
     print_packet(d, f, &from, packet, &header, why);
     id = quic_wire_dcid(packet, &header);
     idlen = header.dcidlen;
-    if (header.kind <= QUIC_WIRE_RETRY) { /* a long header, which tells its sender's id */
+    if (header.kind <= QUIC_WIRE_PACKET_RETRY) { /* a long header, which tells its sender's id */
       f->sides[from].has_id = 1;
       f->sides[from].idlen = header.scidlen;
     }
-    if (header.kind == QUIC_WIRE_INITIAL && from == QUIC_WIRE_CLIENT && !f->has_keys)
+    if (header.kind == QUIC_WIRE_PACKET_INITIAL && from == QUIC_WIRE_CLIENT && !f->has_keys)
       take_id(f, packet, &header); /* a packet that is cut off has it too */
   }
   if (d->lost)

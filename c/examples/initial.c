@@ -102,7 +102,7 @@ int main(void) {
       quic_wire_header_read(packet, len, 0, versions, 1, &header);
   check(quic_wire_check(QUIC_WIRE_LIB) == 0, "another library is linked");
   check(end > 0, quic_wire_strerror((int)end));
-  check(header.kind == QUIC_WIRE_INITIAL &&
+  check(header.kind == QUIC_WIRE_PACKET_INITIAL &&
             header.scidlen + header.tokenlen == 0,
         "no Initial packet of a client's first datagram");
   memcpy(given, packet, len);
@@ -110,7 +110,7 @@ int main(void) {
   k = initial_keys(QUIC_WIRE_VERSION_1, QUIC_WIRE_CLIENT, dcid, header.dcidlen);
 
   begin = open_packet(&k, packet, &header, &fields.number);
-  fields.kind = QUIC_WIRE_INITIAL;
+  fields.kind = QUIC_WIRE_PACKET_INITIAL;
   fields.version = QUIC_WIRE_VERSION_1;
   fields.numberlen = (uint8_t)(begin - header.header_end);
   fields.lengthlen = 2;

@@ -38,8 +38,8 @@
  *                                            nversions, &header) > 0) {
  *     const uint8_t *sample =
  *         quic_wire_sample(packet, header.end, header.header_end, 16);
- *     if (sample && header.kind != QUIC_WIRE_RETRY &&
- *         header.kind != QUIC_WIRE_VERSION_NEGOTIATION) {
+ *     if (sample && header.kind != QUIC_WIRE_PACKET_RETRY &&
+ *         header.kind != QUIC_WIRE_PACKET_VERSION_NEGOTIATION) {
  *       make_mask(mask, sample);
  *       numberlen = quic_wire_unprotect(packet, header.end, header.header_end,
  *                                       mask, expected, &number);
@@ -53,7 +53,7 @@
  * And a packet is sealed so, with room for a tag of 16 bytes after it:
  *
  *   quic_wire_header_fields fields = {0};
- *   fields.kind = QUIC_WIRE_HANDSHAKE;
+ *   fields.kind = QUIC_WIRE_PACKET_HANDSHAKE;
  *   fields.version = QUIC_WIRE_VERSION_1;
  *   fields.number = number;
  *   fields.numberlen = (uint8_t)quic_wire_number_len(number, largest_acked);
@@ -384,13 +384,13 @@ typedef struct quic_wire_canon {
 /* ---- Packets (RFC 9000, section 17) */
 
 /* The kinds of packets. */
-#define QUIC_WIRE_INITIAL 0
-#define QUIC_WIRE_0RTT 1
-#define QUIC_WIRE_HANDSHAKE 2
-#define QUIC_WIRE_RETRY 3
-#define QUIC_WIRE_1RTT 4
-#define QUIC_WIRE_VERSION_NEGOTIATION 5
-#define QUIC_WIRE_UNKNOWN_VERSION 6 /* a long header of a version that is none
+#define QUIC_WIRE_PACKET_INITIAL 0
+#define QUIC_WIRE_PACKET_0RTT 1
+#define QUIC_WIRE_PACKET_HANDSHAKE 2
+#define QUIC_WIRE_PACKET_RETRY 3
+#define QUIC_WIRE_PACKET_1RTT 4
+#define QUIC_WIRE_PACKET_VERSION_NEGOTIATION 5
+#define QUIC_WIRE_PACKET_UNKNOWN_VERSION 6 /* a long header of a version that is none
                                        of those given */
 
 /* Bits of a first byte. */
@@ -408,7 +408,7 @@ typedef struct quic_wire_canon {
 /* The header of a packet, with its protection still on.  Every place is one in
  * the packet, in bytes from its front; fields that the kind doesn't have are 0. */
 typedef struct quic_wire_header {
-  uint8_t kind;    /* QUIC_WIRE_INITIAL and so on */
+  uint8_t kind;    /* QUIC_WIRE_PACKET_INITIAL and so on */
   uint8_t first;   /* the first byte, before protection is taken off */
   uint8_t dcidlen; /* the receiver's id: quic_wire_dcid */
   uint8_t scidlen; /* the sender's id: quic_wire_scid */
@@ -426,7 +426,7 @@ typedef struct quic_wire_header {
 /* What a header says that is written, beside its ids and its token.  What its
  * kind lacks isn't looked at. */
 typedef struct quic_wire_header_fields {
-  uint8_t kind;      /* QUIC_WIRE_INITIAL and so on */
+  uint8_t kind;      /* QUIC_WIRE_PACKET_INITIAL and so on */
   uint8_t flags;     /* 0: the first byte is what RFC 9000 has.
                         QUIC_WIRE_CLEAR_FIXED_BIT; of 1-RTT
                         QUIC_WIRE_SPIN_BIT and QUIC_WIRE_KEY_PHASE; of a

@@ -466,13 +466,13 @@ QUIC_WIRE_API size_t quic_wire_header_len(const quic_wire_header_fields *fields,
                                           size_t dcidlen, size_t scidlen,
                                           size_t tokenlen) {
   return !fields ? 0
-         : fields->kind == QUIC_WIRE_1RTT
+         : fields->kind == QUIC_WIRE_PACKET_1RTT
              ? 1 + dcidlen + fields->numberlen
              : 7 + dcidlen + scidlen +
-                   (fields->kind <= QUIC_WIRE_HANDSHAKE
+                   (fields->kind <= QUIC_WIRE_PACKET_HANDSHAKE
                         ? (size_t)fields->lengthlen + fields->numberlen
                         : 0) +
-                   (fields->kind == QUIC_WIRE_INITIAL
+                   (fields->kind == QUIC_WIRE_PACKET_INITIAL
                         ? tokenlen + (tokenlen < 64        ? 1
                                       : tokenlen < 16384   ? 2
                                       : tokenlen < 1 << 30 ? 4
@@ -489,9 +489,9 @@ QUIC_WIRE_API int64_t quic_wire_header_write(
     return QUIC_WIRE_ERR_ARGUMENT;
   if (!dcid)
     dcid = &none;
-  if (fields->kind == QUIC_WIRE_1RTT)
+  if (fields->kind == QUIC_WIRE_PACKET_1RTT)
     return quic_wire_short_write_(fields, dcid, dcidlen, dest, destlen);
-  if (fields->kind != QUIC_WIRE_INITIAL)
+  if (fields->kind != QUIC_WIRE_PACKET_INITIAL)
     tokenlen = 0;
   if ((!scid && scidlen) || (!token && tokenlen))
     return QUIC_WIRE_ERR_ARGUMENT;

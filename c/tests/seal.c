@@ -44,7 +44,7 @@ static size_t seal(unsigned connection, const uint8_t *payload, size_t len,
   size_t begin, place, end;
   int64_t written;
   keys k;
-  all.kind = QUIC_WIRE_INITIAL;
+  all.kind = QUIC_WIRE_PACKET_INITIAL;
   all.version = QUIC_WIRE_VERSION_1;
   all.numberlen = 4;
   all.lengthlen = 2;

@@ -117,12 +117,12 @@ static void print_packet(const uint8_t *packet, size_t begin,
                                       "retry",   "short", "version-negotiation"};
   printf("%zu..%zu %s dst ", begin, begin + header->end, kinds[header->kind]);
   print_id(quic_wire_dcid(packet, header), 0, header->dcidlen);
-  if (header->kind != QUIC_WIRE_1RTT) {
+  if (header->kind != QUIC_WIRE_PACKET_1RTT) {
     printf(" src ");
     print_id(quic_wire_scid(packet, header), 0, header->scidlen);
     printf(" version %08" PRIx32, header->version);
   }
-  if (header->kind == QUIC_WIRE_INITIAL)
+  if (header->kind == QUIC_WIRE_PACKET_INITIAL)
     printf(" token %" PRIu32 "..%" PRIu32, header->token,
            header->token + header->tokenlen);
   putchar('\n');

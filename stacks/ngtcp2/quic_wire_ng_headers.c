@@ -24,8 +24,8 @@ static const uint32_t versions[] = {NGTCP2_PROTO_VER_V1, 0xff00001du,
  * the ids.  Reads what follows them; 0, or -1 where they end within it.
  */
 static int read_draft(quic_wire_header *h, const uint8_t *pkt, size_t pktlen) {
-  static const uint8_t kinds[] = {QUIC_WIRE_RETRY, QUIC_WIRE_INITIAL,
-                                  QUIC_WIRE_0RTT, QUIC_WIRE_HANDSHAKE};
+  static const uint8_t kinds[] = {QUIC_WIRE_PACKET_RETRY, QUIC_WIRE_PACKET_INITIAL,
+                                  QUIC_WIRE_PACKET_0RTT, QUIC_WIRE_PACKET_HANDSHAKE};
   uint64_t len = 0;
   size_t at = h->header_end, n;
 
@@ -33,7 +33,7 @@ static int read_draft(quic_wire_header *h, const uint8_t *pkt, size_t pktlen) {
     return -1;
   }
   h->kind = kinds[h->first >> 4 & 3];
-  if (h->kind == QUIC_WIRE_INITIAL) {
+  if (h->kind == QUIC_WIRE_PACKET_INITIAL) {
     n = quic_wire_varint_read(pkt + at, pktlen - at, &len);
     if (!n || pktlen - at - n < len) {
       return -1;
@@ -42,7 +42,7 @@ static int read_draft(quic_wire_header *h, const uint8_t *pkt, size_t pktlen) {
     h->tokenlen = (uint32_t)len;
     at += n + (size_t)len;
   }
-  if (h->kind != QUIC_WIRE_RETRY) {
+  if (h->kind != QUIC_WIRE_PACKET_RETRY) {
     n = quic_wire_varint_read(pkt + at, pktlen - at, &h->len);
     if (!n) {
       return -1;
@@ -71,12 +71,12 @@ ngtcp2_ssize ngtcp2_pkt_decode_hd_long(ngtcp2_pkt_hd *dest, const uint8_t *pkt,
 #endif
   /* ngtcp2 looks itself at whether a packet is cut off. */
   if ((answer < 0 && answer != QUIC_WIRE_ERR_PACKET_CUT) ||
-      h.kind == QUIC_WIRE_1RTT) {
+      h.kind == QUIC_WIRE_PACKET_1RTT) {
     return NGTCP2_ERR_INVALID_ARGUMENT;
   }
   dest->type = types[h.kind];
   dest->flags = NGTCP2_PKT_FLAG_NONE;
-  if (h.kind != QUIC_WIRE_VERSION_NEGOTIATION) {
+  if (h.kind != QUIC_WIRE_PACKET_VERSION_NEGOTIATION) {
     dest->flags |= NGTCP2_PKT_FLAG_LONG_FORM;
     if (!(h.first & QUIC_WIRE_FIXED_BIT)) {
       dest->flags |= NGTCP2_PKT_FLAG_FIXED_BIT_CLEAR;
@@ -179,13 +179,13 @@ static quic_wire_header_fields fields_of(const ngtcp2_pkt_hd *hd,
 static uint8_t kind_of(uint8_t type) {
   switch (type) {
   case NGTCP2_PKT_INITIAL:
-    return QUIC_WIRE_INITIAL;
+    return QUIC_WIRE_PACKET_INITIAL;
   case NGTCP2_PKT_0RTT:
-    return QUIC_WIRE_0RTT;
+    return QUIC_WIRE_PACKET_0RTT;
   case NGTCP2_PKT_HANDSHAKE:
-    return QUIC_WIRE_HANDSHAKE;
+    return QUIC_WIRE_PACKET_HANDSHAKE;
   default:
-    return QUIC_WIRE_RETRY;
+    return QUIC_WIRE_PACKET_RETRY;
   }
 }
 
@@ -216,7 +216,7 @@ ngtcp2_ssize ngtcp2_pkt_encode_hd_long(uint8_t *out, size_t outlen,
 
 ngtcp2_ssize ngtcp2_pkt_encode_hd_short(uint8_t *out, size_t outlen,
                                         const ngtcp2_pkt_hd *hd) {
-  quic_wire_header_fields fields = fields_of(hd, QUIC_WIRE_1RTT);
+  quic_wire_header_fields fields = fields_of(hd, QUIC_WIRE_PACKET_1RTT);
   int64_t n = quic_wire_header_write(&fields, hd->dcid.data, hd->dcid.datalen,
                                      NULL, 0, NULL, 0, out, outlen);
   if (n < 0) {

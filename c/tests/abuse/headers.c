@@ -55,7 +55,7 @@ static void header_within(const uint8_t *packet, size_t left,
        header->end <= left);
   WANT(quic_wire_dcid(packet, header) + header->dcidlen <=
        packet + header->header_end);
-  WANT(header->kind == QUIC_WIRE_1RTT ||
+  WANT(header->kind == QUIC_WIRE_PACKET_1RTT ||
        quic_wire_scid(packet, header) + header->scidlen <=
            packet + header->header_end);
   WANT(header->token + header->tokenlen <= header->header_end);
@@ -88,7 +88,7 @@ void packet_rubbish(uint8_t *datagram, size_t len) {
     if (cidlen > 20)
       WANT(end == QUIC_WIRE_ERR_LENGTH);
     WANT(quic_wire_short_read(packet, len - begin, cidlen) ==
-         (end > 0 && header.kind == QUIC_WIRE_1RTT ? header.header_end : 0));
+         (end > 0 && header.kind == QUIC_WIRE_PACKET_1RTT ? header.header_end : 0));
     if (end <= 0 && end != QUIC_WIRE_ERR_PACKET_CUT)
       break;
     WANT(end < 0 || (size_t)end == header.end);

@@ -3,7 +3,7 @@
 #include "abuse.h"
 
 void headers_written_nulls(void) {
-  quic_wire_header_fields fields = {QUIC_WIRE_RETRY, 0, 0, 0, 1, 0};
+  quic_wire_header_fields fields = {QUIC_WIRE_PACKET_RETRY, 0, 0, 0, 1, 0};
   uint8_t id[4] = {1, 2, 3, 4}, out[16];
   WANT(quic_wire_header_write(NULL, id, 4, id, 4, NULL, 0, out, 16) == INVALID);
   WANT(quic_wire_header_write(&fields, NULL, 4, id, 4, NULL, 0, out, 16) ==
@@ -11,17 +11,17 @@ void headers_written_nulls(void) {
   WANT(quic_wire_header_write(&fields, id, 4, NULL, 4, NULL, 0, out, 16) ==
        INVALID);
   WANT(quic_wire_header_write(&fields, id, 4, id, 4, NULL, 1, out, 16) == 15);
-  fields.kind = QUIC_WIRE_1RTT;
+  fields.kind = QUIC_WIRE_PACKET_1RTT;
   WANT(quic_wire_header_write(&fields, id, 4, NULL, 4, NULL, 1, out, 16) ==
        QUIC_WIRE_ERR_LENGTH);
   fields.numberlen = 1;
   WANT(quic_wire_header_write(&fields, id, 4, NULL, 4, NULL, 1, out, 16) == 6);
-  fields.kind = QUIC_WIRE_INITIAL;
+  fields.kind = QUIC_WIRE_PACKET_INITIAL;
   fields.lengthlen = 2;
   WANT(quic_wire_header_write(&fields, id, 2, id, 2, NULL, 1, out, 16) ==
        INVALID);
   WANT(quic_wire_header_write(&fields, id, 2, id, 2, id, 1, out, 16) == 16);
-  fields.kind = QUIC_WIRE_RETRY;
+  fields.kind = QUIC_WIRE_PACKET_RETRY;
   WANT(quic_wire_header_write(&fields, id, 4, id, 4, NULL, 0, NULL, 16) ==
        INVALID);
   WANT(quic_wire_header_write(&fields, NULL, 0, NULL, 0, NULL, 0, out, 6) ==
@@ -49,10 +49,10 @@ void long_tokens(void) {
     if (lens[k] > SIZE_MAX)
       continue;
     len = quic_wire_varint_write(lens[k], 0, bytes, 8) + 7 + 8 + 20 + 4 + 3;
-    fields.kind = QUIC_WIRE_INITIAL;
+    fields.kind = QUIC_WIRE_PACKET_INITIAL;
     WANT(quic_wire_header_len(&fields, 8, 20, lens[k]) == len + lens[k]);
-    for (; fields.kind <= QUIC_WIRE_VERSION_NEGOTIATION; fields.kind++) {
-      if (lens[k] > sizeof token && fields.kind == QUIC_WIRE_INITIAL)
+    for (; fields.kind <= QUIC_WIRE_PACKET_VERSION_NEGOTIATION; fields.kind++) {
+      if (lens[k] > sizeof token && fields.kind == QUIC_WIRE_PACKET_INITIAL)
         continue;
       len = quic_wire_header_len(&fields, 8, 20, lens[k]);
       WANT(quic_wire_header_write(&fields, id, 8, id, 20, token, lens[k], dest,
@@ -67,8 +67,8 @@ void long_tokens(void) {
 static size_t model_long(const quic_wire_header_fields *h,
                          const uint8_t *const parts[3], const size_t lens[3],
                          uint8_t first, uint8_t *out) {
-  const int vn = h->kind == QUIC_WIRE_VERSION_NEGOTIATION;
-  const int is_long = h->kind <= QUIC_WIRE_HANDSHAKE;
+  const int vn = h->kind == QUIC_WIRE_PACKET_VERSION_NEGOTIATION;
+  const int is_long = h->kind <= QUIC_WIRE_PACKET_HANDSHAKE;
   size_t n = 0, i, k;
   uint32_t type = (h->kind + (h->version == 0x6b3343cf ? 1u : 0)) % 4;
   out[n++] = (uint8_t)(vn ? 0xc0 ^ (h->flags & 0x7f) : first | 16 * type);
@@ -79,7 +79,7 @@ static size_t model_long(const quic_wire_header_fields *h,
     for (k = 0; k < lens[i]; k++)
       out[n++] = parts[i][k];
   }
-  if (h->kind == QUIC_WIRE_INITIAL) {
+  if (h->kind == QUIC_WIRE_PACKET_INITIAL) {
     if (lens[2] >= 64)
       out[n++] = (uint8_t)(0x40 + lens[2] / 256);
     out[n++] = (uint8_t)lens[2];
@@ -94,14 +94,14 @@ static size_t model_long(const quic_wire_header_fields *h,
 /* Why there is no such header, or 0. */
 static int64_t model_refusal(const quic_wire_header_fields *h,
                              const size_t lens[3]) {
-  const int is_long = h->kind <= QUIC_WIRE_HANDSHAKE;
-  const int numbered = is_long || h->kind == QUIC_WIRE_1RTT;
+  const int is_long = h->kind <= QUIC_WIRE_PACKET_HANDSHAKE;
+  const int numbered = is_long || h->kind == QUIC_WIRE_PACKET_1RTT;
   if (h->kind > 5)
     return QUIC_WIRE_ERR_KIND;
-  if ((h->kind <= QUIC_WIRE_RETRY && h->version == 0) ||
+  if ((h->kind <= QUIC_WIRE_PACKET_RETRY && h->version == 0) ||
       (numbered && h->number >> 62))
     return QUIC_WIRE_ERR_NUMBER;
-  if (lens[0] > 20 || (h->kind != QUIC_WIRE_1RTT && lens[1] > 20) ||
+  if (lens[0] > 20 || (h->kind != QUIC_WIRE_PACKET_1RTT && lens[1] > 20) ||
       (numbered && (h->numberlen < 1 || h->numberlen > 4)) ||
       (is_long && h->lengthlen != 2 && h->lengthlen != 4))
     return QUIC_WIRE_ERR_LENGTH;
@@ -113,11 +113,11 @@ static int64_t model_refusal(const quic_wire_header_fields *h,
 static size_t model_header(const quic_wire_header_fields *h,
                            const uint8_t *const parts[3], const size_t lens[3],
                            uint8_t *out) {
-  const int is_long = h->kind <= QUIC_WIRE_HANDSHAKE;
-  const int numbered = is_long || h->kind == QUIC_WIRE_1RTT;
+  const int is_long = h->kind <= QUIC_WIRE_PACKET_HANDSHAKE;
+  const int numbered = is_long || h->kind == QUIC_WIRE_PACKET_1RTT;
   const uint8_t fixed = (h->flags & QUIC_WIRE_CLEAR_FIXED_BIT) ^ 0x40;
   size_t n = 0, k;
-  if (h->kind == QUIC_WIRE_1RTT) {
+  if (h->kind == QUIC_WIRE_PACKET_1RTT) {
     out[n++] = (uint8_t)(fixed | (h->flags & 0x24) | (h->numberlen - 1));
     for (k = 0; k < lens[0]; k++)
       out[n++] = parts[0][k];
@@ -137,7 +137,7 @@ static int header_protected(const quic_wire_header_fields *h, uint8_t *packet,
                             const uint8_t *plain, size_t whole, size_t len,
                             size_t at, const uint8_t mask[5]) {
   const int numbered =
-      h->kind <= QUIC_WIRE_HANDSHAKE || h->kind == QUIC_WIRE_1RTT;
+      h->kind <= QUIC_WIRE_PACKET_HANDSHAKE || h->kind == QUIC_WIRE_PACKET_1RTT;
   size_t k;
   int answer = quic_wire_protect(packet, whole, at, mask);
   if (whole - at < 4) {
@@ -148,7 +148,7 @@ static int header_protected(const quic_wire_header_fields *h, uint8_t *packet,
     for (k = 0; k < whole; k++) {
       uint8_t m = 0;
       if (k == 0)
-        m = mask[0] & (h->kind == QUIC_WIRE_1RTT ? 0x1f : 0x0f);
+        m = mask[0] & (h->kind == QUIC_WIRE_PACKET_1RTT ? 0x1f : 0x0f);
       else if (k >= at && k < len)
         m = mask[1 + k - at];
       WANT(packet[k] == (plain[k] ^ m));
@@ -165,8 +165,8 @@ static int header_protected(const quic_wire_header_fields *h, uint8_t *packet,
 static void header_cut(const quic_wire_header_fields *h,
                        const uint8_t *const parts[3], const size_t lens[3],
                        const uint8_t *written, size_t len) {
-  const int is_long = h->kind <= QUIC_WIRE_HANDSHAKE;
-  const int numbered = is_long || h->kind == QUIC_WIRE_1RTT;
+  const int is_long = h->kind <= QUIC_WIRE_PACKET_HANDSHAKE;
+  const int numbered = is_long || h->kind == QUIC_WIRE_PACKET_1RTT;
   const size_t whole = len + any() % 64;
   const size_t at = len - (numbered ? h->numberlen : 0);
   uint8_t *packet = block(whole), *plain = block(whole), mask[5];
@@ -183,14 +183,14 @@ static void header_cut(const quic_wire_header_fields *h,
   WANT(quic_wire_header_read(packet, whole, (uint32_t)lens[0], &h->version, 1,
                              &header) == (int64_t)whole);
   WANT(header.kind == h->kind && header.first == packet[0]);
-  WANT(header.version == (h->kind <= QUIC_WIRE_RETRY ? h->version : 0));
+  WANT(header.version == (h->kind <= QUIC_WIRE_PACKET_RETRY ? h->version : 0));
   WANT(header.dcidlen == lens[0] && header.end == whole &&
        header.header_end == at);
-  WANT(h->kind == QUIC_WIRE_1RTT || header.scidlen == lens[1]);
+  WANT(h->kind == QUIC_WIRE_PACKET_1RTT || header.scidlen == lens[1]);
   WANT(!memcmp(quic_wire_dcid(packet, &header), parts[0], lens[0]));
-  WANT(h->kind == QUIC_WIRE_1RTT ||
+  WANT(h->kind == QUIC_WIRE_PACKET_1RTT ||
        !memcmp(quic_wire_scid(packet, &header), parts[1], lens[1]));
-  WANT(header.tokenlen == (h->kind == QUIC_WIRE_INITIAL ? lens[2] : 0));
+  WANT(header.tokenlen == (h->kind == QUIC_WIRE_PACKET_INITIAL ? lens[2] : 0));
   WANT(header.len == (is_long ? whole - at : 0));
   if (numbered && answer > 0 && h->number >> 62 == 0) {
     WANT(quic_wire_unprotect(packet, whole, at, mask, h->number, &number) ==

@@ -53,7 +53,7 @@ static void negotiation_read(uint8_t *packet, size_t len, size_t cut) {
       WANT(!memcmp(&header, &same, sizeof header));
       continue;
     }
-    WANT(header.kind == QUIC_WIRE_VERSION_NEGOTIATION &&
+    WANT(header.kind == QUIC_WIRE_PACKET_VERSION_NEGOTIATION &&
          header.first == packet[0]);
     WANT(header.dcidlen == dcidlen && header.scidlen == scidlen);
     WANT(header.version == 0 && header.end == whole);

@@ -6,7 +6,7 @@
 static void print_ids(FILE *out, const uint8_t *packet,
                       const quic_wire_header *header) {
   print_bytes(out, "dcid", quic_wire_dcid(packet, header), header->dcidlen);
-  if (header->kind == QUIC_WIRE_1RTT)
+  if (header->kind == QUIC_WIRE_PACKET_1RTT)
     return;
   print_bytes(out, "scid", quic_wire_scid(packet, header), header->scidlen);
   fprintf(out, ",\"version\":\"%08" PRIx32 "\"", header->version);
@@ -17,11 +17,11 @@ static void print_rest(FILE *out, const uint8_t *packet,
                        const quic_wire_header *header) {
   size_t at = header->header_end, end = header->end;
   const char *before = "";
-  if (header->kind == QUIC_WIRE_RETRY && end >= at + 16) {
+  if (header->kind == QUIC_WIRE_PACKET_RETRY && end >= at + 16) {
     print_bytes(out, "retry_token", packet + at, end - at - 16);
     print_bytes(out, "retry_integrity_tag", packet + end - 16, 16);
   }
-  if (header->kind != QUIC_WIRE_VERSION_NEGOTIATION)
+  if (header->kind != QUIC_WIRE_PACKET_VERSION_NEGOTIATION)
     return;
   fprintf(out, ",\"supported_versions\":[");
   for (; at + 4 <= end; at += 4, before = ",") {
@@ -37,19 +37,19 @@ static void print_packet(FILE *out, const uint8_t *packet, size_t begin,
   static const char *const names[] = {
       "Initial", "0-RTT", "Handshake",           "Retry",
       "1-RTT",   "Version Negotiation", "unknown version"};
-  int has_number = header->kind <= QUIC_WIRE_HANDSHAKE || header->kind == QUIC_WIRE_1RTT;
+  int has_number = header->kind <= QUIC_WIRE_PACKET_HANDSHAKE || header->kind == QUIC_WIRE_PACKET_1RTT;
   fprintf(out, "%s{\"type\":\"%s\"", begin ? "," : "", names[header->kind]);
   print_ids(out, packet, header);
-  if (header->kind == QUIC_WIRE_INITIAL)
+  if (header->kind == QUIC_WIRE_PACKET_INITIAL)
     print_bytes(out, "token", packet + header->token, header->tokenlen);
-  if (header->kind <= QUIC_WIRE_HANDSHAKE)
+  if (header->kind <= QUIC_WIRE_PACKET_HANDSHAKE)
     print_number(out, "length", header->len);
-  if (header->kind == QUIC_WIRE_1RTT)
+  if (header->kind == QUIC_WIRE_PACKET_1RTT)
     print_number(out, "spin", header->first >> 5 & 1);
   if (has_number)
     print_number(out, "packet_number_at", begin + header->header_end);
   print_rest(out, packet, header);
-  if (header->kind != QUIC_WIRE_UNKNOWN_VERSION)
+  if (header->kind != QUIC_WIRE_PACKET_UNKNOWN_VERSION)
     print_number(out, "end", begin + header->end);
   putc('}', out);
 }
@@ -67,7 +67,7 @@ static int read_packet(const line *in, size_t begin, quic_wire_header *header) {
   if (end < 0)
     return 0;
   return packet[0] & QUIC_WIRE_FIXED_BIT || item(in, "grease") ||
-         header->kind == QUIC_WIRE_VERSION_NEGOTIATION;
+         header->kind == QUIC_WIRE_PACKET_VERSION_NEGOTIATION;
 }
 
 void answer_datagram(const line *in, FILE *items, char **read) {
@@ -78,7 +78,7 @@ void answer_datagram(const line *in, FILE *items, char **read) {
     is_packet = read_packet(in, begin, &header);
     if (is_packet) {
       print_packet(items, in->bytes + begin, begin, &header);
-      begin = header.kind == QUIC_WIRE_UNKNOWN_VERSION ? in->len : begin + header.end;
+      begin = header.kind == QUIC_WIRE_PACKET_UNKNOWN_VERSION ? in->len : begin + header.end;
     }
   } while (is_packet && begin < in->len);
   fflush(items);

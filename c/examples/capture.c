@@ -18,7 +18,7 @@ enum { MOST = 65535, FLOWS = 4096, ID = 20 }; /* no id of versions 1 and 2 is lo
 
 static const uint32_t versions[] = {QUIC_WIRE_VERSION_1, QUIC_WIRE_VERSION_2};
 
-/* What is kept of a side, QUIC_WIRE_CLIENT or QUIC_WIRE_SERVER. */
+/* What is kept of a side, QUIC_WIRE_SIDE_CLIENT or QUIC_WIRE_SIDE_SERVER. */
 typedef struct side {
   endpoint end;
   uint8_t has_id, idlen; /* a long header gave the length of its ids */
@@ -73,9 +73,9 @@ static flow *flow_of(const datagram *d, unsigned *from) {
     return NULL;
   f = calloc(1, sizeof *f);
   check(f != NULL, "out of memory");
-  *from = QUIC_WIRE_CLIENT;
-  f->sides[QUIC_WIRE_CLIENT].end = d->from;
-  f->sides[QUIC_WIRE_SERVER].end = d->to;
+  *from = QUIC_WIRE_SIDE_CLIENT;
+  f->sides[QUIC_WIRE_SIDE_CLIENT].end = d->from;
+  f->sides[QUIC_WIRE_SIDE_SERVER].end = d->to;
   f->next = *first;
   return *first = f;
 }
@@ -122,13 +122,13 @@ static const char *open_initial(flow *f, unsigned *from, const uint8_t *packet,
   const char *why = "no first Initial packet of the client";
   if (f->has_keys)
     why = open_by(f->id, f->idlen, *from, f->sides[*from].expected, packet, header, out);
-  if (why && !open_by(quic_wire_dcid(packet, header), header->dcidlen, QUIC_WIRE_CLIENT, 0, packet,
+  if (why && !open_by(quic_wire_dcid(packet, header), header->dcidlen, QUIC_WIRE_SIDE_CLIENT, 0, packet,
                       header, out)) {
     const side client = f->sides[*from];
-    f->sides[QUIC_WIRE_SERVER] = f->sides[!*from];
-    f->sides[QUIC_WIRE_CLIENT] = client;
-    f->sides[QUIC_WIRE_CLIENT].expected = f->sides[QUIC_WIRE_SERVER].expected = 0;
-    *from = QUIC_WIRE_CLIENT;
+    f->sides[QUIC_WIRE_SIDE_SERVER] = f->sides[!*from];
+    f->sides[QUIC_WIRE_SIDE_CLIENT] = client;
+    f->sides[QUIC_WIRE_SIDE_CLIENT].expected = f->sides[QUIC_WIRE_SIDE_SERVER].expected = 0;
+    *from = QUIC_WIRE_SIDE_CLIENT;
     take_id(f, packet, header);
     why = NULL;
   }
@@ -272,7 +272,7 @@ static void print_datagram(const datagram *d, flow *f, unsigned from) {
       f->sides[from].has_id = 1;
       f->sides[from].idlen = header.scidlen;
     }
-    if (header.kind == QUIC_WIRE_PACKET_INITIAL && from == QUIC_WIRE_CLIENT && !f->has_keys)
+    if (header.kind == QUIC_WIRE_PACKET_INITIAL && from == QUIC_WIRE_SIDE_CLIENT && !f->has_keys)
       take_id(f, packet, &header); /* a packet that is cut off has it too */
   }
   if (d->lost)

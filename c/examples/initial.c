@@ -107,7 +107,7 @@ int main(void) {
         "no Initial packet of a client's first datagram");
   memcpy(given, packet, len);
   dcid = quic_wire_dcid(given, &header);
-  k = initial_keys(QUIC_WIRE_VERSION_1, QUIC_WIRE_CLIENT, dcid, header.dcidlen);
+  k = initial_keys(QUIC_WIRE_VERSION_1, QUIC_WIRE_SIDE_CLIENT, dcid, header.dcidlen);
 
   begin = open_packet(&k, packet, &header, &fields.number);
   fields.kind = QUIC_WIRE_PACKET_INITIAL;

@@ -51,7 +51,7 @@ static keys initial_keys(uint32_t version, unsigned side, const uint8_t *dcid,
   uint8_t initial[32], secret[32];
   keys k;
   hmac(salts[is_2], sizeof salts[is_2], dcid, dcidlen, initial);
-  expand(initial, side == QUIC_WIRE_CLIENT ? "client in" : "server in", secret, 32);
+  expand(initial, side == QUIC_WIRE_SIDE_CLIENT ? "client in" : "server in", secret, 32);
   expand(secret, is_2 ? "quicv2 key" : "quic key", k.key, 16);
   expand(secret, is_2 ? "quicv2 iv" : "quic iv", k.iv, 12);
   expand(secret, is_2 ? "quicv2 hp" : "quic hp", k.hp, 16);

@@ -440,8 +440,8 @@ typedef struct quic_wire_header_fields {
 /* ---- Transport parameters (RFC 9000, section 18) */
 
 /* The side that calls. */
-#define QUIC_WIRE_CLIENT 0
-#define QUIC_WIRE_SERVER 1
+#define QUIC_WIRE_SIDE_CLIENT 0
+#define QUIC_WIRE_SIDE_SERVER 1
 
 /* What is there of what can be absent. */
 #define QUIC_WIRE_HAS_STATELESS_RESET_TOKEN 0x001
@@ -1058,7 +1058,7 @@ QUIC_WIRE_API int quic_wire_set_len(uint8_t *packet, size_t packetlen,
 
 /*
  * Reads a list of transport parameters to its end (RFC 9000, sections 7.4 and
- * 18), as QUIC_WIRE_CLIENT one that a server sent, as QUIC_WIRE_SERVER one that
+ * 18), as QUIC_WIRE_SIDE_CLIENT one that a server sent, as QUIC_WIRE_SIDE_SERVER one that
  * a client sent, which must lack what a server alone sends.  The list of no
  * bytes gives each parameter its default.  An integer with a default that isn't
  * in its shortest encoding is refused as malformed, though section 16 allows
@@ -1078,8 +1078,8 @@ quic_wire_params_read(uint32_t side, const uint8_t *list, size_t listlen,
                       quic_wire_params *params, size_t size);
 
 /*
- * Writes the shortest list of these parameters, as QUIC_WIRE_CLIENT or as
- * QUIC_WIRE_SERVER sends it: those numbers that differ from their defaults, and
+ * Writes the shortest list of these parameters, as QUIC_WIRE_SIDE_CLIENT or as
+ * QUIC_WIRE_SIDE_SERVER sends it: those numbers that differ from their defaults, and
  * what else is there.
  *
  * Returns 0 and how many bytes were written; QUIC_WIRE_ERR_NOBUF and how many

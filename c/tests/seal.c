@@ -58,7 +58,7 @@ static size_t seal(unsigned connection, const uint8_t *payload, size_t len,
   check(end <= room && !quic_wire_set_len(packet, end, place, all.lengthlen),
         "too long");
   memcpy(packet + begin, payload, len);
-  k = initial_keys(QUIC_WIRE_VERSION_1, QUIC_WIRE_CLIENT, id, ID);
+  k = initial_keys(QUIC_WIRE_VERSION_1, QUIC_WIRE_SIDE_CLIENT, id, ID);
   crypt_payload(&k, 1, all.number, packet, begin, packet + begin, len,
                 packet + begin);
   make_mask(&k, quic_wire_sample(packet, end, place, SAMPLE), mask);

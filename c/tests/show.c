@@ -267,7 +267,7 @@ static int read_mode(int argc, char **argv, mode *out) {
   if (argc == 3 && !strcmp(argv[1], "params") &&
       (!strcmp(argv[2], "client") || !strcmp(argv[2], "server"))) {
     out->what = PARAMS;
-    out->number = strcmp(argv[2], "client") ? QUIC_WIRE_SERVER : QUIC_WIRE_CLIENT;
+    out->number = strcmp(argv[2], "client") ? QUIC_WIRE_SIDE_SERVER : QUIC_WIRE_SIDE_CLIENT;
     return 1;
   }
   return 0;

@@ -130,7 +130,7 @@ int ngtcp2_transport_params_decode_versioned(int transport_params_version,
   quic_wire_params w;
   (void)transport_params_version; /* there is one */
 
-  return read_params(dest, &w, QUIC_WIRE_CLIENT, data, datalen);
+  return read_params(dest, &w, QUIC_WIRE_SIDE_CLIENT, data, datalen);
 }
 #else
 int ngtcp2_decode_transport_params_versioned(
@@ -144,7 +144,7 @@ int ngtcp2_decode_transport_params_versioned(
   if (datalen == 0) {
     return NGTCP2_ERR_REQUIRED_TRANSPORT_PARAM;
   }
-  rv = read_params(params, &w, client ? QUIC_WIRE_CLIENT : QUIC_WIRE_SERVER,
+  rv = read_params(params, &w, client ? QUIC_WIRE_SIDE_CLIENT : QUIC_WIRE_SIDE_SERVER,
                    data, datalen);
   if (rv != 0) {
     return rv;
@@ -257,7 +257,7 @@ static ngtcp2_ssize write_params(uint8_t *dest, size_t destlen, uint32_t side,
   int rv;
 
   params_to(&w, params);
-  if (side == QUIC_WIRE_SERVER) {
+  if (side == QUIC_WIRE_SIDE_SERVER) {
     server_to(&w, params);
   }
   rv = quic_wire_params_write(side, &w, sizeof(w), dest,
@@ -286,7 +286,7 @@ ngtcp2_ssize ngtcp2_transport_params_encode_versioned(
     const ngtcp2_transport_params *params) {
   (void)transport_params_version; /* there is one */
 
-  return write_params(dest, destlen, QUIC_WIRE_SERVER, params);
+  return write_params(dest, destlen, QUIC_WIRE_SIDE_SERVER, params);
 }
 #else
 ngtcp2_ssize ngtcp2_encode_transport_params_versioned(
@@ -296,9 +296,9 @@ ngtcp2_ssize ngtcp2_encode_transport_params_versioned(
 
   switch (exttype) {
   case NGTCP2_TRANSPORT_PARAMS_TYPE_CLIENT_HELLO:
-    return write_params(dest, destlen, QUIC_WIRE_CLIENT, params);
+    return write_params(dest, destlen, QUIC_WIRE_SIDE_CLIENT, params);
   case NGTCP2_TRANSPORT_PARAMS_TYPE_ENCRYPTED_EXTENSIONS:
-    return write_params(dest, destlen, QUIC_WIRE_SERVER, params);
+    return write_params(dest, destlen, QUIC_WIRE_SIDE_SERVER, params);
   default:
     return NGTCP2_ERR_INVALID_ARGUMENT;
   }

@@ -5,32 +5,32 @@ void params_nulls(void) {
   quic_wire_params params;
   uint8_t byte = 0, out[8];
   size_t n = 77;
-  WANT(quic_wire_params_read(QUIC_WIRE_CLIENT, NULL, 1, &params, sizeof params) == INVALID);
-  WANT(quic_wire_params_read(QUIC_WIRE_CLIENT, &byte, 1, NULL, sizeof params) ==
+  WANT(quic_wire_params_read(QUIC_WIRE_SIDE_CLIENT, NULL, 1, &params, sizeof params) == INVALID);
+  WANT(quic_wire_params_read(QUIC_WIRE_SIDE_CLIENT, &byte, 1, NULL, sizeof params) ==
        INVALID);
   WANT(quic_wire_params_read(2, &byte, 1, &params, sizeof params) ==
        QUIC_WIRE_ERR_KIND);
-  WANT(quic_wire_params_read(QUIC_WIRE_SERVER, NULL, 0, &params, sizeof params) == 0);
+  WANT(quic_wire_params_read(QUIC_WIRE_SIDE_SERVER, NULL, 0, &params, sizeof params) == 0);
   WANT(params.max_ack_delay == 25 && params.present == 0);
-  WANT(quic_wire_params_write(QUIC_WIRE_CLIENT, NULL, sizeof params, out, 8, &n) == INVALID);
-  WANT(quic_wire_params_write(QUIC_WIRE_CLIENT, &params, sizeof params, NULL, 8, &n) ==
+  WANT(quic_wire_params_write(QUIC_WIRE_SIDE_CLIENT, NULL, sizeof params, out, 8, &n) == INVALID);
+  WANT(quic_wire_params_write(QUIC_WIRE_SIDE_CLIENT, &params, sizeof params, NULL, 8, &n) ==
        INVALID);
-  WANT(quic_wire_params_write(QUIC_WIRE_CLIENT, &params, sizeof params, out, 8, NULL) ==
+  WANT(quic_wire_params_write(QUIC_WIRE_SIDE_CLIENT, &params, sizeof params, out, 8, NULL) ==
        INVALID);
   WANT(quic_wire_params_write(2, &params, sizeof params, out, 8, &n) ==
            QUIC_WIRE_ERR_KIND &&
        n == 77);
-  WANT(quic_wire_params_write(QUIC_WIRE_CLIENT, &params, sizeof params, NULL, 0, &n) == 0 &&
+  WANT(quic_wire_params_write(QUIC_WIRE_SIDE_CLIENT, &params, sizeof params, NULL, 0, &n) == 0 &&
        n == 0);
   params.max_ack_delay = 26;
-  WANT(quic_wire_params_write(QUIC_WIRE_CLIENT, &params, sizeof params, NULL, 0, &n) ==
+  WANT(quic_wire_params_write(QUIC_WIRE_SIDE_CLIENT, &params, sizeof params, NULL, 0, &n) ==
            QUIC_WIRE_ERR_NOBUF && n == 3);
-  WANT(quic_wire_params_read(QUIC_WIRE_CLIENT, &byte, 0, &params,
+  WANT(quic_wire_params_read(QUIC_WIRE_SIDE_CLIENT, &byte, 0, &params,
                              sizeof params - 1) == QUIC_WIRE_ERR_LENGTH);
   n = 77;
-  WANT(quic_wire_params_write(QUIC_WIRE_CLIENT, &params, sizeof params + 8, out,
+  WANT(quic_wire_params_write(QUIC_WIRE_SIDE_CLIENT, &params, sizeof params + 8, out,
                               8, &n) == QUIC_WIRE_ERR_LENGTH);
-  WANT(quic_wire_params_write_with(QUIC_WIRE_CLIENT, &params, 0, NULL, 0, NULL,
+  WANT(quic_wire_params_write_with(QUIC_WIRE_SIDE_CLIENT, &params, 0, NULL, 0, NULL,
                                    0, out, 8, &n) == QUIC_WIRE_ERR_LENGTH);
   WANT(n == 77);
 }
@@ -53,7 +53,7 @@ static void further_made(struct further *f) {
   static const uint8_t versions[] = {0, 0, 0, 1};
   size_t n = 0, m = 0;
   uint8_t k;
-  WANT(quic_wire_params_read(QUIC_WIRE_SERVER, NULL, 0, &f->params,
+  WANT(quic_wire_params_read(QUIC_WIRE_SIDE_SERVER, NULL, 0, &f->params,
                              sizeof f->params) == 0);
   f->params.max_idle_timeout = 5;
   f->params.initial_max_data = 9;
@@ -74,7 +74,7 @@ static void further_made(struct further *f) {
 static void further_written(const struct further *f) {
   static const uint8_t turned[] = {0x40, 244, 0, 4, 1, 9, 0x11, 4, 0,
                                    0,    0,   1, 1, 1, 5};
-  const uint32_t side = QUIC_WIRE_CLIENT;
+  const uint32_t side = QUIC_WIRE_SIDE_CLIENT;
   quic_wire_params got;
   uint8_t out[32];
   size_t m = 0, w = 77;
@@ -85,7 +85,7 @@ static void further_written(const struct further *f) {
                                    f->order, sizeof f->order, out, sizeof out,
                                    &w) == 0);
   WANT(w == sizeof turned && !memcmp(out, turned, w));
-  WANT(quic_wire_params_read(QUIC_WIRE_SERVER, out, w, &got, sizeof got) == 0);
+  WANT(quic_wire_params_read(QUIC_WIRE_SIDE_SERVER, out, w, &got, sizeof got) == 0);
   WANT(!memcmp(&got, &f->params, sizeof got));
   WANT(quic_wire_params_write_with(side, &f->params, sizeof f->params, f->entries, f->len,
                                    f->order, sizeof f->order, out, w - 1, &m) ==
@@ -94,7 +94,7 @@ static void further_written(const struct further *f) {
 
 /* Orders and entries that are refused. */
 static void further_refused(struct further *f) {
-  const uint32_t side = QUIC_WIRE_CLIENT;
+  const uint32_t side = QUIC_WIRE_SIDE_CLIENT;
   const quic_wire_params *params = &f->params;
   const uint8_t *further = f->entries;
   uint8_t out[32];

@@ -140,8 +140,8 @@ static void print_params(FILE *out, const quic_wire_params *p) {
 
 /* The list that was read, written by the side that sent it. */
 void answer_params_write(const line *in) {
-  uint32_t reader = item(in, "from") ? QUIC_WIRE_SERVER : QUIC_WIRE_CLIENT;
-  uint32_t sender = item(in, "from") ? QUIC_WIRE_CLIENT : QUIC_WIRE_SERVER;
+  uint32_t reader = item(in, "from") ? QUIC_WIRE_SIDE_SERVER : QUIC_WIRE_SIDE_CLIENT;
+  uint32_t sender = item(in, "from") ? QUIC_WIRE_SIDE_CLIENT : QUIC_WIRE_SIDE_SERVER;
   quic_wire_params params;
   uint8_t out[1024];
   size_t len;
@@ -156,7 +156,7 @@ void answer_params_write(const line *in) {
 }
 
 void answer_params(const line *in) {
-  uint32_t side = item(in, "from") ? QUIC_WIRE_SERVER : QUIC_WIRE_CLIENT;
+  uint32_t side = item(in, "from") ? QUIC_WIRE_SIDE_SERVER : QUIC_WIRE_SIDE_CLIENT;
   quic_wire_params params;
   if (quic_wire_params_read(side, in->bytes, in->len, &params, sizeof params) != QUIC_WIRE_OK) {
     puts("invalid TRANSPORT_PARAMETER_ERROR");

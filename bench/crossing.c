@@ -13,7 +13,7 @@ static u64 packets_of(const uint8_t *datagram, size_t len) {
     quic_wire_header head;
     u64 sum = 0;
     while (len != 0 && quic_wire_header_read(datagram, len, 8, versions, 2, &head) > 0 &&
-           head.first & QUIC_WIRE_FIXED_BIT) {
+           head.first & QUIC_WIRE_BIT_FIXED) {
         sum += head.kind + head.version + head.header_end + head.dcidlen + head.scidlen + head.token + head.tokenlen +
                head.len + head.end + *quic_wire_dcid(datagram, &head);
         datagram += head.end;
@@ -117,7 +117,7 @@ static u64 on_calls(const char *name, size_t len) {
     gaps_len = len ? len - 1 : 0;
     for (size_t k = 0; k < gaps_len; k++)
         gaps[k] = (quic_wire_gap){1, 3};
-    source[0] = QUIC_WIRE_FIXED_BIT;
+    source[0] = QUIC_WIRE_BIT_FIXED;
     source_len = 1200;
     if (!strcmp(name, "ack-read"))
         quic_wire_ack_gaps_write(&ack, gaps, gaps_len, source, sizeof source, &source_len);

@@ -50,7 +50,7 @@ static void check(int is_so, const char *what) {
 /* Whether a datagram begins a flow of QUIC. */
 static int is_first(const datagram *d) {
   const uint32_t version = d->len < 7 ? 0 : four_bytes(d->bytes + 1);
-  return d->len >= 7 && d->bytes[0] & QUIC_WIRE_LONG_FORM &&
+  return d->len >= 7 && d->bytes[0] & QUIC_WIRE_BIT_LONG &&
          (version == QUIC_WIRE_VERSION_1 || version == QUIC_WIRE_VERSION_2 || version == 0 ||
           (version & 0x0f0f0f0f) == 0x0a0a0a0a);
 }
@@ -223,7 +223,7 @@ static void print_packet(const datagram *d, flow *f, unsigned *from, const uint8
   printf(" length %" PRIu32, header->end);
   if (header->kind == QUIC_WIRE_PACKET_VERSION_NEGOTIATION && !print_versions(packet, header))
     why = "the last version is cut off";
-  if (is_open && o.first & QUIC_WIRE_RESERVED_LONG)
+  if (is_open && o.first & QUIC_WIRE_BITS_RESERVED_LONG)
     why = "reserved bits are set";
   printf("%s%s\n", why ? ": " : "", why ? why : "");
   if (is_open)
@@ -237,7 +237,7 @@ static int read_header(const uint8_t *packet, size_t len, int cidlen, quic_wire_
                        const char **why) {
   int64_t answer = quic_wire_negotiation_read(packet, len, header);
   *why = "the length of its id isn't known";
-  if (!(packet[0] & QUIC_WIRE_LONG_FORM) && cidlen < 0)
+  if (!(packet[0] & QUIC_WIRE_BIT_LONG) && cidlen < 0)
     return 0;
   if (answer < 0)
     answer =

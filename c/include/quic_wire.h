@@ -394,12 +394,12 @@ typedef struct quic_wire_canon {
                                        of those given */
 
 /* Bits of a first byte. */
-#define QUIC_WIRE_LONG_FORM 0x80 /* set in all headers but those of 1-RTT */
-#define QUIC_WIRE_FIXED_BIT 0x40 /* set, but where it is greased (RFC 9287) */
-#define QUIC_WIRE_SPIN_BIT 0x20  /* of 1-RTT */
-#define QUIC_WIRE_KEY_PHASE 0x04 /* of 1-RTT, under protection */
-#define QUIC_WIRE_RESERVED_1RTT 0x18 /* must be 0, under protection */
-#define QUIC_WIRE_RESERVED_LONG 0x0c /* of Initial, 0-RTT and Handshake */
+#define QUIC_WIRE_BIT_LONG 0x80 /* set in all headers but those of 1-RTT */
+#define QUIC_WIRE_BIT_FIXED 0x40 /* set, but where it is greased (RFC 9287) */
+#define QUIC_WIRE_BIT_SPIN 0x20  /* of 1-RTT */
+#define QUIC_WIRE_BIT_KEY_PHASE 0x04 /* of 1-RTT, under protection */
+#define QUIC_WIRE_BITS_RESERVED 0x18 /* must be 0, under protection */
+#define QUIC_WIRE_BITS_RESERVED_LONG 0x0c /* of Initial, 0-RTT and Handshake */
 
 /* Versions of QUIC. */
 #define QUIC_WIRE_VERSION_1 0x00000001u /* RFC 9000 */
@@ -429,7 +429,7 @@ typedef struct quic_wire_header_fields {
   uint8_t kind;      /* QUIC_WIRE_PACKET_INITIAL and so on */
   uint8_t flags;     /* 0: the first byte is what RFC 9000 has.
                         QUIC_WIRE_CLEAR_FIXED_BIT; of 1-RTT
-                        QUIC_WIRE_SPIN_BIT and QUIC_WIRE_KEY_PHASE; of a
+                        QUIC_WIRE_BIT_SPIN and QUIC_WIRE_BIT_KEY_PHASE; of a
                         version negotiation each bit but the highest is turned */
   uint8_t numberlen; /* how many bytes of the number are written, 1 to 4 */
   uint8_t lengthlen; /* how many bytes the packet's length has, 2 or 4 */
@@ -1015,8 +1015,8 @@ QUIC_WIRE_API size_t quic_wire_header_len(const quic_wire_header_fields *fields,
  *   negotiation      |flags|, both ids
  *
  * With |flags| of 0 the first byte is what RFC 9000 has, of each kind.
- * QUIC_WIRE_CLEAR_FIXED_BIT clears its fixed bit; with 1-RTT QUIC_WIRE_SPIN_BIT
- * and QUIC_WIRE_KEY_PHASE set these; with a version negotiation, whose seven low
+ * QUIC_WIRE_CLEAR_FIXED_BIT clears its fixed bit; with 1-RTT QUIC_WIRE_BIT_SPIN
+ * and QUIC_WIRE_BIT_KEY_PHASE set these; with a version negotiation, whose seven low
  * bits are free (section 17.2.1), each of them turns its bit of c0.
  */
 QUIC_WIRE_API int64_t quic_wire_header_write(

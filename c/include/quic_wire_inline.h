@@ -397,7 +397,7 @@ QUIC_WIRE_API int64_t quic_wire_negotiation_read(const uint8_t *packet,
 QUIC_WIRE_API const uint8_t *quic_wire_dcid(const uint8_t *packet,
                                             const quic_wire_header *header) {
   return packet && header
-             ? packet + (header->first & QUIC_WIRE_LONG_FORM ? 6 : 1)
+             ? packet + (header->first & QUIC_WIRE_BIT_LONG ? 6 : 1)
              : NULL;
 }
 

@@ -48,7 +48,7 @@ quic_wire_ng_unprotect(ngtcp2_pkt_hd *hd, uint8_t *header, const uint8_t *pkt,
   if (len < 0) {
     return NGTCP2_ERR_PROTO;
   }
-  if (!(header[0] & QUIC_WIRE_LONG_FORM) && (header[0] & QUIC_WIRE_KEY_PHASE)) {
+  if (!(header[0] & QUIC_WIRE_BIT_LONG) && (header[0] & QUIC_WIRE_BIT_KEY_PHASE)) {
     hd->flags |= NGTCP2_PKT_FLAG_KEY_PHASE;
   }
   hd->pkt_num = (int64_t)number;

@@ -78,7 +78,7 @@ ngtcp2_ssize ngtcp2_pkt_decode_hd_long(ngtcp2_pkt_hd *dest, const uint8_t *pkt,
   dest->flags = NGTCP2_PKT_FLAG_NONE;
   if (h.kind != QUIC_WIRE_PACKET_VERSION_NEGOTIATION) {
     dest->flags |= NGTCP2_PKT_FLAG_LONG_FORM;
-    if (!(h.first & QUIC_WIRE_FIXED_BIT)) {
+    if (!(h.first & QUIC_WIRE_BIT_FIXED)) {
       dest->flags |= NGTCP2_PKT_FLAG_FIXED_BIT_CLEAR;
     }
   }
@@ -101,7 +101,7 @@ ngtcp2_ssize ngtcp2_pkt_decode_hd_short(ngtcp2_pkt_hd *dest, const uint8_t *pkt,
     return NGTCP2_ERR_INVALID_ARGUMENT;
   }
   dest->type = NGTCP2_PKT_1RTT;
-  dest->flags = pkt[0] & QUIC_WIRE_FIXED_BIT ? NGTCP2_PKT_FLAG_NONE
+  dest->flags = pkt[0] & QUIC_WIRE_BIT_FIXED ? NGTCP2_PKT_FLAG_NONE
                                              : NGTCP2_PKT_FLAG_FIXED_BIT_CLEAR;
   ngtcp2_cid_init(&dest->dcid, pkt + 1, dcidlen);
   ngtcp2_cid_zero(&dest->scid);
@@ -171,7 +171,7 @@ static quic_wire_header_fields fields_of(const ngtcp2_pkt_hd *hd,
     fields.flags |= QUIC_WIRE_CLEAR_FIXED_BIT;
   }
   if (hd->flags & NGTCP2_PKT_FLAG_KEY_PHASE) {
-    fields.flags |= QUIC_WIRE_KEY_PHASE;
+    fields.flags |= QUIC_WIRE_BIT_KEY_PHASE;
   }
   return fields;
 }
@@ -230,9 +230,9 @@ ngtcp2_ssize ngtcp2_pkt_write_version_negotiation(
     uint8_t *dest, size_t destlen, uint8_t unused_random, const uint8_t *dcid,
     size_t dcidlen, const uint8_t *scid, size_t scidlen, const uint32_t *sv,
     size_t nsv) {
-  uint8_t fixed = QUIC_WIRE_NG_1 ? QUIC_WIRE_FIXED_BIT : 0;
+  uint8_t fixed = QUIC_WIRE_NG_1 ? QUIC_WIRE_BIT_FIXED : 0;
   /* The bits that differ from the first byte with the fixed bit alone. */
-  uint8_t flags = (uint8_t)((unused_random | fixed) ^ QUIC_WIRE_FIXED_BIT);
+  uint8_t flags = (uint8_t)((unused_random | fixed) ^ QUIC_WIRE_BIT_FIXED);
   size_t n;
   int answer = quic_wire_negotiation_write(flags, dcid, dcidlen, scid, scidlen,
                                            sv, nsv, dest, destlen, &n);

@@ -65,7 +65,7 @@ static void answer_unprotect(const line *in) {
   if (sample)
     len = quic_wire_unprotect(in->bytes, in->len, place, mask, expected(in), &packet_number);
   first = in->bytes[0];
-  reserved = first & QUIC_WIRE_LONG_FORM ? QUIC_WIRE_RESERVED_LONG : QUIC_WIRE_RESERVED_1RTT;
+  reserved = first & QUIC_WIRE_BIT_LONG ? QUIC_WIRE_BITS_RESERVED_LONG : QUIC_WIRE_BITS_RESERVED;
   if (len <= 0)
     puts("invalid DROP");
   else if (first & reserved)
@@ -100,8 +100,8 @@ static quic_wire_header_fields header_fields(const line *in) {
   fields.numberlen = (uint8_t)number(in, "number_length", 0);
   fields.lengthlen = 2;
   fields.flags = (uint8_t)((item(in, "grease") ? QUIC_WIRE_CLEAR_FIXED_BIT : 0) |
-                           (item(in, "spin") ? QUIC_WIRE_SPIN_BIT : 0) |
-                           (item(in, "key_phase") ? QUIC_WIRE_KEY_PHASE : 0));
+                           (item(in, "spin") ? QUIC_WIRE_BIT_SPIN : 0) |
+                           (item(in, "key_phase") ? QUIC_WIRE_BIT_KEY_PHASE : 0));
   return fields;
 }
 
@@ -116,7 +116,7 @@ static void answer_negotiation_write(const line *in, const uint8_t *dcid,
   size_t count = 0, len;
   for (; at && count < 8; at = *at == '+' ? at + 1 : NULL)
     versions[count++] = (uint32_t)strtoul(at, (char **)&at, 16);
-  if (quic_wire_negotiation_write((uint8_t)(unused ^ QUIC_WIRE_FIXED_BIT), dcid, dcidlen, scid, scidlen, versions, count,
+  if (quic_wire_negotiation_write((uint8_t)(unused ^ QUIC_WIRE_BIT_FIXED), dcid, dcidlen, scid, scidlen, versions, count,
                                   out, sizeof out, &len)) {
     puts("invalid");
     return;

@@ -66,7 +66,7 @@ static int read_packet(const line *in, size_t begin, quic_wire_header *header) {
     return 1;
   if (end < 0)
     return 0;
-  return packet[0] & QUIC_WIRE_FIXED_BIT || item(in, "grease") ||
+  return packet[0] & QUIC_WIRE_BIT_FIXED || item(in, "grease") ||
          header->kind == QUIC_WIRE_PACKET_VERSION_NEGOTIATION;
 }
 

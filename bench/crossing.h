@@ -52,7 +52,7 @@ static inline __attribute__((always_inline)) u64 sum_of(const quic_wire_frame *f
 }
 
 static u64 frames_of(const uint8_t *payload, size_t len) {
-    quic_wire_frames frames;
+    quic_wire_frame_iter frames;
     quic_wire_frame frame;
     u64 sum = 0;
     if (quic_wire_frames_init(&frames, payload, len))
@@ -65,13 +65,13 @@ static u64 frames_of(const uint8_t *payload, size_t len) {
 }
 
 static u64 ranges_of(const uint8_t *payload, size_t len) {
-    quic_wire_frames frames;
+    quic_wire_frame_iter frames;
     quic_wire_frame frame;
     u64 sum = 0;
     if (quic_wire_frames_init(&frames, payload, len))
         return 0;
     while (quic_wire_frames_next(&frames, payload, len, &frame) == QUIC_WIRE_ITEM) {
-        quic_wire_ack_ranges at;
+        quic_wire_range_iter at;
         quic_wire_range range;
         if (frame.kind != QUIC_WIRE_FRAME_ACK || quic_wire_ack_ranges_init_unchecked(&at, payload, len, &frame))
             continue;
@@ -86,7 +86,7 @@ static u64 ranges_of(const uint8_t *payload, size_t len) {
 #define MANY 16
 
 static u64 many_ranges_of(const uint8_t *payload, size_t len, const quic_wire_frame *ack) {
-    quic_wire_ack_ranges ranges;
+    quic_wire_range_iter ranges;
     quic_wire_range filled[MANY];
     size_t count;
     u64 sum = 0;
@@ -102,7 +102,7 @@ static u64 many_ranges_of(const uint8_t *payload, size_t len, const quic_wire_fr
 }
 
 static u64 many_frames_of(const uint8_t *payload, size_t len) {
-    quic_wire_frames frames;
+    quic_wire_frame_iter frames;
     quic_wire_frame filled[MANY];
     size_t count;
     u64 sum = 0;
@@ -119,7 +119,7 @@ static u64 many_frames_of(const uint8_t *payload, size_t len) {
 }
 
 static u64 many_acks_of(const uint8_t *payload, size_t len) {
-    quic_wire_frames frames;
+    quic_wire_frame_iter frames;
     quic_wire_frame filled[MANY];
     size_t count;
     u64 sum = 0;

@@ -10,11 +10,11 @@
          sizeof(((quic_wire_##s *)0)->f))
 
 static void frames(void) {
-  STRUCT(frames);
-  FIELD(frames, offset);
-  FIELD(frames, last_type);
-  FIELD(frames, ended);
-  FIELD(frames, strict);
+  STRUCT(frame_iter);
+  FIELD(frame_iter, offset);
+  FIELD(frame_iter, last_type);
+  FIELD(frame_iter, ended);
+  FIELD(frame_iter, strict);
   STRUCT(frame);
   FIELD(frame, kind);
   FIELD(frame, type);
@@ -27,10 +27,10 @@ static void frames(void) {
   STRUCT(range);
   FIELD(range, start);
   FIELD(range, end);
-  STRUCT(ack_ranges);
-  FIELD(ack_ranges, begin);
-  FIELD(ack_ranges, end);
-  FIELD(ack_ranges, largest);
+  STRUCT(range_iter);
+  FIELD(range_iter, begin);
+  FIELD(range_iter, end);
+  FIELD(range_iter, largest);
   STRUCT(canon);
   FIELD(canon, len);
   FIELD(canon, last_type);

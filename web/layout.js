@@ -3,7 +3,7 @@
 
 // Of each struct its size, and of each field its offset and how many bytes it has, an array's all.
 export const LAYOUT = {
-  frames: { size: 24, fields: { offset: [0, 8], last_type: [8, 8], ended: [16, 4], strict: [20, 4] } },
+  frame_iter: { size: 24, fields: { offset: [0, 8], last_type: [8, 8], ended: [16, 4], strict: [20, 4] } },
   frame: {
     size: 80,
     fields: {
@@ -12,7 +12,7 @@ export const LAYOUT = {
     },
   },
   range: { size: 16, fields: { start: [0, 8], end: [8, 8] } },
-  ack_ranges: { size: 24, fields: { begin: [0, 8], end: [8, 8], largest: [16, 8] } },
+  range_iter: { size: 24, fields: { begin: [0, 8], end: [8, 8], largest: [16, 8] } },
   canon: { size: 16, fields: { len: [0, 8], last_type: [8, 8] } },
   header: {
     size: 32,

@@ -66,7 +66,7 @@ export class Library {
     this.calls = calls;
     this.memory = calls.memory;
     this.free = aligned(Number(calls.__heap_base.value));
-    for (const name of ["frames", "frame", "ack_ranges", "canon", "header", "params"]) {
+    for (const name of ["frame_iter", "frame", "range_iter", "canon", "header", "params"]) {
       this[name] = new Struct(this.memory, name, this.take(LAYOUT[name].size));
     }
     this.count = this.take(8);
@@ -113,10 +113,10 @@ export class Library {
 
   // Begins to read frames at |offset|.
   seek(offset, strict) {
-    this.frames.set("offset", offset);
-    this.frames.set("last_type", NO_TYPE);
-    this.frames.set("ended", 0);
-    this.frames.set("strict", strict ? 1 : 0);
+    this.frame_iter.set("offset", offset);
+    this.frame_iter.set("last_type", NO_TYPE);
+    this.frame_iter.set("ended", 0);
+    this.frame_iter.set("strict", strict ? 1 : 0);
   }
 
   // Where all frames begin, then where the last one ends; their kinds; and what ended them, or null. PADDING frames
@@ -124,11 +124,12 @@ export class Library {
   readFrames(strict) {
     const begins = new Words();
     const kinds = new Words();
-    const begun = this.call(strict ? "frames_init_strict" : "frames_init", this.at(this.frames.place), ...this.held());
+    const init = strict ? "frames_init_strict" : "frames_init";
+    const begun = this.call(init, this.at(this.frame_iter.place), ...this.held());
     let error = begun === EMPTY ? { empty: true } : null;
-    while (!error && this.frames.number("offset") < this.length) {
+    while (!error && this.frame_iter.number("offset") < this.length) {
       const answer = this.call(
-        "frames_fill", this.at(this.frames.place), ...this.held(), this.at(this.room), BigInt(ROOM),
+        "frames_fill", this.at(this.frame_iter.place), ...this.held(), this.at(this.room), BigInt(ROOM),
         this.at(this.count),
       );
       if (answer === ITEM) {
@@ -140,7 +141,7 @@ export class Library {
       }
     }
     const count = begins.count;
-    begins.push(begun === EMPTY ? 0 : this.frames.number("offset"));
+    begins.push(begun === EMPTY ? 0 : this.frame_iter.number("offset"));
     return { count, begins: begins.all(), kinds: kinds.all(), error };
   }
 
@@ -167,7 +168,7 @@ export class Library {
   frameAt(offset, strict) {
     this.seek(offset, strict);
     const answer = this.call(
-      "frames_next", this.at(this.frames.place), ...this.held(), this.at(this.frame.place),
+      "frames_next", this.at(this.frame_iter.place), ...this.held(), this.at(this.frame.place),
     );
     if (answer !== ITEM) {
       throw new Error(`quic_wire_frames_next_ answered ${answer}`);
@@ -185,7 +186,7 @@ export class Library {
     this.frameAt(offset, strict);
     const ranges = [];
     const begun = this.call(
-      "ack_ranges_init", this.at(this.ack_ranges.place), ...this.held(), this.at(this.frame.place),
+      "ack_ranges_init", this.at(this.range_iter.place), ...this.held(), this.at(this.frame.place),
     );
     if (begun !== OK) {
       throw new Error(`quic_wire_ack_ranges_init_ answered ${begun}`);
@@ -204,7 +205,7 @@ export class Library {
 
   fillRanges() {
     return this.call(
-      "ack_ranges_fill", this.at(this.ack_ranges.place), ...this.held(), this.at(this.room), BigInt(ROOM),
+      "ack_ranges_fill", this.at(this.range_iter.place), ...this.held(), this.at(this.room), BigInt(ROOM),
       this.at(this.count),
     );
   }

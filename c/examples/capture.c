@@ -159,7 +159,7 @@ static void print_header(const datagram *d, unsigned from, const uint8_t *packet
 /* The ranges of an ACK, from its greatest number down, and its counts. */
 static void print_ack(const uint8_t *payload, size_t len, const quic_wire_frame *frame) {
   const quic_wire_ack *ack = &frame->ack;
-  quic_wire_ack_ranges ranges;
+  quic_wire_range_iter ranges;
   quic_wire_range range;
   int answer = quic_wire_ack_ranges_init(&ranges, payload, len, frame);
   printf(" largest %" PRIu64 " delay %" PRIu64 " ranges", ack->largest, ack->delay);
@@ -191,7 +191,7 @@ static void print_frame(const uint8_t *payload, size_t len, const quic_wire_fram
 
 /* The lines of a payload's frames, of which a run of PADDING is one. */
 static void print_frames(const uint8_t *payload, size_t len) {
-  quic_wire_frames frames;
+  quic_wire_frame_iter frames;
   quic_wire_frame frame;
   size_t count;
   int answer = quic_wire_frames_init(&frames, payload, len);

@@ -17,7 +17,7 @@ static void print_type(uint64_t type) {
 }
 
 static void print_frames(const uint8_t *payload, size_t len) {
-  quic_wire_frames frames;
+  quic_wire_frame_iter frames;
   quic_wire_frame frame;
   int answer = quic_wire_frames_init(&frames, payload, len);
   if (answer < 0) {

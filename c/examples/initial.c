@@ -21,8 +21,8 @@ static void check(int is_so, const char *what) {
   }
 }
 
-/* Opens a packet in its place.  Returns where its payload begins, and its number
- * through |number|. */
+/* Opens a packet in its place.  Returns where its payload begins, and its
+ * number through |number|. */
 static size_t open_packet(const keys *k, uint8_t *packet,
                           const quic_wire_header *header, uint64_t *number) {
   const uint8_t *sample =
@@ -43,8 +43,8 @@ static size_t open_packet(const keys *k, uint8_t *packet,
   return begin;
 }
 
-/* Seals a payload after the header of these fields.  Returns how long the packet
- * is. */
+/* Seals a payload after the header of these fields.  Returns how long the
+ * packet is. */
 static size_t seal_packet(const keys *k, const quic_wire_header_fields *fields,
                           const uint8_t *dcid, size_t dcidlen,
                           const uint8_t *payload, size_t len, uint8_t *packet,
@@ -68,13 +68,13 @@ static size_t seal_packet(const keys *k, const quic_wire_header_fields *fields,
 
 /* The frames, of which a run of PADDING is one line. */
 static void print_frames(const uint8_t *payload, size_t len) {
-  quic_wire_frames frames;
+  quic_wire_frame_iter frames;
   quic_wire_frame frame;
   size_t count;
   int answer = quic_wire_frames_init(&frames, payload, len);
-  while (answer >= 0 && (answer = quic_wire_frames_fill(&frames, payload, len,
-                                                        &frame, 1, &count)) ==
-                            QUIC_WIRE_ITEM)
+  while (answer >= 0 &&
+         (answer = quic_wire_frames_fill(&frames, payload, len, &frame, 1,
+                                         &count)) == QUIC_WIRE_ITEM)
     printf("%zu..%zu %s\n", frame.begin, frame.end,
            quic_wire_type_name(frame.type));
   check(answer == QUIC_WIRE_OK, quic_wire_strerror(answer));
@@ -107,7 +107,8 @@ int main(void) {
         "no Initial packet of a client's first datagram");
   memcpy(given, packet, len);
   dcid = quic_wire_dcid(given, &header);
-  k = initial_keys(QUIC_WIRE_VERSION_1, QUIC_WIRE_SIDE_CLIENT, dcid, header.dcidlen);
+  k = initial_keys(QUIC_WIRE_VERSION_1, QUIC_WIRE_SIDE_CLIENT, dcid,
+                   header.dcidlen);
 
   begin = open_packet(&k, packet, &header, &fields.number);
   fields.kind = QUIC_WIRE_PACKET_INITIAL;

@@ -1,6 +1,6 @@
-/* The keys of Initial packets of versions 1 and 2 (RFC 9001, section 5.2, and RFC
- * 9369, section 3.3), and what is done by them, with libcrypto's ciphers: for
- * the examples initial.c and capture.c.  Both define check, which ends the
+/* The keys of Initial packets of versions 1 and 2 (RFC 9001, section 5.2, and
+ * RFC 9369, section 3.3), and what is done by them, with libcrypto's ciphers:
+ * for the examples initial.c and capture.c.  Both define check, which ends the
  * program where something isn't so. */
 #ifndef INITIAL_KEYS_H
 #define INITIAL_KEYS_H
@@ -33,13 +33,14 @@ static void expand(const uint8_t secret[32], const char *label, uint8_t *out,
   info[2] = (uint8_t)(6 + labellen);
   memcpy(info + 3, "tls13 ", 6);
   memcpy(info + 9, label, labellen);
-  info[10 + labellen] = 1; /* behind the length of no context: the first block */
+  info[10 + labellen] =
+      1; /* behind the length of no context: the first block */
   hmac(secret, 32, info, 11 + labellen, block);
   memcpy(out, block, len);
 }
 
-/* The keys of the Initial packets that a side sends, by the destination id of the
- * client's first one. */
+/* The keys of the Initial packets that a side sends, by the destination id of
+ * the client's first one. */
 static keys initial_keys(uint32_t version, unsigned side, const uint8_t *dcid,
                          size_t dcidlen) {
   static const uint8_t salts[2][20] = {
@@ -51,7 +52,8 @@ static keys initial_keys(uint32_t version, unsigned side, const uint8_t *dcid,
   uint8_t initial[32], secret[32];
   keys k;
   hmac(salts[is_2], sizeof salts[is_2], dcid, dcidlen, initial);
-  expand(initial, side == QUIC_WIRE_SIDE_CLIENT ? "client in" : "server in", secret, 32);
+  expand(initial, side == QUIC_WIRE_SIDE_CLIENT ? "client in" : "server in",
+         secret, 32);
   expand(secret, is_2 ? "quicv2 key" : "quic key", k.key, 16);
   expand(secret, is_2 ? "quicv2 iv" : "quic iv", k.iv, 12);
   expand(secret, is_2 ? "quicv2 hp" : "quic hp", k.hp, 16);
@@ -70,9 +72,9 @@ static void make_mask(const keys *k, const uint8_t *sample, uint8_t mask[5]) {
   memcpy(mask, block, 5);
 }
 
-/* Seals |len| bytes after a header of |headerlen| to |out|, which may be their own
- * place, and puts the tag after them; or opens them, of which the tag is then
- * the last.  Returns whether the tag is right. */
+/* Seals |len| bytes after a header of |headerlen| to |out|, which may be their
+ * own place, and puts the tag after them; or opens them, of which the tag is
+ * then the last.  Returns whether the tag is right. */
 static int crypt_payload(const keys *k, int seal, uint64_t number,
                          const uint8_t *header, size_t headerlen,
                          const uint8_t *payload, size_t len, uint8_t *out) {

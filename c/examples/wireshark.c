@@ -46,7 +46,7 @@ typedef struct refusal {
   int place, code;
 } refusal;
 
-static refusal refusal_of(int answer, const quic_wire_frames *frames,
+static refusal refusal_of(int answer, const quic_wire_frame_iter *frames,
                           const quic_wire_frame *frame) {
   refusal r = {NULL, NULL, QUIC_WIRE_NO_TYPE, 0, 0};
   r.why = quic_wire_strerror(answer);
@@ -81,7 +81,7 @@ static void show_refusal(const shown *s, const refusal *r) {
 /* Reads all frames, and counts them, a run of PADDING as one.  Returns how
  * reading ended; an invalid frame is then the first one of |some|. */
 static int read_frames(const uint8_t *payload, size_t len,
-                       quic_wire_frames *frames, quic_wire_frame *some,
+                       quic_wire_frame_iter *frames, quic_wire_frame *some,
                        uint32_t *count) {
   size_t filled = 0;
   int answer = quic_wire_frames_init_strict(frames, payload, len);
@@ -96,7 +96,7 @@ static void show_payload(tvbuff_t *bytes, packet_info *info, proto_tree *tree) {
   const int len = (int)tvb_captured_length(bytes);
   const uint8_t *payload = tvb_get_ptr(bytes, 0, len);
   shown s = {bytes, info, NULL, NULL, len};
-  quic_wire_frames frames;
+  quic_wire_frame_iter frames;
   quic_wire_frame some[AT_ONCE] = {{0}};
   quic_wire_canon canon;
   uint32_t count = 0;

@@ -20,7 +20,7 @@
  *
  * The frames of a payload are read so:
  *
- *   quic_wire_frames frames;
+ *   quic_wire_frame_iter frames;
  *   quic_wire_frame frame;
  *   int answer = quic_wire_frames_init(&frames, payload, len);
  *   while (answer >= 0 &&
@@ -44,7 +44,8 @@
  *       numberlen = quic_wire_unprotect(packet, header.end, header.header_end,
  *                                       mask, expected, &number);
  *       size_t begin = header.header_end + (size_t)numberlen;
- *       open_payload(number, packet, begin, packet + begin, header.end - begin);
+ *       size_t sealedlen = header.end - begin;
+ *       open_payload(number, packet, begin, packet + begin, sealedlen);
  *     }
  *     packet += header.end;
  *     len -= header.end;
@@ -161,8 +162,8 @@ extern "C" {
  * names; from 0 on a count, a length, or one of the first three.  The numbers
  * never change; new ones may be added. */
 typedef enum quic_wire_result {
-  QUIC_WIRE_OK = 0, /* nothing is left to be read, or something was written */
-  QUIC_WIRE_ITEM = 1,    /* an item was read */
+  QUIC_WIRE_OK = 0,   /* nothing is left to be read, or something was written */
+  QUIC_WIRE_ITEM = 1, /* an item was read */
   QUIC_WIRE_CHANGED = 1, /* the set changed */
 
   /* The caller's mistakes. */
@@ -170,10 +171,10 @@ typedef enum quic_wire_result {
                                   nothing that can be written */
   QUIC_WIRE_ERR_PLACE = -2,    /* a place is outside of the bytes, or what is
                                   there isn't what the function reads */
-  QUIC_WIRE_ERR_KIND = -3,     /* no such kind or side, or not for this function */
+  QUIC_WIRE_ERR_KIND = -3, /* no such kind or side, or not for this function */
   QUIC_WIRE_ERR_NUMBER = -5,   /* a number is too large for its field, or 0 */
-  QUIC_WIRE_ERR_LENGTH = -6,   /* a length or width isn't possible in its field */
-  QUIC_WIRE_ERR_RANGES = -7,   /* none, or not sorted with a number between any two */
+  QUIC_WIRE_ERR_LENGTH = -6,   /* a length or width that its field can't have */
+  QUIC_WIRE_ERR_RANGES = -7,   /* none, not sorted, or two of them touch */
   QUIC_WIRE_ERR_PARAM = -8,    /* parameters that the peer would refuse */
   QUIC_WIRE_ERR_NOBUF = -9,    /* the buffer has less room than is needed */
   QUIC_WIRE_ERR_LIBRARY = -10, /* the library that is linked is another one */
@@ -183,18 +184,18 @@ typedef enum quic_wire_result {
   QUIC_WIRE_ERR_FRAME_END = -21,       /* the bytes end within a frame */
   QUIC_WIRE_ERR_FRAME_TYPE = -22,      /* the type is unknown */
   QUIC_WIRE_ERR_FRAME_MALFORMED = -23, /* a field has no value of its kind */
-  QUIC_WIRE_ERR_FRAME_LONG_TYPE = -24, /* of strict readers alone: the type isn't
-                                          in its shortest encoding */
+  QUIC_WIRE_ERR_FRAME_LONG_TYPE = -24, /* of strict readers alone: the type
+                                          isn't in its shortest encoding */
 
   /* A packet is dropped (section 5.2). */
   QUIC_WIRE_ERR_PACKET_END = -40,       /* the bytes end within the header */
   QUIC_WIRE_ERR_PACKET_FIXED_BIT = -41, /* the fixed bit is clear: for callers
                                            to say, no function returns it */
-  QUIC_WIRE_ERR_PACKET_SMALL = -42,     /* too short for the id, or the number */
-  QUIC_WIRE_ERR_PACKET_CID = -43,       /* an id isn't complete, or too long */
-  QUIC_WIRE_ERR_PACKET_TOKEN = -44,     /* the bytes end within the token */
-  QUIC_WIRE_ERR_PACKET_VERSION = -45,   /* none of the versions given */
-  QUIC_WIRE_ERR_PACKET_CUT = -46,       /* the bytes end after the header */
+  QUIC_WIRE_ERR_PACKET_SMALL = -42,   /* too short for the id, or the number */
+  QUIC_WIRE_ERR_PACKET_CID = -43,     /* an id isn't complete, or too long */
+  QUIC_WIRE_ERR_PACKET_TOKEN = -44,   /* the bytes end within the token */
+  QUIC_WIRE_ERR_PACKET_VERSION = -45, /* none of the versions given */
+  QUIC_WIRE_ERR_PACKET_CUT = -46,     /* the bytes end after the header */
 
   /* A list of transport parameters is refused (section 7.4). */
   QUIC_WIRE_ERR_PARAMS_MALFORMED = -60, /* cut off, no value of its kind, or
@@ -269,13 +270,13 @@ typedef enum quic_wire_frame_kind {
 
 /* How far an iterator over a payload has come.  A struct of any other words is
  * harmless, and reads from |offset| on. */
-typedef struct quic_wire_frames {
+typedef struct quic_wire_frame_iter {
   quic_wire_size offset; /* the end of the last whole frame, in bytes */
   uint64_t last_type;    /* its type as in the payload, or QUIC_WIRE_NO_TYPE */
   uint32_t ended;        /* not 0 once an invalid frame was met */
   uint32_t strict;       /* not 0: a type that isn't in its shortest encoding is
                             an error (RFC 9000, section 12.4) */
-} QUIC_WIRE_ALIGNED quic_wire_frames;
+} QUIC_WIRE_ALIGNED quic_wire_frame_iter;
 
 /* What the kinds of frames say in numbers: the fields of a frame's union. */
 typedef struct quic_wire_ack {
@@ -370,10 +371,10 @@ typedef struct quic_wire_gap {
 } QUIC_WIRE_ALIGNED quic_wire_gap;
 
 /* How far the ranges of an ACK have been read. */
-typedef struct quic_wire_ack_ranges {
+typedef struct quic_wire_range_iter {
   quic_wire_size begin, end; /* the remaining bytes, in the payload */
   uint64_t largest;          /* the greatest number of the next range */
-} QUIC_WIRE_ALIGNED quic_wire_ack_ranges;
+} QUIC_WIRE_ALIGNED quic_wire_range_iter;
 
 /* The length of a payload's shortest form, or the type because of which it has
  * none. */
@@ -393,7 +394,8 @@ typedef enum quic_wire_packet_kind {
   QUIC_WIRE_PACKET_RETRY = 3,
   QUIC_WIRE_PACKET_1RTT = 4,
   QUIC_WIRE_PACKET_VERSION_NEGOTIATION = 5,
-  QUIC_WIRE_PACKET_UNKNOWN_VERSION = 6 /* a long header of a version that is none of those given */
+  QUIC_WIRE_PACKET_UNKNOWN_VERSION = 6 /* a long header of a version that is
+                                          none of those given */
 } quic_wire_packet_kind;
 
 /* Bits of a first byte. */
@@ -409,7 +411,7 @@ typedef enum quic_wire_packet_kind {
 #define QUIC_WIRE_VERSION_2 0x6b3343cfu /* RFC 9369 */
 
 /* The header of a packet, with its protection still on.  Every place is one in
- * the packet, in bytes from its front; fields that the kind doesn't have are 0. */
+ * the packet, in bytes from its front; fields that its kind lacks are 0. */
 typedef struct quic_wire_header {
   uint8_t kind;    /* QUIC_WIRE_PACKET_INITIAL and so on */
   uint8_t first;   /* the first byte, before protection is taken off */
@@ -423,7 +425,8 @@ typedef struct quic_wire_header {
                    from |header_end| on, as its header says */
 } QUIC_WIRE_ALIGNED quic_wire_header;
 
-/* In the flags of a header that is written: its fixed bit is clear (RFC 9287). */
+/* In the flags of a header that is written: its fixed bit is clear (RFC
+ * 9287). */
 #define QUIC_WIRE_CLEAR_FIXED_BIT 0x40
 
 /* What a header says that is written, beside its ids and its token.  What its
@@ -523,11 +526,12 @@ typedef struct quic_wire_param {
 #define QUIC_WIRE_ASSERT(so, why) _Static_assert(so, why)
 #endif
 #ifdef QUIC_WIRE_ASSERT
-QUIC_WIRE_ASSERT(sizeof(quic_wire_frames) == 24, "64-bit words");
-QUIC_WIRE_ASSERT(offsetof(quic_wire_frames, offset) == 0, "64-bit words");
-QUIC_WIRE_ASSERT(offsetof(quic_wire_frames, last_type) == 8, "64-bit words");
-QUIC_WIRE_ASSERT(offsetof(quic_wire_frames, ended) == 16, "no room");
-QUIC_WIRE_ASSERT(offsetof(quic_wire_frames, strict) == 20, "no room");
+QUIC_WIRE_ASSERT(sizeof(quic_wire_frame_iter) == 24, "64-bit words");
+QUIC_WIRE_ASSERT(offsetof(quic_wire_frame_iter, offset) == 0, "64-bit words");
+QUIC_WIRE_ASSERT(offsetof(quic_wire_frame_iter, last_type) == 8,
+                 "64-bit words");
+QUIC_WIRE_ASSERT(offsetof(quic_wire_frame_iter, ended) == 16, "no room");
+QUIC_WIRE_ASSERT(offsetof(quic_wire_frame_iter, strict) == 20, "no room");
 QUIC_WIRE_ASSERT(sizeof(quic_wire_frame) == 80, "64-bit words");
 QUIC_WIRE_ASSERT(offsetof(quic_wire_frame, type) == 2, "no room");
 QUIC_WIRE_ASSERT(offsetof(quic_wire_frame, flags) == 4, "no room");
@@ -537,7 +541,7 @@ QUIC_WIRE_ASSERT(offsetof(quic_wire_range, start) == 0, "64-bit words");
 QUIC_WIRE_ASSERT(offsetof(quic_wire_range, end) == 8, "64-bit words");
 QUIC_WIRE_ASSERT(sizeof(quic_wire_gap) == 16, "64-bit words");
 QUIC_WIRE_ASSERT(offsetof(quic_wire_gap, len) == 8, "64-bit words");
-QUIC_WIRE_ASSERT(sizeof(quic_wire_ack_ranges) == 24, "64-bit words");
+QUIC_WIRE_ASSERT(sizeof(quic_wire_range_iter) == 24, "64-bit words");
 QUIC_WIRE_ASSERT(sizeof(quic_wire_canon) == 16, "64-bit words");
 QUIC_WIRE_ASSERT(offsetof(quic_wire_canon, last_type) == 8, "64-bit words");
 QUIC_WIRE_ASSERT(sizeof(quic_wire_header) == 32, "no room between the fields");
@@ -586,15 +590,16 @@ QUIC_WIRE_API uint32_t quic_wire_close_code(int result);
  * |frames->strict|.  Returns 0, or QUIC_WIRE_ERR_PAYLOAD_EMPTY,
  * QUIC_WIRE_ERR_ARGUMENT for NULL.
  */
-QUIC_WIRE_API int quic_wire_frames_init(quic_wire_frames *frames,
+QUIC_WIRE_API int quic_wire_frames_init(quic_wire_frame_iter *frames,
                                         const uint8_t *payload,
                                         size_t payloadlen);
 
 /*
- * The same with 1 in |frames->strict|: a type that isn't in its shortest encoding
- * is an error, QUIC_WIRE_ERR_FRAME_LONG_TYPE.  Other fields may have any width.
+ * The same with 1 in |frames->strict|: a type that isn't in its shortest
+ * encoding is an error, QUIC_WIRE_ERR_FRAME_LONG_TYPE.  Other fields may have
+ * any width.
  */
-QUIC_WIRE_API int quic_wire_frames_init_strict(quic_wire_frames *frames,
+QUIC_WIRE_API int quic_wire_frames_init_strict(quic_wire_frame_iter *frames,
                                                const uint8_t *payload,
                                                size_t payloadlen);
 
@@ -602,23 +607,24 @@ QUIC_WIRE_API int quic_wire_frames_init_strict(quic_wire_frames *frames,
  * Reads the next frame.  |payload| is the one that |frames| began with.
  *
  * Returns QUIC_WIRE_ITEM and the frame; 0 where none remains;
- * QUIC_WIRE_ERR_FRAME_END and so on, once, where the next frame is invalid, with
- * its type in |frame| (quic_wire_error_type), and then 0; QUIC_WIRE_ERR_PLACE
- * where |frames->offset| is above |payloadlen|; QUIC_WIRE_ERR_ARGUMENT for NULL.
- * |frame| changes only with QUIC_WIRE_ITEM and QUIC_WIRE_ERR_FRAME_...
+ * QUIC_WIRE_ERR_FRAME_END and so on, once, where the next frame is invalid,
+ * with its type in |frame| (quic_wire_error_type), and then 0;
+ * QUIC_WIRE_ERR_PLACE where |frames->offset| is above |payloadlen|;
+ * QUIC_WIRE_ERR_ARGUMENT for NULL. |frame| changes only with QUIC_WIRE_ITEM and
+ * QUIC_WIRE_ERR_FRAME_...
  */
-QUIC_WIRE_API int quic_wire_frames_next(quic_wire_frames *frames,
+QUIC_WIRE_API int quic_wire_frames_next(quic_wire_frame_iter *frames,
                                         const uint8_t *payload,
                                         size_t payloadlen,
                                         quic_wire_frame *frame);
 
 /*
- * The same where the ACK frequency extension wasn't negotiated: an ACK_FREQUENCY
- * or IMMEDIATE_ACK has an unknown type, QUIC_WIRE_ERR_FRAME_TYPE, but one with an
- * invalid field is reported for that field.  A caller may change between the two
- * at any time.
+ * The same where the ACK frequency extension wasn't negotiated: an
+ * ACK_FREQUENCY or IMMEDIATE_ACK has an unknown type, QUIC_WIRE_ERR_FRAME_TYPE,
+ * but one with an invalid field is reported for that field.  A caller may
+ * change between the two at any time.
  */
-QUIC_WIRE_API int quic_wire_frames_next_basic(quic_wire_frames *frames,
+QUIC_WIRE_API int quic_wire_frames_next_basic(quic_wire_frame_iter *frames,
                                               const uint8_t *payload,
                                               size_t payloadlen,
                                               quic_wire_frame *frame);
@@ -629,24 +635,24 @@ QUIC_WIRE_API int quic_wire_frames_next_basic(quic_wire_frames *frames,
  * all the zero bytes after it are one entry: quic_wire_padding_count.
  *
  * Returns QUIC_WIRE_ITEM, and in |*count| how many entries were filled, one at
- * least; 0 where no frame remains; QUIC_WIRE_ERR_FRAME_END and so on, once, where
- * the next frame is invalid, with its type in |out[0]| (quic_wire_error_type),
- * and then 0; QUIC_WIRE_ERR_NOBUF where |room| is 0; QUIC_WIRE_ERR_PLACE where
- * |frames->offset| is above |payloadlen|; QUIC_WIRE_ERR_ARGUMENT for NULL.
- * Frames before an invalid one are
- * given first, and the next call reports it.  Entries after those that were
- * filled don't change, and |*count| changes only with QUIC_WIRE_ITEM.  Once
+ * least; 0 where no frame remains; QUIC_WIRE_ERR_FRAME_END and so on, once,
+ * where the next frame is invalid, with its type in |out[0]|
+ * (quic_wire_error_type), and then 0; QUIC_WIRE_ERR_NOBUF where |room| is 0;
+ * QUIC_WIRE_ERR_PLACE where |frames->offset| is above |payloadlen|;
+ * QUIC_WIRE_ERR_ARGUMENT for NULL. Frames before an invalid one are given
+ * first, and the next call reports it.  Entries after those that were filled
+ * don't change, and |*count| changes only with QUIC_WIRE_ITEM.  Once
  * |frames->offset| is |payloadlen| no frame remains, and no call is needed to
  * learn that.
  */
-QUIC_WIRE_API int quic_wire_frames_fill(quic_wire_frames *frames,
+QUIC_WIRE_API int quic_wire_frames_fill(quic_wire_frame_iter *frames,
                                         const uint8_t *payload,
                                         size_t payloadlen, quic_wire_frame *out,
                                         size_t room, size_t *count);
 
 /* The same without the ACK frequency extension, as quic_wire_frames_next_basic
  * reads. */
-QUIC_WIRE_API int quic_wire_frames_fill_basic(quic_wire_frames *frames,
+QUIC_WIRE_API int quic_wire_frames_fill_basic(quic_wire_frame_iter *frames,
                                               const uint8_t *payload,
                                               size_t payloadlen,
                                               quic_wire_frame *out, size_t room,
@@ -659,21 +665,21 @@ QUIC_WIRE_API int quic_wire_frames_fill_basic(quic_wire_frames *frames,
  * |frames->offset| is below |payloadlen|.
  *
  * Returns QUIC_WIRE_ITEM, and in |*count| how many entries were filled, one at
- * least; QUIC_WIRE_ERR_PAYLOAD_EMPTY; QUIC_WIRE_ERR_FRAME_END and so on, with the
- * type in |out[0]|, if the payload doesn't begin with a valid frame;
+ * least; QUIC_WIRE_ERR_PAYLOAD_EMPTY; QUIC_WIRE_ERR_FRAME_END and so on, with
+ * the type in |out[0]|, if the payload doesn't begin with a valid frame;
  * QUIC_WIRE_ERR_NOBUF where |room| is 0; QUIC_WIRE_ERR_ARGUMENT for NULL.
- * |*count| changes only with QUIC_WIRE_ITEM, and nothing changes but with that and
- * QUIC_WIRE_ERR_FRAME_...
+ * |*count| changes only with QUIC_WIRE_ITEM, and nothing changes but with that
+ * and QUIC_WIRE_ERR_FRAME_...
  */
-QUIC_WIRE_API int quic_wire_frames_first(quic_wire_frames *frames,
+QUIC_WIRE_API int quic_wire_frames_first(quic_wire_frame_iter *frames,
                                          const uint8_t *payload,
                                          size_t payloadlen,
                                          quic_wire_frame *out, size_t room,
                                          size_t *count);
 
 /*
- * Reads the frame at the front of the rest of a payload, without an iterator: the
- * caller goes on where it ends, which is returned, until no byte remains.
+ * Reads the frame at the front of the rest of a payload, without an iterator:
+ * the caller goes on where it ends, which is returned, until no byte remains.
  * |frame|'s places count from |payload|.  A PADDING frame and the bytes of 0
  * after it are one frame.  Where |strict| is not 0, a type that isn't in its
  * shortest encoding is an error (RFC 9000, section 12.4).
@@ -681,8 +687,8 @@ QUIC_WIRE_API int quic_wire_frames_first(quic_wire_frames *frames,
  * Of an ACK |frame->datalen| is its first range, less one, the ranges below it
  * are written to the |room| entries of |gaps| as they are encoded, and
  * |frame->data| is how many were; where that isn't all, QUIC_WIRE_FLAG_MORE is
- * set, and quic_wire_ack_ranges_init gives all.  For other frames |gaps| doesn't
- * change.
+ * set, and quic_wire_ack_ranges_init gives all.  For other frames |gaps|
+ * doesn't change.
  *
  * Returns where the frame ends, which is above 0; QUIC_WIRE_ERR_PAYLOAD_EMPTY
  * where no byte remains; QUIC_WIRE_ERR_FRAME_END and so on, with the type in
@@ -704,7 +710,8 @@ QUIC_WIRE_API int64_t quic_wire_frame_read_basic(const uint8_t *payload,
 
 /* How many PADDING frames an entry of quic_wire_frames_fill has that was read
  * from this payload: one whose type may be encoded in up to 8 bytes, and one
- * for each byte after it.  0 for other kinds, and where there is no such place. */
+ * for each byte after it.  0 for other kinds, and where there is no such place.
+ */
 QUIC_WIRE_API size_t quic_wire_padding_count(const uint8_t *payload,
                                              size_t payloadlen,
                                              const quic_wire_frame *frame);
@@ -735,7 +742,7 @@ QUIC_WIRE_API uint64_t quic_wire_error_type(const quic_wire_frame *frame);
  * payload.  Returns 0; QUIC_WIRE_ERR_PLACE where its bytes are no ACK;
  * QUIC_WIRE_ERR_ARGUMENT for NULL.
  */
-QUIC_WIRE_API int quic_wire_ack_ranges_init(quic_wire_ack_ranges *ranges,
+QUIC_WIRE_API int quic_wire_ack_ranges_init(quic_wire_range_iter *ranges,
                                             const uint8_t *payload,
                                             size_t payloadlen,
                                             const quic_wire_frame *frame);
@@ -747,16 +754,16 @@ QUIC_WIRE_API int quic_wire_ack_ranges_init(quic_wire_ack_ranges *ranges,
  * to some that can be none refuses them.
  */
 QUIC_WIRE_API int
-quic_wire_ack_ranges_init_unchecked(quic_wire_ack_ranges *ranges,
+quic_wire_ack_ranges_init_unchecked(quic_wire_range_iter *ranges,
                                     const uint8_t *payload, size_t payloadlen,
                                     const quic_wire_frame *frame);
 
 /*
  * Reads the next range, the greatest first.  Returns QUIC_WIRE_ITEM and the
- * range, 0 where none remains, QUIC_WIRE_ERR_PLACE where |ranges| has no place of
- * an ACK's blocks.
+ * range, 0 where none remains, QUIC_WIRE_ERR_PLACE where |ranges| has no place
+ * of an ACK's blocks.
  */
-QUIC_WIRE_API int quic_wire_ack_ranges_next(quic_wire_ack_ranges *ranges,
+QUIC_WIRE_API int quic_wire_ack_ranges_next(quic_wire_range_iter *ranges,
                                             const uint8_t *payload,
                                             size_t payloadlen,
                                             quic_wire_range *range);
@@ -766,12 +773,12 @@ QUIC_WIRE_API int quic_wire_ack_ranges_next(quic_wire_ack_ranges *ranges,
  * |out| hold, with one call.  Returns QUIC_WIRE_ITEM, and in |*count| how many
  * entries were filled, one at least; 0 where no range remains;
  * QUIC_WIRE_ERR_NOBUF where |room| is 0; QUIC_WIRE_ERR_PLACE where
- * |ranges| has no place of an ACK's blocks.  Entries after those that were filled
- * don't change, and nothing changes but with QUIC_WIRE_ITEM.  Once
+ * |ranges| has no place of an ACK's blocks.  Entries after those that were
+ * filled don't change, and nothing changes but with QUIC_WIRE_ITEM.  Once
  * |ranges->begin| is |ranges->end| none remains, and no call is needed to learn
  * that.
  */
-QUIC_WIRE_API int quic_wire_ack_ranges_fill(quic_wire_ack_ranges *ranges,
+QUIC_WIRE_API int quic_wire_ack_ranges_fill(quic_wire_range_iter *ranges,
                                             const uint8_t *payload,
                                             size_t payloadlen,
                                             quic_wire_range *out, size_t room,
@@ -792,13 +799,13 @@ QUIC_WIRE_API int quic_wire_ack_ranges_fill(quic_wire_ack_ranges *ranges,
  * Returns 0, and in |*written| how many bytes were written;
  * QUIC_WIRE_ERR_NOBUF where |destlen| is less, and in |*written| how many are
  * needed; QUIC_WIRE_ERR_ARGUMENT where |frame| is no frame that can be
- * written.  Bytes of |dest| after those written don't change, and none if nothing
- * was written.
+ * written.  Bytes of |dest| after those written don't change, and none if
+ * nothing was written.
  */
 QUIC_WIRE_API int quic_wire_frame_write(const quic_wire_frame *frame,
                                         const uint8_t *data, size_t datalen,
-                                        int last, uint8_t *dest,
-                                        size_t destlen, size_t *written);
+                                        int last, uint8_t *dest, size_t destlen,
+                                        size_t *written);
 
 /*
  * Writes |frame|, a STREAM, CRYPTO or DATAGRAM, up to its data, which are
@@ -822,9 +829,9 @@ QUIC_WIRE_API int quic_wire_frame_header_write(const quic_wire_frame *frame,
  * Returns 0, and in |*written| how many bytes were written;
  * QUIC_WIRE_ERR_NOBUF where |destlen| is less, and in |*written| how many are
  * needed; QUIC_WIRE_ERR_ARGUMENT for NULL, or where they are no ACK: a
- * range goes below 0, a number is 2^62 or more, or the flags are others, as with
- * QUIC_WIRE_FLAG_MORE, where ranges are missing.  Bytes of |dest| after those
- * written don't change, and none if nothing was written.
+ * range goes below 0, a number is 2^62 or more, or the flags are others, as
+ * with QUIC_WIRE_FLAG_MORE, where ranges are missing.  Bytes of |dest| after
+ * those written don't change, and none if nothing was written.
  */
 QUIC_WIRE_API int quic_wire_ack_gaps_write(const quic_wire_frame *ack,
                                            const quic_wire_gap *gaps,
@@ -849,8 +856,8 @@ QUIC_WIRE_API int quic_wire_frame_len(const quic_wire_frame *frame,
  * how many are needed; QUIC_WIRE_ERR_PAYLOAD_EMPTY; QUIC_WIRE_ERR_FRAME_END and
  * so on where it has an invalid frame, with its type in |out|;
  * QUIC_WIRE_ERR_ARGUMENT for NULL.  Bytes of |dest| after those written don't
- * change, and none if nothing was written; |out| changes only in the fields that
- * are named here.
+ * change, and none if nothing was written; |out| changes only in the fields
+ * that are named here.
  */
 QUIC_WIRE_API int quic_wire_canonical(const uint8_t *payload, size_t payloadlen,
                                       uint8_t *dest, size_t destlen,
@@ -860,26 +867,25 @@ QUIC_WIRE_API int quic_wire_canonical(const uint8_t *payload, size_t payloadlen,
 
 /*
  * Reads the header of the packet that |bytes| begin with, whether the packet is
- * complete or ends after its header.  Ids of short headers have |cidlen| bytes; of
- * versions that are not among |versions| only the ids are read.  The fixed bit
- * isn't checked: who doesn't accept packets of RFC 9287 looks for it in
- * |header->first|, but not in a version negotiation, where clients ignore it (RFC
- * 9000, section 17.2.1).
+ * complete or ends after its header.  Ids of short headers have |cidlen| bytes;
+ * of versions that are not among |versions| only the ids are read.  The fixed
+ * bit isn't checked: who doesn't accept packets of RFC 9287 looks for it in
+ * |header->first|, but not in a version negotiation, where clients ignore it
+ * (RFC 9000, section 17.2.1).
  *
- * Returns where the packet ends, 1 or more, which is |header->end|: the next one
- * of the datagram begins there.  QUIC_WIRE_ERR_PACKET_CUT and the header, of a
- * packet that is cut off; QUIC_WIRE_ERR_PACKET_VERSION and of the header its
- * kind, its version and its ids, which may have up to 255 bytes; another
+ * Returns where the packet ends, 1 or more, which is |header->end|: the next
+ * one of the datagram begins there.  QUIC_WIRE_ERR_PACKET_CUT and the header,
+ * of a packet that is cut off; QUIC_WIRE_ERR_PACKET_VERSION and of the header
+ * its kind, its version and its ids, which may have up to 255 bytes; another
  * QUIC_WIRE_ERR_PACKET_.. where there is no header, or where a version
  * negotiation has longer ids than 20 bytes, which quic_wire_negotiation_read
- * reads; QUIC_WIRE_ERR_LENGTH where |cidlen| is above 20 or there are 2^32 bytes
- * or more; QUIC_WIRE_ERR_ARGUMENT for NULL.  |header| changes only with the first
- * three.
+ * reads; QUIC_WIRE_ERR_LENGTH where |cidlen| is above 20 or there are 2^32
+ * bytes or more; QUIC_WIRE_ERR_ARGUMENT for NULL.  |header| changes only with
+ * the first three.
  */
-QUIC_WIRE_CHECKED QUIC_WIRE_API int64_t
-quic_wire_header_read(const uint8_t *bytes, size_t len, uint32_t cidlen,
-                      const uint32_t *versions, size_t nversions,
-                      quic_wire_header *header);
+QUIC_WIRE_CHECKED QUIC_WIRE_API int64_t quic_wire_header_read(
+    const uint8_t *bytes, size_t len, uint32_t cidlen, const uint32_t *versions,
+    size_t nversions, quic_wire_header *header);
 
 /*
  * Where the short header ends that |packet| begins with, whose id has |cidlen|
@@ -898,15 +904,14 @@ QUIC_WIRE_API size_t quic_wire_short_read(const uint8_t *packet,
  * longer ones.  The seven low bits of the first byte aren't looked at.
  *
  * Returns |packetlen|, where the packet ends, and the header, after which the
- * versions are, from |header->header_end| to |header->end|, four bytes each, the
- * highest first; QUIC_WIRE_ERR_KIND where none begins there: the highest bit of
- * the first byte is clear, the version isn't 0, or the bytes end within the ids;
- * QUIC_WIRE_ERR_LENGTH where there are 2^32 bytes or more;
+ * versions are, from |header->header_end| to |header->end|, four bytes each,
+ * the highest first; QUIC_WIRE_ERR_KIND where none begins there: the highest
+ * bit of the first byte is clear, the version isn't 0, or the bytes end within
+ * the ids; QUIC_WIRE_ERR_LENGTH where there are 2^32 bytes or more;
  * QUIC_WIRE_ERR_ARGUMENT for NULL.  |header| changes only with the first.
  */
-QUIC_WIRE_CHECKED QUIC_WIRE_API int64_t
-quic_wire_negotiation_read(const uint8_t *packet, size_t packetlen,
-                           quic_wire_header *header);
+QUIC_WIRE_CHECKED QUIC_WIRE_API int64_t quic_wire_negotiation_read(
+    const uint8_t *packet, size_t packetlen, quic_wire_header *header);
 
 /* Where the ids begin in a packet of this header, or NULL for NULL. */
 QUIC_WIRE_API const uint8_t *quic_wire_dcid(const uint8_t *packet,
@@ -932,18 +937,18 @@ QUIC_WIRE_API const uint8_t *quic_wire_sample(const uint8_t *packet,
  * with 0 it is what is written.  Returns how many bytes the number has, 1 to 4:
  * the payload begins after them, and packet[0] has the key phase and the
  * reserved bits.  QUIC_WIRE_ERR_NUMBER where |expected| is 2^62 or more, else
- * QUIC_WIRE_ERR_PACKET_SMALL where |place| is 0 or has fewer than four bytes from
- * it on; QUIC_WIRE_ERR_ARGUMENT for NULL.  Nothing changes then.
+ * QUIC_WIRE_ERR_PACKET_SMALL where |place| is 0 or has fewer than four bytes
+ * from it on; QUIC_WIRE_ERR_ARGUMENT for NULL.  Nothing changes then.
  */
-QUIC_WIRE_CHECKED QUIC_WIRE_API int quic_wire_unprotect(uint8_t *packet, size_t packetlen,
-                                      size_t place, const uint8_t *mask,
-                                      uint64_t expected, uint64_t *number);
+QUIC_WIRE_CHECKED QUIC_WIRE_API int
+quic_wire_unprotect(uint8_t *packet, size_t packetlen, size_t place,
+                    const uint8_t *mask, uint64_t expected, uint64_t *number);
 
 /*
- * The same in a copy, so that the packet doesn't change: its bytes up to |place|
- * and the four from there on are written to |dest|, and opened there.  Returns
- * what quic_wire_unprotect does; else QUIC_WIRE_ERR_NOBUF where |destlen| is
- * less.  Nothing changes with an error.
+ * The same in a copy, so that the packet doesn't change: its bytes up to
+ * |place| and the four from there on are written to |dest|, and opened there.
+ * Returns what quic_wire_unprotect does; else QUIC_WIRE_ERR_NOBUF where
+ * |destlen| is less.  Nothing changes with an error.
  */
 QUIC_WIRE_CHECKED QUIC_WIRE_API int
 quic_wire_unprotect_copy(const uint8_t *packet, size_t packetlen, size_t place,
@@ -953,19 +958,21 @@ quic_wire_unprotect_copy(const uint8_t *packet, size_t packetlen, size_t place,
 /*
  * Puts the protection on the header of a packet whose payload is sealed and
  * whose number begins at |place|.  Returns how many bytes the number has;
- * QUIC_WIRE_ERR_PACKET_SMALL where |place| is 0 or has fewer than four bytes from
- * it on; QUIC_WIRE_ERR_ARGUMENT for NULL.  Nothing changes then.
+ * QUIC_WIRE_ERR_PACKET_SMALL where |place| is 0 or has fewer than four bytes
+ * from it on; QUIC_WIRE_ERR_ARGUMENT for NULL.  Nothing changes then.
  */
-QUIC_WIRE_CHECKED QUIC_WIRE_API int quic_wire_protect(uint8_t *packet, size_t packetlen,
-                                    size_t place, const uint8_t *mask);
+QUIC_WIRE_CHECKED QUIC_WIRE_API int quic_wire_protect(uint8_t *packet,
+                                                      size_t packetlen,
+                                                      size_t place,
+                                                      const uint8_t *mask);
 
 /* ---- Numbers of packets, and of variable length */
 
 /* How many bytes of |number| are written whose receiver has acknowledged
  * |largest_acked|, 1 to 4, or 0 if nothing was acknowledged;
- * QUIC_WIRE_ERR_NUMBER where that is above |number|, or 2^31 or more below it. */
-QUIC_WIRE_API int quic_wire_number_len(uint64_t number,
-                                       uint64_t largest_acked);
+ * QUIC_WIRE_ERR_NUMBER where that is above |number|, or 2^31 or more below it.
+ */
+QUIC_WIRE_API int quic_wire_number_len(uint64_t number, uint64_t largest_acked);
 
 /* The whole number of which the low |numberlen| bytes are written, by the one
  * that is |expected| next (RFC 9000, appendix A.3); UINT64_MAX where
@@ -1003,12 +1010,13 @@ QUIC_WIRE_API size_t quic_wire_header_len(const quic_wire_header_fields *fields,
  *
  * Returns how many bytes were written, the last of which are the number;
  * QUIC_WIRE_ERR_NOBUF where |destlen| is less than quic_wire_header_len;
- * QUIC_WIRE_ERR_KIND where there is no such kind; QUIC_WIRE_ERR_NUMBER where the
- * number is 2^62 or more, or an Initial, 0-RTT, Handshake or Retry packet has
- * version 0, which would be a version negotiation (RFC 9000, section 17.2.1);
- * QUIC_WIRE_ERR_LENGTH where an id is longer than 20 bytes, the number has not 1
- * to 4 bytes, or the length not 2 or 4; QUIC_WIRE_ERR_ARGUMENT for NULL.  |dest|
- * changes only where a header was written.
+ * QUIC_WIRE_ERR_KIND where there is no such kind; QUIC_WIRE_ERR_NUMBER where
+ * the number is 2^62 or more, or an Initial, 0-RTT, Handshake or Retry packet
+ * has version 0, which would be a version negotiation (RFC 9000,
+ * section 17.2.1); QUIC_WIRE_ERR_LENGTH where an id is longer than 20 bytes,
+ * the number has not 1 to 4 bytes, or the length not 2 or 4;
+ * QUIC_WIRE_ERR_ARGUMENT for NULL.  |dest| changes only where a header was
+ * written.
  *
  * What is looked at, and nothing else, so that one |fields| serves all kinds:
  *
@@ -1021,8 +1029,8 @@ QUIC_WIRE_API size_t quic_wire_header_len(const quic_wire_header_fields *fields,
  *
  * With |flags| of 0 the first byte is what RFC 9000 has, of each kind.
  * QUIC_WIRE_CLEAR_FIXED_BIT clears its fixed bit; with 1-RTT QUIC_WIRE_BIT_SPIN
- * and QUIC_WIRE_BIT_KEY_PHASE set these; with a version negotiation, whose seven low
- * bits are free (section 17.2.1), each of them turns its bit of c0.
+ * and QUIC_WIRE_BIT_KEY_PHASE set these; with a version negotiation, whose
+ * seven low bits are free (section 17.2.1), each of them turns its bit of c0.
  */
 QUIC_WIRE_API int64_t quic_wire_header_write(
     const quic_wire_header_fields *fields, const uint8_t *dcid, size_t dcidlen,
@@ -1034,27 +1042,28 @@ QUIC_WIRE_API int64_t quic_wire_header_write(
  * byte, version 0, the ids, which may have 255 bytes (RFC 8999, section 6), and
  * the versions.  |dcid| is the source id of the packet that it answers, |scid|
  * its destination id (RFC 9000, section 17.2.1).  With |flags| of 0 the first
- * byte is c0; each of the seven low bits of |flags| turns its bit, which is free,
- * though that section has the fixed bit set where QUIC may share its port (RFC
- * 7983), and readers that ask for it refuse a packet without it.
+ * byte is c0; each of the seven low bits of |flags| turns its bit, which is
+ * free, though that section has the fixed bit set where QUIC may share its port
+ * (RFC 7983), and readers that ask for it refuse a packet without it.
  *
  * Returns 0, and in |*written| how many bytes were written;
  * QUIC_WIRE_ERR_NOBUF where |destlen| is less, and in |*written| how many are
  * needed; QUIC_WIRE_ERR_LENGTH where an id is longer than 255 bytes, and
- * QUIC_WIRE_ERR_ARGUMENT for NULL, and then |*written| doesn't change.  Bytes of
- * |dest| after those written don't change, and none if nothing was written.
+ * QUIC_WIRE_ERR_ARGUMENT for NULL, and then |*written| doesn't change.  Bytes
+ * of |dest| after those written don't change, and none if nothing was written.
  */
-QUIC_WIRE_API int quic_wire_negotiation_write(
-    uint8_t flags, const uint8_t *dcid, size_t dcidlen, const uint8_t *scid,
-    size_t scidlen, const uint32_t *versions, size_t nversions, uint8_t *dest,
-    size_t destlen, size_t *written);
+QUIC_WIRE_API int
+quic_wire_negotiation_write(uint8_t flags, const uint8_t *dcid, size_t dcidlen,
+                            const uint8_t *scid, size_t scidlen,
+                            const uint32_t *versions, size_t nversions,
+                            uint8_t *dest, size_t destlen, size_t *written);
 
 /*
  * Sets the length in the header of a packet of |packetlen| bytes whose number
  * begins at |place|, to what there is from there on.  |lengthlen| is that of
- * the header.  Returns 0, or QUIC_WIRE_ERR_LENGTH where that is neither 2 nor 4,
- * has no place before |place| or can't hold the length; QUIC_WIRE_ERR_ARGUMENT for
- * NULL.  Nothing changes then.
+ * the header.  Returns 0, or QUIC_WIRE_ERR_LENGTH where that is neither 2 nor
+ * 4, has no place before |place| or can't hold the length;
+ * QUIC_WIRE_ERR_ARGUMENT for NULL.  Nothing changes then.
  */
 QUIC_WIRE_API int quic_wire_set_len(uint8_t *packet, size_t packetlen,
                                     size_t place, uint32_t lengthlen);
@@ -1063,11 +1072,12 @@ QUIC_WIRE_API int quic_wire_set_len(uint8_t *packet, size_t packetlen,
 
 /*
  * Reads a list of transport parameters to its end (RFC 9000, sections 7.4 and
- * 18), as QUIC_WIRE_SIDE_CLIENT one that a server sent, as QUIC_WIRE_SIDE_SERVER one that
- * a client sent, which must lack what a server alone sends.  The list of no
- * bytes gives each parameter its default.  An integer with a default that isn't
- * in its shortest encoding is refused as malformed, though section 16 allows
- * it; max_datagram_frame_size and min_ack_delay are taken in any.
+ * 18), as QUIC_WIRE_SIDE_CLIENT one that a server sent, as
+ * QUIC_WIRE_SIDE_SERVER one that a client sent, which must lack what a server
+ * alone sends.  The list of no bytes gives each parameter its default.  An
+ * integer with a default that isn't in its shortest encoding is refused as
+ * malformed, though section 16 allows it; max_datagram_frame_size and
+ * min_ack_delay are taken in any.
  *
  * Returns 0 and the parameters; QUIC_WIRE_ERR_PARAMS_MALFORMED or
  * QUIC_WIRE_ERR_PARAMS_ILLEGAL where the list is refused with a
@@ -1084,17 +1094,17 @@ quic_wire_params_read(uint32_t side, const uint8_t *list, size_t listlen,
 
 /*
  * Writes the shortest list of these parameters, as QUIC_WIRE_SIDE_CLIENT or as
- * QUIC_WIRE_SIDE_SERVER sends it: those numbers that differ from their defaults, and
- * what else is there.
+ * QUIC_WIRE_SIDE_SERVER sends it: those numbers that differ from their
+ * defaults, and what else is there.
  *
  * Returns 0 and how many bytes were written; QUIC_WIRE_ERR_NOBUF and how many
  * are needed where |dest| has fewer; QUIC_WIRE_ERR_PARAM where the peer would
  * refuse the parameters, or would not read the same: a number is out of range,
- * something that is absent is not 0, or the preferred address has no address, or
- * one of zeros with port 0; QUIC_WIRE_ERR_KIND where |side| is neither;
+ * something that is absent is not 0, or the preferred address has no address,
+ * or one of zeros with port 0; QUIC_WIRE_ERR_KIND where |side| is neither;
  * QUIC_WIRE_ERR_LENGTH for another |size| than `sizeof *params`;
- * QUIC_WIRE_ERR_ARGUMENT for NULL.  |dest| changes only with 0, and then only in
- * the bytes that were written.
+ * QUIC_WIRE_ERR_ARGUMENT for NULL.  |dest| changes only with 0, and then only
+ * in the bytes that were written.
  */
 QUIC_WIRE_API int quic_wire_params_write(uint32_t side,
                                          const quic_wire_params *params,
@@ -1115,12 +1125,12 @@ QUIC_WIRE_API int quic_wire_params_write(uint32_t side,
  *    2 initial_max_data                     13 disable_active_migration
  *    3 initial_max_stream_data_bidi_local   14 max_datagram_frame_size
  *    4 initial_max_stream_data_bidi_remote  15 preferred_address
- *    5 initial_max_stream_data_uni          16 original_destination_connection_id
- *    6 initial_max_streams_bidi             17 initial_source_connection_id
- *    7 initial_max_streams_uni              18 retry_source_connection_id
- *    8 ack_delay_exponent                   19 grease_quic_bit
- *    9 max_ack_delay                        20 min_ack_delay
- *   10 active_connection_id_limit
+ *    5 initial_max_stream_data_uni          16
+ * original_destination_connection_id 6 initial_max_streams_bidi             17
+ * initial_source_connection_id 7 initial_max_streams_uni              18
+ * retry_source_connection_id 8 ack_delay_exponent                   19
+ * grease_quic_bit 9 max_ack_delay                        20 min_ack_delay 10
+ * active_connection_id_limit
  *
  * Each entry is written in its least widths, and the peer reads the same
  * |params|.  Returns what quic_wire_params_write does; QUIC_WIRE_ERR_PARAM also
@@ -1133,13 +1143,13 @@ QUIC_WIRE_API int quic_wire_params_write_with(
 
 /*
  * Reads the entry at the front of a |list| of transport parameters, be it one
- * that quic_wire_params has a field for or another.  Whether the value is one of
- * its kind isn't looked at, nor whether an entry is there twice.
+ * that quic_wire_params has a field for or another.  Whether the value is one
+ * of its kind isn't looked at, nor whether an entry is there twice.
  *
  * Returns where the entry ends, which is where the next one begins, and the
  * entry; 0 where the list is empty; QUIC_WIRE_ERR_PARAMS_MALFORMED where its
- * first entry is cut off; QUIC_WIRE_ERR_ARGUMENT for NULL.  |param| changes only
- * with the first.
+ * first entry is cut off; QUIC_WIRE_ERR_ARGUMENT for NULL.  |param| changes
+ * only with the first.
  */
 QUIC_WIRE_CHECKED QUIC_WIRE_API int64_t quic_wire_param_read(
     const uint8_t *list, size_t listlen, quic_wire_param *param);
@@ -1149,8 +1159,9 @@ QUIC_WIRE_CHECKED QUIC_WIRE_API int64_t quic_wire_param_read(
  *
  * Returns 0 and how many bytes were written; QUIC_WIRE_ERR_NOBUF and how many
  * are needed where |dest| has fewer; QUIC_WIRE_ERR_NUMBER where |id| is 2^62 or
- * more, QUIC_WIRE_ERR_LENGTH where |valuelen| is; QUIC_WIRE_ERR_ARGUMENT for NULL.
- * |dest| changes only with 0, and then only in the bytes that were written.
+ * more, QUIC_WIRE_ERR_LENGTH where |valuelen| is; QUIC_WIRE_ERR_ARGUMENT for
+ * NULL. |dest| changes only with 0, and then only in the bytes that were
+ * written.
  */
 QUIC_WIRE_API int quic_wire_param_write(uint64_t id, const uint8_t *value,
                                         size_t valuelen, uint8_t *dest,

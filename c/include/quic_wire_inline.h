@@ -5,49 +5,50 @@
  * expression, are those that give a part of what was read,
  * quic_wire_padding_count and quic_wire_header_len.  quic_wire_frame_len asks
  * for a frame where there is no room, and quic_wire_header_write chooses one of
- * two proved calls of one meaning.  c/tests/abuse/ holds these against the proved
- * calls.
- * quic_wire.h includes this file where QUIC_WIRE_INLINE is defined, and so does
- * the library's own quic_wire.c, which makes symbols of them.
+ * two proved calls of one meaning.  c/tests/abuse/ holds these against the
+ * proved calls. quic_wire.h includes this file where QUIC_WIRE_INLINE is
+ * defined, and so does the library's own quic_wire.c, which makes symbols of
+ * them.
  */
 #ifndef QUIC_WIRE_INLINE_H
 #define QUIC_WIRE_INLINE_H
 
 /* The functions of the proved library.  Their pointers must not be NULL. */
 uint32_t quic_wire_close_code_(int32_t);
-int32_t quic_wire_frames_init_(quic_wire_frames *, const uint8_t *, size_t);
-int32_t quic_wire_frames_init_strict_(quic_wire_frames *, const uint8_t *,
+int32_t quic_wire_frames_init_(quic_wire_frame_iter *, const uint8_t *, size_t);
+int32_t quic_wire_frames_init_strict_(quic_wire_frame_iter *, const uint8_t *,
                                       size_t);
-int32_t quic_wire_frames_next_(quic_wire_frames *, const uint8_t *, size_t,
+int32_t quic_wire_frames_next_(quic_wire_frame_iter *, const uint8_t *, size_t,
                                quic_wire_frame *);
-int32_t quic_wire_frames_next_basic_(quic_wire_frames *, const uint8_t *,
+int32_t quic_wire_frames_next_basic_(quic_wire_frame_iter *, const uint8_t *,
                                      size_t, quic_wire_frame *);
-int32_t quic_wire_frames_fill_(quic_wire_frames *, const uint8_t *, size_t,
+int32_t quic_wire_frames_fill_(quic_wire_frame_iter *, const uint8_t *, size_t,
                                quic_wire_frame *, size_t, size_t *);
-int32_t quic_wire_frames_fill_basic_(quic_wire_frames *, const uint8_t *,
+int32_t quic_wire_frames_fill_basic_(quic_wire_frame_iter *, const uint8_t *,
                                      size_t, quic_wire_frame *, size_t,
                                      size_t *);
-int32_t quic_wire_frames_first_(quic_wire_frames *, const uint8_t *, size_t,
-                               quic_wire_frame *, size_t, size_t *);
+int32_t quic_wire_frames_first_(quic_wire_frame_iter *, const uint8_t *, size_t,
+                                quic_wire_frame *, size_t, size_t *);
 int64_t quic_wire_frame_read_(const uint8_t *, size_t, uint32_t,
                               quic_wire_frame *, quic_wire_gap *, size_t);
 int64_t quic_wire_frame_read_basic_(const uint8_t *, size_t, uint32_t,
                                     quic_wire_frame *, quic_wire_gap *, size_t);
-int32_t quic_wire_ack_ranges_init_(quic_wire_ack_ranges *, const uint8_t *,
+int32_t quic_wire_ack_ranges_init_(quic_wire_range_iter *, const uint8_t *,
                                    size_t, const quic_wire_frame *);
-int32_t quic_wire_ack_ranges_init_unchecked_(quic_wire_ack_ranges *,
+int32_t quic_wire_ack_ranges_init_unchecked_(quic_wire_range_iter *,
                                              const uint8_t *, size_t,
                                              const quic_wire_frame *);
-int32_t quic_wire_ack_ranges_next_(quic_wire_ack_ranges *, const uint8_t *,
+int32_t quic_wire_ack_ranges_next_(quic_wire_range_iter *, const uint8_t *,
                                    size_t, quic_wire_range *);
-int32_t quic_wire_ack_ranges_fill_(quic_wire_ack_ranges *, const uint8_t *,
+int32_t quic_wire_ack_ranges_fill_(quic_wire_range_iter *, const uint8_t *,
                                    size_t, quic_wire_range *, size_t, size_t *);
-int32_t quic_wire_frame_write_(const quic_wire_frame *, const uint8_t *,
-                               size_t, uint32_t, uint8_t *, size_t, size_t *);
+int32_t quic_wire_frame_write_(const quic_wire_frame *, const uint8_t *, size_t,
+                               uint32_t, uint8_t *, size_t, size_t *);
 int32_t quic_wire_frame_header_write_(const quic_wire_frame *, uint32_t,
                                       uint8_t *, size_t, size_t *);
-int32_t quic_wire_ack_gaps_write_(const quic_wire_frame *, const quic_wire_gap *,
-                                  size_t, uint8_t *, size_t, size_t *);
+int32_t quic_wire_ack_gaps_write_(const quic_wire_frame *,
+                                  const quic_wire_gap *, size_t, uint8_t *,
+                                  size_t, size_t *);
 int32_t quic_wire_canonical_(const uint8_t *, size_t, uint8_t *, size_t,
                              quic_wire_canon *);
 int64_t quic_wire_header_read_(const uint8_t *, size_t, uint32_t,
@@ -107,7 +108,7 @@ QUIC_WIRE_API uint32_t quic_wire_close_code(int result) {
   return quic_wire_close_code_(result);
 }
 
-QUIC_WIRE_API int quic_wire_frames_init(quic_wire_frames *frames,
+QUIC_WIRE_API int quic_wire_frames_init(quic_wire_frame_iter *frames,
                                         const uint8_t *payload,
                                         size_t payloadlen) {
   if (!frames || (!payload && payloadlen))
@@ -117,7 +118,7 @@ QUIC_WIRE_API int quic_wire_frames_init(quic_wire_frames *frames,
   return quic_wire_frames_init_(frames, payload, payloadlen);
 }
 
-QUIC_WIRE_API int quic_wire_frames_init_strict(quic_wire_frames *frames,
+QUIC_WIRE_API int quic_wire_frames_init_strict(quic_wire_frame_iter *frames,
                                                const uint8_t *payload,
                                                size_t payloadlen) {
   if (!frames || (!payload && payloadlen))
@@ -127,7 +128,7 @@ QUIC_WIRE_API int quic_wire_frames_init_strict(quic_wire_frames *frames,
   return quic_wire_frames_init_strict_(frames, payload, payloadlen);
 }
 
-QUIC_WIRE_API int quic_wire_frames_next(quic_wire_frames *frames,
+QUIC_WIRE_API int quic_wire_frames_next(quic_wire_frame_iter *frames,
                                         const uint8_t *payload,
                                         size_t payloadlen,
                                         quic_wire_frame *frame) {
@@ -138,7 +139,7 @@ QUIC_WIRE_API int quic_wire_frames_next(quic_wire_frames *frames,
   return quic_wire_frames_next_(frames, payload, payloadlen, frame);
 }
 
-QUIC_WIRE_API int quic_wire_frames_next_basic(quic_wire_frames *frames,
+QUIC_WIRE_API int quic_wire_frames_next_basic(quic_wire_frame_iter *frames,
                                               const uint8_t *payload,
                                               size_t payloadlen,
                                               quic_wire_frame *frame) {
@@ -149,7 +150,7 @@ QUIC_WIRE_API int quic_wire_frames_next_basic(quic_wire_frames *frames,
   return quic_wire_frames_next_basic_(frames, payload, payloadlen, frame);
 }
 
-QUIC_WIRE_API int quic_wire_frames_fill(quic_wire_frames *frames,
+QUIC_WIRE_API int quic_wire_frames_fill(quic_wire_frame_iter *frames,
                                         const uint8_t *payload,
                                         size_t payloadlen, quic_wire_frame *out,
                                         size_t room, size_t *count) {
@@ -162,7 +163,7 @@ QUIC_WIRE_API int quic_wire_frames_fill(quic_wire_frames *frames,
   return quic_wire_frames_fill_(frames, payload, payloadlen, out, room, count);
 }
 
-QUIC_WIRE_API int quic_wire_frames_fill_basic(quic_wire_frames *frames,
+QUIC_WIRE_API int quic_wire_frames_fill_basic(quic_wire_frame_iter *frames,
                                               const uint8_t *payload,
                                               size_t payloadlen,
                                               quic_wire_frame *out, size_t room,
@@ -177,7 +178,7 @@ QUIC_WIRE_API int quic_wire_frames_fill_basic(quic_wire_frames *frames,
                                       count);
 }
 
-QUIC_WIRE_API int quic_wire_frames_first(quic_wire_frames *frames,
+QUIC_WIRE_API int quic_wire_frames_first(quic_wire_frame_iter *frames,
                                          const uint8_t *payload,
                                          size_t payloadlen,
                                          quic_wire_frame *out, size_t room,
@@ -261,7 +262,7 @@ QUIC_WIRE_API uint64_t quic_wire_error_type(const quic_wire_frame *frame) {
   return frame ? frame->numbers[0] : QUIC_WIRE_NO_TYPE;
 }
 
-QUIC_WIRE_API int quic_wire_ack_ranges_init(quic_wire_ack_ranges *ranges,
+QUIC_WIRE_API int quic_wire_ack_ranges_init(quic_wire_range_iter *ranges,
                                             const uint8_t *payload,
                                             size_t payloadlen,
                                             const quic_wire_frame *frame) {
@@ -271,7 +272,7 @@ QUIC_WIRE_API int quic_wire_ack_ranges_init(quic_wire_ack_ranges *ranges,
 }
 
 QUIC_WIRE_API int
-quic_wire_ack_ranges_init_unchecked(quic_wire_ack_ranges *ranges,
+quic_wire_ack_ranges_init_unchecked(quic_wire_range_iter *ranges,
                                     const uint8_t *payload, size_t payloadlen,
                                     const quic_wire_frame *frame) {
   if (!ranges || !payload || !frame)
@@ -280,7 +281,7 @@ quic_wire_ack_ranges_init_unchecked(quic_wire_ack_ranges *ranges,
                                               frame);
 }
 
-QUIC_WIRE_API int quic_wire_ack_ranges_next(quic_wire_ack_ranges *ranges,
+QUIC_WIRE_API int quic_wire_ack_ranges_next(quic_wire_range_iter *ranges,
                                             const uint8_t *payload,
                                             size_t payloadlen,
                                             quic_wire_range *range) {
@@ -289,7 +290,7 @@ QUIC_WIRE_API int quic_wire_ack_ranges_next(quic_wire_ack_ranges *ranges,
   return quic_wire_ack_ranges_next_(ranges, payload, payloadlen, range);
 }
 
-QUIC_WIRE_API int quic_wire_ack_ranges_fill(quic_wire_ack_ranges *ranges,
+QUIC_WIRE_API int quic_wire_ack_ranges_fill(quic_wire_range_iter *ranges,
                                             const uint8_t *payload,
                                             size_t payloadlen,
                                             quic_wire_range *out, size_t room,
@@ -304,8 +305,8 @@ QUIC_WIRE_API int quic_wire_ack_ranges_fill(quic_wire_ack_ranges *ranges,
 
 QUIC_WIRE_API int quic_wire_frame_write(const quic_wire_frame *frame,
                                         const uint8_t *data, size_t datalen,
-                                        int last, uint8_t *dest,
-                                        size_t destlen, size_t *written) {
+                                        int last, uint8_t *dest, size_t destlen,
+                                        size_t *written) {
   size_t unused;
   if (!frame || (!dest && destlen))
     return QUIC_WIRE_ERR_ARGUMENT;
@@ -338,9 +339,9 @@ QUIC_WIRE_API int quic_wire_frame_len(const quic_wire_frame *frame,
                                       const uint8_t *data, size_t datalen,
                                       int last, size_t *len) {
   /* No frame has no byte, so that none fits where there is no room. */
-  int answer = len ? quic_wire_frame_write(frame, data, datalen, last, NULL, 0,
-                                           len)
-                   : QUIC_WIRE_ERR_ARGUMENT;
+  int answer =
+      len ? quic_wire_frame_write(frame, data, datalen, last, NULL, 0, len)
+          : QUIC_WIRE_ERR_ARGUMENT;
   return answer == QUIC_WIRE_ERR_NOBUF ? QUIC_WIRE_OK : answer;
 }
 
@@ -403,7 +404,8 @@ QUIC_WIRE_API const uint8_t *quic_wire_dcid(const uint8_t *packet,
 
 QUIC_WIRE_API const uint8_t *quic_wire_scid(const uint8_t *packet,
                                             const quic_wire_header *header) {
-  return packet && header ? packet + 7 + header->dcidlen : NULL; /* of a long header */
+  return packet && header ? packet + 7 + header->dcidlen
+                          : NULL; /* of a long header */
 }
 
 QUIC_WIRE_API const uint8_t *quic_wire_sample(const uint8_t *packet,
@@ -500,10 +502,11 @@ QUIC_WIRE_API int64_t quic_wire_header_write(
                                  destlen);
 }
 
-QUIC_WIRE_API int quic_wire_negotiation_write(
-    uint8_t flags, const uint8_t *dcid, size_t dcidlen, const uint8_t *scid,
-    size_t scidlen, const uint32_t *versions, size_t nversions, uint8_t *dest,
-    size_t destlen, size_t *written) {
+QUIC_WIRE_API int
+quic_wire_negotiation_write(uint8_t flags, const uint8_t *dcid, size_t dcidlen,
+                            const uint8_t *scid, size_t scidlen,
+                            const uint32_t *versions, size_t nversions,
+                            uint8_t *dest, size_t destlen, size_t *written) {
   static const uint32_t none = 0;
   if ((!dcid && dcidlen) || (!scid && scidlen) || (!versions && nversions) ||
       (!dest && destlen) || !written)
@@ -512,8 +515,8 @@ QUIC_WIRE_API int quic_wire_negotiation_write(
     dest = (uint8_t *)quic_wire_nothing_();
   return quic_wire_negotiation_write_(
       flags, dcid ? dcid : (const uint8_t *)&none, dcidlen,
-      scid ? scid : (const uint8_t *)&none, scidlen, versions ? versions : &none,
-      nversions, dest, destlen, written);
+      scid ? scid : (const uint8_t *)&none, scidlen,
+      versions ? versions : &none, nversions, dest, destlen, written);
 }
 
 QUIC_WIRE_API int quic_wire_set_len(uint8_t *packet, size_t packetlen,
@@ -542,9 +545,10 @@ QUIC_WIRE_API int quic_wire_params_write(uint32_t side,
     return QUIC_WIRE_ERR_ARGUMENT;
   if (size != sizeof *params)
     return QUIC_WIRE_ERR_LENGTH;
-  return quic_wire_params_write_( /* it asks for the side that is to read */
-      side ^ 1, params, dest ? dest : (uint8_t *)quic_wire_nothing_(), destlen,
-      written);
+  return quic_wire_params_write_(/* it asks for the side that is to read */
+                                 side ^ 1, params,
+                                 dest ? dest : (uint8_t *)quic_wire_nothing_(),
+                                 destlen, written);
 }
 
 QUIC_WIRE_API int quic_wire_params_write_with(
@@ -590,9 +594,9 @@ QUIC_WIRE_API int quic_wire_set_insert(quic_wire_range *runs, size_t room,
                                        uint64_t end) {
   if ((!runs && room) || !count)
     return QUIC_WIRE_ERR_ARGUMENT;
-  return quic_wire_set_insert_(
-      runs ? runs : (quic_wire_range *)quic_wire_nothing_(), room, count, start,
-      end);
+  return quic_wire_set_insert_(runs ? runs
+                                    : (quic_wire_range *)quic_wire_nothing_(),
+                               room, count, start, end);
 }
 
 QUIC_WIRE_API int quic_wire_set_remove(quic_wire_range *runs, size_t room,
@@ -600,9 +604,9 @@ QUIC_WIRE_API int quic_wire_set_remove(quic_wire_range *runs, size_t room,
                                        uint64_t end) {
   if ((!runs && room) || !count)
     return QUIC_WIRE_ERR_ARGUMENT;
-  return quic_wire_set_remove_(
-      runs ? runs : (quic_wire_range *)quic_wire_nothing_(), room, count, start,
-      end);
+  return quic_wire_set_remove_(runs ? runs
+                                    : (quic_wire_range *)quic_wire_nothing_(),
+                               room, count, start, end);
 }
 
 QUIC_WIRE_API int quic_wire_set_contains(const quic_wire_range *runs,

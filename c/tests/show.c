@@ -62,10 +62,10 @@ static void print_invalid(uint64_t type, int result) {
 
 /* Each of these returns whether no error was printed. */
 static int print_frames(const uint8_t *payload, size_t len, int strict) {
-  quic_wire_frames frames;
+  quic_wire_frame_iter frames;
   quic_wire_frame frame;
-  int answer = (strict ? quic_wire_frames_init_strict : quic_wire_frames_init)(
-      &frames, payload, len);
+  int answer = (strict ? quic_wire_frames_init_strict
+                       : quic_wire_frames_init)(&frames, payload, len);
   if (answer < 0) {
     print_invalid(QUIC_WIRE_NO_TYPE, answer);
     return 0;
@@ -113,8 +113,8 @@ static void print_id(const uint8_t *datagram, size_t place, size_t len) {
 /* A packet that begins at |begin| of its datagram. */
 static void print_packet(const uint8_t *packet, size_t begin,
                          const quic_wire_header *header) {
-  static const char *const kinds[] = {"initial", "0rtt",  "handshake",
-                                      "retry",   "short", "version-negotiation"};
+  static const char *const kinds[] = {
+      "initial", "0rtt", "handshake", "retry", "short", "version-negotiation"};
   printf("%zu..%zu %s dst ", begin, begin + header->end, kinds[header->kind]);
   print_id(quic_wire_dcid(packet, header), 0, header->dcidlen);
   if (header->kind != QUIC_WIRE_PACKET_1RTT) {
@@ -131,7 +131,7 @@ static void print_packet(const uint8_t *packet, size_t begin,
 /* Where the packet ends that begins here, with its header, or why there is
  * none. */
 static int64_t read_header(const uint8_t *bytes, size_t len, uint32_t cidlen,
-                       quic_wire_header *header) {
+                           quic_wire_header *header) {
   static const uint32_t versions[] = {0x00000001, 0xff00001d, 0xff00001e,
                                       0xff00001f, 0xff000020, 0xff000021,
                                       0xff000022, 0x6b3343cf};
@@ -198,7 +198,8 @@ static void print_numbers(const quic_wire_params *p) {
                p->initial_max_stream_data_bidi_local, 0);
   print_number("initial_max_stream_data_bidi_remote",
                p->initial_max_stream_data_bidi_remote, 0);
-  print_number("initial_max_stream_data_uni", p->initial_max_stream_data_uni, 0);
+  print_number("initial_max_stream_data_uni", p->initial_max_stream_data_uni,
+               0);
   print_number("initial_max_streams_bidi", p->initial_max_streams_bidi, 0);
   print_number("initial_max_streams_uni", p->initial_max_streams_uni, 0);
   print_number("ack_delay_exponent", p->ack_delay_exponent, 3);
@@ -267,7 +268,8 @@ static int read_mode(int argc, char **argv, mode *out) {
   if (argc == 3 && !strcmp(argv[1], "params") &&
       (!strcmp(argv[2], "client") || !strcmp(argv[2], "server"))) {
     out->what = PARAMS;
-    out->number = strcmp(argv[2], "client") ? QUIC_WIRE_SIDE_SERVER : QUIC_WIRE_SIDE_CLIENT;
+    out->number = strcmp(argv[2], "client") ? QUIC_WIRE_SIDE_SERVER
+                                            : QUIC_WIRE_SIDE_CLIENT;
     return 1;
   }
   return 0;
@@ -275,10 +277,14 @@ static int read_mode(int argc, char **argv, mode *out) {
 
 static int print_bytes_of_line(mode m, const uint8_t *bytes, size_t len) {
   switch (m.what) {
-  case CANON: return print_canonical(bytes, len);
-  case DATAGRAM: return print_packets(bytes, len, m.number);
-  case PARAMS: return print_params(bytes, len, m.number);
-  default: return print_frames(bytes, len, m.what == STRICT);
+  case CANON:
+    return print_canonical(bytes, len);
+  case DATAGRAM:
+    return print_packets(bytes, len, m.number);
+  case PARAMS:
+    return print_params(bytes, len, m.number);
+  default:
+    return print_frames(bytes, len, m.what == STRICT);
   }
 }
 
@@ -334,7 +340,8 @@ int main(int argc, char **argv) {
 #endif
   if (!read_mode(argc, argv, &m)) {
     fputs("usage: quic-show frames|strict|canon|datagram LEN|params "
-          "client|server\n", stderr);
+          "client|server\n",
+          stderr);
     return 2;
   }
   while (!ferror(stdout) && (len = read_line(&line, &room)) != 0)

@@ -15,7 +15,7 @@ static uint8_t payloads[MOST][LONGEST];
 static size_t lens[MOST], count;
 
 static uint64_t frames_of(const uint8_t *payload, size_t len) {
-  quic_wire_frames frames;
+  quic_wire_frame_iter frames;
   quic_wire_frame frame, many[64];
   size_t n = 0;
   uint64_t sum = 0;
@@ -34,13 +34,13 @@ static uint64_t others_of(const uint8_t *bytes, size_t len) {
   quic_wire_header header;
   uint8_t to[1 << 14];
   size_t written = 0;
-  uint64_t sum = (uint64_t)quic_wire_canonical(bytes, len, to, sizeof to, &canon);
+  uint64_t sum =
+      (uint64_t)quic_wire_canonical(bytes, len, to, sizeof to, &canon);
   sum += canon.len;
   if (quic_wire_params_read(QUIC_WIRE_SIDE_CLIENT, bytes, len, &params,
                             sizeof params) == QUIC_WIRE_OK)
-    sum += (uint64_t)quic_wire_params_write(QUIC_WIRE_SIDE_SERVER, &params,
-                                            sizeof params, to, sizeof to,
-                                            &written);
+    sum += (uint64_t)quic_wire_params_write(
+        QUIC_WIRE_SIDE_SERVER, &params, sizeof params, to, sizeof to, &written);
   sum += (uint64_t)quic_wire_header_read(bytes, len, 8, versions, 1, &header);
   return sum + written;
 }

@@ -9,8 +9,8 @@
 #include "quic_wire.h"
 #include "quic_wire_ng_releases.h"
 
-/* The number that is expected next after the greatest that came, or -1: after the
- * last number there is none, and late ones still come. */
+/* The number that is expected next after the greatest that came, or -1: after
+ * the last number there is none, and late ones still come. */
 static inline uint64_t quic_wire_ng_expected(int64_t largest) {
   return (uint64_t)(largest < NGTCP2_MAX_PKT_NUM ? largest + 1 : largest);
 }
@@ -48,7 +48,8 @@ quic_wire_ng_unprotect(ngtcp2_pkt_hd *hd, uint8_t *header, const uint8_t *pkt,
   if (len < 0) {
     return NGTCP2_ERR_PROTO;
   }
-  if (!(header[0] & QUIC_WIRE_BIT_LONG) && (header[0] & QUIC_WIRE_BIT_KEY_PHASE)) {
+  if (!(header[0] & QUIC_WIRE_BIT_LONG) &&
+      (header[0] & QUIC_WIRE_BIT_KEY_PHASE)) {
     hd->flags |= NGTCP2_PKT_FLAG_KEY_PHASE;
   }
   hd->pkt_num = (int64_t)number;

@@ -110,9 +110,9 @@ static int numbers_of(ngtcp2_frame *dest, const quic_wire_frame *f,
 /* Frames other than STREAM are read out of line, so that STREAM, which most of
  * the bytes come in, saves no registers for them. */
 #if defined(__GNUC__)
-#  define OUT_OF_LINE __attribute__((noinline))
+#define OUT_OF_LINE __attribute__((noinline))
 #else
-#  define OUT_OF_LINE
+#define OUT_OF_LINE
 #endif
 
 /* What |f|, read of |payload|, is to ngtcp2. */
@@ -126,7 +126,7 @@ OUT_OF_LINE static int frame_of(NG_BESIDE(ngtcp2_frame_decoder *room)
     (void)NG_PLACE(dest->ack.ranges, room->buf.ack_ranges);
     return ack_of(&dest->ack, f);
   case QUIC_WIRE_FRAME_CRYPTO:
-    crypto_of(NG_BESIDE(room) (quic_wire_ng_crypto *)dest, f, payload);
+    crypto_of(NG_BESIDE(room)(quic_wire_ng_crypto *) dest, f, payload);
     return 0;
   case QUIC_WIRE_FRAME_NEW_TOKEN:
     NG_TOKENLEN(&dest->new_token) = f->datalen;
@@ -150,7 +150,7 @@ OUT_OF_LINE static int frame_of(NG_BESIDE(ngtcp2_frame_decoder *room)
         f->datalen ? (uint8_t *)payload + f->data : NULL;
     return 0;
   case QUIC_WIRE_FRAME_DATAGRAM:
-    datagram_of(NG_BESIDE(room) &dest->datagram, f, payload);
+    datagram_of(NG_BESIDE(room) & dest->datagram, f, payload);
     return 0;
   default:
     return numbers_of(dest, f, payload);
@@ -169,8 +169,9 @@ ngtcp2_ssize ngtcp2_pkt_decode_frame(NG_BESIDE(ngtcp2_frame_decoder *room)
   quic_wire_frame f;
   int rv;
 
-  /* The frame at the front, as ngtcp2 has them: a run of PADDING is one, and the
-   * ranges of an ACK are gap and length, which are written where they go. */
+  /* The frame at the front, as ngtcp2 has them: a run of PADDING is one, and
+   * the ranges of an ACK are gap and length, which are written where they go.
+   */
   if (quic_wire_frame_read_basic(payload, payloadlen, 1, &f,
                                  (quic_wire_gap *)ranges,
                                  NGTCP2_MAX_ACK_RANGES) < 0) {
@@ -190,13 +191,13 @@ ngtcp2_ssize ngtcp2_pkt_decode_frame(NG_BESIDE(ngtcp2_frame_decoder *room)
   return rv ? rv : (ngtcp2_ssize)f.end;
 }
 
-/* The readers of one kind each, which ngtcp2's tests call.  A decoder is a union
- * of what may be beside a frame, so the place of either is one. */
+/* The readers of one kind each, which ngtcp2's tests call.  A decoder is a
+ * union of what may be beside a frame, so the place of either is one. */
 #define READER_OF(NAME, TYPE, ROOM)                                            \
   ngtcp2_ssize ngtcp2_pkt_decode_##NAME##_frame(                               \
       TYPE *dest, const uint8_t *payload, size_t payloadlen) {                 \
     return ngtcp2_pkt_decode_frame(                                            \
-        NG_BESIDE((ngtcp2_frame_decoder *)(ROOM)) (ngtcp2_frame *)dest,        \
+        NG_BESIDE((ngtcp2_frame_decoder *)(ROOM))(ngtcp2_frame *) dest,        \
         payload, payloadlen);                                                  \
   }
 #define READER(NAME)                                                           \
@@ -242,14 +243,14 @@ static ngtcp2_ssize put(uint8_t *out, size_t outlen, uint16_t kind, uint64_t a,
                         size_t datalen, size_t taillen) {
   quic_wire_frame f = {.kind = kind, .datalen = datalen, .numbers = {a, b, c}};
   size_t n = 0;
-  int rv = quic_wire_frame_write(&f, data, datalen + taillen, 0, out, outlen,
-                                 &n);
+  int rv =
+      quic_wire_frame_write(&f, data, datalen + taillen, 0, out, outlen, &n);
   return written(rv, n);
 }
 
 #define WRITER(NAME, KIND, A, B, C)                                            \
-  ngtcp2_ssize ngtcp2_pkt_encode_##NAME##_frame(                               \
-      uint8_t *out, size_t outlen, const ngtcp2_##NAME *fr) {                  \
+  ngtcp2_ssize ngtcp2_pkt_encode_##NAME##_frame(uint8_t *out, size_t outlen,   \
+                                                const ngtcp2_##NAME *fr) {     \
     (void)fr;                                                                  \
     return put(out, outlen, KIND, A, B, C, NULL, 0, 0);                        \
   }
@@ -260,22 +261,25 @@ WRITER(reset_stream, QUIC_WIRE_FRAME_RESET_STREAM, (uint64_t)fr->stream_id,
 WRITER(stop_sending, QUIC_WIRE_FRAME_STOP_SENDING, (uint64_t)fr->stream_id,
        fr->app_error_code, 0)
 WRITER(max_data, QUIC_WIRE_FRAME_MAX_DATA, 0, fr->max_data, 0)
-WRITER(max_stream_data, QUIC_WIRE_FRAME_MAX_STREAM_DATA, (uint64_t)fr->stream_id,
-       fr->max_stream_data, 0)
+WRITER(max_stream_data, QUIC_WIRE_FRAME_MAX_STREAM_DATA,
+       (uint64_t)fr->stream_id, fr->max_stream_data, 0)
 WRITER(max_streams, (uint16_t)fr->type, 0, fr->max_streams, 0)
 WRITER(data_blocked, QUIC_WIRE_FRAME_DATA_BLOCKED, 0, fr->offset, 0)
 WRITER(stream_data_blocked, QUIC_WIRE_FRAME_STREAM_DATA_BLOCKED,
        (uint64_t)fr->stream_id, fr->offset, 0)
 WRITER(streams_blocked, (uint16_t)fr->type, 0, fr->max_streams, 0)
-WRITER(retire_connection_id, QUIC_WIRE_FRAME_RETIRE_CONNECTION_ID, fr->seq, 0, 0)
+WRITER(retire_connection_id, QUIC_WIRE_FRAME_RETIRE_CONNECTION_ID, fr->seq, 0,
+       0)
 
 static uint64_t path_number(const void *data) {
   uint64_t number;
   ngtcp2_get_uint64be(&number, data);
   return number;
 }
-WRITER(path_challenge, QUIC_WIRE_FRAME_PATH_CHALLENGE, path_number(&fr->data), 0, 0)
-WRITER(path_response, QUIC_WIRE_FRAME_PATH_RESPONSE, path_number(&fr->data), 0, 0)
+WRITER(path_challenge, QUIC_WIRE_FRAME_PATH_CHALLENGE, path_number(&fr->data),
+       0, 0)
+WRITER(path_response, QUIC_WIRE_FRAME_PATH_RESPONSE, path_number(&fr->data), 0,
+       0)
 
 ngtcp2_ssize
 ngtcp2_pkt_encode_connection_close_frame(uint8_t *out, size_t outlen,

@@ -24,8 +24,9 @@ static const uint32_t versions[] = {NGTCP2_PROTO_VER_V1, 0xff00001du,
  * the ids.  Reads what follows them; 0, or -1 where they end within it.
  */
 static int read_draft(quic_wire_header *h, const uint8_t *pkt, size_t pktlen) {
-  static const uint8_t kinds[] = {QUIC_WIRE_PACKET_RETRY, QUIC_WIRE_PACKET_INITIAL,
-                                  QUIC_WIRE_PACKET_0RTT, QUIC_WIRE_PACKET_HANDSHAKE};
+  static const uint8_t kinds[] = {
+      QUIC_WIRE_PACKET_RETRY, QUIC_WIRE_PACKET_INITIAL, QUIC_WIRE_PACKET_0RTT,
+      QUIC_WIRE_PACKET_HANDSHAKE};
   uint64_t len = 0;
   size_t at = h->header_end, n;
 

@@ -121,8 +121,8 @@ static int read_params(ngtcp2_transport_params *params, quic_wire_params *w,
 }
 
 #if QUIC_WIRE_NG_1
-/* The caller doesn't say whose parameters they are, and itself refuses what a client
- * may not send: so they are read as a server's, which may have all. */
+/* The caller doesn't say whose parameters they are, and itself refuses what a
+ * client may not send: so they are read as a server's, which may have all. */
 int ngtcp2_transport_params_decode_versioned(int transport_params_version,
                                              ngtcp2_transport_params *dest,
                                              const uint8_t *data,
@@ -144,8 +144,9 @@ int ngtcp2_decode_transport_params_versioned(
   if (datalen == 0) {
     return NGTCP2_ERR_REQUIRED_TRANSPORT_PARAM;
   }
-  rv = read_params(params, &w, client ? QUIC_WIRE_SIDE_CLIENT : QUIC_WIRE_SIDE_SERVER,
-                   data, datalen);
+  rv = read_params(params, &w,
+                   client ? QUIC_WIRE_SIDE_CLIENT : QUIC_WIRE_SIDE_SERVER, data,
+                   datalen);
   if (rv != 0) {
     return rv;
   }

@@ -164,7 +164,7 @@ static void show_frames(size_t len) {
 
   while (at < len) {
     memset(&u, 0, sizeof(u));
-    n = ngtcp2_pkt_decode_frame(NG_BESIDE(&beside) &u.frame, bytes + at,
+    n = ngtcp2_pkt_decode_frame(NG_BESIDE(&beside) & u.frame, bytes + at,
                                 len - at);
     if (n < 0 || ((u.frame.ping.type & 0xfe) == NGTCP2_FRAME_ACK &&
                   !is_valid(&u.frame.ack))) {

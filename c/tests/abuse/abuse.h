@@ -56,18 +56,19 @@ extern int strict_any(const uint8_t *bytes, size_t len);
 extern uint32_t any_strict(void);
 
 /* The next frame by single calls, with a run of PADDING as one, is |entry|. */
-extern void next_is(int basic, quic_wire_frames *one, const uint8_t *payload,
-                    size_t len, const quic_wire_frame *entry);
+extern void next_is(int basic, quic_wire_frame_iter *one,
+                    const uint8_t *payload, size_t len,
+                    const quic_wire_frame *entry);
 
-/* extension.c: the calls that read, with |basic| those that leave out the frames
- * of the extension. */
-extern int next_by(int basic, quic_wire_frames *frames, const uint8_t *payload,
-                   size_t len, quic_wire_frame *frame);
-extern int fill_by(int basic, quic_wire_frames *frames, const uint8_t *payload,
-                   size_t len, quic_wire_frame *out, size_t room,
-                   size_t *count);
-extern int64_t read_by(int basic, const uint8_t *payload, size_t len, int strict,
-                       quic_wire_frame *frame, quic_wire_gap *gaps,
+/* extension.c: the calls that read, with |basic| those that leave out the
+ * frames of the extension. */
+extern int next_by(int basic, quic_wire_frame_iter *frames,
+                   const uint8_t *payload, size_t len, quic_wire_frame *frame);
+extern int fill_by(int basic, quic_wire_frame_iter *frames,
+                   const uint8_t *payload, size_t len, quic_wire_frame *out,
+                   size_t room, size_t *count);
+extern int64_t read_by(int basic, const uint8_t *payload, size_t len,
+                       int strict, quic_wire_frame *frame, quic_wire_gap *gaps,
                        size_t room);
 
 extern int is_extension(const quic_wire_frame *frame);

@@ -4,7 +4,7 @@
 
 static void ranges_nulls(void) {
   quic_wire_frame frame;
-  quic_wire_ack_ranges ranges;
+  quic_wire_range_iter ranges;
   quic_wire_range range;
   uint8_t byte = 1;
   size_t n = 0;
@@ -45,14 +45,15 @@ void acks_nulls(void) {
 /* The ranges of any words, and those of a frame between any places. */
 void ranges_rubbish(const uint8_t *payload, size_t len,
                     quic_wire_frame *frame) {
-  quic_wire_ack_ranges ranges;
+  quic_wire_range_iter ranges;
   quic_wire_range range;
   size_t k;
   ranges.begin = place();
   ranges.end = place();
   ranges.largest = edge();
-  for (k = 0; k < 50 && quic_wire_ack_ranges_next(&ranges, payload, len,
-                                                  &range) == 1; k++)
+  for (k = 0;
+       k < 50 && quic_wire_ack_ranges_next(&ranges, payload, len, &range) == 1;
+       k++)
     WANT(range.start < range.end);
   WANT(k < 50);
   frame->begin = place();
@@ -65,7 +66,7 @@ void ranges_rubbish(const uint8_t *payload, size_t len,
 
 /* The ranges of any words, many with one call, are those of single calls. */
 void fill_ranges_rubbish(const uint8_t *payload, size_t len) {
-  quic_wire_ack_ranges one, many;
+  quic_wire_range_iter one, many;
   quic_wire_range range, filled[6], before[6];
   size_t room = 1 + any() % 5, count, k, calls;
   int answer = 0;
@@ -99,7 +100,7 @@ void fill_ranges_rubbish(const uint8_t *payload, size_t len) {
 void front_ranges(const uint8_t *payload, size_t len,
                   const quic_wire_frame *frame, const quic_wire_gap *gaps,
                   size_t room, quic_wire_frame *entry) {
-  quic_wire_ack_ranges left;
+  quic_wire_range_iter left;
   quic_wire_range range, above;
   size_t k;
   *entry = *frame;
@@ -120,7 +121,8 @@ void front_ranges(const uint8_t *payload, size_t len,
 }
 
 /* An ACK that was read, |len| bytes of |payload|, is written by its gaps in its
- * shortest form, where all of them were reported; and not where it goes below 0. */
+ * shortest form, where all of them were reported; and not where it goes below
+ * 0. */
 void gaps_written(const uint8_t *payload, size_t len,
                   const quic_wire_frame *frame, const quic_wire_gap *gaps) {
   uint8_t out[128], shortest[128];

@@ -7,7 +7,8 @@ void canonical_nulls(void) {
   WANT(quic_wire_canonical(NULL, 1, out, 8, &canon) == INVALID);
   WANT(quic_wire_canonical(&byte, 1, NULL, 8, &canon) == INVALID);
   WANT(quic_wire_canonical(&byte, 1, out, 8, NULL) == INVALID);
-  WANT(quic_wire_canonical(NULL, 0, NULL, 0, &canon) == QUIC_WIRE_ERR_PAYLOAD_EMPTY);
+  WANT(quic_wire_canonical(NULL, 0, NULL, 0, &canon) ==
+       QUIC_WIRE_ERR_PAYLOAD_EMPTY);
   WANT(quic_wire_canonical(&byte, 1, NULL, 0, &canon) == QUIC_WIRE_ERR_NOBUF &&
        canon.len == 1);
 }
@@ -17,7 +18,7 @@ void canonical_nulls(void) {
 static void same_frame(const uint8_t *a, size_t alen, const quic_wire_frame *x,
                        const uint8_t *b, size_t blen,
                        const quic_wire_frame *y) {
-  quic_wire_ack_ranges some, others, unchecked;
+  quic_wire_range_iter some, others, unchecked;
   quic_wire_range one, other;
   WANT(x->kind == y->kind && x->flags == y->flags && x->datalen == y->datalen);
   WANT(!memcmp(x->numbers, y->numbers, sizeof x->numbers));
@@ -44,10 +45,11 @@ static size_t shortest_len(const uint8_t *payload, size_t len,
   uint8_t out[64];
   size_t n = 0, k, count = 0;
   uint64_t before = 0;
-  quic_wire_ack_ranges ranges;
+  quic_wire_range_iter ranges;
   quic_wire_range range;
   if (f->kind != QUIC_WIRE_FRAME_ACK) {
-    WANT(quic_wire_frame_write(f, payload, len, last, out, sizeof out, &n) == 0);
+    WANT(quic_wire_frame_write(f, payload, len, last, out, sizeof out, &n) ==
+         0);
     return n;
   }
   n = 1 + varint_len(f->ack.largest) + varint_len(f->ack.delay);
@@ -68,7 +70,7 @@ static size_t shortest_len(const uint8_t *payload, size_t len,
  * form. */
 static void canonical_read(const uint8_t *payload, size_t len,
                            const uint8_t *dest, size_t n) {
-  quic_wire_frames frames, others;
+  quic_wire_frame_iter frames, others;
   quic_wire_frame frame, other;
   quic_wire_canon again = {77, 78};
   uint8_t *twice = block(n);
@@ -88,7 +90,7 @@ static void canonical_read(const uint8_t *payload, size_t len,
  * length, is its own shortest form, and is refused as the frames are.  Returns
  * whether there is one. */
 int canonical_any(const uint8_t *payload, size_t len) {
-  quic_wire_frames frames;
+  quic_wire_frame_iter frames;
   quic_wire_frame frame;
   quic_wire_canon canon = {77, 78};
   size_t room = any() % 3 ? len : any() % (len + 1), k, sum = 0;
@@ -97,8 +99,8 @@ int canonical_any(const uint8_t *payload, size_t len) {
   memset(dest, 0xa5, room);
   answer = quic_wire_canonical(payload, len, dest, room, &canon);
   first = quic_wire_frames_init(&frames, payload, len);
-  while (first >= 0 && (first = quic_wire_frames_next(&frames, payload, len,
-                                                      &frame)) == 1)
+  while (first >= 0 &&
+         (first = quic_wire_frames_next(&frames, payload, len, &frame)) == 1)
     sum += shortest_len(payload, len, &frame, frame.end == len);
   if (answer == 0 || answer == QUIC_WIRE_ERR_NOBUF) {
     WANT(first == 0 && canon.len == sum && sum <= len);

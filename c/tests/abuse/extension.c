@@ -2,13 +2,13 @@
  * out. */
 #include "abuse.h"
 
-int next_by(int basic, quic_wire_frames *frames, const uint8_t *payload,
+int next_by(int basic, quic_wire_frame_iter *frames, const uint8_t *payload,
             size_t len, quic_wire_frame *frame) {
   return (basic ? quic_wire_frames_next_basic
                 : quic_wire_frames_next)(frames, payload, len, frame);
 }
 
-int fill_by(int basic, quic_wire_frames *frames, const uint8_t *payload,
+int fill_by(int basic, quic_wire_frame_iter *frames, const uint8_t *payload,
             size_t len, quic_wire_frame *out, size_t room, size_t *count) {
   return (basic ? quic_wire_frames_fill_basic : quic_wire_frames_fill)(
       frames, payload, len, out, room, count);
@@ -25,14 +25,14 @@ int is_extension(const quic_wire_frame *frame) {
          frame->kind == QUIC_WIRE_FRAME_IMMEDIATE_ACK;
 }
 
-static quic_wire_frames begin(int strict) {
-  quic_wire_frames frames = {0, QUIC_WIRE_NO_TYPE, 0, 0};
+static quic_wire_frame_iter begin(int strict) {
+  quic_wire_frame_iter frames = {0, QUIC_WIRE_NO_TYPE, 0, 0};
   frames.strict = (uint32_t)strict;
   return frames;
 }
 
 void extension_nulls(void) {
-  quic_wire_frames frames = begin(0);
+  quic_wire_frame_iter frames = begin(0);
   quic_wire_frame frame;
   uint8_t byte = 1;
   size_t n = 0;
@@ -55,7 +55,8 @@ void extension_nulls(void) {
 }
 
 /* The error of a frame of the extension, where that is left out. */
-static void reported(const quic_wire_frame *frame, size_t begin, uint64_t type) {
+static void reported(const quic_wire_frame *frame, size_t begin,
+                     uint64_t type) {
   WANT(frame->begin == begin && quic_wire_error_type(frame) == type);
 }
 
@@ -64,7 +65,7 @@ static void reported(const quic_wire_frame *frame, size_t begin, uint64_t type) 
 static void left_out(const uint8_t *bytes, size_t len, uint64_t type) {
   uint8_t payload[16] = {0x01, 0x00, 0x00, 0x40, 0x10, 0x05};
   quic_wire_frame filled[4], frame;
-  quic_wire_frames frames = begin(0), one;
+  quic_wire_frame_iter frames = begin(0), one;
   size_t count = 0;
   memcpy(payload + 6, bytes, len);
   WANT(fill_by(1, &frames, payload, 6 + len, filled, 4, &count) == 1);
@@ -75,7 +76,8 @@ static void left_out(const uint8_t *bytes, size_t len, uint64_t type) {
   one = frames;
   WANT(next_by(1, &one, payload, 6 + len, &frame) == QUIC_WIRE_ERR_FRAME_TYPE);
   reported(&frame, 6, type);
-  WANT(one.offset == 6 && one.ended && one.last_type == QUIC_WIRE_FRAME_MAX_DATA);
+  WANT(one.offset == 6 && one.ended &&
+       one.last_type == QUIC_WIRE_FRAME_MAX_DATA);
   WANT(next_by(1, &one, payload, 6 + len, &frame) == 0);
   WANT(next_by(0, &one, payload, 6 + len, &frame) == 0);
   WANT(fill_by(1, &frames, payload, 6 + len, filled, 4, &count) ==
@@ -93,7 +95,7 @@ static void left_out(const uint8_t *bytes, size_t len, uint64_t type) {
 void extension_examples(void) {
   static const uint8_t immediate[] = {0x1f};
   static const uint8_t frequency[] = {0x40, 0xaf, 1, 2, 3, 4};
-  quic_wire_frames frames = begin(0);
+  quic_wire_frame_iter frames = begin(0);
   quic_wire_frame frame;
   left_out(immediate, sizeof immediate, QUIC_WIRE_FRAME_IMMEDIATE_ACK);
   left_out(frequency, sizeof frequency, QUIC_WIRE_FRAME_ACK_FREQUENCY);
@@ -119,8 +121,9 @@ static uint8_t *put_in(const uint8_t *bytes, size_t *len) {
 
 /* One call more of each that reads: they agree.  |*at| is where the next frame
  * begins, and 1 is answered where there was one. */
-static int all_agree(int basic, quic_wire_frames *one, quic_wire_frames *many,
-                     const uint8_t *payload, size_t len, size_t *at) {
+static int all_agree(int basic, quic_wire_frame_iter *one,
+                     quic_wire_frame_iter *many, const uint8_t *payload,
+                     size_t len, size_t *at) {
   quic_wire_frame filled, next, front;
   size_t count = 0;
   int answer = fill_by(basic, many, payload, len, &filled, 1, &count);
@@ -152,7 +155,7 @@ int extension_any(const uint8_t *bytes, size_t len) {
   int way, ends = 0;
   for (way = 0; way < 4; way++) {
     const int basic = way / 2;
-    quic_wire_frames one = begin(way % 2), many = one, known = one;
+    quic_wire_frame_iter one = begin(way % 2), many = one, known = one;
     at = 0;
     while (all_agree(basic, &one, &many, payload, len, &at))
       ;

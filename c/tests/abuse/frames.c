@@ -3,7 +3,7 @@
 #include "abuse.h"
 
 static void iterator_nulls(void) {
-  quic_wire_frames frames = {0, QUIC_WIRE_NO_TYPE, 0, 0};
+  quic_wire_frame_iter frames = {0, QUIC_WIRE_NO_TYPE, 0, 0};
   quic_wire_frame frame;
   uint8_t byte = 1;
   memset(&frame, 0, sizeof frame);
@@ -12,7 +12,8 @@ static void iterator_nulls(void) {
   WANT(quic_wire_frames_init(&frames, NULL, 0) == QUIC_WIRE_ERR_PAYLOAD_EMPTY);
   WANT(quic_wire_frames_init_strict(NULL, &byte, 1) == INVALID);
   WANT(quic_wire_frames_init_strict(&frames, NULL, 1) == INVALID);
-  WANT(quic_wire_frames_init_strict(&frames, NULL, 0) == QUIC_WIRE_ERR_PAYLOAD_EMPTY);
+  WANT(quic_wire_frames_init_strict(&frames, NULL, 0) ==
+       QUIC_WIRE_ERR_PAYLOAD_EMPTY);
   WANT(quic_wire_frames_next(NULL, &byte, 1, &frame) == INVALID);
   WANT(quic_wire_frames_next(&frames, &byte, 1, NULL) == INVALID);
   WANT(quic_wire_frames_next(&frames, NULL, 1, &frame) == INVALID);
@@ -20,7 +21,7 @@ static void iterator_nulls(void) {
 }
 
 static void fill_nulls(void) {
-  quic_wire_frames frames = {0, QUIC_WIRE_NO_TYPE, 0, 0};
+  quic_wire_frame_iter frames = {0, QUIC_WIRE_NO_TYPE, 0, 0};
   quic_wire_frame frame;
   uint8_t byte = 1;
   size_t n = 0;
@@ -73,7 +74,7 @@ static void path_bytes(const uint8_t *payload, size_t len,
 static size_t padding_in(const uint8_t *payload, const quic_wire_frame *entry) {
   const uint8_t *run = payload + entry->begin;
   const size_t len = entry->end - entry->begin;
-  quic_wire_frames frames;
+  quic_wire_frame_iter frames;
   quic_wire_frame frame;
   size_t count = 0;
   if (entry->kind != QUIC_WIRE_FRAME_PADDING)
@@ -90,7 +91,7 @@ static size_t padding_in(const uint8_t *payload, const quic_wire_frame *entry) {
 /* Runs of PADDING whose first types have 1, 2, 4 and 8 bytes, some with a PING
  * after them: what either call gives of them has as many frames as are read. */
 void padding_any(void) {
-  quic_wire_frames frames;
+  quic_wire_frame_iter frames;
   quic_wire_frame filled[4];
   uint8_t bytes[160], *payload;
   size_t len = 0, count, k, room = 1 + any() % 4;
@@ -117,15 +118,13 @@ void padding_any(void) {
   free(payload);
 }
 
-uint32_t any_strict(void) {
-  return (uint32_t)(any() % 4 ? any() % 4 : edge());
-}
+uint32_t any_strict(void) { return (uint32_t)(any() % 4 ? any() % 4 : edge()); }
 
 /* Reads on from any place, with any last type, by either call in turn; |frame|
  * is left with any words. */
 static void read_on_rubbish(const uint8_t *payload, size_t len,
                             quic_wire_frame *frame) {
-  quic_wire_frames frames;
+  quic_wire_frame_iter frames;
   const uint32_t strict = any_strict();
   const uint8_t *token;
   uint64_t type;
@@ -184,7 +183,7 @@ void read_rubbish(const uint8_t *payload, size_t len) {
   ranges_rubbish(payload, len, &frame);
 }
 
-void next_is(int basic, quic_wire_frames *one, const uint8_t *payload,
+void next_is(int basic, quic_wire_frame_iter *one, const uint8_t *payload,
              size_t len, const quic_wire_frame *entry) {
   quic_wire_frame frame, more;
   WANT(next_by(basic, one, payload, len, &frame) == 1);
@@ -202,7 +201,7 @@ void next_is(int basic, quic_wire_frames *one, const uint8_t *payload,
 /* The frames from any place on, many with one call, are those of single calls,
  * with runs of PADDING as one. */
 void fill_rubbish(const uint8_t *payload, size_t len) {
-  quic_wire_frames one, many;
+  quic_wire_frame_iter one, many;
   quic_wire_frame frame, filled[6], before[6];
   size_t room = 1 + any() % 5, count, k, calls;
   int answer = 0, basic = 0;
@@ -242,7 +241,7 @@ void fill_rubbish(const uint8_t *payload, size_t len) {
 /* The first frames with one call are those of the two calls that begin and go
  * on. */
 void first_rubbish(const uint8_t *payload, size_t len) {
-  quic_wire_frames one, both;
+  quic_wire_frame_iter one, both;
   quic_wire_frame first[5], filled[5];
   size_t room = any() % 6, count = 77, others = 77;
   int answer;
@@ -278,7 +277,7 @@ static int has_long_type(const uint8_t *bytes, size_t len) {
 int strict_any(const uint8_t *bytes, size_t len) {
   size_t at = any() % 2 ? 0 : any() % (len + 1);
   uint8_t *payload = block(len + 1);
-  quic_wire_frames strict, frames;
+  quic_wire_frame_iter strict, frames;
   quic_wire_frame frame, other;
   int answer = QUIC_WIRE_ITEM, is_long = 0;
   memcpy(payload, bytes, at);

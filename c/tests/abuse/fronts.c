@@ -20,7 +20,7 @@ static void front_is_next(int basic, const uint8_t *payload, size_t len,
                           size_t at, size_t n, const quic_wire_frame *frame,
                           const quic_wire_gap gaps[3],
                           const quic_wire_gap before[3], size_t room,
-                          quic_wire_frames *frames) {
+                          quic_wire_frame_iter *frames) {
   quic_wire_frame entry = *frame, want;
   size_t count;
   WANT(fill_by(basic, frames, payload, len, &want, 1, &count) == 1);
@@ -31,19 +31,20 @@ static void front_is_next(int basic, const uint8_t *payload, size_t len,
     count = frame->data;
     gaps_written(payload + at, n, frame, gaps);
   }
-  WANT(count <= room && !memcmp(gaps + count, before + count,
-                                (3 - count) * sizeof *gaps));
+  WANT(count <= room &&
+       !memcmp(gaps + count, before + count, (3 - count) * sizeof *gaps));
   entry.begin += at;
   entry.end += at;
   entry.data += at;
   WANT(!memcmp(&entry, &want, sizeof entry));
 }
 
-/* An invalid frame at |at| is invalid for an iterator too, for the same reason. */
+/* An invalid frame at |at| is invalid for an iterator too, for the same reason.
+ */
 static void front_refused(int basic, const uint8_t *payload, size_t len,
                           size_t at, int64_t reason,
                           const quic_wire_frame *frame,
-                          quic_wire_frames *frames) {
+                          quic_wire_frame_iter *frames) {
   quic_wire_frame want;
   WANT(next_by(basic, frames, payload, len, &want) == reason);
   WANT(want.begin == at && frame->begin == 0);
@@ -54,7 +55,7 @@ static void front_refused(int basic, const uint8_t *payload, size_t len,
 /* The frames of a payload, each read at the front of what is left, are those
  * of an iterator over it. */
 void front_rubbish(const uint8_t *payload, size_t len) {
-  quic_wire_frames frames;
+  quic_wire_frame_iter frames;
   quic_wire_frame frame, want;
   quic_wire_gap gaps[3], before[3];
   size_t at = 0, room = any() % 3;

@@ -11,8 +11,7 @@ static void protection_nulls(void) {
        INVALID);
   WANT(quic_wire_unprotect_copy(id, 4, 0, NULL, 0, out, 16, &number) ==
        INVALID);
-  WANT(quic_wire_unprotect_copy(id, 4, 0, id, 0, NULL, 16, &number) ==
-       INVALID);
+  WANT(quic_wire_unprotect_copy(id, 4, 0, id, 0, NULL, 16, &number) == INVALID);
   WANT(quic_wire_unprotect_copy(id, 4, 0, id, 0, out, 16, NULL) == INVALID);
   WANT(quic_wire_protect(NULL, 4, 0, id) == INVALID);
   WANT(quic_wire_protect(out, 4, 0, NULL) == INVALID);
@@ -65,8 +64,8 @@ static void header_within(const uint8_t *packet, size_t left,
            : sample == packet + header->header_end + 4);
 }
 
-/* Reads any bytes as packets, and takes protection off any of them: in place, and
- * in a copy of the header. */
+/* Reads any bytes as packets, and takes protection off any of them: in place,
+ * and in a copy of the header. */
 void packet_rubbish(uint8_t *datagram, size_t len) {
   static const uint32_t versions[] = {1, 0x6b3343cf};
   uint8_t mask[5], copy[40];
@@ -88,14 +87,15 @@ void packet_rubbish(uint8_t *datagram, size_t len) {
     if (cidlen > 20)
       WANT(end == QUIC_WIRE_ERR_LENGTH);
     WANT(quic_wire_short_read(packet, len - begin, cidlen) ==
-         (end > 0 && header.kind == QUIC_WIRE_PACKET_1RTT ? header.header_end : 0));
+         (end > 0 && header.kind == QUIC_WIRE_PACKET_1RTT ? header.header_end
+                                                          : 0));
     if (end <= 0 && end != QUIC_WIRE_ERR_PACKET_CUT)
       break;
     WANT(end < 0 || (size_t)end == header.end);
     header_within(packet, len - begin, &header);
     answer =
         quic_wire_unprotect_copy(packet, header.end, header.header_end, mask,
-                                   expected, copy, sizeof copy, &again);
+                                 expected, copy, sizeof copy, &again);
     WANT(answer == quic_wire_unprotect(packet, header.end, header.header_end,
                                        mask, expected, &number));
     WANT(answer >= 1 ? answer <= 4 && number == again
@@ -124,9 +124,9 @@ void protect_rubbish(uint8_t *datagram, size_t len) {
          (answer > 0 && (k == 0 || (k >= at && k < at + 4))));
 }
 
-/* A header of any bytes is opened in a copy where that has room: what is returned
- * and written there is what opening the same bytes in place gives, and nothing
- * changes with an error. */
+/* A header of any bytes is opened in a copy where that has room: what is
+ * returned and written there is what opening the same bytes in place gives, and
+ * nothing changes with an error. */
 static void opened_apart(const uint8_t *packet, size_t len, size_t at) {
   const size_t headerlen = any() % 40;
   const uint64_t expected = any() % 2 ? edge() : any() >> 34;
@@ -138,7 +138,7 @@ static void opened_apart(const uint8_t *packet, size_t len, size_t at) {
   memcpy(before, packet, len);
   memset(header, 0xa5, sizeof header);
   answer = quic_wire_unprotect_copy(packet, len, at, mask, expected, header,
-                                      headerlen, &number);
+                                    headerlen, &number);
   memcpy(copy, packet, len);
   if (answer == QUIC_WIRE_ERR_NOBUF) {
     WANT(headerlen < at + 4 && at && at + 4 <= len && expected >> 62 == 0);
@@ -166,7 +166,8 @@ void place_any(uint8_t *packet, size_t len) {
   if ((lengthlen == 2 || lengthlen == 4) && lengthlen <= at && at <= len) {
     WANT(answer == 0);
     WANT(quic_wire_varint_read(packet + at - lengthlen, lengthlen, &number) ==
-             lengthlen && number == len - at);
+             lengthlen &&
+         number == len - at);
     memcpy(packet + at - lengthlen, before + at - lengthlen, lengthlen);
   } else {
     WANT(answer == QUIC_WIRE_ERR_LENGTH);

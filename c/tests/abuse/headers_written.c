@@ -1,5 +1,5 @@
-/* Headers of packets that are written: as a plain model has them, and then read,
- * protected and opened. */
+/* Headers of packets that are written: as a plain model has them, and then
+ * read, protected and opened. */
 #include "abuse.h"
 
 void headers_written_nulls(void) {
@@ -34,9 +34,9 @@ void headers_written_nulls(void) {
   WANT(quic_wire_header_len(NULL, 4, 4, 0) == 0);
 }
 
-/* Headers of each kind with tokens of each length's class: each is as long as reported.
- * Where no token of such a length is at hand, its length has as many bytes as
- * it is written in. */
+/* Headers of each kind with tokens of each length's class: each is as long as
+ * reported. Where no token of such a length is at hand, its length has as many
+ * bytes as it is written in. */
 void long_tokens(void) {
   static const uint64_t lens[] = {
       0, 1, 63, 64, 16383, 16384, (1u << 30) - 1, 1u << 30, (1ull << 62) - 1};
@@ -141,8 +141,7 @@ static int header_protected(const quic_wire_header_fields *h, uint8_t *packet,
   size_t k;
   int answer = quic_wire_protect(packet, whole, at, mask);
   if (whole - at < 4) {
-    WANT(answer == QUIC_WIRE_ERR_PACKET_SMALL &&
-         !memcmp(packet, plain, whole));
+    WANT(answer == QUIC_WIRE_ERR_PACKET_SMALL && !memcmp(packet, plain, whole));
   } else if (numbered) {
     WANT(answer == h->numberlen);
     for (k = 0; k < whole; k++) {
@@ -159,9 +158,9 @@ static int header_protected(const quic_wire_header_fields *h, uint8_t *packet,
   return answer;
 }
 
-/* A packet of a header that was written, and a body after it: its length is set,
- * it is read back as its fields, its protection is put on as by hand, and taken
- * off again. */
+/* A packet of a header that was written, and a body after it: its length is
+ * set, it is read back as its fields, its protection is put on as by hand, and
+ * taken off again. */
 static void header_cut(const quic_wire_header_fields *h,
                        const uint8_t *const parts[3], const size_t lens[3],
                        const uint8_t *written, size_t len) {
@@ -206,7 +205,9 @@ static void any_fields(quic_wire_header_fields *h) {
   static const uint32_t versions[] = {1, 0x6b3343cf, 0xff00001d};
   memset(h, 0, sizeof *h);
   h->kind = (uint8_t)(any() % 60 ? any() % 6 : any());
-  h->version = any() % 9 ? versions[any() % 3] : any() % 2 ? 0 : (uint32_t)any();
+  h->version = any() % 9   ? versions[any() % 3]
+               : any() % 2 ? 0
+                           : (uint32_t)any();
   h->flags = (uint8_t)(any() % 9 ? any() % 128 : any());
   h->numberlen = (uint8_t)(any() % 20 ? 1 + any() % 4 : any());
   h->lengthlen = (uint8_t)(any() % 9 ? 2 + any() % 2 * 2 : any());

@@ -18,10 +18,11 @@ uint64_t any(void) {
 }
 
 uint64_t edge(void) {
-  static const uint64_t edges[] = {0,           1,           63,
-                                   64,          16383,       1u << 30,
-                                   1ull << 62,  (1ull << 62) - 1,
-                                   1ull << 63,  UINT64_MAX - 1,
+  static const uint64_t edges[] = {0,          1,
+                                   63,         64,
+                                   16383,      1u << 30,
+                                   1ull << 62, (1ull << 62) - 1,
+                                   1ull << 63, UINT64_MAX - 1,
                                    UINT64_MAX};
   return any() % 3 ? edges[any() % 11] : any() >> (any() % 64);
 }

@@ -27,8 +27,8 @@ void negotiation_nulls(void) {
        n == 7 && !memcmp(out, "\xc0\0\0\0\0\0", 7));
 }
 
-/* A version negotiation is read where it is one by a plain model, whole, cut off
- * after so many bytes, and with a bit turned; its words are those that
+/* A version negotiation is read where it is one by a plain model, whole, cut
+ * off after so many bytes, and with a bit turned; its words are those that
  * quic_wire_header_read gives where it gives any. */
 static void negotiation_read(uint8_t *packet, size_t len, size_t cut) {
   static const uint32_t one[] = {1};

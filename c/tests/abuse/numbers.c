@@ -36,7 +36,10 @@ void number_len_any(void) {
   if (number < acked || number - acked >= 1ull << 31)
     WANT(answer == QUIC_WIRE_ERR_NUMBER);
   else
-    WANT(answer == (twice < 256 ? 1 : twice < 65536 ? 2 : twice < 16777216 ? 3 : 4));
+    WANT(answer == (twice < 256        ? 1
+                    : twice < 65536    ? 2
+                    : twice < 16777216 ? 3
+                                       : 4));
 }
 
 /* Numbers of any words are expanded as RFC 9000, appendix A.3, has it, without

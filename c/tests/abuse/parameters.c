@@ -5,39 +5,45 @@ void params_nulls(void) {
   quic_wire_params params;
   uint8_t byte = 0, out[8];
   size_t n = 77;
-  WANT(quic_wire_params_read(QUIC_WIRE_SIDE_CLIENT, NULL, 1, &params, sizeof params) == INVALID);
-  WANT(quic_wire_params_read(QUIC_WIRE_SIDE_CLIENT, &byte, 1, NULL, sizeof params) ==
-       INVALID);
+  WANT(quic_wire_params_read(QUIC_WIRE_SIDE_CLIENT, NULL, 1, &params,
+                             sizeof params) == INVALID);
+  WANT(quic_wire_params_read(QUIC_WIRE_SIDE_CLIENT, &byte, 1, NULL,
+                             sizeof params) == INVALID);
   WANT(quic_wire_params_read(2, &byte, 1, &params, sizeof params) ==
        QUIC_WIRE_ERR_KIND);
-  WANT(quic_wire_params_read(QUIC_WIRE_SIDE_SERVER, NULL, 0, &params, sizeof params) == 0);
+  WANT(quic_wire_params_read(QUIC_WIRE_SIDE_SERVER, NULL, 0, &params,
+                             sizeof params) == 0);
   WANT(params.max_ack_delay == 25 && params.present == 0);
-  WANT(quic_wire_params_write(QUIC_WIRE_SIDE_CLIENT, NULL, sizeof params, out, 8, &n) == INVALID);
-  WANT(quic_wire_params_write(QUIC_WIRE_SIDE_CLIENT, &params, sizeof params, NULL, 8, &n) ==
-       INVALID);
-  WANT(quic_wire_params_write(QUIC_WIRE_SIDE_CLIENT, &params, sizeof params, out, 8, NULL) ==
-       INVALID);
+  WANT(quic_wire_params_write(QUIC_WIRE_SIDE_CLIENT, NULL, sizeof params, out,
+                              8, &n) == INVALID);
+  WANT(quic_wire_params_write(QUIC_WIRE_SIDE_CLIENT, &params, sizeof params,
+                              NULL, 8, &n) == INVALID);
+  WANT(quic_wire_params_write(QUIC_WIRE_SIDE_CLIENT, &params, sizeof params,
+                              out, 8, NULL) == INVALID);
   WANT(quic_wire_params_write(2, &params, sizeof params, out, 8, &n) ==
            QUIC_WIRE_ERR_KIND &&
        n == 77);
-  WANT(quic_wire_params_write(QUIC_WIRE_SIDE_CLIENT, &params, sizeof params, NULL, 0, &n) == 0 &&
+  WANT(quic_wire_params_write(QUIC_WIRE_SIDE_CLIENT, &params, sizeof params,
+                              NULL, 0, &n) == 0 &&
        n == 0);
   params.max_ack_delay = 26;
-  WANT(quic_wire_params_write(QUIC_WIRE_SIDE_CLIENT, &params, sizeof params, NULL, 0, &n) ==
-           QUIC_WIRE_ERR_NOBUF && n == 3);
+  WANT(quic_wire_params_write(QUIC_WIRE_SIDE_CLIENT, &params, sizeof params,
+                              NULL, 0, &n) == QUIC_WIRE_ERR_NOBUF &&
+       n == 3);
   WANT(quic_wire_params_read(QUIC_WIRE_SIDE_CLIENT, &byte, 0, &params,
                              sizeof params - 1) == QUIC_WIRE_ERR_LENGTH);
   n = 77;
-  WANT(quic_wire_params_write(QUIC_WIRE_SIDE_CLIENT, &params, sizeof params + 8, out,
-                              8, &n) == QUIC_WIRE_ERR_LENGTH);
-  WANT(quic_wire_params_write_with(QUIC_WIRE_SIDE_CLIENT, &params, 0, NULL, 0, NULL,
-                                   0, out, 8, &n) == QUIC_WIRE_ERR_LENGTH);
+  WANT(quic_wire_params_write(QUIC_WIRE_SIDE_CLIENT, &params, sizeof params + 8,
+                              out, 8, &n) == QUIC_WIRE_ERR_LENGTH);
+  WANT(quic_wire_params_write_with(QUIC_WIRE_SIDE_CLIENT, &params, 0, NULL, 0,
+                                   NULL, 0, out, 8,
+                                   &n) == QUIC_WIRE_ERR_LENGTH);
   WANT(n == 77);
 }
 
 /* max_idle_timeout 5 and initial_max_data 9, the versions of RFC 9368, and the
  * reserved parameter 27 + 7 * 31 = 244, by RFC 9000, section 18. */
-static const uint8_t in_order[] = {1, 1, 5, 4, 1, 9, 0x11, 4,
+static const uint8_t in_order[] = {1, 1, 5, 4, 1,    9,   0x11, 4,
                                    0, 0, 0, 1, 0x40, 244, 0};
 
 /* A client's record, and further entries with the order of them all. */
@@ -58,12 +64,14 @@ static void further_made(struct further *f) {
   f->params.max_idle_timeout = 5;
   f->params.initial_max_data = 9;
   WANT(quic_wire_param_write(QUIC_WIRE_PARAM_VERSION_INFORMATION, versions, 4,
-                             f->entries, sizeof f->entries, &n) == 0 && n == 6);
+                             f->entries, sizeof f->entries, &n) == 0 &&
+       n == 6);
   WANT(quic_wire_param_write(QUIC_WIRE_PARAM_RESERVED(7), NULL, 0,
                              f->entries + n, 2, &m) == QUIC_WIRE_ERR_NOBUF &&
        m == 3);
   WANT(quic_wire_param_write(QUIC_WIRE_PARAM_RESERVED(7), NULL, 0,
-                             f->entries + n, 3, &m) == 0 && m == 3);
+                             f->entries + n, 3, &m) == 0 &&
+       m == 3);
   f->len = n + m;
   for (k = 0; k < sizeof f->order; k++)
     f->order[k] = (uint8_t)(sizeof f->order - 1 - k);
@@ -72,24 +80,27 @@ static void further_made(struct further *f) {
 
 /* The entries after and among those of the record. */
 static void further_written(const struct further *f) {
-  static const uint8_t turned[] = {0x40, 244, 0, 4, 1, 9, 0x11, 4, 0,
-                                   0,    0,   1, 1, 1, 5};
+  static const uint8_t turned[] = {0x40, 244, 0, 4, 1, 9, 0x11, 4,
+                                   0,    0,   0, 1, 1, 1, 5};
   const uint32_t side = QUIC_WIRE_SIDE_CLIENT;
   quic_wire_params got;
   uint8_t out[32];
   size_t m = 0, w = 77;
-  WANT(quic_wire_params_write_with(side, &f->params, sizeof f->params, f->entries, f->len, NULL, 0,
-                                   out, sizeof out, &w) == 0);
-  WANT(w == sizeof in_order && !memcmp(out, in_order, w));
-  WANT(quic_wire_params_write_with(side, &f->params, sizeof f->params, f->entries, f->len,
-                                   f->order, sizeof f->order, out, sizeof out,
+  WANT(quic_wire_params_write_with(side, &f->params, sizeof f->params,
+                                   f->entries, f->len, NULL, 0, out, sizeof out,
                                    &w) == 0);
+  WANT(w == sizeof in_order && !memcmp(out, in_order, w));
+  WANT(quic_wire_params_write_with(side, &f->params, sizeof f->params,
+                                   f->entries, f->len, f->order,
+                                   sizeof f->order, out, sizeof out, &w) == 0);
   WANT(w == sizeof turned && !memcmp(out, turned, w));
-  WANT(quic_wire_params_read(QUIC_WIRE_SIDE_SERVER, out, w, &got, sizeof got) == 0);
+  WANT(quic_wire_params_read(QUIC_WIRE_SIDE_SERVER, out, w, &got, sizeof got) ==
+       0);
   WANT(!memcmp(&got, &f->params, sizeof got));
-  WANT(quic_wire_params_write_with(side, &f->params, sizeof f->params, f->entries, f->len,
-                                   f->order, sizeof f->order, out, w - 1, &m) ==
-           QUIC_WIRE_ERR_NOBUF && m == w);
+  WANT(quic_wire_params_write_with(
+           side, &f->params, sizeof f->params, f->entries, f->len, f->order,
+           sizeof f->order, out, w - 1, &m) == QUIC_WIRE_ERR_NOBUF &&
+       m == w);
 }
 
 /* Orders and entries that are refused. */
@@ -99,26 +110,31 @@ static void further_refused(struct further *f) {
   const uint8_t *further = f->entries;
   uint8_t out[32];
   size_t n = f->len, m = 77;
-  WANT(quic_wire_params_write_with(side, params, sizeof *params, further, n, f->order,
-                                   sizeof f->order - 1, out, 32, &m) == QUIC_WIRE_ERR_PARAM);
+  WANT(quic_wire_params_write_with(side, params, sizeof *params, further, n,
+                                   f->order, sizeof f->order - 1, out, 32,
+                                   &m) == QUIC_WIRE_ERR_PARAM);
   f->order[0] = 21;
-  WANT(quic_wire_params_write_with(side, params, sizeof *params, further, n, f->order,
-                                   sizeof f->order, out, 32, &m) == QUIC_WIRE_ERR_PARAM);
-  WANT(quic_wire_params_write_with(side, params, sizeof *params, in_order, 3, NULL, 0, out, 32,
-                                   &m) == QUIC_WIRE_ERR_PARAM); /* one that it has */
+  WANT(quic_wire_params_write_with(side, params, sizeof *params, further, n,
+                                   f->order, sizeof f->order, out, 32,
+                                   &m) == QUIC_WIRE_ERR_PARAM);
+  WANT(quic_wire_params_write_with(side, params, sizeof *params, in_order, 3,
+                                   NULL, 0, out, 32, &m) ==
+       QUIC_WIRE_ERR_PARAM); /* one that it has */
   memcpy(out, further, 6), memcpy(out + 6, further, 6);
-  WANT(quic_wire_params_write_with(side, params, sizeof *params, out, 12, NULL, 0, out + 12,
-                                   20, &m) == QUIC_WIRE_ERR_PARAM); /* one twice */
-  WANT(quic_wire_params_write_with(side, params, sizeof *params, further, n - 1, NULL, 0, out,
-                                   32, &m) == QUIC_WIRE_ERR_PARAM); /* one is cut off */
-  WANT(quic_wire_params_write_with(side, params, sizeof *params, NULL, 1, NULL, 0, out, 32,
-                                   &m) == INVALID);
-  WANT(quic_wire_params_write_with(side, params, sizeof *params, NULL, 0, NULL, 1, out, 32,
-                                   &m) == INVALID);
-  WANT(quic_wire_params_write_with(side, NULL, sizeof *params, NULL, 0, NULL, 0, out, 32,
-                                   &m) == INVALID);
-  WANT(quic_wire_params_write_with(2, params, sizeof *params, NULL, 0, NULL, 0, out, 32,
-                                   &m) == QUIC_WIRE_ERR_KIND);
+  WANT(quic_wire_params_write_with(side, params, sizeof *params, out, 12, NULL,
+                                   0, out + 12, 20,
+                                   &m) == QUIC_WIRE_ERR_PARAM); /* one twice */
+  WANT(quic_wire_params_write_with(side, params, sizeof *params, further, n - 1,
+                                   NULL, 0, out, 32, &m) ==
+       QUIC_WIRE_ERR_PARAM); /* one is cut off */
+  WANT(quic_wire_params_write_with(side, params, sizeof *params, NULL, 1, NULL,
+                                   0, out, 32, &m) == INVALID);
+  WANT(quic_wire_params_write_with(side, params, sizeof *params, NULL, 0, NULL,
+                                   1, out, 32, &m) == INVALID);
+  WANT(quic_wire_params_write_with(side, NULL, sizeof *params, NULL, 0, NULL, 0,
+                                   out, 32, &m) == INVALID);
+  WANT(quic_wire_params_write_with(2, params, sizeof *params, NULL, 0, NULL, 0,
+                                   out, 32, &m) == QUIC_WIRE_ERR_KIND);
   WANT(m == 77);
 }
 
@@ -177,10 +193,9 @@ static void any_address(quic_wire_params *p) {
 
 /* Parameters that are mostly in range, and sometimes any words. */
 static void params_rubbish(quic_wire_params *p) {
-  const uint32_t side_bits = QUIC_WIRE_HAS_STATELESS_RESET_TOKEN |
-                             QUIC_WIRE_HAS_PREFERRED_ADDRESS |
-                             QUIC_WIRE_HAS_ORIGINAL_DST_CID |
-                             QUIC_WIRE_HAS_RETRY_SRC_CID;
+  const uint32_t side_bits =
+      QUIC_WIRE_HAS_STATELESS_RESET_TOKEN | QUIC_WIRE_HAS_PREFERRED_ADDRESS |
+      QUIC_WIRE_HAS_ORIGINAL_DST_CID | QUIC_WIRE_HAS_RETRY_SRC_CID;
   memset(p, 0, sizeof *p);
   p->present = (uint32_t)(any() & (any() % 30 ? 0x7ff : UINT32_MAX));
   if (any() % 2)
@@ -221,7 +236,8 @@ int params_written(uint32_t side) {
   int answer;
   params_rubbish(&given);
   memset(room, 0xaa, sizeof room);
-  answer = quic_wire_params_write(side ^ 1, &given, sizeof given, room, sizeof room, &n);
+  answer = quic_wire_params_write(side ^ 1, &given, sizeof given, room,
+                                  sizeof room, &n);
   if (answer != QUIC_WIRE_OK) {
     WANT(answer == QUIC_WIRE_ERR_PARAM && n == 0 && room[0] == 0xaa);
     return 0;
@@ -229,10 +245,12 @@ int params_written(uint32_t side) {
   WANT(n <= sizeof room && (n == sizeof room || room[n] == 0xaa));
   dest = block(n);
   if (n) {
-    answer = quic_wire_params_write(side ^ 1, &given, sizeof given, dest, n - 1, &less);
+    answer = quic_wire_params_write(side ^ 1, &given, sizeof given, dest, n - 1,
+                                    &less);
     WANT(answer == QUIC_WIRE_ERR_NOBUF && less == n);
   }
-  WANT(quic_wire_params_write(side ^ 1, &given, sizeof given, dest, n, &less) == QUIC_WIRE_OK);
+  WANT(quic_wire_params_write(side ^ 1, &given, sizeof given, dest, n, &less) ==
+       QUIC_WIRE_OK);
   WANT(less == n && (!n || !memcmp(dest, room, n)));
   memset(&got, 0xbb, sizeof got);
   WANT(quic_wire_params_read(side, dest, n, &got, sizeof got) == QUIC_WIRE_OK);
@@ -261,7 +279,8 @@ static size_t params_entries(const uint8_t *list, size_t len, uint8_t *further,
     if (param.valuelen > 40)
       continue;
     WANT(quic_wire_param_write(param.id, value, param.valuelen, out, sizeof out,
-                               &n) == 0 && n <= end);
+                               &n) == 0 &&
+         n <= end);
     WANT(quic_wire_param_read(out, n, &again) == (int64_t)n &&
          again.id == param.id);
     WANT(again.valuelen == param.valuelen);
@@ -295,19 +314,22 @@ static void params_mixed(uint32_t side, const quic_wire_params *params,
     order[k] = order[other];
     order[other] = (uint8_t)k;
   }
-  answer = quic_wire_params_write_with(side ^ 1, params, sizeof *params, further, filled, order,
-                                       any() % 4 ? all : 0, out, sizeof out, &n);
+  answer = quic_wire_params_write_with(
+      side ^ 1, params, sizeof *params, further, filled, order,
+      any() % 4 ? all : 0, out, sizeof out, &n);
   WANT(answer == 0);
   WANT(quic_wire_params_read(side, out, n, &got, sizeof got) == 0);
   WANT(!memcmp(&got, params, sizeof got));
   if (n) {
-    WANT(quic_wire_params_write_with(side ^ 1, params, sizeof *params, further, filled, order,
-                                     all, out, n - 1, &less) ==
-             QUIC_WIRE_ERR_NOBUF && less == n);
+    WANT(quic_wire_params_write_with(side ^ 1, params, sizeof *params, further,
+                                     filled, order, all, out, n - 1,
+                                     &less) == QUIC_WIRE_ERR_NOBUF &&
+         less == n);
   }
   order[any() % all] = (uint8_t)any();
-  quic_wire_params_write_with(side ^ 1, params, sizeof *params, list, any() % (len + 1), order,
-                              any() % all, out, any() % sizeof out, &n);
+  quic_wire_params_write_with(side ^ 1, params, sizeof *params, list,
+                              any() % (len + 1), order, any() % all, out,
+                              any() % sizeof out, &n);
 }
 
 /* Any bytes as a list, and any words as parameters. */
@@ -322,8 +344,8 @@ void params_any(const uint8_t *list, size_t len) {
   answer = quic_wire_params_read(side, list, len, &got, sizeof got);
   WANT((side > 1) == (answer == QUIC_WIRE_ERR_KIND));
   if (answer == QUIC_WIRE_OK) {
-    WANT(quic_wire_params_write(side ^ 1, &got, sizeof got, dest, sizeof dest, &n) ==
-         QUIC_WIRE_OK);
+    WANT(quic_wire_params_write(side ^ 1, &got, sizeof got, dest, sizeof dest,
+                                &n) == QUIC_WIRE_OK);
     WANT(n <= len && got.reserved == 0);
     params_mixed(side, &got, list, len);
   } else {

@@ -22,7 +22,8 @@ void sets_nulls(void) {
        QUIC_WIRE_ERR_RANGES);
   WANT(quic_wire_ack_write(0, &range, 1, NULL, NULL, 8, &n) == INVALID);
   WANT(quic_wire_ack_write(0, &range, 1, NULL, NULL, 0, &n) ==
-           QUIC_WIRE_ERR_NOBUF && n == 5);
+           QUIC_WIRE_ERR_NOBUF &&
+       n == 5);
   WANT(quic_wire_ack_write(0, &range, 1, NULL, out, 8, NULL) == 0 &&
        !memcmp(out, "\x02\x08\x00\x00\x01", 5));
 }
@@ -76,9 +77,9 @@ static size_t plain_ack(uint64_t delay, const quic_wire_range *runs, size_t n,
 
 static void read_ack(const uint8_t *bytes, size_t len,
                      const quic_wire_range *runs, size_t n) {
-  quic_wire_frames frames;
+  quic_wire_frame_iter frames;
   quic_wire_frame frame;
-  quic_wire_ack_ranges ranges;
+  quic_wire_range_iter ranges;
   quic_wire_range range;
   WANT(quic_wire_frames_init(&frames, bytes, len) == 0);
   WANT(quic_wire_frames_next(&frames, bytes, len, &frame) == QUIC_WIRE_ITEM);
@@ -104,8 +105,7 @@ static void ack_of_set(const quic_wire_range *runs, size_t n) {
   room = any() % 2 ? len + any() % 9 : any() % (len + 1);
   dest = block(room);
   memset(dest, 0xee, room);
-  answer =
-      quic_wire_ack_write(delay, runs, n, counts, dest, room, &written);
+  answer = quic_wire_ack_write(delay, runs, n, counts, dest, room, &written);
   if (!len)
     WANT(answer == (n ? QUIC_WIRE_ERR_NUMBER : QUIC_WIRE_ERR_RANGES) &&
          written == 99);
@@ -121,8 +121,8 @@ static void ack_of_set(const quic_wire_range *runs, size_t n) {
 }
 
 void sets(void) {
-  static const uint64_t bases[] = {0, 0, 1000, (1ull << 62) - 64,
-                                   (1ull << 62) - 40, UINT64_MAX - 64};
+  static const uint64_t bases[] = {
+      0, 0, 1000, (1ull << 62) - 64, (1ull << 62) - 40, UINT64_MAX - 64};
   uint64_t base = bases[any() % 6], bits = 0;
   size_t room = any() % 12, count = 0, k, size = room * sizeof(quic_wire_range);
   quic_wire_range *runs = (quic_wire_range *)block(size), wanted[32];
@@ -176,8 +176,7 @@ void set_rubbish(void) {
     at = runs[k].end;
   }
   for (k = 0; valid && k < count; k++)
-    if (runs[k].start >= runs[k].end ||
-        (k && runs[k].start <= runs[k - 1].end))
+    if (runs[k].start >= runs[k].end || (k && runs[k].start <= runs[k - 1].end))
       valid = 0;
   memcpy(old, runs, size);
   same = count;
@@ -189,8 +188,8 @@ void set_rubbish(void) {
                QUIC_WIRE_ERR_RANGES &&
            written == 99);
   }
-  answer = (any() % 2 ? quic_wire_set_insert : quic_wire_set_remove)(
-      runs, room, &count, start, end);
+  answer = (any() % 2 ? quic_wire_set_insert
+                      : quic_wire_set_remove)(runs, room, &count, start, end);
   WANT((answer == QUIC_WIRE_ERR_RANGES) == !valid);
   if (answer != QUIC_WIRE_CHANGED)
     WANT(count == same && !memcmp(runs, old, size));

@@ -9,7 +9,8 @@ void written_nulls(void) {
   WANT(quic_wire_frame_write(NULL, NULL, 0, 0, out, 8, &n) == INVALID);
   WANT(quic_wire_frame_write(&frame, NULL, 0, 0, NULL, 8, &n) == INVALID);
   WANT(quic_wire_frame_write(&frame, NULL, 0, 0, NULL, 0, &n) ==
-           QUIC_WIRE_ERR_NOBUF && n == 1);
+           QUIC_WIRE_ERR_NOBUF &&
+       n == 1);
   WANT(quic_wire_frame_write(&frame, NULL, 0, 0, out, 8, NULL) == 0);
   WANT(quic_wire_frame_len(NULL, NULL, 0, 0, &n) == INVALID);
   WANT(quic_wire_frame_len(&frame, NULL, 0, 0, NULL) == INVALID);
@@ -26,20 +27,22 @@ void written_nulls(void) {
   WANT(quic_wire_frame_header_write(&frame, 0, out, 8, NULL) == 0);
 }
 
-/* A frame without data is written as it was read, whatever |data| and its place in
- * them are: a PING after a MAX_DATA of five bytes, and the end of a stream. */
+/* A frame without data is written as it was read, whatever |data| and its place
+ * in them are: a PING after a MAX_DATA of five bytes, and the end of a stream.
+ */
 void without_data(void) {
-  static const uint8_t payload[] = {0x10, 0x80, 0x01, 0x00, 0x00, 0x01,
-                                    0x0d, 0x04, 0x09};
+  static const uint8_t payload[] = {0x10, 0x80, 0x01, 0x00, 0x00,
+                                    0x01, 0x0d, 0x04, 0x09};
   static const size_t places[] = {6, 0, 3, SIZE_MAX};
-  quic_wire_frames frames;
+  quic_wire_frame_iter frames;
   quic_wire_frame frame;
   uint8_t out[8] = {0};
   size_t n = 0, k;
   WANT(quic_wire_frames_init(&frames, payload, sizeof payload) == 0);
   WANT(quic_wire_frames_next(&frames, payload, sizeof payload, &frame) == 1);
   WANT(quic_wire_frames_next(&frames, payload, sizeof payload, &frame) == 1);
-  WANT(frame.kind == QUIC_WIRE_FRAME_PING && frame.begin == 5 && frame.data == 6);
+  WANT(frame.kind == QUIC_WIRE_FRAME_PING && frame.begin == 5 &&
+       frame.data == 6);
   for (k = 0; k < sizeof places / sizeof *places; k++) {
     frame.data = places[k];
     WANT(quic_wire_frame_write(&frame, NULL, 0, 0, out, 8, &n) == 0);
@@ -53,7 +56,8 @@ void without_data(void) {
   WANT(quic_wire_frame_write(&frame, payload, 9, 0, out, 8, &n) == INVALID);
   WANT(quic_wire_frame_write(&frame, NULL, 0, 0, out, 8, &n) == INVALID);
   WANT(quic_wire_frames_next(&frames, payload, sizeof payload, &frame) == 1);
-  WANT(frame.kind == QUIC_WIRE_FRAME_STREAM && frame.flags == QUIC_WIRE_FLAG_FIN);
+  WANT(frame.kind == QUIC_WIRE_FRAME_STREAM &&
+       frame.flags == QUIC_WIRE_FLAG_FIN);
   WANT(quic_wire_frame_write(&frame, NULL, 0, 1, out, 8, &n) == 0 && n == 3);
   WANT(!memcmp(out, payload + 6, 3));
   frame.datalen = 1;
@@ -65,7 +69,7 @@ void write_rubbish(const uint8_t *data, size_t len) {
   size_t room = any() % 32, written = 0, k;
   uint8_t *out = block(room), *before = block(room);
   quic_wire_frame frame, again;
-  quic_wire_frames frames;
+  quic_wire_frame_iter frames;
   int answer;
   memset(out, 0xa5, room);
   memcpy(before, out, room);
@@ -98,10 +102,11 @@ void write_rubbish(const uint8_t *data, size_t len) {
 }
 
 /* The header of a frame of any words is the front of what is written of it with
- * data, and what can be written whole has the length that is reported before. */
+ * data, and what can be written whole has the length that is reported before.
+ */
 void header_rubbish(void) {
-  static const uint16_t kinds[] = {QUIC_WIRE_FRAME_CRYPTO, QUIC_WIRE_FRAME_STREAM,
-                                   QUIC_WIRE_FRAME_DATAGRAM};
+  static const uint16_t kinds[] = {
+      QUIC_WIRE_FRAME_CRYPTO, QUIC_WIRE_FRAME_STREAM, QUIC_WIRE_FRAME_DATAGRAM};
   static uint8_t data[70], whole[128];
   uint8_t header[48];
   size_t room = any() % 48, n = 77, all = 77, counted = 77, k;
@@ -118,7 +123,8 @@ void header_rubbish(void) {
   answer = quic_wire_frame_header_write(&frame, last, header, room, &n);
   written = quic_wire_frame_write(&frame, data, sizeof data, last, whole,
                                   sizeof whole, &all);
-  WANT(quic_wire_frame_len(&frame, data, sizeof data, last, &counted) == written);
+  WANT(quic_wire_frame_len(&frame, data, sizeof data, last, &counted) ==
+       written);
   WANT(counted == all);
   if (frame.kind != kinds[0] && frame.kind != kinds[1] &&
       frame.kind != kinds[2]) {

@@ -178,7 +178,7 @@ static int write_frame(const line *in, const quic_wire_frame *frame,
 /* The frames of a payload, written one after the other.  Returns how many bytes
  * that makes, or 0. */
 static size_t write_frames(const line *in, uint8_t *out) {
-  quic_wire_frames frames;
+  quic_wire_frame_iter frames;
   quic_wire_frame frame;
   size_t end = 0, len;
   int answer = quic_wire_frames_init(&frames, in->bytes, in->len);

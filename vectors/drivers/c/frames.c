@@ -54,7 +54,7 @@ static const kind kinds[] = {
 
 static void print_ranges(FILE *out, const line *in,
                          const quic_wire_frame *frame) {
-  quic_wire_ack_ranges ranges;
+  quic_wire_range_iter ranges;
   quic_wire_range range;
   const char *before = "";
   fprintf(out, ",\"ranges\":[");
@@ -127,9 +127,9 @@ static void print_frame(FILE *out, const line *in, const quic_wire_frame *frame)
 }
 
 void answer_payload(const line *in, FILE *items, char **read) {
-  int (*next)(quic_wire_frames *, const uint8_t *, size_t, quic_wire_frame *) =
+  int (*next)(quic_wire_frame_iter *, const uint8_t *, size_t, quic_wire_frame *) =
       item(in, "without") ? quic_wire_frames_next_basic : quic_wire_frames_next;
-  quic_wire_frames frames;
+  quic_wire_frame_iter frames;
   quic_wire_frame frame;
   int answer = (item(in, "strict") ? quic_wire_frames_init_strict
                                    : quic_wire_frames_init)(&frames, in->bytes, in->len);

@@ -103,7 +103,7 @@
 #include <stddef.h>
 #include <stdint.h>
 
-/* The version of this header: a byte each of major, minor and patch. */
+/** The version of this header: a byte each of major, minor and patch. */
 #define QUIC_WIRE_LIB_MAJOR 0
 #define QUIC_WIRE_LIB_MINOR 1
 #define QUIC_WIRE_LIB_PATCH 0
@@ -158,7 +158,7 @@ extern "C" {
 
 /* ---- Results */
 
-/* What functions return.  Below 0 it is an error, which quic_wire_strerror()
+/** What functions return.  Below 0 it is an error, which quic_wire_strerror()
  * names; from 0 on a count, a length, or one of the first three.  The numbers
  * never change; new ones may be added. */
 typedef enum quic_wire_result {
@@ -204,7 +204,7 @@ typedef enum quic_wire_result {
                                            come from that side */
 } quic_wire_result;
 
-/* The codes of a CONNECTION_CLOSE (RFC 9000, section 20.1). */
+/** The codes of a CONNECTION_CLOSE (RFC 9000, section 20.1). */
 typedef enum quic_wire_code {
   QUIC_WIRE_CODE_NO_ERROR = 0x00,
   QUIC_WIRE_CODE_INTERNAL_ERROR = 0x01,
@@ -228,7 +228,7 @@ typedef enum quic_wire_code {
 
 /* ---- Frames (RFC 9000, section 19) */
 
-/* The kinds of frames: the type, and one kind for all types of STREAM, of ACK
+/** The kinds of frames: the type, and one kind for all types of STREAM, of ACK
  * and of DATAGRAM. */
 typedef enum quic_wire_frame_kind {
   QUIC_WIRE_FRAME_PADDING = 0x00,
@@ -259,16 +259,16 @@ typedef enum quic_wire_frame_kind {
   QUIC_WIRE_FRAME_ACK_FREQUENCY = 0xaf
 } quic_wire_frame_kind;
 
-/* Flags of a frame. */
+/** Flags of a frame. */
 #define QUIC_WIRE_FLAG_FIN 1 /* STREAM: the data end the stream */
 #define QUIC_WIRE_FLAG_ECN 2 /* ACK: counts of marked packets are there */
 #define QUIC_WIRE_FLAG_MORE 4 /* ACK: of quic_wire_frame_read, which had no
                                  room for all ranges */
 
-/* The value of a type where there is none. */
+/** The value of a type where there is none. */
 #define QUIC_WIRE_NO_TYPE UINT64_MAX
 
-/* How far an iterator over a payload has come.  A struct of any other words is
+/** How far an iterator over a payload has come.  A struct of any other words is
  * harmless, and reads from |offset| on. */
 typedef struct quic_wire_frame_iter {
   quic_wire_size offset; /* the end of the last whole frame, in bytes */
@@ -278,7 +278,7 @@ typedef struct quic_wire_frame_iter {
                             an error (RFC 9000, section 12.4) */
 } QUIC_WIRE_ALIGNED quic_wire_frame_iter;
 
-/* What the kinds of frames say in numbers: the fields of a frame's union. */
+/** What the kinds of frames say in numbers: the fields of a frame's union. */
 typedef struct quic_wire_ack {
   uint64_t largest; /* the greatest packet number */
   uint64_t delay;   /* in microseconds, shifted right by the sender's
@@ -324,7 +324,7 @@ typedef struct quic_wire_ack_frequency {
   uint64_t reordering_threshold;    /* packets */
 } QUIC_WIRE_ALIGNED quic_wire_ack_frequency;
 
-/* A frame.  Each number of the union that |kind| doesn't name is 0, as
+/** A frame.  Each number of the union that |kind| doesn't name is 0, as
  * quic_wire_frame_write asks.  Numbers that were read are below 2^62, but
  * for those of paths.  Whether data end below 2^62, and whether limits of
  * streams are at most 2^60, isn't looked at: that is the connection's. */
@@ -358,25 +358,25 @@ typedef struct quic_wire_frame {
   };
 } QUIC_WIRE_ALIGNED quic_wire_frame;
 
-/* Packet numbers from |start| to below |end|. */
+/** Packet numbers from |start| to below |end|. */
 typedef struct quic_wire_range {
   uint64_t start, end;
 } QUIC_WIRE_ALIGNED quic_wire_range;
 
-/* A range of an ACK below another one, as it is encoded (RFC 9000, section
+/** A range of an ACK below another one, as it is encoded (RFC 9000, section
  * 19.3.1): how many packet numbers are between the two, and how many it has,
  * both less one. */
 typedef struct quic_wire_gap {
   uint64_t gap, len;
 } QUIC_WIRE_ALIGNED quic_wire_gap;
 
-/* How far the ranges of an ACK have been read. */
+/** How far the ranges of an ACK have been read. */
 typedef struct quic_wire_range_iter {
   quic_wire_size begin, end; /* the remaining bytes, in the payload */
   uint64_t largest;          /* the greatest number of the next range */
 } QUIC_WIRE_ALIGNED quic_wire_range_iter;
 
-/* The length of a payload's shortest form, or the type because of which it has
+/** The length of a payload's shortest form, or the type because of which it has
  * none. */
 typedef struct quic_wire_canon {
   quic_wire_size len; /* how many bytes the shortest form has */
@@ -386,7 +386,7 @@ typedef struct quic_wire_canon {
 
 /* ---- Packets (RFC 9000, section 17) */
 
-/* The kinds of packets. */
+/** The kinds of packets. */
 typedef enum quic_wire_packet_kind {
   QUIC_WIRE_PACKET_INITIAL = 0,
   QUIC_WIRE_PACKET_0RTT = 1,
@@ -398,7 +398,7 @@ typedef enum quic_wire_packet_kind {
                                           none of those given */
 } quic_wire_packet_kind;
 
-/* Bits of a first byte. */
+/** Bits of a first byte. */
 #define QUIC_WIRE_BIT_LONG 0x80 /* set in all headers but those of 1-RTT */
 #define QUIC_WIRE_BIT_FIXED 0x40 /* set, but where it is greased (RFC 9287) */
 #define QUIC_WIRE_BIT_SPIN 0x20  /* of 1-RTT */
@@ -406,11 +406,11 @@ typedef enum quic_wire_packet_kind {
 #define QUIC_WIRE_BITS_RESERVED 0x18 /* must be 0, under protection */
 #define QUIC_WIRE_BITS_RESERVED_LONG 0x0c /* of Initial, 0-RTT and Handshake */
 
-/* Versions of QUIC. */
+/** Versions of QUIC. */
 #define QUIC_WIRE_VERSION_1 0x00000001u /* RFC 9000 */
 #define QUIC_WIRE_VERSION_2 0x6b3343cfu /* RFC 9369 */
 
-/* The header of a packet, with its protection still on.  Every place is one in
+/** The header of a packet, with its protection still on.  Every place is one in
  * the packet, in bytes from its front; fields that its kind lacks are 0. */
 typedef struct quic_wire_header {
   uint8_t kind;    /* QUIC_WIRE_PACKET_INITIAL and so on */
@@ -425,11 +425,11 @@ typedef struct quic_wire_header {
                    from |header_end| on, as its header says */
 } QUIC_WIRE_ALIGNED quic_wire_header;
 
-/* In the flags of a header that is written: its fixed bit is clear (RFC
+/** In the flags of a header that is written: its fixed bit is clear (RFC
  * 9287). */
 #define QUIC_WIRE_CLEAR_FIXED_BIT 0x40
 
-/* What a header says that is written, beside its ids and its token.  What its
+/** What a header says that is written, beside its ids and its token.  What its
  * kind lacks isn't looked at. */
 typedef struct quic_wire_header_fields {
   uint8_t kind;      /* QUIC_WIRE_PACKET_INITIAL and so on */
@@ -445,13 +445,13 @@ typedef struct quic_wire_header_fields {
 
 /* ---- Transport parameters (RFC 9000, section 18) */
 
-/* The side that calls. */
+/** The side that calls. */
 typedef enum quic_wire_side {
   QUIC_WIRE_SIDE_CLIENT = 0,
   QUIC_WIRE_SIDE_SERVER = 1
 } quic_wire_side;
 
-/* What is there of what can be absent. */
+/** What is there of what can be absent. */
 #define QUIC_WIRE_HAS_STATELESS_RESET_TOKEN 0x001
 #define QUIC_WIRE_HAS_DISABLE_ACTIVE_MIGRATION 0x002
 #define QUIC_WIRE_HAS_MAX_DATAGRAM_FRAME_SIZE 0x004
@@ -464,8 +464,8 @@ typedef enum quic_wire_side {
 #define QUIC_WIRE_HAS_GREASE_QUIC_BIT 0x200
 #define QUIC_WIRE_HAS_MIN_ACK_DELAY 0x400
 
-/* Transport parameters.  What is absent is 0 in all of its words and bytes, but
- * for the numbers that have a default: these hold it then.  Ids are at the
+/** Transport parameters.  What is absent is 0 in all of its words and bytes,
+ * but for the numbers that have a default: these hold it then.  Ids are at the
  * front of their bytes, followed by zeros. */
 typedef struct quic_wire_params {
   uint32_t present;  /* QUIC_WIRE_HAS_STATELESS_RESET_TOKEN and so on */
@@ -479,7 +479,7 @@ typedef struct quic_wire_params {
   uint64_t initial_max_streams_bidi;            /* at most 2^60 */
   uint64_t initial_max_streams_uni;             /* at most 2^60 */
   uint64_t ack_delay_exponent;         /* at most 20; default 3 */
-  uint64_t max_ack_delay;              /* milliseconds, below 2^14; default 25 */
+  uint64_t max_ack_delay;             /* milliseconds, below 2^14; default 25 */
   uint64_t active_connection_id_limit; /* at least 2, the default */
   uint64_t max_datagram_frame_size;    /* bytes (RFC 9221, section 3) */
   uint64_t min_ack_delay; /* microseconds, no longer than max_ack_delay */
@@ -499,21 +499,21 @@ typedef struct quic_wire_params {
   uint8_t preferred_v4[4];
 } QUIC_WIRE_ALIGNED quic_wire_params;
 
-/* An entry of a list of transport parameters (RFC 9000, section 18). */
+/** An entry of a list of transport parameters (RFC 9000, section 18). */
 typedef struct quic_wire_param {
   uint64_t id;             /* its number, below 2^62 */
-  quic_wire_size value;    /* the place of its value in the list that was read */
+  quic_wire_size value;   /* the place of its value in the list that was read */
   quic_wire_size valuelen; /* how many bytes it has; the next entry begins after
                               them */
 } QUIC_WIRE_ALIGNED quic_wire_param;
 
-/* Numbers of parameters that quic_wire_params has no field for: the versions
+/** Numbers of parameters that quic_wire_params has no field for: the versions
  * of RFC 9368, and the |n|th of those that have no meaning and that each peer
  * passes (RFC 9000, section 18.1). */
 #define QUIC_WIRE_PARAM_VERSION_INFORMATION 0x11
 #define QUIC_WIRE_PARAM_RESERVED(n) (31 * (uint64_t)(n) + 27)
 
-/* How many rows the table has in which quic_wire_params_write_with numbers the
+/** How many rows the table has in which quic_wire_params_write_with numbers the
  * parameters that quic_wire_params has. */
 #define QUIC_WIRE_PARAM_ROWS 21
 
@@ -563,11 +563,11 @@ QUIC_WIRE_ASSERT(offsetof(quic_wire_param, value) == 8, "64-bit words");
 #undef QUIC_WIRE_ASSERT
 #endif
 
-/* QUIC_WIRE_LIB and QUIC_WIRE_LIB_TEXT of the library that is linked. */
+/** QUIC_WIRE_LIB and QUIC_WIRE_LIB_TEXT of the library that is linked. */
 extern uint32_t quic_wire_lib(void);
 extern const char *quic_wire_lib_text(void);
 
-/*
+/**
  * Whether the library that is linked serves this header, which a program asks
  * once, at its start, as quic_wire_check(QUIC_WIRE_LIB).  Returns 0 if it has
  * the same major version, and the same minor version or a later one, as the
@@ -575,7 +575,7 @@ extern const char *quic_wire_lib_text(void);
  */
 QUIC_WIRE_CHECKED extern int quic_wire_check(uint32_t header);
 
-/*
+/**
  * The code with which an endpoint closes the connection because of a |result|:
  * FRAME_ENCODING_ERROR, PROTOCOL_VIOLATION or TRANSPORT_PARAMETER_ERROR where
  * its peer broke a rule, INTERNAL_ERROR for the caller's mistakes; NO_ERROR, 0,
@@ -585,7 +585,7 @@ QUIC_WIRE_API uint32_t quic_wire_close_code(int result);
 
 /* ---- Frames, read */
 
-/*
+/**
  * Begins at the front of a |payload| of |payloadlen| bytes, with 0 in
  * |frames->strict|.  Returns 0, or QUIC_WIRE_ERR_PAYLOAD_EMPTY,
  * QUIC_WIRE_ERR_ARGUMENT for NULL.
@@ -594,7 +594,7 @@ QUIC_WIRE_API int quic_wire_frames_init(quic_wire_frame_iter *frames,
                                         const uint8_t *payload,
                                         size_t payloadlen);
 
-/*
+/**
  * The same with 1 in |frames->strict|: a type that isn't in its shortest
  * encoding is an error, QUIC_WIRE_ERR_FRAME_LONG_TYPE.  Other fields may have
  * any width.
@@ -603,7 +603,7 @@ QUIC_WIRE_API int quic_wire_frames_init_strict(quic_wire_frame_iter *frames,
                                                const uint8_t *payload,
                                                size_t payloadlen);
 
-/*
+/**
  * Reads the next frame.  |payload| is the one that |frames| began with.
  *
  * Returns QUIC_WIRE_ITEM and the frame; 0 where none remains;
@@ -618,7 +618,7 @@ QUIC_WIRE_API int quic_wire_frames_next(quic_wire_frame_iter *frames,
                                         size_t payloadlen,
                                         quic_wire_frame *frame);
 
-/*
+/**
  * The same where the ACK frequency extension wasn't negotiated: an
  * ACK_FREQUENCY or IMMEDIATE_ACK has an unknown type, QUIC_WIRE_ERR_FRAME_TYPE,
  * but one with an invalid field is reported for that field.  A caller may
@@ -629,7 +629,7 @@ QUIC_WIRE_API int quic_wire_frames_next_basic(quic_wire_frame_iter *frames,
                                               size_t payloadlen,
                                               quic_wire_frame *frame);
 
-/*
+/**
  * Reads the next frames, as many as the |room| entries of |out| hold, with one
  * call.  |payload| is the one that |frames| began with.  A PADDING frame and
  * all the zero bytes after it are one entry: quic_wire_padding_count.
@@ -650,7 +650,7 @@ QUIC_WIRE_API int quic_wire_frames_fill(quic_wire_frame_iter *frames,
                                         size_t payloadlen, quic_wire_frame *out,
                                         size_t room, size_t *count);
 
-/* The same without the ACK frequency extension, as quic_wire_frames_next_basic
+/** The same without the ACK frequency extension, as quic_wire_frames_next_basic
  * reads. */
 QUIC_WIRE_API int quic_wire_frames_fill_basic(quic_wire_frame_iter *frames,
                                               const uint8_t *payload,
@@ -658,7 +658,7 @@ QUIC_WIRE_API int quic_wire_frames_fill_basic(quic_wire_frame_iter *frames,
                                               quic_wire_frame *out, size_t room,
                                               size_t *count);
 
-/*
+/**
  * Begins at the front of a |payload| and reads its first frames, as many as the
  * |room| entries of |out| hold: what quic_wire_frames_init and then
  * quic_wire_frames_fill do, with one call.  quic_wire_frames_fill goes on where
@@ -677,7 +677,7 @@ QUIC_WIRE_API int quic_wire_frames_first(quic_wire_frame_iter *frames,
                                          quic_wire_frame *out, size_t room,
                                          size_t *count);
 
-/*
+/**
  * Reads the frame at the front of the rest of a payload, without an iterator:
  * the caller goes on where it ends, which is returned, until no byte remains.
  * |frame|'s places count from |payload|.  A PADDING frame and the bytes of 0
@@ -700,7 +700,7 @@ QUIC_WIRE_API int64_t quic_wire_frame_read(const uint8_t *payload,
                                            quic_wire_frame *frame,
                                            quic_wire_gap *gaps, size_t room);
 
-/* The same without the ACK frequency extension, as quic_wire_frames_next_basic
+/** The same without the ACK frequency extension, as quic_wire_frames_next_basic
  * reads. */
 QUIC_WIRE_API int64_t quic_wire_frame_read_basic(const uint8_t *payload,
                                                  size_t payloadlen, int strict,
@@ -708,7 +708,7 @@ QUIC_WIRE_API int64_t quic_wire_frame_read_basic(const uint8_t *payload,
                                                  quic_wire_gap *gaps,
                                                  size_t room);
 
-/* How many PADDING frames an entry of quic_wire_frames_fill has that was read
+/** How many PADDING frames an entry of quic_wire_frames_fill has that was read
  * from this payload: one whose type may be encoded in up to 8 bytes, and one
  * for each byte after it.  0 for other kinds, and where there is no such place.
  */
@@ -716,28 +716,28 @@ QUIC_WIRE_API size_t quic_wire_padding_count(const uint8_t *payload,
                                              size_t payloadlen,
                                              const quic_wire_frame *frame);
 
-/* The 16 bytes of the token for stateless resets of a NEW_CONNECTION_ID that
+/** The 16 bytes of the token for stateless resets of a NEW_CONNECTION_ID that
  * was read of this payload (RFC 9000, section 19.15); NULL of other kinds, and
  * where there is no such place. */
 QUIC_WIRE_API const uint8_t *
 quic_wire_reset_token(const uint8_t *payload, size_t payloadlen,
                       const quic_wire_frame *frame);
 
-/* The eight bytes of a PATH_CHALLENGE or PATH_RESPONSE that was read of this
+/** The eight bytes of a PATH_CHALLENGE or PATH_RESPONSE that was read of this
  * payload (RFC 9000, sections 19.17 and 19.18), which are |path.data| as a
  * number; NULL of other kinds, and where there is no such place. */
 QUIC_WIRE_API const uint8_t *quic_wire_path_data(const uint8_t *payload,
                                                  size_t payloadlen,
                                                  const quic_wire_frame *frame);
 
-/* After QUIC_WIRE_ERR_FRAME_...: the last type that was read, the broken
+/** After QUIC_WIRE_ERR_FRAME_...: the last type that was read, the broken
  * frame's own included; QUIC_WIRE_NO_TYPE if none was.  It may be any number
  * below 2^62, and |frame->type| is 0. */
 QUIC_WIRE_API uint64_t quic_wire_error_type(const quic_wire_frame *frame);
 
 /* ---- The ranges of an ACK, read */
 
-/*
+/**
  * Begins at the greatest range of |frame|, an ACK that was read of this
  * payload.  Returns 0; QUIC_WIRE_ERR_PLACE where its bytes are no ACK;
  * QUIC_WIRE_ERR_ARGUMENT for NULL.
@@ -747,7 +747,7 @@ QUIC_WIRE_API int quic_wire_ack_ranges_init(quic_wire_range_iter *ranges,
                                             size_t payloadlen,
                                             const quic_wire_frame *frame);
 
-/*
+/**
  * The same without a second look at the blocks of an ACK without counts, for
  * a frame that was read of this payload.  Of other words it may return 0 too:
  * then the bytes up to |frame->end| are read as blocks, and the call that comes
@@ -758,7 +758,7 @@ quic_wire_ack_ranges_init_unchecked(quic_wire_range_iter *ranges,
                                     const uint8_t *payload, size_t payloadlen,
                                     const quic_wire_frame *frame);
 
-/*
+/**
  * Reads the next range, the greatest first.  Returns QUIC_WIRE_ITEM and the
  * range, 0 where none remains, QUIC_WIRE_ERR_PLACE where |ranges| has no place
  * of an ACK's blocks.
@@ -768,7 +768,7 @@ QUIC_WIRE_API int quic_wire_ack_ranges_next(quic_wire_range_iter *ranges,
                                             size_t payloadlen,
                                             quic_wire_range *range);
 
-/*
+/**
  * Reads the next ranges, the greatest first, as many as the |room| entries of
  * |out| hold, with one call.  Returns QUIC_WIRE_ITEM, and in |*count| how many
  * entries were filled, one at least; 0 where no range remains;
@@ -786,7 +786,7 @@ QUIC_WIRE_API int quic_wire_ack_ranges_fill(quic_wire_range_iter *ranges,
 
 /* ---- Frames, written */
 
-/*
+/**
  * Writes |frame|, any but an ACK, in its shortest form at the front of |dest|:
  * as the last frame of its payload (|last| is not 0), where STREAM and
  * DATAGRAM need no length, or as another one.  Its data are |frame->datalen|
@@ -807,7 +807,7 @@ QUIC_WIRE_API int quic_wire_frame_write(const quic_wire_frame *frame,
                                         int last, uint8_t *dest, size_t destlen,
                                         size_t *written);
 
-/*
+/**
  * Writes |frame|, a STREAM, CRYPTO or DATAGRAM, up to its data, which are
  * |frame->datalen| bytes: the front of what quic_wire_frame_write writes of it,
  * after which the caller puts the data.  type, data, begin and end are not
@@ -818,7 +818,7 @@ QUIC_WIRE_API int quic_wire_frame_header_write(const quic_wire_frame *frame,
                                                int last, uint8_t *dest,
                                                size_t destlen, size_t *written);
 
-/*
+/**
  * Writes an ACK in its shortest form at the front of |dest|, as
  * quic_wire_frame_read tells one: |ack->ack| has the greatest number, the delay
  * and, where |ack->flags| is QUIC_WIRE_FLAG_ECN and not 0, the counts;
@@ -838,7 +838,7 @@ QUIC_WIRE_API int quic_wire_ack_gaps_write(const quic_wire_frame *ack,
                                            size_t ngaps, uint8_t *dest,
                                            size_t destlen, size_t *written);
 
-/* How many bytes quic_wire_frame_write writes of these: returns 0 with |*len|,
+/** How many bytes quic_wire_frame_write writes of these: returns 0 with |*len|,
  * or QUIC_WIRE_ERR_ARGUMENT where that does. */
 QUIC_WIRE_API int quic_wire_frame_len(const quic_wire_frame *frame,
                                       const uint8_t *data, size_t datalen,
@@ -846,7 +846,7 @@ QUIC_WIRE_API int quic_wire_frame_len(const quic_wire_frame *frame,
 
 /* ---- Payloads in their shortest form */
 
-/*
+/**
  * Writes the one shortest payload with the meaning of |payload| at the front of
  * |dest|: the same frames in the same order, each in its shortest form (RFC
  * 9000, sections 12.4 and 19).  No memory is taken.
@@ -865,7 +865,7 @@ QUIC_WIRE_API int quic_wire_canonical(const uint8_t *payload, size_t payloadlen,
 
 /* ---- Headers of packets, read */
 
-/*
+/**
  * Reads the header of the packet that |bytes| begin with, whether the packet is
  * complete or ends after its header.  Ids of short headers have |cidlen| bytes;
  * of versions that are not among |versions| only the ids are read.  The fixed
@@ -887,7 +887,7 @@ QUIC_WIRE_CHECKED QUIC_WIRE_API int64_t quic_wire_header_read(
     const uint8_t *bytes, size_t len, uint32_t cidlen, const uint32_t *versions,
     size_t nversions, quic_wire_header *header);
 
-/*
+/**
  * Where the short header ends that |packet| begins with, whose id has |cidlen|
  * bytes: where the number begins.  It is what quic_wire_header_read tells of
  * such a packet, and the quickest way to it.  0 where no short header begins
@@ -896,7 +896,7 @@ QUIC_WIRE_CHECKED QUIC_WIRE_API int64_t quic_wire_header_read(
 QUIC_WIRE_API size_t quic_wire_short_read(const uint8_t *packet,
                                           size_t packetlen, uint32_t cidlen);
 
-/*
+/**
  * Reads the header of the version negotiation that |packet| is (RFC 9000,
  * section 17.2.1).  Its ids are those of the packet that it answers, which may
  * be of any version, so they have up to 255 bytes (RFC 8999, section 6).  It is
@@ -913,7 +913,7 @@ QUIC_WIRE_API size_t quic_wire_short_read(const uint8_t *packet,
 QUIC_WIRE_CHECKED QUIC_WIRE_API int64_t quic_wire_negotiation_read(
     const uint8_t *packet, size_t packetlen, quic_wire_header *header);
 
-/* Where the ids begin in a packet of this header, or NULL for NULL. */
+/** Where the ids begin in a packet of this header, or NULL for NULL. */
 QUIC_WIRE_API const uint8_t *quic_wire_dcid(const uint8_t *packet,
                                             const quic_wire_header *header);
 QUIC_WIRE_API const uint8_t *quic_wire_scid(const uint8_t *packet,
@@ -921,7 +921,7 @@ QUIC_WIRE_API const uint8_t *quic_wire_scid(const uint8_t *packet,
 
 /* ---- The protection of headers */
 
-/*
+/**
  * The sample of |samplelen| bytes from which the caller makes the mask of the
  * header (RFC 9001, section 5.4.2), in a packet whose number begins at
  * |number|, or NULL where the packet is too short.
@@ -930,7 +930,7 @@ QUIC_WIRE_API const uint8_t *quic_wire_sample(const uint8_t *packet,
                                               size_t packetlen, size_t number,
                                               size_t samplelen);
 
-/*
+/**
  * Takes the protection off the header of a packet whose number begins at
  * |place|, by a mask of five bytes (RFC 9001, section 5.4.1), and says its
  * number by the one that is |expected| next, as quic_wire_number_expand does;
@@ -944,7 +944,7 @@ QUIC_WIRE_CHECKED QUIC_WIRE_API int
 quic_wire_unprotect(uint8_t *packet, size_t packetlen, size_t place,
                     const uint8_t *mask, uint64_t expected, uint64_t *number);
 
-/*
+/**
  * The same in a copy, so that the packet doesn't change: its bytes up to
  * |place| and the four from there on are written to |dest|, and opened there.
  * Returns what quic_wire_unprotect does; else QUIC_WIRE_ERR_NOBUF where
@@ -955,7 +955,7 @@ quic_wire_unprotect_copy(const uint8_t *packet, size_t packetlen, size_t place,
                          const uint8_t *mask, uint64_t expected, uint8_t *dest,
                          size_t destlen, uint64_t *number);
 
-/*
+/**
  * Puts the protection on the header of a packet whose payload is sealed and
  * whose number begins at |place|.  Returns how many bytes the number has;
  * QUIC_WIRE_ERR_PACKET_SMALL where |place| is 0 or has fewer than four bytes
@@ -968,13 +968,13 @@ QUIC_WIRE_CHECKED QUIC_WIRE_API int quic_wire_protect(uint8_t *packet,
 
 /* ---- Numbers of packets, and of variable length */
 
-/* How many bytes of |number| are written whose receiver has acknowledged
+/** How many bytes of |number| are written whose receiver has acknowledged
  * |largest_acked|, 1 to 4, or 0 if nothing was acknowledged;
  * QUIC_WIRE_ERR_NUMBER where that is above |number|, or 2^31 or more below it.
  */
 QUIC_WIRE_API int quic_wire_number_len(uint64_t number, uint64_t largest_acked);
 
-/* The whole number of which the low |numberlen| bytes are written, by the one
+/** The whole number of which the low |numberlen| bytes are written, by the one
  * that is |expected| next (RFC 9000, appendix A.3); UINT64_MAX where
  * |numberlen| isn't 1 to 4, |written| takes more bytes, or |expected| is 2^62
  * or more.  Where |expected| is at most 2^(8 * numberlen - 1) below 2^62 the
@@ -984,12 +984,12 @@ QUIC_WIRE_API uint64_t quic_wire_number_expand(uint64_t written,
                                                uint32_t numberlen,
                                                uint64_t expected);
 
-/* Reads a number of variable length at the front of |bytes|.  Returns how many
+/** Reads a number of variable length at the front of |bytes|.  Returns how many
  * bytes it has, or 0 where they end within it. */
 QUIC_WIRE_API size_t quic_wire_varint_read(const uint8_t *bytes, size_t len,
                                            uint64_t *value);
 
-/* Writes a number of variable length at the front of |dest|, in |width| bytes,
+/** Writes a number of variable length at the front of |dest|, in |width| bytes,
  * 1, 2, 4 or 8, or as few as it takes where that is 0.  Returns how many bytes,
  * or 0 where it doesn't fit, and then |dest| stays. */
 QUIC_WIRE_API size_t quic_wire_varint_write(uint64_t value, uint32_t width,
@@ -997,12 +997,12 @@ QUIC_WIRE_API size_t quic_wire_varint_write(uint64_t value, uint32_t width,
 
 /* ---- Headers of packets, written */
 
-/* How many bytes a header has whose token has |tokenlen|; 0 for NULL. */
+/** How many bytes a header has whose token has |tokenlen|; 0 for NULL. */
 QUIC_WIRE_API size_t quic_wire_header_len(const quic_wire_header_fields *fields,
                                           size_t dcidlen, size_t scidlen,
                                           size_t tokenlen);
 
-/*
+/**
  * Writes the header of a packet at the front of |dest|, with no protection on
  * it: what |fields| says, with the receiver's id |dcid|, the sender's id |scid|
  * and the |token|.  The length that an Initial, 0-RTT or Handshake packet has
@@ -1037,7 +1037,7 @@ QUIC_WIRE_API int64_t quic_wire_header_write(
     const uint8_t *scid, size_t scidlen, const uint8_t *token, size_t tokenlen,
     uint8_t *dest, size_t destlen);
 
-/*
+/**
  * Writes a version negotiation at the front of |dest|, all of it: the first
  * byte, version 0, the ids, which may have 255 bytes (RFC 8999, section 6), and
  * the versions.  |dcid| is the source id of the packet that it answers, |scid|
@@ -1058,7 +1058,7 @@ quic_wire_negotiation_write(uint8_t flags, const uint8_t *dcid, size_t dcidlen,
                             const uint32_t *versions, size_t nversions,
                             uint8_t *dest, size_t destlen, size_t *written);
 
-/*
+/**
  * Sets the length in the header of a packet of |packetlen| bytes whose number
  * begins at |place|, to what there is from there on.  |lengthlen| is that of
  * the header.  Returns 0, or QUIC_WIRE_ERR_LENGTH where that is neither 2 nor
@@ -1070,7 +1070,7 @@ QUIC_WIRE_API int quic_wire_set_len(uint8_t *packet, size_t packetlen,
 
 /* ---- Transport parameters, read and written, by the |side| that calls. */
 
-/*
+/**
  * Reads a list of transport parameters to its end (RFC 9000, sections 7.4 and
  * 18), as QUIC_WIRE_SIDE_CLIENT one that a server sent, as
  * QUIC_WIRE_SIDE_SERVER one that a client sent, which must lack what a server
@@ -1092,7 +1092,7 @@ QUIC_WIRE_CHECKED QUIC_WIRE_API int
 quic_wire_params_read(uint32_t side, const uint8_t *list, size_t listlen,
                       quic_wire_params *params, size_t size);
 
-/*
+/**
  * Writes the shortest list of these parameters, as QUIC_WIRE_SIDE_CLIENT or as
  * QUIC_WIRE_SIDE_SERVER sends it: those numbers that differ from their
  * defaults, and what else is there.
@@ -1111,7 +1111,7 @@ QUIC_WIRE_API int quic_wire_params_write(uint32_t side,
                                          size_t size, uint8_t *dest,
                                          size_t destlen, size_t *written);
 
-/*
+/**
  * The same with further entries, in an order.  |further| is a list of entries
  * that quic_wire_params has no fields for, none of them twice, at most 235, as
  * quic_wire_param_write writes them one after the other.  The parameters of
@@ -1141,7 +1141,7 @@ QUIC_WIRE_API int quic_wire_params_write_with(
     const uint8_t *further, size_t furtherlen, const uint8_t *order,
     size_t orderlen, uint8_t *dest, size_t destlen, size_t *written);
 
-/*
+/**
  * Reads the entry at the front of a |list| of transport parameters, be it one
  * that quic_wire_params has a field for or another.  Whether the value is one
  * of its kind isn't looked at, nor whether an entry is there twice.
@@ -1154,7 +1154,7 @@ QUIC_WIRE_API int quic_wire_params_write_with(
 QUIC_WIRE_CHECKED QUIC_WIRE_API int64_t quic_wire_param_read(
     const uint8_t *list, size_t listlen, quic_wire_param *param);
 
-/*
+/**
  * Writes an entry of a list at the front of |dest| in its least widths.
  *
  * Returns 0 and how many bytes were written; QUIC_WIRE_ERR_NOBUF and how many
@@ -1167,7 +1167,7 @@ QUIC_WIRE_API int quic_wire_param_write(uint64_t id, const uint8_t *value,
                                         size_t valuelen, uint8_t *dest,
                                         size_t destlen, size_t *written);
 
-/* Whether quic_wire_params has the parameter of this number: 1 or 0. */
+/** Whether quic_wire_params has the parameter of this number: 1 or 0. */
 QUIC_WIRE_API int quic_wire_param_is_known(uint64_t id);
 
 /* ---- Sets of packet numbers, and ACKs of them.  A set is the first |count|
@@ -1175,7 +1175,7 @@ QUIC_WIRE_API int quic_wire_param_is_known(uint64_t id);
  * none touching the next.  A set of no entries is empty.  Whether the entries
  * are such runs is looked at with each call. */
 
-/*
+/**
  * Puts the numbers from |start| to below |end| into the set; an empty or
  * reversed range puts in nothing.  Returns QUIC_WIRE_CHANGED, and in |*count|
  * how many entries the set then has; 0 where all of them were in it;
@@ -1188,7 +1188,7 @@ QUIC_WIRE_API int quic_wire_set_insert(quic_wire_range *runs, size_t room,
                                        size_t *count, uint64_t start,
                                        uint64_t end);
 
-/*
+/**
  * Takes the numbers from |start| to below |end| out of the set.  Returns what
  * quic_wire_set_insert does: 0 where none of them was in it, and
  * QUIC_WIRE_ERR_NOBUF where a run falls in two and no entry is left.
@@ -1197,14 +1197,14 @@ QUIC_WIRE_API int quic_wire_set_remove(quic_wire_range *runs, size_t room,
                                        size_t *count, uint64_t start,
                                        uint64_t end);
 
-/*
+/**
  * Returns 1 where |number| is in the set of the |count| runs, 0 where it isn't,
  * and QUIC_WIRE_ERR_RANGES where they are no such runs.
  */
 QUIC_WIRE_API int quic_wire_set_contains(const quic_wire_range *runs,
                                          size_t count, uint64_t number);
 
-/*
+/**
  * Writes an ACK (RFC 9000, section 19.3) of the set of the |count| runs in its
  * shortest form at the front of |dest|.  |counts| has three numbers, of packets
  * marked ECT(0), ECT(1) and ECN-CE, or is NULL, and then the ACK has none.
@@ -1223,11 +1223,11 @@ QUIC_WIRE_API int quic_wire_ack_write(uint64_t delay,
 
 /* ---- Texts */
 
-/* What a result below 0 says, in English; of others "ok".  To that of
+/** What a result below 0 says, in English; of others "ok".  To that of
  * QUIC_WIRE_ERR_PACKET_VERSION belongs the version's number. */
 extern const char *quic_wire_strerror(int result);
 
-/* The name of a frame type, which is as on the wire, or NULL. */
+/** The name of a frame type, which is as on the wire, or NULL. */
 extern const char *quic_wire_type_name(uint64_t type);
 
 #ifdef QUIC_WIRE_INLINE

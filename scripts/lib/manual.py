@@ -11,7 +11,7 @@ import sys
 
 Call = collections.namedtuple("Call", "name declaration text")
 SECTION = re.compile(r"/\* ---- (.*?) *\*/", re.S)
-DECLARED = r"(?:QUIC_WIRE_API|extern|static inline) ([^;{]*\))"
+DECLARED = r"(?:QUIC_WIRE_CHECKED\s+)?(?:QUIC_WIRE_API|extern|static inline)\s+([^;{]*\))"
 # A comment, and the calls that are declared after it.
 CALLS = re.compile(rf"/\*((?:(?!\*/).)*)\*/\n((?:{DECLARED}[;{{ ]+\n)+)", re.S)
 

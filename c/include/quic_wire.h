@@ -984,6 +984,10 @@ QUIC_WIRE_API uint64_t quic_wire_number_expand(uint64_t written,
                                                uint32_t numberlen,
                                                uint64_t expected);
 
+/** How many bytes the shortest encoding of a number of variable length has: 1, 2,
+ * 4 or 8 (RFC 9000, section 16); 0 where it is 2^62 or more. */
+QUIC_WIRE_API size_t quic_wire_varint_len(uint64_t value);
+
 /** Reads a number of variable length at the front of |bytes|.  Returns how many
  * bytes it has, or 0 where they end within it. */
 QUIC_WIRE_API size_t quic_wire_varint_read(const uint8_t *bytes, size_t len,

@@ -74,6 +74,7 @@ int32_t quic_wire_negotiation_write_(uint8_t, const uint8_t *, size_t,
 int32_t quic_wire_set_len_(uint8_t *, size_t, size_t, uint32_t);
 int32_t quic_wire_number_len_(uint64_t, uint64_t);
 uint64_t quic_wire_number_expand_(uint64_t, uint32_t, uint64_t);
+size_t quic_wire_varint_len_(uint64_t);
 size_t quic_wire_varint_read_(const uint8_t *, size_t, uint64_t *);
 size_t quic_wire_varint_write_(uint64_t, uint32_t, uint8_t *, size_t);
 int32_t quic_wire_params_read_(uint32_t, const uint8_t *, size_t,
@@ -452,6 +453,10 @@ QUIC_WIRE_API uint64_t quic_wire_number_expand(uint64_t written,
                                                uint32_t numberlen,
                                                uint64_t expected) {
   return quic_wire_number_expand_(written, numberlen, expected);
+}
+
+QUIC_WIRE_API size_t quic_wire_varint_len(uint64_t value) {
+  return quic_wire_varint_len_(value);
 }
 
 QUIC_WIRE_API size_t quic_wire_varint_read(const uint8_t *bytes, size_t len,

@@ -20,6 +20,7 @@ void varint_any(void) {
   size_t len, want = width ? width : least;
   if (n >> 62 || want < least || want > room || (want & (want - 1)))
     want = 0;
+  WANT(quic_wire_varint_len(n) == (n >> 62 ? 0 : least));
   len = quic_wire_varint_write(n, width, dest, room);
   WANT(len == want);
   if (len)

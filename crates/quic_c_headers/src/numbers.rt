@@ -28,6 +28,15 @@ pub extern "C" fn quic_wire_varint_read_(bytes: &[u8], value: &mut u64) -> usize
     }
 }
 
+/// How many bytes the shortest encoding of a number has: 1, 2, 4 or 8 (RFC 9000, section 16); 0 exactly if the number is
+/// 2^62 or more, which has no encoding.
+#[unsafe(no_mangle)]
+pub extern "C" fn quic_wire_varint_len_(value: u64) -> usize
+    ensures { (2 ^ 62 ≤ value) × (result ≡ 0) ⊎ (value < 2 ^ 62) × (result ≡ size value) }
+{
+    if value >= 1 << 62 { 0 } else { var_size(value) }
+}
+
 // Stores a number in a width that is enough for it.
 #[inline(always)]
 #[tactic(auto, unfolding(quic_base::specs::Number::bytes_of, quic_base::specs::Varint::size))]

@@ -152,6 +152,7 @@ extern "C" {
 // Those that this crate has no use for, for `c_alone`.
 #[cfg(test)]
 extern "C" {
+    pub fn quic_wire_varint_len_(value: u64) -> usize;
     pub fn quic_wire_frames_init_(frames: *mut Frames, payload: *const u8, len: usize) -> i32;
     pub fn quic_wire_frames_init_strict_(frames: *mut Frames, payload: *const u8, len: usize) -> i32;
     pub fn quic_wire_frames_first_(

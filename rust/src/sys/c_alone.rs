@@ -366,3 +366,14 @@ fn a_length_is_set_where_it_fits() {
         assert!(packet.iter().all(|byte| *byte == 0xa5));
     }
 }
+
+/// `quic_wire_varint_len_` gives the length of the shortest encoding, 0 where there is none.
+#[test]
+fn a_number_is_as_long_as_its_encoding() {
+    rounds(|random| {
+        let number = random.number();
+        // SAFETY: a number alone goes in and out, and any serves.
+        let len = unsafe { c::quic_wire_varint_len_(number) };
+        assert_eq!(len, varint::len(number).unwrap_or(0), "of {number}");
+    });
+}

@@ -984,6 +984,26 @@ QUIC_WIRE_API uint64_t quic_wire_number_expand(uint64_t written,
                                                uint32_t numberlen,
                                                uint64_t expected);
 
+/** Reads what is written of a packet number in |numberlen| bytes at the front of
+ * |bytes|, the highest first (RFC 9000, section 17.1).  Returns |numberlen|;
+ * QUIC_WIRE_ERR_LENGTH where that isn't 1 to 4, else QUIC_WIRE_ERR_PACKET_END
+ * where they are fewer; QUIC_WIRE_ERR_ARGUMENT for NULL.  |*written| changes
+ * only with the first. */
+QUIC_WIRE_CHECKED QUIC_WIRE_API int quic_wire_number_read(const uint8_t *bytes,
+                                                          size_t len,
+                                                          uint32_t numberlen,
+                                                          uint64_t *written);
+
+/** Writes the low |numberlen| bytes of a packet number at the front of |dest|,
+ * the highest of them first.  Returns |numberlen|; QUIC_WIRE_ERR_LENGTH where
+ * that isn't 1 to 4, else QUIC_WIRE_ERR_NOBUF where |dest| has fewer;
+ * QUIC_WIRE_ERR_ARGUMENT for NULL.  Bytes of |dest| after those written don't
+ * change, and none with an error. */
+QUIC_WIRE_CHECKED QUIC_WIRE_API int quic_wire_number_write(uint64_t number,
+                                                           uint32_t numberlen,
+                                                           uint8_t *dest,
+                                                           size_t destlen);
+
 /** How many bytes the shortest encoding of a number of variable length has: 1, 2,
  * 4 or 8 (RFC 9000, section 16); 0 where it is 2^62 or more. */
 QUIC_WIRE_API size_t quic_wire_varint_len(uint64_t value);

@@ -74,6 +74,8 @@ int32_t quic_wire_negotiation_write_(uint8_t, const uint8_t *, size_t,
 int32_t quic_wire_set_len_(uint8_t *, size_t, size_t, uint32_t);
 int32_t quic_wire_number_len_(uint64_t, uint64_t);
 uint64_t quic_wire_number_expand_(uint64_t, uint32_t, uint64_t);
+int32_t quic_wire_number_read_(const uint8_t *, size_t, uint32_t, uint64_t *);
+int32_t quic_wire_number_write_(uint64_t, uint32_t, uint8_t *, size_t);
 size_t quic_wire_varint_len_(uint64_t);
 size_t quic_wire_varint_read_(const uint8_t *, size_t, uint64_t *);
 size_t quic_wire_varint_write_(uint64_t, uint32_t, uint8_t *, size_t);
@@ -453,6 +455,20 @@ QUIC_WIRE_API uint64_t quic_wire_number_expand(uint64_t written,
                                                uint32_t numberlen,
                                                uint64_t expected) {
   return quic_wire_number_expand_(written, numberlen, expected);
+}
+
+QUIC_WIRE_API int quic_wire_number_read(const uint8_t *bytes, size_t len,
+                                        uint32_t numberlen, uint64_t *written) {
+  if (!bytes || !written)
+    return QUIC_WIRE_ERR_ARGUMENT;
+  return quic_wire_number_read_(bytes, len, numberlen, written);
+}
+
+QUIC_WIRE_API int quic_wire_number_write(uint64_t number, uint32_t numberlen,
+                                         uint8_t *dest, size_t destlen) {
+  if (!dest)
+    return QUIC_WIRE_ERR_ARGUMENT;
+  return quic_wire_number_write_(number, numberlen, dest, destlen);
 }
 
 QUIC_WIRE_API size_t quic_wire_varint_len(uint64_t value) {

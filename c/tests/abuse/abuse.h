@@ -124,6 +124,7 @@ extern void numbers_nulls(void);
 extern void varint_any(void);
 extern void number_len_any(void);
 extern void number_expand_any(void);
+extern void number_bytes_any(void);
 
 /* parameters.c: transport parameters. */
 extern void params_nulls(void);

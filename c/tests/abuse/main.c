@@ -85,6 +85,7 @@ static void rubbish(int rounds) {
     extensions += extension_any(bytes, len);
     number_len_any();
     number_expand_any();
+    number_bytes_any();
     negotiation_any();
     varint_any();
     place_any(bytes, len);

@@ -7,6 +7,9 @@ void numbers_nulls(void) {
   WANT(quic_wire_varint_read(NULL, 1, &number) == 0 &&
        quic_wire_varint_read(id, 1, NULL) == 0);
   WANT(quic_wire_varint_write(1, 0, NULL, 1) == 0);
+  WANT(quic_wire_number_read(NULL, 1, 1, &number) == INVALID &&
+       quic_wire_number_read(id, 1, 1, NULL) == INVALID && number == 77);
+  WANT(quic_wire_number_write(1, 1, NULL, 1) == INVALID);
 }
 
 /* Numbers of variable length: each that is written is read, in its least width
@@ -41,6 +44,27 @@ void number_len_any(void) {
                     : twice < 65536    ? 2
                     : twice < 16777216 ? 3
                                        : 4));
+}
+
+/* The low bytes of a number are written, and read back, where there is room. */
+void number_bytes_any(void) {
+  const uint64_t number = edge();
+  const uint32_t len = (uint32_t)(any() % 7);
+  const size_t room = any() % 7;
+  uint8_t dest[8], k;
+  uint64_t written = 77;
+  int want = len < 1 || len > 4 ? QUIC_WIRE_ERR_LENGTH
+             : room < len       ? QUIC_WIRE_ERR_NOBUF
+                                : (int)len;
+  memset(dest, 0xa5, sizeof dest);
+  WANT(quic_wire_number_write(number, len, dest, room) == want);
+  for (k = 0; k < sizeof dest; k++)
+    WANT(dest[k] == (want > 0 && k < len
+                         ? (uint8_t)(number >> (8 * (len - 1 - k)))
+                         : 0xa5));
+  want = want == QUIC_WIRE_ERR_NOBUF ? QUIC_WIRE_ERR_PACKET_END : want;
+  WANT(quic_wire_number_read(dest, room, len, &written) == want);
+  WANT(written == (want > 0 ? number % (1ull << (8 * len)) : 77));
 }
 
 /* Numbers of any words are expanded as RFC 9000, appendix A.3, has it, without

@@ -22,6 +22,10 @@ pub record CanEncode (value width room n : ℕ) : Type 0 where
   pub enough : size value ≤ n
   pub within : n ≤ room
 
+-- how many bytes a packet number can have (RFC 9000, section 17.1)
+abbrev pub IsNumberLen : ℕ → Type 0
+IsNumberLen n = (1 ≤ n) × (n ≤ 4)
+
 -- so many low bytes of a packet number can be expanded by the number that is expected
 pub record CanExpand (low count expected : ℕ) : Type 0 where
   pub some : 1 ≤ count

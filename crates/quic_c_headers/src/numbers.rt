@@ -1,14 +1,16 @@
 //! Numbers of variable length, and packet numbers.
-ghost use Rattle.std.specs.Prelude.{◌≡◌, ◌+◌, ◌-◌, ◌*◌, ◌%◌, ◌^◌, ◌<◌, ◌≤◌, ◌⊎◌, ◌↔◌, ◌++◌, ℕ, length, take, drop, pos};
+ghost use Rattle.std.specs.Prelude.{◌≡◌, ◌+◌, ◌-◌, ◌*◌, ◌%◌, ◌^◌, ◌<◌, ◌≤◌, ◌⊎◌, ◌↔◌, ◌++◌, List, ℕ, length, take, drop, pos};
 ghost use Rattle.quic_base.specs.Codec.{NoFront, Takes};
 ghost use Rattle.quic_base.specs.Varint.{Encodes, size};
-ghost use Rattle.quic_crypto.specs.PacketNumbers.{Expands, SizeFor};
-ghost use Rattle.quic_c_headers.specs.Numbers.{encoding_in, CanExpand, CanEncode, IsWidth};
+ghost use Rattle.quic_crypto.specs.PacketNumbers.{Expands, SizeFor, low_part};
+ghost use Rattle.quic_c_headers.specs.Numbers.{encoding_in, CanExpand, CanEncode, IsNumberLen, IsWidth};
+ghost use Rattle.quic_base.specs.Number.{IsNumber, bytes_of};
 ghost use Rattle.quic_results.specs.Results.{failed};
 
 use quic_base::coding::store_array;
 use quic_base::varint::{IN_EIGHT, IN_FOUR, IN_TWO, split_var, var_size};
 use quic_crypto::packet_number::PacketNumber;
+use quic_header_encode::fields::store_low;
 use quic_results::results::Failure;
 
 /// Reads the number at the front of the bytes (RFC 9000, section 16), and answers how many bytes it takes; 0 exactly if
@@ -94,6 +96,56 @@ pub extern "C" fn quic_wire_number_len_(number: u64, largest_acked: u64) -> i32
         return Failure::Number.number();
     }
     PacketNumber::new(number, largest_acked).len() as i32
+}
+
+// What is written of a packet number, as a number.
+#[inline(always)]
+fn low_part(written: PacketNumber) -> u64
+    ensures { result ≡ low_part written }
+{
+    match written {
+        PacketNumber::U8(low) => u64::from(low),
+        PacketNumber::U16(low) => u64::from(low),
+        PacketNumber::U24(low) | PacketNumber::U32(low) => u64::from(low),
+    }
+}
+
+/// Reads what is written of a packet number in `len` bytes at the front of the bytes, the highest first (RFC 9000, section
+/// 17.1), and returns `len`. It returns `Length` if `len` isn't 1 to 4, else `PacketEnd` if there are fewer bytes; then
+/// `number` doesn't change.
+#[unsafe(no_mangle)]
+pub extern "C" fn quic_wire_number_read_(bytes: &[u8], len: u32, number: &mut u64) -> i32
+    ensures { (result ≡ pos len) × IsNumberLen len × ((rest : List ℕ) × Takes (IsNumber len number.new) bytes.now rest)
+        ⊎ (number.new ≡ number.old) × ((result ≡ failed Failure.Length) × (IsNumberLen len → ⊥)
+        ⊎ (result ≡ failed Failure.PacketEnd) × IsNumberLen len × (length bytes.now < len)) }
+{
+    if len < 1 || len > 4 {
+        return Failure::Length.number();
+    }
+    let mut rest = bytes;
+    let Ok(written) = PacketNumber::decode(len as usize, &mut rest) else {
+        return Failure::PacketEnd.number();
+    };
+    *number = low_part(written);
+    len as i32
+}
+
+/// Writes the low `len` bytes of a packet number at the front of `dest`, the highest of them first (RFC 9000, section
+/// 17.1), and returns `len`; bytes after those don't change. It returns `Length` if `len` isn't 1 to 4, else `NoRoom` if
+/// `dest` has fewer bytes; then nothing changes.
+#[unsafe(no_mangle)]
+pub extern "C" fn quic_wire_number_write_(number: u64, len: u32, dest: &mut [u8]) -> i32
+    ensures { (result ≡ pos len) × IsNumberLen len × (dest.new ≡ bytes_of len number ++ drop len dest.old)
+        ⊎ (dest.new ≡ dest.old) × ((result ≡ failed Failure.Length) × (IsNumberLen len → ⊥)
+        ⊎ (result ≡ failed Failure.NoRoom) × IsNumberLen len × (length dest.old < len)) }
+{
+    if len < 1 || len > 4 {
+        return Failure::Length.number();
+    }
+    if dest.len() < len as usize {
+        return Failure::NoRoom.number();
+    }
+    store_low(dest, 0, number, len as usize) as i32
 }
 
 /// The whole packet number whose low `count` bytes, 1 to 4, are `low`, found from the one that is expected next (RFC

@@ -377,3 +377,27 @@ fn a_number_is_as_long_as_its_encoding() {
         assert_eq!(len, varint::len(number).unwrap_or(0), "of {number}");
     });
 }
+
+/// `quic_wire_number_write_` writes the low bytes of a packet number, and `quic_wire_number_read_` reads them.
+#[test]
+fn the_bytes_of_a_packet_number_are_read_back() {
+    rounds(|random| {
+        let (number, len, room) = (random.number(), random.below(7), random.below(7));
+        let (mut out, mut read) = ([0xa5; 7], 77);
+        // SAFETY: `out` has seven bytes, `room` of which the call may write, and then read.
+        let (written, found) = unsafe {
+            let written = c::quic_wire_number_write_(number, len as u32, out.as_mut_ptr(), room);
+            (written, c::quic_wire_number_read_(out.as_ptr(), room, len as u32, &mut read))
+        };
+        let bytes = number.to_be_bytes();
+        let (wanted, low) = match len {
+            1..=4 if len <= room => ((len as i32, len as i32), &bytes[8 - len..]),
+            1..=4 => ((NO_ROOM, super::PACKET_END), &bytes[..0]),
+            _ => ((NO_LENGTH, NO_LENGTH), &bytes[..0]),
+        };
+        assert_eq!((written, found), wanted, "{len} bytes in room for {room}");
+        assert!(out.starts_with(low) && out[low.len()..].iter().all(|byte| *byte == 0xa5));
+        let value = low.iter().fold(0, |value, byte| value << 8 | u64::from(*byte));
+        assert_eq!(read, if found > 0 { value } else { 77 });
+    });
+}

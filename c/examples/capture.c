@@ -184,8 +184,10 @@ static void print_frame(const uint8_t *payload, size_t len, const quic_wire_fram
     printf(" error %" PRIx64 " frame %" PRIx64 " reason %zu", frame->close.error_code,
            frame->close.frame_type, frame->datalen);
     break;
-  default: printf(": not allowed in an Initial packet");
+  default: break;
   }
+  if (!(quic_wire_frame_rules(frame->kind) & QUIC_WIRE_RULE_IN(QUIC_WIRE_PACKET_INITIAL)))
+    printf(": not allowed in an Initial packet");
   putchar('\n');
 }
 

@@ -265,6 +265,15 @@ typedef enum quic_wire_frame_kind {
 #define QUIC_WIRE_FLAG_MORE 4 /* ACK: of quic_wire_frame_read, which had no
                                  room for all ranges */
 
+/** What RFC 9000, section 12.4, table 3 says of a kind of frame, in the bits of
+ * quic_wire_frame_rules: in which kinds of packets it may be, as
+ * QUIC_WIRE_RULE_IN(QUIC_WIRE_PACKET_1RTT) and so on, and more. */
+#define QUIC_WIRE_RULE_IN(packet) (1u << (packet))
+#define QUIC_WIRE_RULE_NOT_ELICITING 0x100u /* N: it elicits no ACK */
+#define QUIC_WIRE_RULE_NOT_COUNTED 0x200u /* C: it isn't counted in flight */
+#define QUIC_WIRE_RULE_PROBING 0x400u     /* P: it probes a path */
+#define QUIC_WIRE_RULE_FLOW_CONTROLLED 0x800u /* F */
+
 /** The value of a type where there is none. */
 #define QUIC_WIRE_NO_TYPE UINT64_MAX
 
@@ -729,6 +738,12 @@ quic_wire_reset_token(const uint8_t *payload, size_t payloadlen,
 QUIC_WIRE_API const uint8_t *quic_wire_path_data(const uint8_t *payload,
                                                  size_t payloadlen,
                                                  const quic_wire_frame *frame);
+
+/** What RFC 9000 says of a |kind| of frame, QUIC_WIRE_RULE_..; 0 of what is no
+ * kind.  DATAGRAM, ACK_FREQUENCY and IMMEDIATE_ACK may be in 0-RTT and 1-RTT
+ * packets (RFC 9221, section 4; as quinn-proto takes them).  A frame in another
+ * packet is a PROTOCOL_VIOLATION, which is for the caller to see. */
+QUIC_WIRE_API uint32_t quic_wire_frame_rules(uint32_t kind);
 
 /** After QUIC_WIRE_ERR_FRAME_...: the last type that was read, the broken
  * frame's own included; QUIC_WIRE_NO_TYPE if none was.  It may be any number

@@ -15,6 +15,7 @@
 
 /* The functions of the proved library.  Their pointers must not be NULL. */
 uint32_t quic_wire_close_code_(int32_t);
+uint32_t quic_wire_frame_rules_(uint32_t);
 int32_t quic_wire_frames_init_(quic_wire_frame_iter *, const uint8_t *, size_t);
 int32_t quic_wire_frames_init_strict_(quic_wire_frame_iter *, const uint8_t *,
                                       size_t);
@@ -105,6 +106,10 @@ int32_t quic_wire_ack_write_(uint64_t, const quic_wire_range *, size_t, size_t,
 static inline void *quic_wire_nothing_(void) {
   static uint64_t nothing;
   return &nothing;
+}
+
+QUIC_WIRE_API uint32_t quic_wire_frame_rules(uint32_t kind) {
+  return quic_wire_frame_rules_(kind);
 }
 
 QUIC_WIRE_API uint32_t quic_wire_close_code(int result) {

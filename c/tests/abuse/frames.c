@@ -54,6 +54,12 @@ void frames_nulls(void) {
   WANT(quic_wire_padding_count(NULL, 1, NULL) == 0 &&
        !quic_wire_reset_token(NULL, 1, NULL) &&
        !quic_wire_path_data(NULL, 1, NULL));
+  WANT(quic_wire_frame_rules(QUIC_WIRE_FRAME_PADDING) ==
+       (QUIC_WIRE_RULE_IN(QUIC_WIRE_PACKET_INITIAL) |
+        QUIC_WIRE_RULE_IN(QUIC_WIRE_PACKET_0RTT) |
+        QUIC_WIRE_RULE_IN(QUIC_WIRE_PACKET_HANDSHAKE) |
+        QUIC_WIRE_RULE_IN(QUIC_WIRE_PACKET_1RTT) |
+        QUIC_WIRE_RULE_NOT_ELICITING | QUIC_WIRE_RULE_PROBING));
 }
 
 /* The eight bytes of a frame that was read, as its number says them. */

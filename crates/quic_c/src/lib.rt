@@ -10,6 +10,7 @@ mod fill;
 mod fill_ranges;
 mod frames;
 mod front;
+mod rules;
 mod show;
 mod words;
 mod write;

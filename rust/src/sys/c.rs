@@ -152,6 +152,7 @@ extern "C" {
 // Those that this crate has no use for, for `c_alone`.
 #[cfg(test)]
 extern "C" {
+    pub fn quic_wire_frame_rules_(kind: u32) -> u32;
     pub fn quic_wire_number_read_(bytes: *const u8, len: usize, number_len: u32, written: *mut u64) -> i32;
     pub fn quic_wire_number_write_(number: u64, number_len: u32, out: *mut u8, out_len: usize) -> i32;
     pub fn quic_wire_varint_len_(value: u64) -> usize;

@@ -401,3 +401,43 @@ fn the_bytes_of_a_packet_number_are_read_back() {
         assert_eq!(read, if found > 0 { value } else { 77 });
     });
 }
+
+/// `quic_wire_frame_rules_` has the rows of RFC 9000, section 12.4, table 3, by the letters that stand there.
+#[test]
+fn a_kind_of_frame_has_its_row() {
+    let rows = [
+        "00 IH01 NP",
+        "01 IH01 ",
+        "02 IH_1 NC",
+        "04 __01 ",
+        "05 __01 ",
+        "06 IH_1 ",
+        "07 ___1 ",
+        "08 __01 F",
+        "10 __01 ",
+        "11 __01 ",
+        "12 __01 ",
+        "13 __01 ",
+        "14 __01 ",
+        "15 __01 ",
+        "16 __01 ",
+        "17 __01 ",
+        "18 __01 P",
+        "19 __01 ",
+        "1a __01 P",
+        "1b ___1 P",
+        "1c IH01 N",
+        "1d __01 N",
+        "1e ___1 ",
+        "1f __01 ",
+        "30 __01 ",
+        "af __01 ",
+    ];
+    let bit = |letter: char| "I0H.1...NCPF".find(letter).map_or(0, |place| 1 << place);
+    let row = |kind: u32| rows.iter().find(|row| row[..2] == std::format!("{kind:02x}"));
+    for kind in (0..0x1_0000).chain([u32::MAX, 1 << 31]) {
+        let wanted: u32 = row(kind).map_or(0, |row| row[3..].chars().filter(|c| *c != '.').map(bit).sum());
+        // SAFETY: a number alone goes in and out, and any serves.
+        assert_eq!(unsafe { c::quic_wire_frame_rules_(kind) }, wanted, "of {kind:x}");
+    }
+}

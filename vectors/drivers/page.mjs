@@ -132,7 +132,7 @@ function parameters(library, bytes, context) {
   const out = {};
   for (const [name, value] of Object.entries(record)) {
     const isThere = !(name in PRESENT) || record.present & PRESENT[name];
-    if (!isThere || name === "present" || name === "reason" || name.endsWith("_cidlen")) continue;
+    if (!isThere || name === "present" || name === "reserved" || name.endsWith("_cidlen")) continue;
     const length = record[`${name}len`];
     out[PARAMETERS[name] ?? name] = value instanceof Uint8Array ? hex(value.subarray(0, length)) : `${value}`;
   }

@@ -1,5 +1,5 @@
 //! Fields of frames, other than ACK blocks, read from the front of a slice.
-ghost use Rattle.std.specs.Prelude.{◌≡◌, ◌<◌, ◌≤◌, List, [], ◌∷◌, length, IfOk};
+ghost use Rattle.std.specs.Prelude.{◌≡◌, ◌<◌, ◌≤◌, ◌^◌, List, [], ◌∷◌, length, IfOk};
 ghost use Rattle.quic_frame_fields.specs.Reading.{Gives, varint_at, bytes_at, counted_at, id_at, eight_at, field_at};
 ghost use Rattle.quic_frame_fields.specs.Field.{Value, Number, Bytes};
 ghost use Rattle.quic_frame_fields.specs.Table.{offset_field, data_field};
@@ -22,13 +22,23 @@ fn bytes_of(n: u64, bytes: &[u8]) -> Result<(&[u8], &[u8]), Fault>
     Ok(bytes.split_at(n as usize))
 }
 
+/// A number of any width. It is read by a call, so that reading a frame stays small enough to go into its callers.
+#[inline]
+#[tactic(auto, unfolding(quic_frame_fields::specs::Reading::varint_at))]
+pub(super) fn number(bytes: &[u8]) -> Result<(u64, &[u8]), Fault>
+    ensures gives { Gives (λ x. (x.0, x.1.now)) result (varint_at bytes.now) }
+    ensures bound { IfOk result (λ x. x.0 < 2 ^ 62) }
+{
+    Ok(split_var_by_word(bytes)?)
+}
+
 /// A number and that many bytes, and what follows them.
 #[inline]
-#[tactic(auto, unfolding(quic_frame_fields::specs::Reading::counted_at, quic_frame_fields::specs::Reading::varint_at))]
+#[tactic(auto, unfolding(quic_frame_fields::specs::Reading::counted_at))]
 pub(super) fn counted(bytes: &[u8]) -> Result<(&[u8], &[u8]), Fault>
     ensures { Gives (λ x. (x.0.now, x.1.now)) result (counted_at bytes.now) }
 {
-    let (n, rest) = split_var_by_word(bytes)?;
+    let (n, rest) = number(bytes)?;
     bytes_of(n, rest)
 }
 

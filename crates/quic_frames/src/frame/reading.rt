@@ -95,12 +95,12 @@ fn read_stop_sending(bytes: &[u8]) -> Result<(Frame<'_>, &[u8]), Fault>
     }
 }
 
-#[tactic(auto, unfolding(quic_frame_fields::specs::Reading::row_at, quic_frame_fields::specs::Reading::varint_at))]
+#[tactic(auto, unfolding(quic_frame_fields::specs::Reading::row_at))]
 #[inline(always)]
 fn read_crypto(bytes: &[u8]) -> Result<(Frame<'_>, &[u8]), Fault>
     ensures { GivesFrame (λ rest. rest.now) bytes.now result (row_at table.crypto_row bytes.now) }
 {
-    let (offset, rest) = split_var_by_word(bytes)?;
+    let (offset, rest) = field::number(bytes)?;
     let (bytes, rest) = field::counted(rest)?;
     Ok((Frame::Crypto(Crypto { offset, bytes }), rest))
 }
@@ -139,16 +139,16 @@ fn read_stream(
 
 // The limits of a peer, and what tells that one of them was reached. All begin with a number, which is read by one
 // body and by a call, so that reading a frame stays small enough to go into its callers.
-#[tactic(auto, unfolding(quic_frame_fields::specs::Reading::frame_at, quic_frame_fields::specs::Reading::row_at, quic_frame_fields::specs::Reading::varint_at))]
+#[tactic(auto, unfolding(quic_frame_fields::specs::Reading::frame_at, quic_frame_fields::specs::Reading::row_at))]
 #[inline(always)]
 fn read_limit(ty: u64, bytes: &[u8]) -> Result<(Frame<'_>, &[u8]), Fault>
     requires limit { (0x10 ≤ ty) × (ty ≤ 0x17) }
     ensures { GivesFrame (λ rest. rest.now) bytes.now result (frame_at ty bytes.now) }
 {
-    let (first, rest) = split_var_by_word(bytes)?;
+    let (first, rest) = field::number(bytes)?;
     let number = VarInt::from_u64_unchecked(first);
     if ty == 0x11 || ty == 0x15 {
-        let (offset, rest) = split_var_by_word(rest)?;
+        let (offset, rest) = field::number(rest)?;
         let id = StreamId::from(number);
         if ty == 0x11 {
             return Ok((Frame::MaxStreamData { id, offset }, rest));
@@ -208,13 +208,13 @@ fn read_new_connection_id(bytes: &[u8]) -> Result<(Frame<'_>, &[u8]), Fault>
     }
 }
 
-#[tactic(auto, unfolding(quic_frame_fields::specs::Reading::row_at, quic_frame_fields::specs::Reading::varint_at))]
+#[tactic(auto, unfolding(quic_frame_fields::specs::Reading::row_at))]
 #[inline(always)]
 fn read_retire_connection_id(bytes: &[u8]) -> Result<(Frame<'_>, &[u8]), Fault>
     ensures { GivesFrame (λ rest. rest.now) bytes.now result
         (row_at table.retire_connection_id_row bytes.now) }
 {
-    let (sequence, rest) = split_var_by_word(bytes)?;
+    let (sequence, rest) = field::number(bytes)?;
     Ok((Frame::RetireConnectionId { sequence }, rest))
 }
 

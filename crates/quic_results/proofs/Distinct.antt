@@ -22,12 +22,15 @@ back (negsuc n) =
     else if n == 21 then Err failure.FrameType
     else if n == 22 then Err failure.FrameMalformed
     else if n == 23 then Err failure.FrameLongType
+    else if n == 24 then Err failure.FrameLimit
     else if n == 39 then Err failure.PacketEnd
+    else if n == 40 then Err failure.PacketFixedBit
     else if n == 41 then Err failure.PacketSmall
     else if n == 42 then Err failure.PacketId
     else if n == 43 then Err failure.PacketToken
     else if n == 44 then Err failure.PacketVersion
     else if n == 45 then Err failure.PacketCut
+    else if n == 46 then Err failure.PacketRetry
     else if n == 59 then Err failure.ParametersMalformed
     else Err failure.ParametersIllegal
 
@@ -46,12 +49,15 @@ again (Err failure.FrameEnd) = refl
 again (Err failure.FrameType) = refl
 again (Err failure.FrameMalformed) = refl
 again (Err failure.FrameLongType) = refl
+again (Err failure.FrameLimit) = refl
 again (Err failure.PacketEnd) = refl
+again (Err failure.PacketFixedBit) = refl
 again (Err failure.PacketSmall) = refl
 again (Err failure.PacketId) = refl
 again (Err failure.PacketToken) = refl
 again (Err failure.PacketVersion) = refl
 again (Err failure.PacketCut) = refl
+again (Err failure.PacketRetry) = refl
 again (Err failure.ParametersMalformed) = refl
 again (Err failure.ParametersIllegal) = refl
 

@@ -19,12 +19,15 @@ number_of failure.FrameEnd = 21
 number_of failure.FrameType = 22
 number_of failure.FrameMalformed = 23
 number_of failure.FrameLongType = 24
+number_of failure.FrameLimit = 25
 number_of failure.PacketEnd = 40
+number_of failure.PacketFixedBit = 41
 number_of failure.PacketSmall = 42
 number_of failure.PacketId = 43
 number_of failure.PacketToken = 44
 number_of failure.PacketVersion = 45
 number_of failure.PacketCut = 46
+number_of failure.PacketRetry = 47
 number_of failure.ParametersMalformed = 60
 number_of failure.ParametersIllegal = 61
 
@@ -42,6 +45,7 @@ abbrev pub frame_failure : List ℕ → Failure
 frame_failure reason = if pointwise nat_eq reason (codes "unexpected end") then failure.FrameEnd
     else if pointwise nat_eq reason (codes "invalid frame ID") then failure.FrameType
     else if pointwise nat_eq reason (codes "frame type not in shortest form") then failure.FrameLongType
+    else if pointwise nat_eq reason (codes "limit exceeded") then failure.FrameLimit
     else failure.FrameMalformed
 
 -- the code of the CONNECTION_CLOSE that a failure leads to (RFC 9000, section 20.1): an INTERNAL_ERROR for the caller's
@@ -62,6 +66,7 @@ code_of failure.FrameEnd = 0x07
 code_of failure.FrameType = 0x07
 code_of failure.FrameMalformed = 0x07
 code_of failure.FrameLongType = 0x0a
+code_of failure.FrameLimit = 0x07
 code_of failure.ParametersMalformed = 0x08
 code_of failure.ParametersIllegal = 0x08
 code_of _ = 0x00

@@ -31,8 +31,12 @@ pub enum Failure {
     FrameMalformed,
     /// The type of a frame isn't in its shortest encoding (RFC 9000, section 12.4).
     FrameLongType,
+    /// Data go past 2^62 - 1, or there are more than 2^60 streams (RFC 9000, sections 19.6, 19.8, 19.11 and 19.14).
+    FrameLimit,
     /// The bytes end within a packet's header.
     PacketEnd,
+    /// The fixed bit of a packet is clear (RFC 9000, section 17.2).
+    PacketFixedBit,
     /// The packet is too short for its id, or for its number and a sample.
     PacketSmall,
     /// A connection id isn't complete, or is too long.
@@ -43,6 +47,8 @@ pub enum Failure {
     PacketVersion,
     /// The bytes end within the packet, after its header.
     PacketCut,
+    /// A Retry has no token, or no room for its tag (RFC 9000, section 17.2.5).
+    PacketRetry,
     /// A transport parameter is cut off, has no value of its kind, or is there twice.
     ParametersMalformed,
     /// A transport parameter has a value out of range, or may not come from that side.
@@ -69,12 +75,15 @@ impl Failure {
             Failure::FrameType => -22,
             Failure::FrameMalformed => -23,
             Failure::FrameLongType => -24,
+            Failure::FrameLimit => -25,
             Failure::PacketEnd => -40,
+            Failure::PacketFixedBit => -41,
             Failure::PacketSmall => -42,
             Failure::PacketId => -43,
             Failure::PacketToken => -44,
             Failure::PacketVersion => -45,
             Failure::PacketCut => -46,
+            Failure::PacketRetry => -47,
             Failure::ParametersMalformed => -60,
             Failure::ParametersIllegal => -61,
         }
@@ -91,7 +100,7 @@ pub fn close_code(number: i32) -> u32
 {
     match number {
         -1 | -2 | -3 | -5 | -6 | -7 | -8 | -9 => 0x01,
-        -21 | -22 | -23 => 0x07,
+        -21 | -22 | -23 | -25 => 0x07,
         -20 | -24 => 0x0a,
         -60 | -61 => 0x08,
         _ => 0x00,
@@ -117,6 +126,7 @@ pub fn frame_failure(reason: &str) -> Failure
         "unexpected end" => Failure::FrameEnd,
         "invalid frame ID" => Failure::FrameType,
         "frame type not in shortest form" => Failure::FrameLongType,
+        "limit exceeded" => Failure::FrameLimit,
         _ => Failure::FrameMalformed,
     }
 }

@@ -34,8 +34,9 @@
  * The packets of a datagram are opened so, where make_mask and open_payload are
  * the caller's cipher:
  *
- *   while (len != 0 && quic_wire_header_read(packet, len, cidlen, versions,
- *                                            nversions, &header) > 0) {
+ *   while (len != 0 &&
+ *          quic_wire_header_read(packet, len, cidlen, versions, nversions,
+ *                                QUIC_WIRE_READ_RFC, &header) > 0) {
  *     const uint8_t *sample =
  *         quic_wire_sample(packet, header.end, header.header_end, 16);
  *     if (sample && header.kind != QUIC_WIRE_PACKET_RETRY &&
@@ -189,13 +190,13 @@ typedef enum quic_wire_result {
 
   /* A packet is dropped (section 5.2). */
   QUIC_WIRE_ERR_PACKET_END = -40,       /* the bytes end within the header */
-  QUIC_WIRE_ERR_PACKET_FIXED_BIT = -41, /* the fixed bit is clear: for callers
-                                           to say, no function returns it */
+  QUIC_WIRE_ERR_PACKET_FIXED_BIT = -41, /* the fixed bit is clear */
   QUIC_WIRE_ERR_PACKET_SMALL = -42,   /* too short for the id, or the number */
   QUIC_WIRE_ERR_PACKET_CID = -43,     /* an id isn't complete, or too long */
   QUIC_WIRE_ERR_PACKET_TOKEN = -44,   /* the bytes end within the token */
   QUIC_WIRE_ERR_PACKET_VERSION = -45, /* none of the versions given */
   QUIC_WIRE_ERR_PACKET_CUT = -46,     /* the bytes end after the header */
+  QUIC_WIRE_ERR_PACKET_RETRY = -47,   /* a Retry without a token or a tag */
 
   /* A list of transport parameters is refused (section 7.4). */
   QUIC_WIRE_ERR_PARAMS_MALFORMED = -60, /* cut off, no value of its kind, or
@@ -415,6 +416,16 @@ typedef enum quic_wire_packet_kind {
 #define QUIC_WIRE_BITS_RESERVED 0x18 /* must be 0, under protection */
 #define QUIC_WIRE_BITS_RESERVED_LONG 0x0c /* of Initial, 0-RTT and Handshake */
 
+/** Flags of quic_wire_header_read.  With 0 it reads as quinn-proto does, which
+ * asks for the fixed bit in each packet. */
+#define QUIC_WIRE_READ_GREASED_BIT 0x010 /* the fixed bit may be clear, as was
+                                            agreed (RFC 9287) */
+#define QUIC_WIRE_READ_ANY_VERSION 0x020 /* it isn't looked at in version
+                                            negotiations (section 17.2.1) and in
+                                            versions that aren't given */
+#define QUIC_WIRE_READ_WHOLE_RETRY 0x040 /* a Retry must have a token and a tag
+                                            of 16 bytes (section 17.2.5) */
+
 /** Versions of QUIC. */
 #define QUIC_WIRE_VERSION_1 0x00000001u /* RFC 9000 */
 #define QUIC_WIRE_VERSION_2 0x6b3343cfu /* RFC 9369 */
@@ -429,7 +440,9 @@ typedef struct quic_wire_header {
   uint32_t version;
   uint32_t header_end; /* where the number begins, if the packet has one */
   uint32_t end;      /* where the packet ends, or its bytes if it is cut off */
-  uint32_t token, tokenlen; /* the token of an Initial packet */
+  uint32_t token, tokenlen; /* the token of an Initial packet; of a Retry that
+                               has at least the 16 bytes of its tag, which come
+                               after its token and end the packet */
   uint64_t len; /* how many bytes an Initial, Handshake or 0-RTT packet has
                    from |header_end| on, as its header says */
 } QUIC_WIRE_ALIGNED quic_wire_header;
@@ -447,7 +460,8 @@ typedef struct quic_wire_header_fields {
                         QUIC_WIRE_BIT_SPIN and QUIC_WIRE_BIT_KEY_PHASE; of a
                         version negotiation each bit but the highest is turned */
   uint8_t numberlen; /* how many bytes of the number are written, 1 to 4 */
-  uint8_t lengthlen; /* how many bytes the packet's length has, 2 or 4 */
+  uint8_t lengthlen; /* how many bytes the packet's length has: 1, 2, 4 or 8.
+                        quic_wire_varint_len() of the length is the fewest */
   uint32_t version;
   uint64_t number; /* the packet number */
 } QUIC_WIRE_ALIGNED quic_wire_header_fields;
@@ -883,24 +897,23 @@ QUIC_WIRE_API int quic_wire_canonical(const uint8_t *payload, size_t payloadlen,
 /**
  * Reads the header of the packet that |bytes| begin with, whether the packet is
  * complete or ends after its header.  Ids of short headers have |cidlen| bytes;
- * of versions that are not among |versions| only the ids are read.  The fixed
- * bit isn't checked: who doesn't accept packets of RFC 9287 looks for it in
- * |header->first|, but not in a version negotiation, where clients ignore it
- * (RFC 9000, section 17.2.1).
+ * of versions that are not among |versions| only the ids are read.  |flags| are
+ * QUIC_WIRE_READ_GREASED_BIT, QUIC_WIRE_READ_ANY_VERSION and
+ * QUIC_WIRE_READ_WHOLE_RETRY; other bits aren't looked at.
  *
  * Returns where the packet ends, 1 or more, which is |header->end|: the next
  * one of the datagram begins there.  QUIC_WIRE_ERR_PACKET_CUT and the header,
  * of a packet that is cut off; QUIC_WIRE_ERR_PACKET_VERSION and of the header
  * its kind, its version and its ids, which may have up to 255 bytes; another
- * QUIC_WIRE_ERR_PACKET_.. where there is no header, or where a version
- * negotiation has longer ids than 20 bytes, which quic_wire_negotiation_read
- * reads; QUIC_WIRE_ERR_LENGTH where |cidlen| is above 20 or there are 2^32
+ * QUIC_WIRE_ERR_PACKET_.. where there is no header, where the flags ask for what
+ * it lacks, or where a version negotiation has longer ids than 20 bytes, which
+ * quic_wire_negotiation_read reads; QUIC_WIRE_ERR_LENGTH where |cidlen| is above 20 or there are 2^32
  * bytes or more; QUIC_WIRE_ERR_ARGUMENT for NULL.  |header| changes only with
  * the first three.
  */
 QUIC_WIRE_CHECKED QUIC_WIRE_API int64_t quic_wire_header_read(
     const uint8_t *bytes, size_t len, uint32_t cidlen, const uint32_t *versions,
-    size_t nversions, quic_wire_header *header);
+    size_t nversions, uint32_t flags, quic_wire_header *header);
 
 /**
  * Where the short header ends that |packet| begins with, whose id has |cidlen|
@@ -927,6 +940,16 @@ QUIC_WIRE_API size_t quic_wire_short_read(const uint8_t *packet,
  */
 QUIC_WIRE_CHECKED QUIC_WIRE_API int64_t quic_wire_negotiation_read(
     const uint8_t *packet, size_t packetlen, quic_wire_header *header);
+
+/** The receiver's id alone, in a packet of any version, for who passes packets
+ * on (RFC 8999, section 5): its place in |packet|, and in |*dcidlen| how many
+ * bytes it has.  That of a short header has |cidlen|.  NULL where the packet ends
+ * before the id's end, and for NULL; |*dcidlen| doesn't change then.  The fixed
+ * bit isn't looked at. */
+QUIC_WIRE_API const uint8_t *quic_wire_dcid_read(const uint8_t *packet,
+                                                 size_t packetlen,
+                                                 size_t cidlen,
+                                                 size_t *dcidlen);
 
 /** Where the ids begin in a packet of this header, or NULL for NULL. */
 QUIC_WIRE_API const uint8_t *quic_wire_dcid(const uint8_t *packet,
@@ -1053,7 +1076,7 @@ QUIC_WIRE_API size_t quic_wire_header_len(const quic_wire_header_fields *fields,
  * the number is 2^62 or more, or an Initial, 0-RTT, Handshake or Retry packet
  * has version 0, which would be a version negotiation (RFC 9000,
  * section 17.2.1); QUIC_WIRE_ERR_LENGTH where an id is longer than 20 bytes,
- * the number has not 1 to 4 bytes, or the length not 2 or 4;
+ * the number has not 1 to 4 bytes, or the length not 1, 2, 4 or 8;
  * QUIC_WIRE_ERR_ARGUMENT for NULL.  |dest| changes only where a header was
  * written.
  *
@@ -1100,9 +1123,9 @@ quic_wire_negotiation_write(uint8_t flags, const uint8_t *dcid, size_t dcidlen,
 /**
  * Sets the length in the header of a packet of |packetlen| bytes whose number
  * begins at |place|, to what there is from there on.  |lengthlen| is that of
- * the header.  Returns 0, or QUIC_WIRE_ERR_LENGTH where that is neither 2 nor
- * 4, has no place before |place| or can't hold the length;
- * QUIC_WIRE_ERR_ARGUMENT for NULL.  Nothing changes then.
+ * the header.  Returns 0, or QUIC_WIRE_ERR_LENGTH where that isn't 1, 2, 4 or 8,
+ * has no place before |place| or can't hold the length; QUIC_WIRE_ERR_ARGUMENT
+ * for NULL.  Nothing changes then.
  */
 QUIC_WIRE_API int quic_wire_set_len(uint8_t *packet, size_t packetlen,
                                     size_t place, uint32_t lengthlen);

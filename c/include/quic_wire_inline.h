@@ -53,7 +53,9 @@ int32_t quic_wire_ack_gaps_write_(const quic_wire_frame *,
 int32_t quic_wire_canonical_(const uint8_t *, size_t, uint8_t *, size_t,
                              quic_wire_canon *);
 int64_t quic_wire_header_read_(const uint8_t *, size_t, uint32_t,
-                               const uint32_t *, size_t, quic_wire_header *);
+                               const uint32_t *, size_t, uint32_t,
+                               quic_wire_header *);
+size_t quic_wire_dcid_read_(const uint8_t *, size_t, size_t, size_t *);
 size_t quic_wire_short_read_(const uint8_t *, size_t, uint32_t);
 int64_t quic_wire_negotiation_read_(const uint8_t *, size_t,
                                     quic_wire_header *);
@@ -381,13 +383,24 @@ QUIC_WIRE_API int quic_wire_canonical(const uint8_t *payload, size_t payloadlen,
 QUIC_WIRE_API int64_t quic_wire_header_read(const uint8_t *bytes, size_t len,
                                             uint32_t cidlen,
                                             const uint32_t *versions,
-                                            size_t nversions,
+                                            size_t nversions, uint32_t flags,
                                             quic_wire_header *header) {
   static const uint32_t none = 0;
   if (!bytes || !header || (!versions && nversions))
     return QUIC_WIRE_ERR_ARGUMENT;
   return quic_wire_header_read_(bytes, len, cidlen, versions ? versions : &none,
-                                nversions, header);
+                                nversions, flags, header);
+}
+
+QUIC_WIRE_API const uint8_t *quic_wire_dcid_read(const uint8_t *packet,
+                                                 size_t packetlen,
+                                                 size_t cidlen,
+                                                 size_t *dcidlen) {
+  size_t place;
+  if (!packet || !dcidlen)
+    return NULL;
+  place = quic_wire_dcid_read_(packet, packetlen, cidlen, dcidlen);
+  return place ? packet + place : NULL;
 }
 
 QUIC_WIRE_API size_t quic_wire_short_read(const uint8_t *packet,

@@ -37,6 +37,7 @@ const char *quic_wire_strerror(int result) {
   case QUIC_WIRE_ERR_PACKET_VERSION: return "unsupported version";
   case QUIC_WIRE_ERR_PACKET_CUT:
     return "packet too short to contain payload length";
+  case QUIC_WIRE_ERR_PACKET_RETRY: return "Retry without a token or a tag";
   case QUIC_WIRE_ERR_PARAMS_MALFORMED: return "malformed";
   case QUIC_WIRE_ERR_PARAMS_ILLEGAL: return "illegal value";
   default: return result < 0 ? "unknown" : "ok";

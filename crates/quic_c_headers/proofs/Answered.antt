@@ -1,5 +1,5 @@
 -- What is reported of the header that bytes begin with is one answer, and where the packet is whole it is cut there.
-use Rattle.std.specs.Prelude.{◌≡◌, ℕ, ◌+◌, ◌≤◌, List, length, drop, Option, None, Some, Result, Ok, Err, slice_index, slice_range, unwrap_or, IfOk}
+use Rattle.std.specs.Prelude.{◌≡◌, ℕ, ◌+◌, ◌≤◌, Bool, true, false, if◌then◌else◌, List, length, drop, Option, None, Some, Result, Ok, Err, slice_index, slice_range, unwrap_or, IfOk}
 use Rattle.std.proofs.Common.{refl, sym, ap, subst, ◌∙◌, arith, length-drop, length-take}
 use Rattle.quic_base.specs.Number.{AreBytes}
 use Rattle.quic_header_encode.specs.declared.long_type.HeaderKind.{HeaderKind}
@@ -16,7 +16,7 @@ use Rattle.quic_header_decode.specs.Places.{any_fixed, dst_part, src_part, dst_p
 use Rattle.quic_header_decode.specs.Reading.{DecodeOptions}
 use Rattle.quic_header_decode.specs.Refusal.{Refusal, Unsupported, Invalid, NoMemory}
 use Rattle.quic_c_headers.specs.declared.words.CHeader.{CHeader}
-use Rattle.quic_c_headers.specs.Reading.{header_words, outcome_of, Reported}
+use Rattle.quic_c_headers.specs.Reading.{header_words, is_partial, outcome_of, placed_words, Reported}
 use Rattle.quic_results.specs.declared.results.Failure.{Failure}
 use Rattle.quic_results.specs.declared.results.Failure.TheVariants as failure
 use Rattle.std.specs.Option.{option_map_or}
@@ -236,17 +236,17 @@ same_read packet (Err x) (Ok y) e one two f g = absurd cc
 same_read packet (Err x) (Err y) e one two f g = ap Err (same_reported packet x y (reported_is _ _ e) one two)
 
 -- what is reported of one packet is one outcome
-pub one_answer : (id_len : ℕ) (versions packet : List ℕ) (old new words : CHeader) (answer other : Result ℕ Failure)
+pub one_answer : (flags id_len : ℕ) (versions packet : List ℕ) (old new words : CHeader) (answer other : Result ℕ Failure)
     → ((id_len : ℕ) (versions bytes : List ℕ) (one other : Result (ProtectedHeader × List ℕ) Refusal) → AreBytes bytes
     → ReadAnswer (any_fixed id_len versions) bytes one → ReadAnswer (any_fixed id_len versions) bytes other
     → one ≡ other)
-    → AreBytes packet → Reported id_len versions packet old answer new → Reported id_len versions packet old other words
-    → (answer ≡ other) × (new ≡ words)
-one_answer id_len versions packet old new words answer other law fits t u =
+    → AreBytes packet → Reported flags id_len versions packet old answer new
+    → Reported flags id_len versions packet old other words → (answer ≡ other) × (new ≡ words)
+one_answer flags id_len versions packet old new words answer other law fits t u =
     let seen = law id_len versions packet (seen_in packet t.read) (seen_in packet u.read) fits t.right u.right in
     let same = same_read packet t.read u.read seen t.stored u.stored t.first u.first in (
-      t.outcome_is ∙ ap (λ r. outcome_of r (length packet)) same ∙ sym u.outcome_is,
-      t.words ∙ ap (λ r. header_words packet r old) same ∙ sym u.words,
+      t.outcome_is ∙ ap (λ r. outcome_of flags r (length packet)) same ∙ sym u.outcome_is,
+      t.words ∙ ap (λ r. header_words flags packet r old) same ∙ sym u.words,
     )
 
 -- ---- where a whole packet ends
@@ -269,28 +269,40 @@ ended : (options : DecodeOptions) (packet : List ℕ) (x : HeaderPlaces) (found 
     → Law → HeaderAt options (length packet) packet (header_in packet x) (drop x.header_end packet)
     → x.header_end ≤ length packet → ends_at x (length packet) ≡ found
     → (let r : Result ℕ Failure = Ok end in r) ≡ option_map_or (λ (q : ℕ). Ok q) found (Err failure.PacketCut)
-    → new ≡ header_words packet (Ok x) old → IsCut options packet new end
+    → new ≡ placed_words packet x → IsCut options packet new end
 ended options packet x None old new end law head within ends is words = absurd cc
 ended options packet x (Some q) old new end law head within ends is words =
     let start : new.header_end ≡ x.header_end = ap (λ (w : CHeader). w.header_end) words in
     let stop : end ≡ q = sym (found_end q end is) in
     (header_in packet x, rw (start, stop) (law options packet x q head within ends))
 
-cut_there : (options : DecodeOptions) (packet : List ℕ) (read : Result HeaderPlaces ReadError) (old new : CHeader)
-    (end : ℕ) → Law → ReadAnswer options packet (seen_in packet read) → IsSeen read (length packet)
-    → Ok end ≡ outcome_of read (length packet) → new ≡ header_words packet read old → IsCut options packet new end
-cut_there options packet (Ok x) old new end law right stored is words =
-    ended options packet x (ends_at x (length packet)) old new end law right stored.head refl is words
-cut_there options packet (Err (error.UnsupportedVersion version dst_len src_len)) old new end law right stored is words =
+-- a whole packet is no partial Retry
+unless : (is_partial : Bool) (options : DecodeOptions) (packet : List ℕ) (x : HeaderPlaces) (old new : CHeader) (end : ℕ) → Law
+    → HeaderAt options (length packet) packet (header_in packet x) (drop x.header_end packet)
+    → x.header_end ≤ length packet
+    → (let r : Result ℕ Failure = Ok end in r) ≡ (if is_partial then Err failure.PacketRetry
+    else option_map_or (λ (q : ℕ). Ok q) (ends_at x (length packet)) (Err failure.PacketCut))
+    → new ≡ (if is_partial then old else placed_words packet x) → IsCut options packet new end
+unless true options packet x old new end law head within is words = absurd cc
+unless false options packet x old new end law head within is words =
+    ended options packet x (ends_at x (length packet)) old new end law head within refl is words
+
+cut_there : (flags : ℕ) (options : DecodeOptions) (packet : List ℕ) (read : Result HeaderPlaces ReadError)
+    (old new : CHeader) (end : ℕ) → Law → ReadAnswer options packet (seen_in packet read) → IsSeen read (length packet)
+    → Ok end ≡ outcome_of flags read (length packet) → new ≡ header_words flags packet read old
+    → IsCut options packet new end
+cut_there flags options packet (Ok x) old new end law right stored is words =
+    unless (is_partial flags x (length packet)) options packet x old new end law right stored.head is words
+cut_there flags options packet (Err (error.UnsupportedVersion version dst_len src_len)) old new end law right stored is words =
     absurd cc
-cut_there options packet (Err error.UnexpectedEnd) old new end law right stored is words = absurd cc
-cut_there options packet (Err error.SmallPacket) old new end law right stored is words = absurd cc
-cut_there options packet (Err error.MalformedCid) old new end law right stored is words = absurd cc
-cut_there options packet (Err error.TokenOutOfBounds) old new end law right stored is words = absurd cc
+cut_there flags options packet (Err error.UnexpectedEnd) old new end law right stored is words = absurd cc
+cut_there flags options packet (Err error.SmallPacket) old new end law right stored is words = absurd cc
+cut_there flags options packet (Err error.MalformedCid) old new end law right stored is words = absurd cc
+cut_there flags options packet (Err error.TokenOutOfBounds) old new end law right stored is words = absurd cc
 
 -- a packet that is reported to be complete is cut at its end
-pub whole_cut : (id_len : ℕ) (versions packet : List ℕ) (old new : CHeader) (outcome : Result ℕ Failure) (end : ℕ) → Law
-    → Reported id_len versions packet old outcome new → outcome ≡ Ok end
+pub whole_cut : (flags id_len : ℕ) (versions packet : List ℕ) (old new : CHeader) (outcome : Result ℕ Failure) (end : ℕ) → Law
+    → Reported flags id_len versions packet old outcome new → outcome ≡ Ok end
     → (h : ProtectedHeader) × Cut (any_fixed id_len versions) packet h new.header_end end
-whole_cut id_len versions packet old new outcome end law t is =
-    cut_there (any_fixed id_len versions) packet t.read old new end law t.right t.stored (sym is ∙ t.outcome_is) t.words
+whole_cut flags id_len versions packet old new outcome end law t is =
+    cut_there flags (any_fixed id_len versions) packet t.read old new end law t.right t.stored (sym is ∙ t.outcome_is) t.words

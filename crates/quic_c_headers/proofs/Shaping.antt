@@ -3,6 +3,7 @@ use Rattle.std.proofs.Common.{◌≡◌, ℕ, ◌<◌, ◌≤◌, ◌^◌, ◌�
 use Rattle.quic_crypto.specs.declared.packet_number.PacketNumber.{PacketNumber}
 use Rattle.quic_header_encode.proofs.Sizes.{number_few}
 use Rattle.quic_header_encode.specs.declared.long_type.LongType.TheVariants.{Handshake, ZeroRtt}
+use Rattle.quic_header_encode.specs.Writing.{IsWidth}
 use Rattle.quic_header_encode.specs.declared.header.Header.{Header}
 use Rattle.quic_header_encode.specs.declared.header.Header.TheVariants as header
 use Rattle.quic_c_headers.specs.declared.words.HeaderFields.{HeaderFields}
@@ -11,7 +12,7 @@ use Rattle.quic_c_headers.specs.Headers.{AreParts, IsNumbered, IsShaped}
 
 with_number : (words : HeaderFields) (number : PacketNumber)
     → DescribesNumber words.number words.number_len (Some number)
-    → (words.kind ≤ 2 → (words.length_len ≡ 2) ⊎ (words.length_len ≡ 4)) → IsNumbered words
+    → (words.kind ≤ 2 → IsWidth words.length_len) → IsNumbered words
 with_number words number s len =
     let z = number_few number in
     record { number = λ _. (omega (arith, s.1, z.0), omega (arith, s.1, z.1), s.0); len = len }

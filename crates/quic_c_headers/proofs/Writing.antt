@@ -18,7 +18,7 @@ use Rattle.quic_header_encode.specs.declared.header.Header.{Header}
 use Rattle.quic_header_encode.specs.declared.header.Header.TheVariants as header
 use Rattle.quic_header_encode.specs.declared.long_type.LongType.TheVariants.{Handshake, ZeroRtt}
 use Rattle.quic_header_encode.specs.Kinds.{bit_value, fields_of, header_text, row, says, Row}
-use Rattle.quic_header_encode.specs.Writing.{token_by, type_bits, IsTyped}
+use Rattle.quic_header_encode.specs.Writing.{token_by, type_bits, IsTyped, IsWidth}
 use Rattle.quic_header_encode.specs.Kinds.{long_front}
 use Rattle.quic_c_headers.specs.declared.words.HeaderFields.{HeaderFields}
 use Rattle.quic_c_headers.specs.Headers.{part_of, described_bytes, CanWriteHeader}
@@ -231,7 +231,7 @@ bits_described kind.VersionNegotiate words dst src token = omega arith
 
 pub bytes_described : (k : HeaderKind) (len : ℕ) (words : HeaderFields) (dst src token : List ℕ) → IsNumbered words
     → word_of (row k) ≡ words.kind
-    → ((words.length_len ≡ 2) ⊎ (words.length_len ≡ 4) → len ≡ words.length_len)
+    → (IsWidth words.length_len → len ≡ words.length_len)
     → stored_described k len words dst src token ≡ described_bytes words.length_len (clear_by k words.flags)
     (header_described k words dst src token)
 bytes_described kind.Initial len words dst src token s e same =

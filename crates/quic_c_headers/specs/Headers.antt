@@ -12,7 +12,7 @@ use Rattle.quic_header_encode.specs.declared.header.Header.TheVariants as header
 use Rattle.quic_header_encode.specs.Kinds.{Row, bit_value, fields_of, header_text, row, says}
 use Rattle.quic_header_encode.specs.Kinds.{dst_in, number_in}
 use Rattle.quic_header_encode.specs.Types.{type_code}
-use Rattle.quic_header_encode.specs.Writing.{IsWritable}
+use Rattle.quic_header_encode.specs.Writing.{IsWidth, IsWritable}
 use Rattle.quic_c_headers.specs.declared.words.HeaderFields.{HeaderFields}
 use Rattle.quic_results.specs.declared.results.Failure.{Failure}
 use Rattle.quic_results.specs.declared.results.Failure.TheVariants as failure
@@ -53,7 +53,7 @@ pub record DescribesHeader (words : HeaderFields) (dst src token : List ℕ) (cl
   pub version : IsTrue (is_some (fields_of header).row.type)
       → (words.version ≡ (fields_of header).version) × (0 < words.version)
   pub number : DescribesNumber words.number words.number_len (number_in header)
-  pub len : IsTrue (fields_of header).row.has_len → (words.length_len ≡ 2) ⊎ (words.length_len ≡ 4)
+  pub len : IsTrue (fields_of header).row.has_len → IsWidth words.length_len
   pub dst_is : dst ≡ dst_in header
   pub src_is : IsTrue (fields_of header).row.is_long → (src ≡ (fields_of header).src) × (length src ≤ 20)
   pub token_is : IsTrue (fields_of header).row.has_token → token ≡ (fields_of header).token
@@ -120,7 +120,7 @@ WritesHeader words dst src token old result new =
 pub record IsNumbered (words : HeaderFields) : Type 0 where
   pub number : (words.kind ≤ 2) ⊎ (words.kind ≡ 4)
       → (1 ≤ words.number_len) × (words.number_len ≤ 4) × (words.number < 2 ^ 62)
-  pub len : words.kind ≤ 2 → (words.length_len ≡ 2) ⊎ (words.length_len ≡ 4)
+  pub len : words.kind ≤ 2 → IsWidth words.length_len
 
 -- A header of the kind can have these ids and this token.
 pub record AreParts (kind : ℕ) (dst src token : List ℕ) : Type 0 where

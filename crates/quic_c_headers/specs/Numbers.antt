@@ -1,17 +1,7 @@
 -- Numbers of variable length in a width (RFC 9000, section 16), and packet numbers that are expanded.
-use Rattle.std.specs.Prelude.{◌≡◌, ℕ, ◌+◌, ◌*◌, ◌^◌, ◌<◌, ◌≤◌, ◌⊎◌, List, [], ◌∷◌, if◌then◌else◌, ◌==◌}
-use Rattle.quic_base.specs.Number.{bytes_of}
+use Rattle.std.specs.Prelude.{◌≡◌, ℕ, ◌*◌, ◌^◌, ◌<◌, ◌≤◌, ◌⊎◌}
 use Rattle.quic_base.specs.Varint.{size}
-
--- a number encoded in a width: the two highest bits are the tag
-abbrev pub encoding_in : ℕ → ℕ → List ℕ
-encoding_in width v =
-    if width == 1 then v ∷ [] else if width == 2 then bytes_of 2 (2 ^ 14 + v)
-    else if width == 4 then bytes_of 4 (2 * 2 ^ 30 + v) else bytes_of 8 (3 * 2 ^ 62 + v)
-
--- the widths that there are
-abbrev pub IsWidth : ℕ → Type 0
-IsWidth n = (n ≡ 1) ⊎ (n ≡ 2) ⊎ (n ≡ 4) ⊎ (n ≡ 8)
+pub use Rattle.quic_header_encode.specs.Writing.{encoding_in, IsWidth}
 
 -- A number is encoded in n bytes: the width that is asked for, or the shortest if that is 0; and there is room for
 -- them.

@@ -1,7 +1,8 @@
 -- Headers as C sees them, and what the call that reads them answers; version negotiation packets (RFC 9000, section
 -- 17.2.1), whose ids have up to 255 bytes (RFC 8999, section 6).
-use Rattle.std.specs.Prelude.{◌≡◌, ℕ, ◌+◌, ◌-◌, List, length, Option, None, Some, Result, Ok, Err, IfOk, slice_index, unwrap_or, ◌%◌, ◌++◌, bit_xor}
+use Rattle.std.specs.Prelude.{◌≡◌, ◌≢◌, ℕ, ◌+◌, ◌-◌, ◌<◌, ◌≤◌, ◌⊎◌, Bool, true, false, List, [], length, Option, None, Some, Result, Ok, Err, IfOk, slice_index, slice_range, unwrap_or, ◌%◌, ◌++◌, bit_xor, Contains, nat_le, nat_lt, ◌==◌, ◌&&◌, if◌then◌else◌}
 use Rattle.quic_header_encode.specs.Kinds.{row}
+use Rattle.quic_header_decode.specs.declared.fields.Place.{Place}
 use Rattle.quic_header_decode.specs.declared.places.HeaderPlaces.{HeaderPlaces}
 use Rattle.quic_header_decode.specs.declared.places.ReadError.{ReadError}
 use Rattle.quic_header_decode.specs.declared.places.ReadError.TheVariants as error
@@ -9,21 +10,52 @@ use Rattle.quic_header_decode.specs.Places.{any_fixed, ends_at, seen_in, IsSeen,
 use Rattle.quic_c_headers.specs.Headers.{word_of}
 use Rattle.quic_c_headers.specs.declared.words.CHeader.{CHeader}
 use Rattle.std.specs.List.{flat_map}
-use Rattle.quic_base.specs.Number.{bytes_of}
+use Rattle.quic_base.specs.Number.{bytes_of, has_bit, num}
 use Rattle.quic_header_encode.specs.declared.header.Header.TheVariants as header
 use Rattle.quic_header_encode.specs.Writing.{header_bytes}
 use Rattle.std.specs.Option.{option_map_or}
 use Rattle.quic_results.specs.declared.results.Failure.{Failure}
 use Rattle.quic_results.specs.declared.results.Failure.TheVariants as failure
 
+-- ---- what the flags ask: 0x10, that the fixed bit may be clear (RFC 9287); 0x20, that it isn't looked at in packets of
+-- other versions than those given, nor in version negotiations (section 17.2.1); 0x40, that a Retry is whole
+
+-- a short header, or a long one of one of the versions
+abbrev pub IsOfVersion : List ℕ → List ℕ → Type 0
+IsOfVersion versions packet =
+    let version = num (slice_range packet 1 5) in
+    (slice_index packet 0 < 0x80) ⊎ (5 ≤ length packet) × (version ≢ 0) × Contains versions version
+
+-- The fixed bit is clear, where it must be set (RFC 9000, section 17.2).
+pub record LacksFixedBit (flags : ℕ) (versions packet : List ℕ) : Type 0 where
+  pub some : packet ≢ []
+  pub clear : has_bit 0x40 (slice_index packet 0) ≡ false
+  pub asked : has_bit 0x10 flags ≡ false
+  pub counts : has_bit 0x20 flags ≡ true → IsOfVersion versions packet
+
+-- A Retry has no token, or too few bytes for its tag of 16 bytes (section 17.2.5), where it must have both.
+abbrev pub is_partial : ℕ → HeaderPlaces → ℕ → Bool
+is_partial flags x whole =
+    has_bit 0x40 flags && ((word_of (row x.kind) == 3) && nat_lt whole (x.header_end + 17))
+
+-- The token of an Initial packet is in its header. That of a Retry goes from there to the tag, if there is one.
+abbrev pub token_in : HeaderPlaces → ℕ → Place
+token_in x whole =
+    if (word_of (row x.kind) == 3) && nat_le (x.header_end + 16) whole
+    then record { start = x.header_end; end = whole - 16 } else x.token
+
+-- ---- what is reported
+
 -- what is reported of what was read in so many bytes: where the packet ends, or why it isn't complete
-abbrev pub outcome_of : Result HeaderPlaces ReadError → ℕ → Result ℕ Failure
-outcome_of (Ok x) whole = option_map_or (λ end. Ok end) (ends_at x whole) (Err failure.PacketCut)
-outcome_of (Err (error.UnsupportedVersion version dst_len src_len)) whole = Err failure.PacketVersion
-outcome_of (Err error.UnexpectedEnd) whole = Err failure.PacketEnd
-outcome_of (Err error.SmallPacket) whole = Err failure.PacketSmall
-outcome_of (Err error.MalformedCid) whole = Err failure.PacketId
-outcome_of (Err error.TokenOutOfBounds) whole = Err failure.PacketToken
+abbrev pub outcome_of : ℕ → Result HeaderPlaces ReadError → ℕ → Result ℕ Failure
+outcome_of flags (Ok x) whole =
+    if is_partial flags x whole then Err failure.PacketRetry
+    else option_map_or (λ end. Ok end) (ends_at x whole) (Err failure.PacketCut)
+outcome_of flags (Err (error.UnsupportedVersion version dst_len src_len)) whole = Err failure.PacketVersion
+outcome_of flags (Err error.UnexpectedEnd) whole = Err failure.PacketEnd
+outcome_of flags (Err error.SmallPacket) whole = Err failure.PacketSmall
+outcome_of flags (Err error.MalformedCid) whole = Err failure.PacketId
+outcome_of flags (Err error.TokenOutOfBounds) whole = Err failure.PacketToken
 
 -- the words for a packet whose header is read up to its ids
 abbrev pub ids_words : List ℕ → ℕ → ℕ → ℕ → ℕ → ℕ → CHeader
@@ -40,9 +72,9 @@ ids_words packet kind version dst_len src_len header_end = record {
   len = 0;
 }
 
--- the words for what was read; they don't change if no header was read
-abbrev pub header_words : List ℕ → Result HeaderPlaces ReadError → CHeader → CHeader
-header_words packet (Ok x) old = record {
+-- the words for the header at places
+abbrev pub placed_words : List ℕ → HeaderPlaces → CHeader
+placed_words packet x = record {
   kind = word_of (row x.kind);
   first = x.first;
   dst_len = x.dst_len;
@@ -50,23 +82,38 @@ header_words packet (Ok x) old = record {
   version = x.version;
   header_end = x.header_end;
   end = unwrap_or (ends_at x (length packet)) (length packet);
-  token = x.token.start;
-  token_len = x.token.end - x.token.start;
+  token = (token_in x (length packet)).start;
+  token_len = (token_in x (length packet)).end - (token_in x (length packet)).start;
   len = x.len;
 }
-header_words packet (Err (error.UnsupportedVersion version dst_len src_len)) old =
+
+-- the words for what was read; they don't change if no header was read
+abbrev pub header_words : ℕ → List ℕ → Result HeaderPlaces ReadError → CHeader → CHeader
+header_words flags packet (Ok x) old = if is_partial flags x (length packet) then old else placed_words packet x
+header_words flags packet (Err (error.UnsupportedVersion version dst_len src_len)) old =
     ids_words packet 6 version dst_len src_len (6 + dst_len + 1 + src_len)
-header_words packet _ old = old
+header_words flags packet _ old = old
 
 -- The front of the bytes was read, and is reported by the outcome and the words.
-pub record Reported (id_len : ℕ) (versions packet : List ℕ) (old : CHeader) (outcome : Result ℕ Failure) (new : CHeader)
-    : Type 0 where
+pub record Reported (flags id_len : ℕ) (versions packet : List ℕ) (old : CHeader) (outcome : Result ℕ Failure)
+    (new : CHeader) : Type 0 where
   pub read : Result HeaderPlaces ReadError
   pub right : ReadAnswer (any_fixed id_len versions) packet (seen_in packet read)
   pub stored : IsSeen read (length packet)
   pub first : IfOk read (λ x. x.first ≡ slice_index packet 0)
-  pub outcome_is : outcome ≡ outcome_of read (length packet)
-  pub words : new ≡ header_words packet read old
+  pub outcome_is : outcome ≡ outcome_of flags read (length packet)
+  pub words : new ≡ header_words flags packet read old
+
+-- ---- the receiver's id alone
+
+-- Where the receiver's id is in a packet of any version, and how many bytes it has: in a long header after the version
+-- and its length (RFC 8999, section 5.1), in a short one after the first byte, with as many bytes as the receiver's ids
+-- have (section 5.2).
+pub record IsReceiverAt (id_len : ℕ) (packet : List ℕ) (place len : ℕ) : Type 0 where
+  pub some : 0 < length packet
+  pub long : 0x80 ≤ slice_index packet 0 → (place ≡ 6) × (len ≡ slice_index packet 5) × (6 ≤ length packet)
+  pub short : slice_index packet 0 < 0x80 → (place ≡ 1) × (len ≡ id_len)
+  pub within : place + len ≤ length packet
 
 -- ---- version negotiation
 

@@ -1,17 +1,17 @@
 //! Reads packet headers, which are still protected.
-ghost use Rattle.std.specs.Prelude.{◌≡◌, ◌≢◌, ◌+◌, ◌<◌, ◌≤◌, ◌⊎◌, ◌↔◌, ◌^◌, ◌∷◌, ℕ, List, [], Result, Ok, Err, drop, length, pos, slice_index};
+ghost use Rattle.std.specs.Prelude.{◌≡◌, ◌≢◌, ◌+◌, ◌<◌, ◌≤◌, ◌⊎◌, ◌↔◌, ◌^◌, ◌∷◌, ℕ, List, [], IsTrue, Result, Ok, Err, drop, length, pos, slice_index};
 ghost use Rattle.quic_header_decode.specs.Grammar.{Cut, HeaderAt};
 ghost use Rattle.quic_header_decode.specs.Places.{any_fixed, ArePlacesWithin, IsSeen};
 ghost use Rattle.quic_header_decode.specs.declared.protected.ProtectedHeader.{ProtectedHeader};
 ghost use Rattle.quic_header_encode.specs.Kinds.{row};
 ghost use Rattle.quic_c_headers.specs.Headers.{word_of};
-ghost use Rattle.quic_c_headers.specs.Reading.{header_words, outcome_of, Reported};
+ghost use Rattle.quic_c_headers.specs.Reading.{header_words, is_partial, outcome_of, token_in, IsOfVersion, IsReceiverAt, LacksFixedBit, Reported};
 ghost use Rattle.quic_results.specs.Results.{failed, returned};
 
 use crate::words::CHeader;
 use quic_base::coding::are_bytes;
 use quic_header_decode::laws::{one_reading, places_cut};
-use quic_header_decode::places::{HeaderKind, HeaderPlaces, ReadError, read_header, read_long};
+use quic_header_decode::places::{HeaderKind, HeaderPlaces, Place, ReadError, read_header, read_long};
 use quic_results::laws::distinct;
 use quic_results::results::{Failure, returned};
 
@@ -30,16 +30,54 @@ fn kind_word(kind: HeaderKind) -> u8
     }
 }
 
+// Whether a Retry lacks its token or its tag, if the flags ask for both.
+#[inline(always)]
+fn is_partial(flags: u32, places: &HeaderPlaces, whole: usize) -> bool
+    requires placed { ArePlacesWithin places.now.kind places.now whole }
+    requires small { whole < 2 ^ 32 }
+    ensures { result ≡ is_partial flags places.now whole }
+{
+    flags / 0x40 % 2 == 1 && kind_word(places.kind) == 3 && whole < places.header_end + 17
+}
+
+// The token of an Initial or a Retry packet.
+#[inline(always)]
+fn token_in(places: &HeaderPlaces, whole: usize) -> Place
+    requires placed { ArePlacesWithin places.now.kind places.now whole }
+    requires small { whole < 2 ^ 32 }
+    ensures value { result ≡ token_in places.now whole }
+    ensures ordered { result.start ≤ result.end }
+    ensures within { result.end ≤ whole }
+{
+    if kind_word(places.kind) == 3 && places.header_end + 16 <= whole {
+        return Place {
+            start: places.header_end,
+            end: whole - 16,
+        };
+    }
+    places.token
+}
+
 // Stores the words of a header, and gives where its packet ends, if it is complete.
 #[inline(always)]
-fn show_header(packet: &[u8], places: HeaderPlaces, head: &mut CHeader) -> Result<u32, Failure>
+fn show_header(
+    packet: &[u8],
+    places: HeaderPlaces,
+    flags: u32,
+    head: &mut CHeader,
+) -> Result<u32, Failure>
     requires whole { length packet.now < 2 ^ 32 }
     requires placed { ArePlacesWithin places.kind places (length packet.now) }
-    ensures outcome { result ≡ outcome_of (Ok places) (length packet.now) }
-    ensures other { result ≢ Err Failure.Length }
-    ensures words { head.new ≡ header_words packet.now (Ok places) head.old }
+    ensures outcome { result ≡ outcome_of flags (Ok places) (length packet.now) }
+    ensures length { result ≢ Err Failure.Length }
+    ensures fixed { result ≢ Err Failure.PacketFixedBit }
+    ensures words { head.new ≡ header_words flags packet.now (Ok places) head.old }
 {
     let whole = packet.len();
+    if is_partial(flags, &places, whole) {
+        return Err(Failure::PacketRetry);
+    }
+    let token = token_in(&places, whole);
     let (end, outcome) = match places.packet_end(whole) {
         Some(end) => (end, Ok(end as u32)),
         None => (whole, Err(Failure::PacketCut)),
@@ -52,8 +90,8 @@ fn show_header(packet: &[u8], places: HeaderPlaces, head: &mut CHeader) -> Resul
         version: places.version,
         header_end: places.header_end as u32,
         end: end as u32,
-        token: places.token.start as u32,
-        token_len: (places.token.end - places.token.start) as u32,
+        token: token.start as u32,
+        token_len: (token.end - token.start) as u32,
         len: places.len,
     };
     outcome
@@ -64,16 +102,18 @@ fn show_header(packet: &[u8], places: HeaderPlaces, head: &mut CHeader) -> Resul
 fn show(
     packet: &[u8],
     read: Result<HeaderPlaces, ReadError>,
+    flags: u32,
     head: &mut CHeader,
 ) -> Result<u32, Failure>
     requires whole { length packet.now < 2 ^ 32 }
     requires seen { IsSeen read (length packet.now) }
-    ensures outcome { result ≡ outcome_of read (length packet.now) }
-    ensures other { result ≢ Err Failure.Length }
-    ensures words { head.new ≡ header_words packet.now read head.old }
+    ensures outcome { result ≡ outcome_of flags read (length packet.now) }
+    ensures length { result ≢ Err Failure.Length }
+    ensures fixed { result ≢ Err Failure.PacketFixedBit }
+    ensures words { head.new ≡ header_words flags packet.now read head.old }
 {
     match read {
-        Ok(places) => show_header(packet, places, head),
+        Ok(places) => show_header(packet, places, flags, head),
         Err(
             ReadError::UnsupportedVersion {
                 version,
@@ -104,43 +144,79 @@ fn show(
 
 // Stores a long header in words. It is a function of its own, so that a short header's caller saves no registers.
 #[inline(never)]
-fn show_long(packet: &[u8], first: u8, versions: &[u32], head: &mut CHeader) -> i64
+fn show_long(packet: &[u8], first: u8, versions: &[u32], flags: u32, head: &mut CHeader) -> i64
     requires whole { length packet.now < 2 ^ 32 }
     requires begins { packet.now ≡ first ∷ drop 1 packet.now }
     requires long { 128 ≤ first }
     ensures reported { (outcome : Result ℕ Failure) × (result ≡ returned outcome)
-        × ((id_len : ℕ) → Reported id_len versions.now packet.now head.old outcome head.new) }
-    ensures other { result ≢ failed Failure.Length }
+        × ((id_len : ℕ) → Reported flags id_len versions.now packet.now head.old outcome head.new) }
+    ensures length { result ≢ failed Failure.Length }
+    ensures fixed { result ≢ failed Failure.PacketFixedBit }
 {
     distinct();
-    returned(show(packet, read_long(packet, first, versions), head))
+    returned(show(packet, read_long(packet, first, versions), flags, head))
+}
+
+// Whether a packet has a short header, or a long one of one of the versions.
+#[inline(never)]
+fn is_of_version(packet: &[u8], versions: &[u32]) -> bool
+    ensures { IsTrue result ↔ IsOfVersion versions.now packet.now }
+{
+    if let Some(first) = packet.first() {
+        if *first >= 0x80 {
+            let Some(bytes) = packet[1..].first_chunk::<4>() else {
+                return false;
+            };
+            let version = u32::from_be_bytes(*bytes);
+            return version != 0 && versions.contains(&version);
+        }
+    }
+    true
+}
+
+// Whether the fixed bit of the first byte is clear, where it must be set.
+#[inline(always)]
+fn lacks_fixed_bit(packet: &[u8], versions: &[u32], flags: u32) -> bool
+    ensures { IsTrue result ↔ LacksFixedBit flags versions.now packet.now }
+{
+    match packet.first() {
+        Some(first) if *first / 0x40 % 2 == 0 && flags / 0x10 % 2 == 0 => {
+            flags / 0x20 % 2 == 0 || is_of_version(packet, versions)
+        }
+        _ => false,
+    }
 }
 
 /// Reads the header of the packet at the front of the bytes, whether the packet is complete or ends after its header.
-/// Ids of short headers have `id_len` bytes; of versions other than `versions` only the ids are read. The fixed bit
-/// isn't looked at. It returns where the packet ends, with its header; `PacketCut` with the header of a packet that is
-/// cut off; `PacketVersion` with the version and the ids, of up to 255 bytes (RFC 8999, section 5.1), if the version
-/// isn't known; `PacketEnd`, `PacketSmall`, `PacketId` or `PacketToken` if the bytes don't begin with a header, by the
-/// first field that can't be read; `Length` exactly if there are 2^32 bytes or more, or `id_len` is above 20. `head`
-/// changes only with the first three.
+/// Ids of short headers have `id_len` bytes; of versions other than `versions` only the ids are read. It returns where
+/// the packet ends, with its header; `PacketCut` with the header of a packet that is cut off; `PacketVersion` with the
+/// version and the ids, of up to 255 bytes (RFC 8999, section 5.1), if the version isn't known; `PacketFixedBit` if the
+/// fixed bit is clear; `PacketEnd`, `PacketSmall`, `PacketId` or `PacketToken` if the bytes don't begin with a header, by
+/// the first field that can't be read; `PacketRetry` for a Retry that isn't whole; `Length` exactly if there are 2^32
+/// bytes or more, or `id_len` is above 20. `head` changes only with the first three.
 ///
-/// The fixed bit is in `head.first`. Clients ignore it in a version negotiation (RFC 9000, section 17.2.1).
+/// `flags` of 0 read as quinn-proto does. 0x10 takes packets whose fixed bit is clear (RFC 9287); 0x20 those of other
+/// versions than `versions`, and version negotiations, in which clients ignore that bit (RFC 9000, section 17.2.1); 0x40
+/// asks that a Retry have a token and a tag of 16 bytes (section 17.2.5). Other bits aren't looked at.
 #[unsafe(no_mangle)]
 pub extern "C" fn quic_wire_header_read_(
     packet: &[u8],
     id_len: u32,
     versions: &[u32],
+    flags: u32,
     head: &mut CHeader,
 ) -> i64
     ensures invalid { (result ≡ failed Failure.Length) ↔ ((2 ^ 32 ≤ length packet.now) ⊎ (20 < id_len)) }
-    ensures reported { (result ≡ failed Failure.Length)
+    ensures fixed { (result ≡ failed Failure.PacketFixedBit)
+        ↔ (length packet.now < 2 ^ 32) × (id_len ≤ 20) × LacksFixedBit flags versions.now packet.now }
+    ensures reported { (result ≡ failed Failure.Length) ⊎ (result ≡ failed Failure.PacketFixedBit)
         ⊎ ((outcome : Result ℕ Failure) × (result ≡ returned outcome)
-        × Reported id_len versions.now packet.now head.old outcome head.new) }
-    ensures same { result ≡ failed Failure.Length → head.new ≡ head.old }
+        × Reported flags id_len versions.now packet.now head.old outcome head.new) }
+    ensures same { (result ≡ failed Failure.Length) ⊎ (result ≡ failed Failure.PacketFixedBit) → head.new ≡ head.old }
     // Only one outcome with its words is right.
-    ensures one { (result ≡ failed Failure.Length)
+    ensures one { (result ≡ failed Failure.Length) ⊎ (result ≡ failed Failure.PacketFixedBit)
         ⊎ ((outcome : Result ℕ Failure) (words : CHeader)
-        → Reported id_len versions.now packet.now head.old outcome words
+        → Reported flags id_len versions.now packet.now head.old outcome words
         → (result ≡ returned outcome) × (head.new ≡ words)) }
     // A complete packet is the one that is cut from the bytes.
     ensures whole { (end : ℕ) → result ≡ pos end
@@ -153,12 +229,15 @@ pub extern "C" fn quic_wire_header_read_(
     if packet.len() > u32::MAX as usize || id_len > 20 {
         return i64::from(Failure::Length.number());
     }
+    if lacks_fixed_bit(packet, versions, flags) {
+        return i64::from(Failure::PacketFixedBit.number());
+    }
     if let Some(first) = packet.first() {
         if *first >= 0x80 {
-            return show_long(packet, *first, versions, head);
+            return show_long(packet, *first, versions, flags, head);
         }
     }
-    returned(show(packet, read_header(packet, id_len as usize, versions), head))
+    returned(show(packet, read_header(packet, id_len as usize, versions), flags, head))
 }
 
 /// Where the short header at the front of a packet ends, whose id has `id_len` bytes (RFC 9000, section 17.3); 0
@@ -188,4 +267,30 @@ pub extern "C" fn quic_wire_short_read_(packet: &[u8], id_len: u32) -> usize
         Ok(places) => places.header_end,
         Err(_) => 0,
     }
+}
+
+/// Where the receiver's id begins in a packet of any version, for who passes packets on (RFC 8999, section 5), and in
+/// `len` how many bytes it has: a short header's has `id_len`. 0 exactly if the packet ends before the id's end, and then
+/// `len` doesn't change. The fixed bit isn't looked at.
+#[unsafe(no_mangle)]
+pub extern "C" fn quic_wire_dcid_read_(packet: &[u8], id_len: usize, len: &mut usize) -> usize
+    ensures found { 0 < result → IsReceiverAt id_len packet.now result len.new }
+    ensures none { result ≡ 0 → (place count : ℕ) → IsReceiverAt id_len packet.now place count → ⊥ }
+    ensures same { result ≡ 0 → len.new ≡ len.old }
+{
+    let Some(first) = packet.first() else {
+        return 0;
+    };
+    let (place, count) = if *first < 0x80 {
+        (1, id_len)
+    } else if packet.len() < 6 {
+        return 0;
+    } else {
+        (6, packet[5] as usize)
+    };
+    if packet.len() - place < count {
+        return 0;
+    }
+    *len = count;
+    place
 }

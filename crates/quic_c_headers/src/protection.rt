@@ -183,9 +183,8 @@ pub extern "C" fn quic_wire_protect_(packet: &mut [u8], place: usize, mask: &[u8
 }
 
 /// Sets the length in the header of a packet whose number begins at `place` to the count of bytes from there on. The
-/// length is in the `length_len` bytes before the place, 2 or 4 (RFC 9000, section 17.2). It returns 0; `Length` exactly
-/// if `length_len` is another number, there is no such place, or there are 2^14 (with 2) or 2^30 (with 4) bytes or more,
-/// and then nothing changes.
+/// length is in the `length_len` bytes before the place, 1, 2, 4 or 8 (RFC 9000, section 17.2). It returns 0; `Length`
+/// exactly if `length_len` is another number, there is no such place, or the count doesn't fit, and then nothing changes.
 #[unsafe(no_mangle)]
 pub extern "C" fn quic_wire_set_len_(packet: &mut [u8], place: usize, length_len: u32) -> i32
     ensures answers { (result ≡ pos 0) ⊎ (result ≡ failed Failure.Length) }

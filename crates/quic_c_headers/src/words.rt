@@ -41,7 +41,7 @@ pub struct HeaderFields {
     pub flags: u8,
     /// In how many bytes the number is written, 1 to 4, for all kinds but Retry and version negotiation.
     pub number_len: u8,
-    /// How many bytes the length takes, 2 or 4, for Initial, 0-RTT and Handshake.
+    /// How many bytes the length takes, 1, 2, 4 or 8, for Initial, 0-RTT and Handshake.
     pub length_len: u8,
     /// The version of QUIC.
     pub version: u32,

@@ -4,7 +4,7 @@ ghost use Rattle.quic_base.specs.Number.{bytes_of};
 ghost use Rattle.quic_crypto.specs.PacketNumbers.{IsInRange};
 ghost use Rattle.quic_header_encode.specs.declared.long_type.HeaderKind.TheVariants as kind;
 ghost use Rattle.quic_header_encode.specs.Kinds.{row};
-ghost use Rattle.quic_header_encode.specs.Writing.{token_by, type_bits, IsTyped};
+ghost use Rattle.quic_header_encode.specs.Writing.{token_by, type_bits, IsTyped, IsWidth};
 ghost use Rattle.quic_header_encode.specs.Kinds.{long_front};
 ghost use Rattle.quic_c_headers.specs.Headers.{part_of};
 ghost use Rattle.quic_c_headers.specs.Headers.{first_word, short_size, word_of, worded_bytes, AreParts, HasShortRoom, IsNumbered, IsShaped, StoresShort};
@@ -21,6 +21,14 @@ use quic_header_encode::store::{
 };
 use quic_results::results::Failure;
 
+// Whether a number can have so many bytes (RFC 9000, section 16).
+#[inline(always)]
+fn is_width(len: u8) -> bool
+    ensures { IsTrue result ↔ IsWidth len }
+{
+    len == 1 || len == 2 || len == 4 || len == 8
+}
+
 // Whether a header of the kind can have this number and these sizes of the number and the length.
 #[inline(always)]
 fn is_numbered(words: &HeaderFields) -> bool
@@ -30,7 +38,7 @@ fn is_numbered(words: &HeaderFields) -> bool
     if words.kind == 3 || words.kind == 5 {
         return true;
     }
-    let fits = words.kind == 4 || words.length_len == 2 || words.length_len == 4;
+    let fits = words.kind == 4 || is_width(words.length_len);
     0 < words.number_len && words.number_len <= 4 && words.number < 1 << 62 && fits
 }
 
@@ -125,10 +133,10 @@ pub(crate) fn first_word(kind: HeaderKind, flags: u8) -> u8
 // How many bytes the length takes, if the header has one.
 #[inline(always)]
 fn stored_length_len(words: &HeaderFields) -> usize
-    ensures known { (result ≡ 2) ⊎ (result ≡ 4) }
-    ensures same { (words.now.length_len ≡ 2) ⊎ (words.now.length_len ≡ 4) → result ≡ words.now.length_len }
+    ensures known { IsWidth result }
+    ensures same { IsWidth words.now.length_len → result ≡ words.now.length_len }
 {
-    if words.length_len == 4 { 4 } else { 2 }
+    if is_width(words.length_len) { words.length_len as usize } else { 2 }
 }
 
 // The first byte of a short header. All its flags are taken over at once, and the fixed bit, which is clear if its flag
@@ -241,7 +249,7 @@ fn store_own_token(kind: HeaderKind, dest: &mut [u8], at: usize, token: &[u8]) -
 // Stores the length, which is 0, and the number.
 #[inline(always)]
 fn store_end(words: &HeaderFields, dest: &mut [u8], at: usize) -> usize
-    requires known { (words.now.length_len ≡ 2) ⊎ (words.now.length_len ≡ 4) }
+    requires known { IsWidth words.now.length_len }
     requires some { 1 ≤ words.now.number_len }
     requires few { words.now.number_len ≤ 4 }
     requires room { at + (words.now.length_len + words.now.number_len) ≤ length dest.old }
@@ -266,7 +274,7 @@ fn store_numbered(
     dest: &mut [u8],
 ) -> usize
     requires has { IsTrue (row kind).has_len }
-    requires known { (words.now.length_len ≡ 2) ⊎ (words.now.length_len ≡ 4) }
+    requires known { IsWidth words.now.length_len }
     requires some { 1 ≤ words.now.number_len }
     requires few { words.now.number_len ≤ 4 }
     requires dst_few { length dst.now ≤ 20 }
@@ -328,7 +336,7 @@ fn write_as(
 /// looked at. Bytes after the header don't change. It returns `NoRoom` if `dest` has fewer bytes; `Kind` for a kind above
 /// 5; `Number` for a number of 2^62 or more, or version 0 in an Initial, 0-RTT, Handshake or Retry header, which would be
 /// a version negotiation (RFC 9000, section 17.2.1); `Length` for an id of more than 20 bytes, a number that isn't
-/// written in 1 to 4 bytes, a length of other than 2 or 4 bytes, or a token of 2^62 bytes or more. Nothing changes then.
+/// written in 1 to 4 bytes, a length of other than 1, 2, 4 or 8 bytes, or a token of 2^62 bytes or more. Nothing changes then.
 /// With flags of 0 the first byte is what RFC 9000 has.
 #[unsafe(no_mangle)]
 pub extern "C" fn quic_wire_header_write_(

@@ -1,7 +1,7 @@
 //! Datagrams that are cut, and packets whose length is filled in: what callers learn from contracts and from the laws of
 //! headers, for every lawful parser of ids and all lawful keys.
 ghost use Rattle.std.specs.Prelude.{◌≡◌, ◌+◌, ◌-◌, ◌∷◌, [], ◌++◌, ◌≤◌, ℕ, true, IsTrue, IfSome, IsOk, OnOk, Contains, length, option_map, take, vec_capacity};
-ghost use Rattle.quic_header_encode.specs.Writing.{HasRoom, IsWritable, has_length, header_size, header_with, length_in, sealed_packet, size_in};
+ghost use Rattle.quic_header_encode.specs.Writing.{HasRoom, IsWritable, has_length, header_size, header_with, encoding_in, sealed_packet, size_in};
 ghost use Rattle.quic_header_decode.specs.declared.protected.ProtectedHeader.{ProtectedHeader};
 ghost use Rattle.quic_header_decode.specs.Grammar.{Cut};
 ghost use Rattle.quic_header_decode.specs.Reading.{read_by};
@@ -95,7 +95,7 @@ pub fn packet_with_length<H: HeaderKey, P: PacketKey>(
         ≡ H.protected header_key.now (header_size header.now - size_in header.now)
         (sealed_packet (header_size header.now)
         (option_map (λ c. (P.tag_size c.1.now, P.sealed c.1.now c.0)) crypto.entry)
-        (header_with (length_in 2 (size_in header.now + length payload.now)) header.now ++ payload.now))) }
+        (header_with (encoding_in 2 (size_in header.now + length payload.now)) header.now ++ payload.now))) }
     ensures spare { header_size header.now + length payload.now ≤ vec_capacity out.old → IsOk result }
 {
     length_later();

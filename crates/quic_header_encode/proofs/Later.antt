@@ -9,7 +9,7 @@ use Rattle.quic_header_encode.specs.declared.header.Header.{Header}
 use Rattle.quic_header_encode.specs.declared.header.Header.TheVariants as header
 use Rattle.quic_header_encode.specs.Kinds.{fields_of, first_in}
 use Rattle.quic_header_encode.specs.Kinds.{long_front}
-use Rattle.quic_header_encode.specs.Writing.{begun_by, length_in, with_len}
+use Rattle.quic_header_encode.specs.Writing.{begun_by, encoding_in, with_len}
 use Rattle.quic_header_encode.specs.Writing.{has_length, header_bytes, header_size, header_with, size_in, with_length}
 
 -- n elements of a list are written over
@@ -34,7 +34,7 @@ filled front zeros number tail len n at width is =
 filled_header : (front number body : List ℕ) (width size n : ℕ) → length number ≡ n
     → size ≡ length front + (width + n)
     → with_len width (size - n) ((front ++ (replicate width 0 ++ number)) ++ body)
-    ≡ (front ++ (length_in width (n + length body) ++ number)) ++ body
+    ≡ (front ++ (encoding_in width (n + length body) ++ number)) ++ body
 filled_header front number body width size n counted whole =
     let bytes : List ℕ = (front ++ (replicate width 0 ++ number)) ++ body in
     let at : ℕ = size - n in
@@ -51,8 +51,8 @@ filled_header front number body width size n counted whole =
       length-append front (replicate width 0 ++ number),
       length-append (replicate width 0) number,
     ) in
-    ap (λ (k : ℕ). take (at - width) bytes ++ (length_in width k ++ drop at bytes)) count
-    ∙ filled front (replicate width 0) number body (length_in width (n + length body)) width at zeros place
+    ap (λ (k : ℕ). take (at - width) bytes ++ (encoding_in width k ++ drop at bytes)) count
+    ∙ filled front (replicate width 0) number body (encoding_in width (n + length body)) width at zeros place
 
 -- what a header has before its length and number is as long, whatever its first byte is
 sizes : (front rest : List ℕ) (width n : ℕ) → length rest ≡ n
@@ -79,7 +79,7 @@ front_of _ = []
 later : (front first_front body : List ℕ) (width : ℕ) (number : PacketNumber) → length first_front ≡ length front
     → with_len width (length (front ++ (replicate width 0 ++ number_bytes number)) - number_size number)
     ((first_front ++ (replicate width 0 ++ number_bytes number)) ++ body)
-    ≡ (first_front ++ (length_in width (number_size number + length body) ++ number_bytes number)) ++ body
+    ≡ (first_front ++ (encoding_in width (number_size number + length body) ++ number_bytes number)) ++ body
 later front first_front body width number same =
     filled_header first_front (number_bytes number) body width
     (length (front ++ (replicate width 0 ++ number_bytes number))) (number_size number) (number_length number)
@@ -87,7 +87,7 @@ later front first_front body width number same =
 
 pub set_later : (h : Header) (first width : ℕ) (body : List ℕ) → IsTrue (has_length h)
     → with_len width (length (header_with (replicate width 0) h) - size_in h) (begun_by first (header_with (replicate width 0) h) ++ body)
-    ≡ begun_by first (header_with (length_in width (size_in h + length body)) h) ++ body
+    ≡ begun_by first (header_with (encoding_in width (size_in h + length body)) h) ++ body
 set_later (header.Initial h) first width body has =
     later (front_of (header.Initial h)) (begun_by first (front_of (header.Initial h))) body width h.number refl
 set_later (header.Long ty dst src number version) first width body has =
@@ -99,7 +99,7 @@ set_later (header.VersionNegotiate random src dst) first width body has = absurd
 
 pub finished_later : (h : Header) (body : List ℕ) → IsTrue (has_length h)
     → with_length (size_in h) (has_length h) (header_size h) (header_bytes h ++ body)
-    ≡ header_with (length_in 2 (size_in h + length body)) h ++ body
+    ≡ header_with (encoding_in 2 (size_in h + length body)) h ++ body
 finished_later (header.Initial h) body has =
     later (front_of (header.Initial h)) (front_of (header.Initial h)) body 2 h.number refl
 finished_later (header.Long ty dst src number version) body has =

@@ -98,20 +98,20 @@ number_few (U24 x) = (omega arith, omega arith)
 number_few (U32 x) = (omega arith, omega arith)
 
 size_within : (kind : HeaderKind) (dst src : ℕ) (token : List ℕ) (number : PacketNumber) (len : ℕ) → dst ≤ 20
-    → src ≤ 20 → len ≤ 4 → stored_size kind dst src token number len ≤ length token + 64
-size_within kinds.Initial dst src token number len d s l = omega (arith, size_few (length token), number_few number)
-size_within kinds.ZeroRtt dst src token number len d s l = omega (arith, number_few number)
-size_within kinds.Handshake dst src token number len d s l = omega (arith, number_few number)
-size_within kinds.Retry dst src token number len d s l = omega arith
-size_within kinds.Short dst src token number len d s l = omega (arith, number_few number)
-size_within kinds.VersionNegotiate dst src token number len d s l = omega arith
+    → src ≤ 20 → stored_size kind dst src token number len ≤ length token + 60 + len
+size_within kinds.Initial dst src token number len d s = omega (arith, size_few (length token), number_few number)
+size_within kinds.ZeroRtt dst src token number len d s = omega (arith, number_few number)
+size_within kinds.Handshake dst src token number len d s = omega (arith, number_few number)
+size_within kinds.Retry dst src token number len d s = omega arith
+size_within kinds.Short dst src token number len d s = omega (arith, number_few number)
+size_within kinds.VersionNegotiate dst src token number len d s = omega arith
 
--- 64 bytes are enough for what is not its token
+-- 60 bytes and its length are enough for what is not its token
 pub stored_within : (k : HeaderKind) (bits version : ℕ) (dst src token : List ℕ) (number : PacketNumber) (len : ℕ)
-    → length dst ≤ 20 → length src ≤ 20 → len ≤ 4
-    → length (header_text (replicate len 0) (says (row k) bits version dst src token number)) ≤ length token + 64
-stored_within k bits version dst src token number len d s l =
-    omega (arith, stored_length k bits version dst src token number len, size_within k (length dst) (length src) token number len d s l)
+    → length dst ≤ 20 → length src ≤ 20
+    → length (header_text (replicate len 0) (says (row k) bits version dst src token number)) ≤ length token + 60 + len
+stored_within k bits version dst src token number len d s =
+    omega (arith, stored_length k bits version dst src token number len, size_within k (length dst) (length src) token number len d s)
 
 -- what was written at the front ends after as many bytes
 pub front_end : (n : ℕ) (xs ys : List ℕ) → n ≤ length xs → take n xs ≡ ys → n ≡ length ys

@@ -6,7 +6,7 @@ use Rattle.std.proofs.lemmas.List.{append-nil, append_assoc, length-append, leng
 use Rattle.std.specs.Int.{byte_at}
 use Rattle.quic_base.specs.Number.{bytes_of}
 use Rattle.quic_base.specs.Varint.{shortest_varint, size}
-use Rattle.quic_header_encode.specs.Writing.{length_in, with_len}
+use Rattle.quic_header_encode.specs.Writing.{encoding_in, with_len}
 
 -- a number below 64 is encoded by itself
 pub short_small : (n : ℕ) → n < 64 → shortest_varint n ≡ n ∷ []
@@ -34,7 +34,7 @@ stored_over at end old new bytes front back =
 
 -- a length was written before a place
 pub len_stored : (width place end : ℕ) (old new bytes : List ℕ) → end ≡ place
-    → bytes ≡ length_in width (length old - place)
+    → bytes ≡ encoding_in width (length old - place)
     → take end new ≡ take (place - width) old ++ bytes → drop end new ≡ drop end old → new ≡ with_len width place old
 len_stored width place end old new bytes at is front back =
     stored_over (place - width) end old new bytes front back

@@ -10,7 +10,7 @@ use Rattle.quic_crypto.specs.Keys.{payload_in}
 use Rattle.quic_crypto.specs.PacketNumbers.{IsInRange, number_size, number_bytes}
 use Rattle.quic_header_encode.specs.declared.header.Header.{Header}
 use Rattle.quic_header_encode.specs.Kinds.{fields_of, header_text, number_in, Fields, first_in, row, says, version_in}
-use Rattle.quic_base.specs.Varint.{shortest_varint}
+use Rattle.quic_base.specs.Varint.{shortest_varint, size}
 use Rattle.quic_header_encode.specs.declared.store.HeaderRef.{HeaderRef}
 use Rattle.quic_header_encode.specs.declared.store.Padded.{Padded}
 use Rattle.quic_header_encode.specs.declared.long_type.HeaderKind.{HeaderKind}
@@ -19,6 +19,16 @@ use Rattle.quic_header_encode.specs.declared.long_type.LongHeaderType.{LongHeade
 use Rattle.quic_header_encode.specs.declared.long_type.LongHeaderType.TheVariants as kind
 use Rattle.quic_header_encode.specs.declared.long_type.LongType.TheVariants.{Handshake, ZeroRtt}
 use Rattle.quic_header_encode.specs.Types.{type_number}
+
+-- the widths of numbers (RFC 9000, section 16)
+abbrev pub IsWidth : ℕ → Type 0
+IsWidth n = (n ≡ 1) ⊎ (n ≡ 2) ⊎ (n ≡ 4) ⊎ (n ≡ 8)
+
+-- a number encoded in a width: the two highest bits say which
+abbrev pub encoding_in : ℕ → ℕ → List ℕ
+encoding_in width n =
+    if width == 1 then n ∷ [] else if width == 2 then bytes_of 2 (2 ^ 14 + n)
+    else if width == 4 then bytes_of 4 (2 * 2 ^ 30 + n) else bytes_of 8 (3 * 2 ^ 62 + n)
 
 -- two bytes of length, which are filled in later
 abbrev pub no_length : List ℕ
@@ -121,7 +131,7 @@ pub record IsStorable {I : Type 0} (id : I → List ℕ) (fields : HeaderRef I) 
   pub src_few : length (id fields.src_cid) ≤ 20
   pub token : length fields.token.now < 2 ^ 62
   pub number : IsInRange fields.number.now
-  pub length_len : (fields.length_len ≡ 2) ⊎ (fields.length_len ≡ 4)
+  pub length_len : IsWidth fields.length_len
 
 -- a token that is written by stores of 16 bytes
 abbrev pub IsShortToken : List ℕ → Type 0
@@ -179,21 +189,17 @@ padded_id id = id.0.now
 abbrev pub padded_room : Padded → ℕ
 padded_room id = 20
 
--- a length in two or four bytes (RFC 9000, section 16)
-abbrev pub length_in : ℕ → ℕ → List ℕ
-length_in width count = if width == 4 then bytes_of 4 (2 * 2 ^ 30 + count) else bytes_of 2 (2 ^ 14 + count)
-
 -- a packet with its length set, in so many bytes before the place of its number: it counts the bytes from there on
 abbrev pub with_len : ℕ → ℕ → List ℕ → List ℕ
-with_len width place bytes = take (place - width) bytes ++ (length_in width (length bytes - place) ++ drop place bytes)
+with_len width place bytes = take (place - width) bytes ++ (encoding_in width (length bytes - place) ++ drop place bytes)
 
--- A packet of that size has a length of so many bytes before a place, and what it is to count has room in it.
-pub record TakesLen (width place size : ℕ) : Type 0 where
-  pub known : (width ≡ 2) ⊎ (width ≡ 4)
+-- A packet of so many bytes has a length of this width before a place, and what it is to count has room in it.
+pub record TakesLen (width place whole : ℕ) : Type 0 where
+  pub known : IsWidth width
   pub behind : width ≤ place
-  pub within : place ≤ size
-  pub short : width ≡ 2 → size < place + 2 ^ 14
-  pub long : width ≡ 4 → size < place + 2 ^ 30
+  pub within : place ≤ whole
+  pub numeric : whole < place + 2 ^ 62
+  pub fits : size (whole - place) ≤ width
 
 -- ---- No public clause cites what follows.
 

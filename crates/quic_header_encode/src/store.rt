@@ -5,13 +5,13 @@ ghost use Rattle.quic_base.specs.ConnectionId.{long_id};
 ghost use Rattle.quic_base.specs.Varint.{shortest_varint, size};
 ghost use Rattle.quic_crypto.specs.PacketNumbers.{IsInRange};
 ghost use Rattle.quic_header_encode.specs.Kinds.{long_front};
-ghost use Rattle.quic_header_encode.specs.Writing.{end_bytes, first_byte_of, stored_bytes, stored_len, token_by, version_field, with_len, HasStoreRoom, HasLow, IsExact, IsStorable, IsLong, IsShortToken, TakesLen};
+ghost use Rattle.quic_header_encode.specs.Writing.{end_bytes, first_byte_of, stored_bytes, stored_len, token_by, version_field, with_len, HasStoreRoom, HasLow, IsExact, IsStorable, IsLong, IsShortToken, IsWidth, TakesLen};
 
 use crate::fields::{store_bytes, store_ends, store_id, store_number};
 use crate::long_type::HeaderKind;
 use quic_base::coding::store_array;
 use quic_base::ids::ConnectionId;
-use quic_base::varint::{IN_FOUR, IN_TWO, store_var, var_size};
+use quic_base::varint::{IN_EIGHT, IN_FOUR, IN_TWO, store_var, var_size};
 use quic_crypto::packet_number::PacketNumber;
 
 /// An id that is written.
@@ -97,7 +97,7 @@ pub struct HeaderRef<'a, I> {
     pub token: &'a [u8],
     /// The truncated packet number. Retry and version negotiation have none.
     pub number: &'a PacketNumber,
-    /// How many bytes the length takes that Initial, Handshake and 0-RTT have, 2 or 4.
+    /// How many bytes the length takes that Initial, Handshake and 0-RTT have: 1, 2, 4 or 8.
     pub length_len: usize,
 }
 
@@ -231,21 +231,22 @@ fn store_long_token(out: &mut [u8], at: usize, token: &[u8]) -> usize
     store_bytes(out, at, token)
 }
 
-/// Stores as many zeros as a length takes, 2 or 4, and answers where they end. The caller must ensure that there is
-/// room.
+/// Stores as many zeros as a length takes, 1, 2, 4 or 8, and answers where they end. The caller must ensure that there
+/// is room.
 #[inline(always)]
 pub fn store_no_length(out: &mut [u8], at: usize, len: usize) -> usize
-    requires known { (len ≡ 2) ⊎ (len ≡ 4) }
+    requires known { IsWidth len }
     requires room { at + len ≤ length out.old }
     ensures end { result ≡ at + len }
     ensures front { take result out.new ≡ take at out.old ++ replicate len 0 }
     ensures back { drop result out.new ≡ drop result out.old }
     ensures len { length out.new ≡ length out.old }
 {
-    if len == 4 {
-        store_array(out, at, [0, 0, 0, 0])
-    } else {
-        store_array(out, at, [0, 0])
+    match len {
+        1 => store_array(out, at, [0]),
+        4 => store_array(out, at, [0; 4]),
+        8 => store_array(out, at, [0; 8]),
+        _ => store_array(out, at, [0; 2]),
     }
 }
 
@@ -306,7 +307,7 @@ impl<I: StoredId> HeaderRef<'_, I> {
         requires { IsStorable I.id self.now }
         ensures { IsTrue result ↔ (stored_len I.id self.now ≤ room) }
     {
-        if room >= 64 && self.token.len() <= room - 64 {
+        if room >= 68 && self.token.len() <= room - 68 {
             return true;
         }
         self.encoded_len() <= room
@@ -332,7 +333,7 @@ impl<I: StoredId> HeaderRef<'_, I> {
     // Stores the fields after the ids and the token: zeros for the length, and the number.
     #[inline(always)]
     fn store_end(&self, out: &mut [u8], at: usize) -> usize
-        requires known { (self.now.length_len ≡ 2) ⊎ (self.now.length_len ≡ 4) }
+        requires known { IsWidth self.now.length_len }
         requires valid { IsInRange self.now.number.now }
         requires room { at + length (end_bytes self.now) ≤ length out.old }
         ensures end { result ≡ at + length (end_bytes self.now) }
@@ -394,8 +395,9 @@ impl<I: StoredId> HeaderRef<'_, I> {
 }
 
 /// Writes how many bytes a packet has from a place on, where its number begins, into the length before it, which has
-/// 2 or 4 bytes (RFC 9000, section 17.2). Answers false, and changes nothing, if the length is to have another size, if
-/// there is no such place, or if the count doesn't fit: 2^14 or more in 2 bytes, 2^30 or more in 4.
+/// 1, 2, 4 or 8 bytes (RFC 9000, section 17.2). It returns false, and changes nothing, if the length is to have another
+/// size, if there is no such place, or if the count doesn't fit.
+#[tactic(auto, unfolding(quic_base::specs::Varint::size))]
 pub fn set_len(packet: &mut [u8], place: usize, length_len: usize) -> bool
     ensures set { IsTrue result → packet.new ≡ with_len length_len place packet.old }
     ensures taken { IsTrue result ↔ TakesLen length_len place (length packet.old) }
@@ -404,14 +406,17 @@ pub fn set_len(packet: &mut [u8], place: usize, length_len: usize) -> bool
     if place > packet.len() || place < length_len {
         return false;
     }
-    let count = packet.len() - place;
-    if length_len == 2 && count < 1 << 14 {
-        store_array(packet, place - 2, (count as u16 + IN_TWO).to_be_bytes());
-        true
-    } else if length_len == 4 && count < 1 << 30 {
-        store_array(packet, place - 4, (count as u32 + IN_FOUR).to_be_bytes());
-        true
-    } else {
-        false
+    let count = (packet.len() - place) as u64;
+    if count >= 1 << 62 || length_len < var_size(count) {
+        return false;
     }
+    let at = place - length_len;
+    match length_len {
+        1 => store_array(packet, at, [count as u8]),
+        2 => store_array(packet, at, (IN_TWO + count as u16).to_be_bytes()),
+        4 => store_array(packet, at, (IN_FOUR + count as u32).to_be_bytes()),
+        8 => store_array(packet, at, (IN_EIGHT + count).to_be_bytes()),
+        _ => return false,
+    };
+    true
 }

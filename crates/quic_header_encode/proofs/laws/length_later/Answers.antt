@@ -5,4 +5,4 @@ pub returns-clause-finished : goal.returns-clause-finished
 returns-clause-finished c = finished_later
 
 pub returns-clause-set : goal.returns-clause-set
-returns-clause-set c = λ h first width body has known. set_later h first width body has
+returns-clause-set c = λ h first width body has. set_later h first width body has

@@ -12,7 +12,7 @@ static u64 packets_of(const uint8_t *datagram, size_t len) {
     static const uint32_t versions[] = {QUIC_WIRE_VERSION_1, QUIC_WIRE_VERSION_2};
     quic_wire_header head;
     u64 sum = 0;
-    while (len != 0 && quic_wire_header_read(datagram, len, 8, versions, 2, &head) > 0 &&
+    while (len != 0 && quic_wire_header_read(datagram, len, 8, versions, 2, 0, &head) > 0 &&
            head.first & QUIC_WIRE_BIT_FIXED) {
         sum += head.kind + head.version + head.header_end + head.dcidlen + head.scidlen + head.token + head.tokenlen +
                head.len + head.end + *quic_wire_dcid(datagram, &head);

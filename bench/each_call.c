@@ -45,7 +45,7 @@ static void canonical(size_t i) {
 static void header(size_t i) {
     static const uint32_t versions[] = {QUIC_WIRE_VERSION_1, QUIC_WIRE_VERSION_2};
     quic_wire_header to = {0};
-    sum += (uint64_t)quic_wire_header_read(lines[i], lens[i], 8, versions, 2, &to) + to.end;
+    sum += (uint64_t)quic_wire_header_read(lines[i], lens[i], 8, versions, 2, 0, &to) + to.end;
 }
 
 static void params_read(size_t i) {

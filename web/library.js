@@ -1,7 +1,7 @@
 // The calls of the proved library, as they stand in c/include/quic_wire.h, over bytes that lie in the module's memory.
 
 import {
-  FRAME_REASONS, PACKET_FIXED_BIT_UNSET, PACKET_MALFORMED_CID, PACKET_REASONS, PACKET_UNSUPPORTED_VERSION, PADDING,
+  FRAME_REASONS, PACKET_MALFORMED_CID, PACKET_REASONS, PACKET_UNSUPPORTED_VERSION, PADDING,
 } from "./names.js";
 import { EMPTY, ITEM, LAYOUT, NO_TYPE, OK, Struct } from "./layout.js";
 
@@ -10,7 +10,8 @@ const ROOM = 1024;
 const MAX_VERSIONS = 64;
 // Bits of a first byte.
 const LONG_FORM = 0x80;
-const FIXED_BIT = 0x40;
+// QUIC_WIRE_READ_GREASED_BIT.
+const READ_GREASED_BIT = 0x10;
 const MAX_ID = 20;
 const PAGE = 65536;
 
@@ -236,17 +237,12 @@ export class Library {
   }
 
   // Reads the header of the packet that begins at |offset|, and returns 0 or the reason why there is none. The library
-  // leaves two things to its caller: without grease the fixed bit is tested first (RFC 9000, section 17), and an id of
-  // more than 20 bytes is refused in other versions too.
+  // leaves it to its caller to refuse an id of more than 20 bytes in other versions too.
   cutPacket(offset, { idLength, versions, grease }) {
-    const first = new Uint8Array(this.memory.buffer)[this.input + offset];
-    if (!grease && offset < this.length && !(first & FIXED_BIT)) {
-      return PACKET_FIXED_BIT_UNSET;
-    }
     const spoken = this.speak(versions);
     const answer = Number(this.call(
       "header_read", this.at(this.input + offset), BigInt(this.length - offset), idLength, this.at(this.versions),
-      spoken, this.at(this.header.place),
+      spoken, grease ? READ_GREASED_BIT : 0, this.at(this.header.place),
     ));
     if (answer > 0) {
       return OK;

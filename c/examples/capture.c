@@ -242,8 +242,8 @@ static int read_header(const uint8_t *packet, size_t len, int cidlen, quic_wire_
   if (!(packet[0] & QUIC_WIRE_BIT_LONG) && cidlen < 0)
     return 0;
   if (answer < 0)
-    answer =
-        quic_wire_header_read(packet, len, cidlen < 0 ? 0 : (uint32_t)cidlen, versions, 2, header);
+    answer = quic_wire_header_read(packet, len, cidlen < 0 ? 0 : (uint32_t)cidlen, versions, 2,
+                                   QUIC_WIRE_READ_GREASED_BIT, header);
   *why = answer < 0 ? quic_wire_strerror((int)answer) : NULL;
   if (answer == QUIC_WIRE_ERR_PACKET_VERSION)
     header->end = (uint32_t)len; /* where such a packet ends only its version says */

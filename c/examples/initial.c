@@ -99,7 +99,8 @@ int main(void) {
   size_t begin, i;
   keys k;
   const int64_t end =
-      quic_wire_header_read(packet, len, 0, versions, 1, &header);
+      quic_wire_header_read(packet, len, 0, versions, 1, QUIC_WIRE_READ_RFC,
+                            &header);
   check(quic_wire_check(QUIC_WIRE_LIB) == 0, "another library is linked");
   check(end > 0, quic_wire_strerror((int)end));
   check(header.kind == QUIC_WIRE_PACKET_INITIAL &&

@@ -425,6 +425,7 @@ typedef enum quic_wire_packet_kind {
                                             versions that aren't given */
 #define QUIC_WIRE_READ_WHOLE_RETRY 0x040 /* a Retry must have a token and a tag
                                             of 16 bytes (section 17.2.5) */
+#define QUIC_WIRE_READ_RFC 0x3ef /* all that RFC 9000 asks of a receiver */
 
 /** Versions of QUIC. */
 #define QUIC_WIRE_VERSION_1 0x00000001u /* RFC 9000 */

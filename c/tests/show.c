@@ -135,10 +135,8 @@ static int64_t read_header(const uint8_t *bytes, size_t len, uint32_t cidlen,
   static const uint32_t versions[] = {0x00000001, 0xff00001d, 0xff00001e,
                                       0xff00001f, 0xff000020, 0xff000021,
                                       0xff000022, 0x6b3343cf};
-  int64_t end;
-  if (len && !(bytes[0] & QUIC_WIRE_BIT_FIXED))
-    return QUIC_WIRE_ERR_PACKET_FIXED_BIT;
-  end = quic_wire_header_read(bytes, len, cidlen, versions, 8, header);
+  const int64_t end =
+      quic_wire_header_read(bytes, len, cidlen, versions, 8, 0, header);
   if (end == QUIC_WIRE_ERR_PACKET_VERSION &&
       (header->dcidlen > 20 || header->scidlen > 20))
     return QUIC_WIRE_ERR_PACKET_CID;

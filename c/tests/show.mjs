@@ -9,7 +9,7 @@ const wire = instance.exports;
 
 const OK = 0, ITEM = 1;
 const NO_TYPE = 0xffffffffffffffffn;
-const PACKET_FIXED_BIT = -41, PACKET_CID = -43, PACKET_VERSION = -45;
+const PACKET_CID = -43, PACKET_VERSION = -45;
 const KINDS = ['initial', '0rtt', 'handshake', 'retry', 'short', 'version-negotiation'];
 const INITIAL = 0, SHORT = 4;
 const VERSIONS = [1, 0xff00001d, 0xff00001e, 0xff00001f, 0xff000020, 0xff000021, 0xff000022, 0x6b3343cf];
@@ -100,10 +100,9 @@ const refused = (result, version) => `${error(result)}${result === PACKET_VERSIO
 
 // Where the packet ends that begins at a place of the datagram, whose header is at `at.out`, or why there is none.
 function readHeader(bytes, begin, idLen) {
-    if (begin < bytes.length && !(bytes[begin] & 0x40)) return PACKET_FIXED_BIT;
     const [rest, versions, out] = [at.bytes + begin, at.versions, at.out].map(pointer);
     const [left, count] = [bytes.length - begin, VERSIONS.length].map(BigInt);
-    const end = Number(wire.quic_wire_header_read(rest, left, idLen, versions, count, out));
+    const end = Number(wire.quic_wire_header_read(rest, left, idLen, versions, count, 0, out));
     const hasLongId = () => slice(at.out + 2, 2).some((length) => length > 20);
     return end === PACKET_VERSION && hasLongId() ? PACKET_CID : end;
 }

@@ -41,7 +41,7 @@ static uint64_t others_of(const uint8_t *bytes, size_t len) {
                             sizeof params) == QUIC_WIRE_OK)
     sum += (uint64_t)quic_wire_params_write(
         QUIC_WIRE_SIDE_SERVER, &params, sizeof params, to, sizeof to, &written);
-  sum += (uint64_t)quic_wire_header_read(bytes, len, 8, versions, 1, &header);
+  sum += (uint64_t)quic_wire_header_read(bytes, len, 8, versions, 1, 0, &header);
   return sum + written;
 }
 

@@ -62,7 +62,8 @@ ngtcp2_ssize ngtcp2_pkt_decode_hd_long(ngtcp2_pkt_hd *dest, const uint8_t *pkt,
       NGTCP2_PKT_RETRY,   NGTCP2_PKT_1RTT, NGTCP2_PKT_VERSION_NEGOTIATION};
   quic_wire_header h;
   int64_t answer = quic_wire_header_read(
-      pkt, pktlen, 0, versions, sizeof(versions) / sizeof(versions[0]), &h);
+      pkt, pktlen, 0, versions, sizeof(versions) / sizeof(versions[0]),
+      QUIC_WIRE_READ_GREASED_BIT, &h);
 
 #if !QUIC_WIRE_NG_1
   if (answer == QUIC_WIRE_ERR_PACKET_VERSION &&
@@ -88,8 +89,12 @@ ngtcp2_ssize ngtcp2_pkt_decode_hd_long(ngtcp2_pkt_hd *dest, const uint8_t *pkt,
   dest->version = h.version;
   dest->pkt_num = 0;
   dest->pkt_numlen = 0;
-  NG_TOKEN(dest) = h.tokenlen ? (uint8_t *)pkt + h.token : NULL;
-  NG_TOKENLEN(dest) = h.tokenlen;
+  NG_TOKEN(dest) = NULL;
+  NG_TOKENLEN(dest) = 0;
+  if (h.kind == QUIC_WIRE_PACKET_INITIAL && h.tokenlen) {
+    NG_TOKEN(dest) = (uint8_t *)pkt + h.token;
+    NG_TOKENLEN(dest) = h.tokenlen;
+  }
   dest->len = (size_t)h.len;
   return (ngtcp2_ssize)h.header_end;
 }
@@ -133,7 +138,7 @@ int ngtcp2_pkt_decode_version_cid(ngtcp2_version_cid *dest, const uint8_t *data,
     return 0;
   }
   answer = quic_wire_header_read(data, datalen, (uint32_t)short_dcidlen, NULL,
-                                 0, &h);
+                                 0, QUIC_WIRE_READ_GREASED_BIT, &h);
   if (answer == QUIC_WIRE_ERR_PACKET_CID) {
     answer = quic_wire_negotiation_read(data, datalen, &h);
   }

@@ -22,13 +22,17 @@ void headers_nulls(void) {
   static const uint32_t one[] = {1};
   quic_wire_header header;
   uint8_t id[4] = {1, 2, 3, 4};
-  WANT(quic_wire_header_read(NULL, 1, 0, one, 1, &header) == INVALID);
-  WANT(quic_wire_header_read(id, 4, 0, NULL, 1, &header) == INVALID);
-  WANT(quic_wire_header_read(id, 4, 0, one, 1, NULL) == INVALID);
-  WANT(quic_wire_header_read(id, 4, 21, one, 1, &header) ==
+  size_t dcidlen = 77;
+  WANT(quic_wire_header_read(NULL, 1, 0, one, 1, 0, &header) == INVALID);
+  WANT(quic_wire_header_read(id, 4, 0, NULL, 1, 0, &header) == INVALID);
+  WANT(quic_wire_header_read(id, 4, 0, one, 1, 0, NULL) == INVALID);
+  WANT(quic_wire_header_read(id, 4, 21, one, 1, 0, &header) ==
        QUIC_WIRE_ERR_LENGTH);
-  WANT(quic_wire_header_read(id, 0, 0, NULL, 0, &header) ==
+  WANT(quic_wire_header_read(id, 0, 0, NULL, 0, 0, &header) ==
        QUIC_WIRE_ERR_PACKET_END);
+  WANT(!quic_wire_dcid_read(NULL, 4, 0, &dcidlen) && dcidlen == 77);
+  WANT(!quic_wire_dcid_read(id, 4, 0, NULL));
+  WANT(!quic_wire_dcid_read(id, 0, 0, &dcidlen) && dcidlen == 77);
   WANT(!quic_wire_dcid(NULL, &header) && !quic_wire_dcid(id, NULL));
   WANT(!quic_wire_scid(NULL, &header) && !quic_wire_scid(id, NULL));
   WANT(!quic_wire_sample(NULL, 40, 0, 16) && !quic_wire_sample(id, 4, 5, 0));
@@ -36,7 +40,7 @@ void headers_nulls(void) {
   protection_nulls();
 }
 
-/* Lengths of two and of four bytes on both sides of 2^14. */
+/* Lengths of each width, on both sides of 2^6 and of 2^14. */
 void long_lengths(void) {
   static uint8_t packet[(1 << 14) + 4];
   WANT(quic_wire_set_len(packet, sizeof packet, 4, 2) == QUIC_WIRE_ERR_LENGTH);
@@ -44,6 +48,10 @@ void long_lengths(void) {
   WANT(!memcmp(packet, "\0\0\x7f\xff", 5));
   WANT(quic_wire_set_len(packet, sizeof packet, 4, 4) == 0);
   WANT(!memcmp(packet, "\x80\0\x40\0", 5));
+  WANT(quic_wire_set_len(packet, sizeof packet, 8, 8) == 0);
+  WANT(!memcmp(packet, "\xc0\0\0\0\0\0\x3f\xfc", 8));
+  WANT(quic_wire_set_len(packet, 68, 4, 1) == QUIC_WIRE_ERR_LENGTH);
+  WANT(quic_wire_set_len(packet, 67, 4, 1) == 0 && packet[3] == 63);
 }
 
 /* The places that were given of a packet are within it. */
@@ -57,11 +65,61 @@ static void header_within(const uint8_t *packet, size_t left,
   WANT(header->kind == QUIC_WIRE_PACKET_1RTT ||
        quic_wire_scid(packet, header) + header->scidlen <=
            packet + header->header_end);
-  WANT(header->token + header->tokenlen <= header->header_end);
+  if (header->kind == QUIC_WIRE_PACKET_RETRY)
+    WANT(header->tokenlen == 0 ||
+         (header->token == header->header_end &&
+          header->token + header->tokenlen + 16 == header->end));
+  else
+    WANT(header->token + header->tokenlen <= header->header_end);
   sample = quic_wire_sample(packet, header->end, header->header_end, 16);
   WANT(header->end - header->header_end < 20
            ? !sample
            : sample == packet + header->header_end + 4);
+}
+
+/* Whether the fixed bit is clear where the flags ask for it. */
+static int lacks_fixed_bit(const uint8_t *packet, size_t len, uint32_t flags) {
+  if (packet[0] & QUIC_WIRE_BIT_FIXED || flags & QUIC_WIRE_READ_GREASED_BIT)
+    return 0;
+  return !(flags & QUIC_WIRE_READ_ANY_VERSION) ||
+         !(packet[0] & QUIC_WIRE_BIT_LONG) ||
+         (len >= 5 && (!memcmp(packet + 1, "\0\0\0\1", 4) ||
+                       !memcmp(packet + 1, "\x6b\x33\x43\xcf", 4)));
+}
+
+/* Any flags change what is read as the header says, whose words and answer
+ * without any check these are; and the receiver's id alone is the header's. */
+static void flags_any(const uint8_t *packet, size_t len, uint32_t cidlen,
+                      const uint32_t *versions, int64_t end,
+                      const quic_wire_header *header) {
+  const uint32_t flags = (uint32_t)any();
+  const int is_read = end > 0 || end == QUIC_WIRE_ERR_PACKET_CUT ||
+                      end == QUIC_WIRE_ERR_PACKET_VERSION;
+  const uint8_t *dcid;
+  quic_wire_header same, before;
+  size_t dcidlen = 77;
+  memset(&before, 0x5a, sizeof before);
+  same = before;
+  if (cidlen > 20)
+    return;
+  if (lacks_fixed_bit(packet, len, flags))
+    end = QUIC_WIRE_ERR_PACKET_FIXED_BIT;
+  else if (end > 0 && flags & QUIC_WIRE_READ_WHOLE_RETRY &&
+           header->kind == QUIC_WIRE_PACKET_RETRY &&
+           header->end - header->header_end < 17)
+    end = QUIC_WIRE_ERR_PACKET_RETRY;
+  WANT(quic_wire_header_read(packet, len, cidlen, versions, 2, flags, &same) ==
+       end);
+  WANT(!memcmp(&same,
+               end > 0 || end == QUIC_WIRE_ERR_PACKET_CUT ||
+                       end == QUIC_WIRE_ERR_PACKET_VERSION
+                   ? header
+                   : &before,
+               sizeof same));
+  dcid = quic_wire_dcid_read(packet, len, cidlen, &dcidlen);
+  WANT(dcid ? dcidlen <= (size_t)(packet + len - dcid) : dcidlen == 77);
+  if (is_read)
+    WANT(dcid == quic_wire_dcid(packet, header) && dcidlen == header->dcidlen);
 }
 
 /* Reads any bytes as packets, and takes protection off any of them: in place,
@@ -83,7 +141,8 @@ void packet_rubbish(uint8_t *datagram, size_t len) {
   for (; begin < len; begin += header.end) {
     uint8_t *packet = datagram + begin;
     end = quic_wire_header_read(packet, len - begin, cidlen, versions, 2,
-                                &header);
+                                QUIC_WIRE_READ_GREASED_BIT, &header);
+    flags_any(packet, len - begin, cidlen, versions, end, &header);
     if (cidlen > 20)
       WANT(end == QUIC_WIRE_ERR_LENGTH);
     WANT(quic_wire_short_read(packet, len - begin, cidlen) ==
@@ -156,14 +215,15 @@ static void opened_apart(const uint8_t *packet, size_t len, size_t at) {
 /* A header is opened in a copy, and a length is set where it fits. */
 void place_any(uint8_t *packet, size_t len) {
   const size_t at = place();
-  const uint32_t lengthlen = (uint32_t)(any() % 6);
+  const uint32_t lengthlen = (uint32_t)(any() % 10);
   uint8_t before[40];
   uint64_t number = 77;
   int answer;
   memcpy(before, packet, len);
   opened_apart(packet, len, at);
   answer = quic_wire_set_len(packet, len, at, lengthlen);
-  if ((lengthlen == 2 || lengthlen == 4) && lengthlen <= at && at <= len) {
+  if ((lengthlen == 1 || lengthlen == 2 || lengthlen == 4 || lengthlen == 8) &&
+      lengthlen <= at && at <= len) {
     WANT(answer == 0);
     WANT(quic_wire_varint_read(packet + at - lengthlen, lengthlen, &number) ==
              lengthlen &&

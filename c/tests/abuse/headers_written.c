@@ -86,7 +86,7 @@ static size_t model_long(const quic_wire_header_fields *h,
     for (k = 0; k < lens[2]; k++)
       out[n++] = parts[2][k];
   }
-  for (k = is_long ? h->lengthlen == 4 ? 4 : 2 : 0; k--;)
+  for (k = is_long ? h->lengthlen : 0; k--;)
     out[n++] = 0;
   return n;
 }
@@ -103,7 +103,8 @@ static int64_t model_refusal(const quic_wire_header_fields *h,
     return QUIC_WIRE_ERR_NUMBER;
   if (lens[0] > 20 || (h->kind != QUIC_WIRE_PACKET_1RTT && lens[1] > 20) ||
       (numbered && (h->numberlen < 1 || h->numberlen > 4)) ||
-      (is_long && h->lengthlen != 2 && h->lengthlen != 4))
+      (is_long && h->lengthlen != 1 && h->lengthlen != 2 && h->lengthlen != 4 &&
+       h->lengthlen != 8))
     return QUIC_WIRE_ERR_LENGTH;
   return 0;
 }
@@ -166,7 +167,7 @@ static void header_cut(const quic_wire_header_fields *h,
                        const uint8_t *written, size_t len) {
   const int is_long = h->kind <= QUIC_WIRE_PACKET_HANDSHAKE;
   const int numbered = is_long || h->kind == QUIC_WIRE_PACKET_1RTT;
-  const size_t whole = len + any() % 64;
+  const size_t whole = len + any() % 60; /* a length of one byte has room */
   const size_t at = len - (numbered ? h->numberlen : 0);
   uint8_t *packet = block(whole), *plain = block(whole), mask[5];
   quic_wire_header header;
@@ -180,6 +181,7 @@ static void header_cut(const quic_wire_header_fields *h,
   any_bytes(mask, 5);
   answer = header_protected(h, packet, plain, whole, len, at, mask);
   WANT(quic_wire_header_read(packet, whole, (uint32_t)lens[0], &h->version, 1,
+                             QUIC_WIRE_READ_GREASED_BIT,
                              &header) == (int64_t)whole);
   WANT(header.kind == h->kind && header.first == packet[0]);
   WANT(header.version == (h->kind <= QUIC_WIRE_PACKET_RETRY ? h->version : 0));
@@ -189,7 +191,11 @@ static void header_cut(const quic_wire_header_fields *h,
   WANT(!memcmp(quic_wire_dcid(packet, &header), parts[0], lens[0]));
   WANT(h->kind == QUIC_WIRE_PACKET_1RTT ||
        !memcmp(quic_wire_scid(packet, &header), parts[1], lens[1]));
-  WANT(header.tokenlen == (h->kind == QUIC_WIRE_PACKET_INITIAL ? lens[2] : 0));
+  if (h->kind == QUIC_WIRE_PACKET_RETRY)
+    WANT(header.tokenlen == (whole - len < 16 ? 0 : whole - len - 16));
+  else
+    WANT(header.tokenlen ==
+         (h->kind == QUIC_WIRE_PACKET_INITIAL ? lens[2] : 0));
   WANT(header.len == (is_long ? whole - at : 0));
   if (numbered && answer > 0 && h->number >> 62 == 0) {
     WANT(quic_wire_unprotect(packet, whole, at, mask, h->number, &number) ==
@@ -210,7 +216,7 @@ static void any_fields(quic_wire_header_fields *h) {
                            : (uint32_t)any();
   h->flags = (uint8_t)(any() % 9 ? any() % 128 : any());
   h->numberlen = (uint8_t)(any() % 20 ? 1 + any() % 4 : any());
-  h->lengthlen = (uint8_t)(any() % 9 ? 2 + any() % 2 * 2 : any());
+  h->lengthlen = (uint8_t)(any() % 9 ? 1u << any() % 4 : any());
   h->number = any() % 20 ? any() >> (2 + any() % 60) : edge();
 }
 

@@ -59,7 +59,8 @@ static void negotiation_read(uint8_t *packet, size_t len, size_t cut) {
     WANT(header.version == 0 && header.end == whole);
     WANT(header.header_end == 7 + dcidlen + scidlen);
     WANT(header.token == 0 && header.tokenlen == 0 && header.len == 0);
-    end = quic_wire_header_read(packet, whole, 0, one, 1, &same);
+    end = quic_wire_header_read(packet, whole, 0, one, 1,
+                                QUIC_WIRE_READ_GREASED_BIT, &same);
     if (dcidlen <= 20 && scidlen <= 20)
       WANT(end == (int64_t)whole && !memcmp(&header, &same, sizeof header));
     else

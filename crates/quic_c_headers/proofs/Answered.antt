@@ -1,5 +1,5 @@
 -- What is reported of the header that bytes begin with is one answer, and where the packet is whole it is cut there.
-use Rattle.std.specs.Prelude.{◌≡◌, ℕ, ◌+◌, ◌≤◌, Bool, true, false, if◌then◌else◌, List, length, drop, Option, None, Some, Result, Ok, Err, slice_index, slice_range, unwrap_or, IfOk}
+use Rattle.std.specs.Prelude.{◌≡◌, ℕ, ◌+◌, ◌≤◌, Bool, true, false, if◌then◌else◌, List, length, drop, Option, None, Some, Result, Ok, Err, slice_index, slice_range, IfOk}
 use Rattle.std.proofs.Common.{refl, sym, ap, subst, ◌∙◌, arith, length-drop, length-take}
 use Rattle.quic_base.specs.Number.{AreBytes}
 use Rattle.quic_header_encode.specs.declared.long_type.HeaderKind.{HeaderKind}

@@ -126,11 +126,11 @@ header_at : (options : DecodeOptions) (packet dst src rest d s left : List ℕ) 
     → HeaderAt options (length packet) packet (protected.VersionNegotiate random d s) left
 header_at options packet dst src rest d s left random e f g h = rw (e, f, g) h
 
-pub reported : (id_len : ℕ) (versions packet dst src rest : List ℕ) (old : CHeader) → IsNegotiation packet dst src rest
+pub reported : (flags id_len : ℕ) (versions packet dst src rest : List ℕ) (old : CHeader) → IsNegotiation packet dst src rest
     → length dst ≤ 20 → length src ≤ 20
-    → Reported id_len versions packet old (Ok (length packet)) (negotiation_words packet dst src)
+    → Reported flags id_len versions packet old (Ok (length packet)) (negotiation_words packet dst src)
 unfolding places
-reported id_len versions packet dst src rest old (first, number, whole, long, word) few less =
+reported flags id_len versions packet dst src rest old (first, number, whole, long, word) few less =
     let options : DecodeOptions = any_fixed id_len versions in
     let zero_word = law.is_number_4 0 (omega arith) in
     let zeros : number ≡ bytes_of 4 0 =

@@ -1,6 +1,6 @@
 -- The headers that words describe (RFC 9000, section 17), and what the calls that write them answer.
 use Rattle.quic_base.specs.Number.{has_bit}
-use Rattle.std.specs.Prelude.{◌≡◌, ◌≢◌, IsTrue, is_some, ℕ, ◌+◌, ◌-◌, ◌*◌, ◌/◌, ◌%◌, ◌<◌, ◌≤◌, ◌^◌, ◌⊎◌, Bool, false, List, [], ◌++◌, length, take, drop, replicate, bit_or, bit_xor, pos, ℤ, Option, None, Some, ◌==◌, if◌then◌else◌}
+use Rattle.std.specs.Prelude.{◌≡◌, ◌≢◌, IsTrue, is_some, ℕ, ◌+◌, ◌-◌, ◌%◌, ◌<◌, ◌≤◌, ◌^◌, ◌⊎◌, Bool, false, List, [], ◌++◌, length, take, drop, replicate, bit_or, bit_xor, pos, ℤ, Option, None, Some, ◌==◌, if◌then◌else◌}
 use Rattle.std.specs.Option.{option_map_or}
 use Rattle.quic_crypto.specs.declared.packet_number.PacketNumber.{PacketNumber}
 use Rattle.quic_crypto.specs.declared.packet_number.PacketNumber.TheVariants.{U8, U16, U24, U32}

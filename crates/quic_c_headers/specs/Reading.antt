@@ -1,6 +1,6 @@
 -- Headers as C sees them, and what the call that reads them answers; version negotiation packets (RFC 9000, section
 -- 17.2.1), whose ids have up to 255 bytes (RFC 8999, section 6).
-use Rattle.std.specs.Prelude.{◌≡◌, ◌≢◌, ℕ, ◌+◌, ◌-◌, ◌<◌, ◌≤◌, ◌⊎◌, Bool, true, false, List, [], length, Option, None, Some, Result, Ok, Err, IfOk, slice_index, slice_range, unwrap_or, ◌%◌, ◌++◌, bit_xor, Contains, nat_le, nat_lt, ◌==◌, ◌&&◌, if◌then◌else◌}
+use Rattle.std.specs.Prelude.{◌≡◌, ◌≢◌, ℕ, ◌+◌, ◌-◌, ◌<◌, ◌≤◌, ◌⊎◌, Bool, true, false, List, [], length, Result, Ok, Err, IfOk, slice_index, take, drop, unwrap_or, ◌%◌, ◌++◌, bit_xor, Contains, nat_le, nat_lt, ◌==◌, ◌&&◌, if◌then◌else◌}
 use Rattle.quic_header_encode.specs.Kinds.{row}
 use Rattle.quic_header_decode.specs.declared.fields.Place.{Place}
 use Rattle.quic_header_decode.specs.declared.places.HeaderPlaces.{HeaderPlaces}
@@ -23,7 +23,7 @@ use Rattle.quic_results.specs.declared.results.Failure.TheVariants as failure
 -- a short header, or a long one of one of the versions
 abbrev pub IsOfVersion : List ℕ → List ℕ → Type 0
 IsOfVersion versions packet =
-    let version = num (slice_range packet 1 5) in
+    let version = num (take 4 (drop 1 packet)) in
     (slice_index packet 0 < 0x80) ⊎ (5 ≤ length packet) × (version ≢ 0) × Contains versions version
 
 -- The fixed bit is clear, where it must be set (RFC 9000, section 17.2).
@@ -36,7 +36,7 @@ pub record LacksFixedBit (flags : ℕ) (versions packet : List ℕ) : Type 0 whe
 -- A Retry has no token, or too few bytes for its tag of 16 bytes (section 17.2.5), where it must have both.
 abbrev pub is_partial : ℕ → HeaderPlaces → ℕ → Bool
 is_partial flags x whole =
-    has_bit 0x40 flags && ((word_of (row x.kind) == 3) && nat_lt whole (x.header_end + 17))
+    (word_of (row x.kind) == 3) && (has_bit 0x40 flags && nat_lt whole (x.header_end + 17))
 
 -- The token of an Initial packet is in its header. That of a Retry goes from there to the tag, if there is one.
 abbrev pub token_in : HeaderPlaces → ℕ → Place

@@ -1,5 +1,6 @@
 //! Reads packet headers, which are still protected.
-ghost use Rattle.std.specs.Prelude.{◌≡◌, ◌≢◌, ◌+◌, ◌<◌, ◌≤◌, ◌⊎◌, ◌↔◌, ◌^◌, ◌∷◌, ℕ, List, [], IsTrue, Result, Ok, Err, drop, length, pos, slice_index};
+ghost use Rattle.std.specs.Prelude.{◌≡◌, ◌≢◌, ◌+◌, ◌<◌, ◌≤◌, ◌⊎◌, ◌↔◌, ◌^◌, ◌∷◌, ℕ, Contains, List, [], IsTrue, MatchOption, Result, Ok, Err, drop, length, pos, slice_index, take};
+ghost use Rattle.quic_base.specs.Number.{num};
 ghost use Rattle.quic_header_decode.specs.Grammar.{Cut, HeaderAt};
 ghost use Rattle.quic_header_decode.specs.Places.{any_fixed, ArePlacesWithin, IsSeen};
 ghost use Rattle.quic_header_decode.specs.declared.protected.ProtectedHeader.{ProtectedHeader};
@@ -11,7 +12,9 @@ ghost use Rattle.quic_results.specs.Results.{failed, returned};
 use crate::words::CHeader;
 use quic_base::coding::are_bytes;
 use quic_header_decode::laws::{one_reading, places_cut};
-use quic_header_decode::places::{HeaderKind, HeaderPlaces, Place, ReadError, read_header, read_long};
+use quic_header_decode::places::{
+    HeaderKind, HeaderPlaces, Place, ReadError, read_header, read_long,
+};
 use quic_results::laws::distinct;
 use quic_results::results::{Failure, returned};
 
@@ -37,7 +40,7 @@ fn is_partial(flags: u32, places: &HeaderPlaces, whole: usize) -> bool
     requires small { whole < 2 ^ 32 }
     ensures { result ≡ is_partial flags places.now whole }
 {
-    flags / 0x40 % 2 == 1 && kind_word(places.kind) == 3 && whole < places.header_end + 17
+    kind_word(places.kind) == 3 && flags / 0x40 % 2 == 1 && whole < places.header_end + 17
 }
 
 // The token of an Initial or a Retry packet.
@@ -157,21 +160,36 @@ fn show_long(packet: &[u8], first: u8, versions: &[u32], flags: u32, head: &mut 
     returned(show(packet, read_long(packet, first, versions), flags, head))
 }
 
+// The four bytes after the first one as a number.
+fn version_of(packet: &[u8]) -> Option<u32>
+    ensures { MatchOption result (length packet.now < 5)
+        (λ version. (5 ≤ length packet.now) × (version ≡ num (take 4 (drop 1 packet.now)))) }
+{
+    let (_first, rest) = packet.split_first()?;
+    let bytes = rest.first_chunk::<4>()?;
+    Some(u32::from_be_bytes(*bytes))
+}
+
+// Whether a version is one of these.
+fn is_among(version: u32, versions: &[u32]) -> bool
+    ensures { IsTrue result ↔ Contains versions.now version }
+{
+    versions.contains(&version)
+}
+
 // Whether a packet has a short header, or a long one of one of the versions.
 #[inline(never)]
 fn is_of_version(packet: &[u8], versions: &[u32]) -> bool
+    requires { 0 < length packet.now }
     ensures { IsTrue result ↔ IsOfVersion versions.now packet.now }
 {
-    if let Some(first) = packet.first() {
-        if *first >= 0x80 {
-            let Some(bytes) = packet[1..].first_chunk::<4>() else {
-                return false;
-            };
-            let version = u32::from_be_bytes(*bytes);
-            return version != 0 && versions.contains(&version);
-        }
+    if packet[0] < 0x80 {
+        return true;
     }
-    true
+    match version_of(packet) {
+        Some(version) => version != 0 && is_among(version, versions),
+        None => false,
+    }
 }
 
 // Whether the fixed bit of the first byte is clear, where it must be set.
@@ -237,7 +255,12 @@ pub extern "C" fn quic_wire_header_read_(
             return show_long(packet, *first, versions, flags, head);
         }
     }
-    returned(show(packet, read_header(packet, id_len as usize, versions), flags, head))
+    returned(show(
+        packet,
+        read_header(packet, id_len as usize, versions),
+        flags,
+        head,
+    ))
 }
 
 /// Where the short header at the front of a packet ends, whose id has `id_len` bytes (RFC 9000, section 17.3); 0

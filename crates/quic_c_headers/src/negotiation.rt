@@ -60,8 +60,8 @@ pub extern "C" fn quic_wire_negotiation_read_(packet: &[u8], head: &mut CHeader)
     ensures same { (result ≡ pos (length packet.now)) ⊎ (head.new ≡ head.old) }
     // It agrees with what is reported for headers of all kinds.
     ensures agrees { result ≡ pos (length packet.now) → head.new.dst_len ≤ 20 → head.new.src_len ≤ 20
-        → (id_len : ℕ) (versions : List ℕ)
-        → Reported id_len versions packet.now head.old (Ok (length packet.now)) head.new }
+        → (flags id_len : ℕ) (versions : List ℕ)
+        → Reported flags id_len versions packet.now head.old (Ok (length packet.now)) head.new }
 {
     if packet.len() > u32::MAX as usize {
         return i64::from(Failure::Length.number());

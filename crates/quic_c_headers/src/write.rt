@@ -136,7 +136,11 @@ fn stored_length_len(words: &HeaderFields) -> usize
     ensures known { IsWidth result }
     ensures same { IsWidth words.now.length_len → result ≡ words.now.length_len }
 {
-    if is_width(words.length_len) { words.length_len as usize } else { 2 }
+    if is_width(words.length_len) {
+        words.length_len as usize
+    } else {
+        2
+    }
 }
 
 // The first byte of a short header. All its flags are taken over at once, and the fixed bit, which is clear if its flag

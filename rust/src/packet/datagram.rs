@@ -1,5 +1,5 @@
 //! A datagram cut into its packets (RFC 9000, section 12.2).
-use super::{HeaderError, HeaderPlaces, PacketDecodeError, PacketMut, PacketPlace, ProtectedHeader};
+use super::{HeaderChecks, HeaderError, HeaderPlaces, PacketDecodeError, PacketMut, PacketPlace, ProtectedHeader};
 use crate::text::Short;
 use core::fmt;
 use core::iter::FusedIterator;
@@ -7,10 +7,8 @@ use core::iter::FusedIterator;
 // The header that a datagram's rest begins with.
 #[inline]
 fn read_packet(rest: &[u8], how: &How<'_>) -> Result<HeaderPlaces, HeaderError> {
-    if !how.grease && rest.first().is_some_and(|first| first & 0x40 == 0) {
-        return Err(HeaderError::InvalidHeader("fixed bit unset"));
-    }
-    HeaderPlaces::read(rest, how.cid_len, how.versions)
+    let checks = HeaderChecks { grease_quic_bit: how.grease, ..HeaderChecks::QUINN };
+    HeaderPlaces::read_with(rest, how.cid_len, how.versions, checks)
 }
 
 // Its error as that of a datagram.

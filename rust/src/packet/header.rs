@@ -1,5 +1,5 @@
 //! The header of a packet as places in it.
-use super::{LongType, PacketPlace, ProtectedHeader};
+use super::{HeaderChecks, LongType, PacketPlace, ProtectedHeader};
 use crate::sys;
 use crate::text::Hex32;
 use core::fmt;
@@ -163,8 +163,37 @@ impl HeaderPlaces {
     /// Where `cid_len` is above 20.
     #[inline]
     pub fn read(bytes: &[u8], cid_len: usize, versions: &[u32]) -> Result<HeaderPlaces, HeaderError> {
+        let checks = HeaderChecks { grease_quic_bit: true, ..HeaderChecks::QUINN };
+        HeaderPlaces::read_with(bytes, cid_len, versions, checks)
+    }
+
+    /// The same with these checks.
+    ///
+    /// ```
+    /// use quic_wire::packet::{HeaderChecks, HeaderError, HeaderPlaces};
+    /// let retry = [0xf0, 0, 0, 0, 1, 0, 0];
+    /// assert!(HeaderPlaces::read_with(&retry, 0, &[1], HeaderChecks::QUINN).is_ok());
+    /// let refused = HeaderPlaces::read_with(&retry, 0, &[1], HeaderChecks::RFC);
+    /// assert!(matches!(refused, Err(HeaderError::InvalidHeader("Retry without a token or a tag"))));
+    /// ```
+    ///
+    /// # Errors
+    ///
+    /// Those of [`HeaderPlaces::read`], and if a check fails.
+    ///
+    /// # Panics
+    ///
+    /// If `cid_len` is above 20.
+    #[inline]
+    pub fn read_with(
+        bytes: &[u8],
+        cid_len: usize,
+        versions: &[u32],
+        checks: HeaderChecks,
+    ) -> Result<HeaderPlaces, HeaderError> {
         let mut places = sys::HeaderPlaces::default();
-        match sys::header_read(bytes, u32::try_from(cid_len).unwrap_or(u32::MAX), versions, &mut places) {
+        let ids = u32::try_from(cid_len).unwrap_or(u32::MAX);
+        match sys::header_read(bytes, ids, versions, checks.flags(), &mut places) {
             1.. => Ok(HeaderPlaces(places)),
             answer => Err(HeaderPlaces(places).error(answer, cid_len)),
         }
@@ -220,6 +249,8 @@ impl HeaderPlaces {
             sys::PACKET_VERSION => return HeaderError::UnsupportedVersion(UnsupportedVersion(self)),
             sys::PACKET_CUT => return HeaderError::CutOff(self),
             sys::PACKET_END => "unexpected end of packet",
+            sys::PACKET_FIXED_BIT => "fixed bit unset",
+            sys::PACKET_RETRY => "Retry without a token or a tag",
             sys::PACKET_SMALL => "packet too small",
             sys::PACKET_CID => "malformed cid",
             sys::PACKET_TOKEN => "token out of bounds",
@@ -337,7 +368,8 @@ impl HeaderPlaces {
         &packet[start..start + usize::from(self.0.scidlen)]
     }
 
-    /// The place of an Initial packet's token in the packet; an empty range for others.
+    /// The place of the token of an Initial packet, or of a Retry that has the 16 bytes of its tag after it; an empty
+    /// range for others.
     ///
     /// ```
     /// use quic_wire::packet::HeaderPlaces;
@@ -352,7 +384,7 @@ impl HeaderPlaces {
         start..start + self.0.tokenlen as usize
     }
 
-    /// The token of an Initial packet; empty in others.
+    /// The token of an Initial packet, or of a Retry that has the 16 bytes of its tag after it; empty in others.
     ///
     /// ```
     /// use quic_wire::packet::HeaderPlaces;

@@ -25,6 +25,7 @@
 //! }
 //! # Ok::<(), quic_wire::Error>(())
 //! ```
+mod checks;
 mod datagram;
 mod encode;
 mod header;
@@ -33,6 +34,7 @@ mod number;
 mod opening;
 mod protection;
 
+pub use checks::{receiver_id, HeaderChecks};
 pub use datagram::{Packets, PacketsMut, PartialDecode};
 pub use encode::{Header, PartialEncode};
 pub use header::{HeaderError, HeaderPlaces, UnsupportedVersion, Versions};

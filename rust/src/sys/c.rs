@@ -55,8 +55,10 @@ extern "C" {
         cid_len: u32,
         versions: *const u32,
         versions_len: usize,
+        flags: u32,
         out: *mut HeaderPlaces,
     ) -> i64;
+    pub fn quic_wire_dcid_read_(packet: *const u8, len: usize, cid_len: usize, found_len: *mut usize) -> usize;
     pub fn quic_wire_short_read_(packet: *const u8, len: usize, cid_len: u32) -> usize;
     pub fn quic_wire_negotiation_read_(packet: *const u8, len: usize, out: *mut HeaderPlaces) -> i64;
     pub fn quic_wire_unprotect_(

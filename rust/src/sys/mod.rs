@@ -63,11 +63,13 @@ pub const FRAME_END: i32 = -21;
 pub const FRAME_TYPE: i32 = -22;
 pub const FRAME_LONG_TYPE: i32 = -24;
 pub const PACKET_END: i32 = -40;
+pub const PACKET_FIXED_BIT: i32 = -41;
 pub const PACKET_SMALL: i32 = -42;
 pub const PACKET_CID: i32 = -43;
 pub const PACKET_TOKEN: i32 = -44;
 pub const PACKET_VERSION: i32 = -45;
 pub const PACKET_CUT: i32 = -46;
+pub const PACKET_RETRY: i32 = -47;
 pub const PARAMS_ILLEGAL: i32 = -61;
 
 // Keeps the symbol of the version in whatever links this crate.
@@ -181,11 +183,21 @@ pub fn canonical(payload: &[u8], out: &mut Room) -> Result<Filled, (i32, Canon)>
 }
 
 #[inline]
-pub fn header_read(bytes: &[u8], cid_len: u32, versions: &[u32], out: &mut HeaderPlaces) -> i64 {
+pub fn header_read(bytes: &[u8], cid_len: u32, versions: &[u32], flags: u32, out: &mut HeaderPlaces) -> i64 {
     let (first, count) = (versions.as_ptr(), versions.len());
     // SAFETY: `bytes` and `versions` each give their own pointer and length; `out` is borrowed alone. The library looks
     // at no other memory and keeps no pointer.
-    unsafe { c::quic_wire_header_read_(bytes.as_ptr(), bytes.len(), cid_len, first, count, out) }
+    unsafe { c::quic_wire_header_read_(bytes.as_ptr(), bytes.len(), cid_len, first, count, flags, out) }
+}
+
+/// The place of the receiver's id, and how many bytes it has; the first is 0 if the packet ends before the id's end.
+#[inline]
+pub fn dcid_read(packet: &[u8], cid_len: usize) -> (usize, usize) {
+    let mut len = 0;
+    // SAFETY: `packet` gives its own pointer and length; `len` is borrowed alone. The library looks at no other memory
+    // and keeps no pointer.
+    let place = unsafe { c::quic_wire_dcid_read_(packet.as_ptr(), packet.len(), cid_len, &mut len) };
+    (place, len)
 }
 
 #[inline]

@@ -54,20 +54,16 @@ static void print_packet(FILE *out, const uint8_t *packet, size_t begin,
   putc('}', out);
 }
 
-/* Whether a packet is there, with its header.  The fixed bit is the caller's to
- * check: only in packets of versions 1 and 2 has it a meaning. */
+/* Whether a packet is there, with its header.  Only in packets of versions 1 and
+ * 2 has the fixed bit a meaning. */
 static int read_packet(const line *in, size_t begin, quic_wire_header *header) {
   static const uint32_t versions[] = {QUIC_WIRE_VERSION_1, QUIC_WIRE_VERSION_2};
-  const uint8_t *packet = in->bytes + begin;
-  const int64_t end = quic_wire_header_read(packet, in->len - begin,
+  const uint32_t flags =
+      QUIC_WIRE_READ_ANY_VERSION | (item(in, "grease") ? QUIC_WIRE_READ_GREASED_BIT : 0);
+  const int64_t end = quic_wire_header_read(in->bytes + begin, in->len - begin,
                                             (uint32_t)number(in, "cid_len", 8), versions,
-                                            item(in, "versions") ? 1 : 2, header);
-  if (end == QUIC_WIRE_ERR_PACKET_VERSION)
-    return 1;
-  if (end < 0)
-    return 0;
-  return packet[0] & QUIC_WIRE_BIT_FIXED || item(in, "grease") ||
-         header->kind == QUIC_WIRE_PACKET_VERSION_NEGOTIATION;
+                                            item(in, "versions") ? 1 : 2, flags, header);
+  return end > 0 || end == QUIC_WIRE_ERR_PACKET_VERSION;
 }
 
 void answer_datagram(const line *in, FILE *items, char **read) {

@@ -1,6 +1,5 @@
 -- There is one outcome, and a packet that is reported to be whole is cut at its end.
-use Rattle.std.proofs.Common.{◌≡◌, ◌∙◌, ap, sym, inr, pos, Result, Ok, ℕ, rules, to_z, of_z, w64}
-use Rattle.quic_results.specs.declared.results.Failure.{Failure}
+use Rattle.std.proofs.Common.{◌≡◌, ◌∙◌, ap, sym, inr, Ok, rules, to_z, of_z, w64}
 use Rattle.quic_results.specs.Results.{returned}
 use Rattle.quic_c_headers.specs.Reading.{Reported}
 use Rattle.quic_c_headers.proofs.Answered.{one_answer, whole_cut}

@@ -10,6 +10,6 @@ returns-clause-reported c = λ _ dst src rest is.
     same_words packet c.in-Some.dst.now c.in-Some.src.now dst src same.0 same.1
 
 pub returns-clause-agrees : goal.returns-clause-agrees
-returns-clause-agrees c = λ _ few less id_len versions.
+returns-clause-agrees c = λ _ few less flags id_len versions.
     let found = c.in-Some.ensures.read in
-    reported id_len versions c.args.packet.now c.in-Some.dst.now c.in-Some.src.now found.0 c.args.head.now found.1 few less
+    reported flags id_len versions c.args.packet.now c.in-Some.dst.now c.in-Some.src.now found.0 c.args.head.now found.1 few less

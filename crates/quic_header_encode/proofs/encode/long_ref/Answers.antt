@@ -10,8 +10,11 @@ returns-clause-room c =
     let dst = padded_id c.padded.result in
     let src = padded_id c.padded-2.result in
     record {
-      whole = omega (arith, stored_within k 192 c.args.version dst src [] c.args.number.now 2 c.padded.ensures.few
-          c.padded-2.ensures.few);
+      whole = omega (
+        arith,
+        stored_within k 192 c.args.version dst src [] c.args.number.now 2 c.padded.ensures.few
+            c.padded-2.ensures.few,
+      );
       dst = omega (arith, room_few k 1 6);
       src = omega (arith, room_few k 0 (7 + length dst + 20), c.padded.ensures.few);
     }

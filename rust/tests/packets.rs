@@ -1,8 +1,8 @@
 //! Packets that are cut, opened, written and sealed.
 #![cfg(feature = "alloc")]
 use quic_wire::packet::{
-    Header, HeaderError, HeaderPlaces, LongType, Opened, PacketDecodeError, PacketNumber, PacketPlace, Packets,
-    PacketsMut, ProtectedHeader, UnprotectError, VersionNegotiation, DEFAULT_SUPPORTED_VERSIONS,
+    Header, HeaderChecks, HeaderError, HeaderPlaces, LongType, Opened, PacketDecodeError, PacketNumber, PacketPlace,
+    Packets, PacketsMut, ProtectedHeader, UnprotectError, VersionNegotiation, DEFAULT_SUPPORTED_VERSIONS,
 };
 use quic_wire::transport_error::Code;
 use quic_wire::{Error, WriteError};
@@ -369,12 +369,38 @@ fn every_header_is_read_back() {
         let wanted = match header {
             Header::Initial { token, .. } => (src_cid, token, None, 0),
             Header::Long { .. } => (src_cid, &[][..], None, 0),
-            Header::Retry { .. } => (src_cid, &[][..], Some((&[0; 4][..], &[0; 16])), 0),
+            Header::Retry { .. } => (src_cid, &[0; 4][..], Some((&[0; 4][..], &[0; 16])), 0),
             Header::Short { .. } => (&[][..], &[][..], None, 0),
             Header::VersionNegotiate { .. } => (src_cid, &[][..], None, 5),
         };
         assert_eq!(reported, wanted);
         assert!(!format!("{header:?} {read:?} {places:?}").contains("0808080808080808080808080808080808"));
+    }
+}
+
+/// RFC 9000, sections 17.2, 17.2.1 and 17.2.5; RFC 9287.
+#[test]
+fn a_header_is_read_with_checks() {
+    let (quinn, rfc) = (HeaderChecks::QUINN, HeaderChecks::RFC);
+    let greased = HeaderChecks { grease_quic_bit: true, ..rfc };
+    let (fixed, retry) = (Err("fixed bit unset"), Err("Retry without a token or a tag"));
+    let other = Err("unsupported version 9");
+    let long = |first, version, rest: &[u8]| [&[first, 0, 0, 0, version, 0, 0][..], rest].concat();
+    let rows = [
+        ("1-RTT", vec![0x00, 7], [fixed, fixed, Ok(2)]),
+        ("Handshake", long(0xa0, 1, &[1, 7]), [fixed, fixed, Ok(9)]),
+        ("version negotiation", long(0x80, 0, &[0, 0, 0, 1]), [fixed, Ok(11), Ok(11)]),
+        ("other version", long(0x80, 9, &[]), [fixed, other, other]),
+        ("Retry without a token", long(0xf0, 1, &[9; 16]), [Ok(23), retry, retry]),
+        ("Retry without a tag", long(0xf0, 1, &[9; 15]), [Ok(22), retry, retry]),
+        ("whole Retry", long(0xf0, 1, &[9; 17]), [Ok(24), Ok(24), Ok(24)]),
+    ];
+    for (name, packet, wanted) in rows {
+        for (checks, wanted) in [quinn, rfc, greased].into_iter().zip(wanted) {
+            let read = HeaderPlaces::read_with(&packet, 0, &[1], checks);
+            let read = read.map(|header| header.end()).map_err(|error| error.to_string());
+            assert_eq!(read, wanted.map_err(str::to_string), "{name}, {checks:?}");
+        }
     }
 }
 

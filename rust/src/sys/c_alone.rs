@@ -355,8 +355,9 @@ fn a_length_is_set_where_it_fits() {
     let mut random = Random(1 << 63 | 1);
     for _ in 0..20_000 {
         let len = [random.below(80), (1 << 14) + random.below(80)][random.below(2)];
-        let (packet, place, width) = (&mut packet[..len], random.place(), random.below(6));
-        let fits = (width == 2 && len < place.saturating_add(1 << 14) || width == 4) && width <= place && place <= len;
+        let (packet, place, width) = (&mut packet[..len], random.place(), random.below(10));
+        let most = [(1, 1 << 6), (2, 1 << 14), (4, 1 << 30), (8, 1 << 62)].into_iter().find(|row| row.0 == width);
+        let fits = width <= place && place <= len && most.is_some_and(|(_, most)| len - place < most);
         assert_eq!(super::set_len(packet, place, width as u32), if fits { OK } else { NO_LENGTH });
         if fits {
             let set = &mut packet[place - width..place];

@@ -12,6 +12,7 @@ use Rattle.quic_base.specs.declared.ids.Side.{Side}
 use Rattle.quic_params.specs.declared.parameter.TransportParameterId.{TransportParameterId}
 use Rattle.quic_params.specs.declared.parameter.TransportParameterId.TheVariants.{MaxIdleTimeout}
 use Rattle.quic_params.specs.declared.record.TransportParameters.{TransportParameters}
+use Rattle.quic_params.specs.Options.{as_quinn}
 use Rattle.quic_params.specs.Table.{ids, parameter_count}
 use Rattle.quic_params.specs.Entry.{Entry, Given, IsEntry, IsGiven, Passed, AreEntries, Give}
 use Rattle.quic_params.specs.Meaning.{IsMeant, IsReadAnswer}
@@ -230,7 +231,7 @@ of_record side b p h =
       subst (AreInOrder (reverse m.entries)) (append-nil b) (in_order_from m.entries [] b [] m.list.encoded refl),
       record {
         given = m.given;
-        gives = subst (λ (l : List Entry). Give l m.given) (sym (reverse-reverse m.entries))
+        gives = subst (λ (l : List Entry). Give as_quinn l m.given) (sym (reverse-reverse m.entries))
             m.list.gives;
         is_record = m.is_record;
       },

@@ -1,6 +1,7 @@
 //! The limits and options that endpoints declare in the handshake (RFC 9000, section 7.4).
 
-pub use crate::error::Error;
+pub use crate::error::{Error, Refusal};
+pub use crate::options::ReadOptions;
 pub use crate::order::WriteOrder;
 pub use crate::parameter::TransportParameterId;
 pub use crate::reading::{known, split_entry};

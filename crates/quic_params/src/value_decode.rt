@@ -5,8 +5,8 @@ ghost use Rattle.quic_params.specs.Address.{IsAddress, IsV4, IsV6, AreAddressFie
 ghost use Rattle.quic_base.specs.Codec.{NoFront};
 ghost use Rattle.quic_base.specs.Number.{IsNumber, IsOctets};
 ghost use Rattle.std.specs.Net.Addr.{ipv4_octets, ipv6_octets};
-ghost use Rattle.quic_params.specs.Record.{Sets};
-ghost use Rattle.quic_params.specs.State.{PutsParameter};
+ghost use Rattle.quic_params.specs.Record.{IsOfKind, Sets};
+ghost use Rattle.quic_params.specs.State.{FitsKind, PutsParameter};
 ghost use Rattle.quic_params.specs.Table.{row_of};
 ghost use Rattle.quic_params.specs.Value.{IsNoValue};
 
@@ -61,7 +61,7 @@ impl TransportParameters {
         kind: Kind,
         bytes: &[u8],
     ) -> Result<(), Error>
-        requires { kind ≡ (row_of id).kind }
+        requires { FitsKind kind (row_of id).kind }
         ensures ok { OnOk result (PutsParameter id kind bytes.now self.old self.new) }
         ensures err { IfErr result (λ e. IsNoValue kind bytes.now e) }
     {
@@ -98,7 +98,7 @@ impl TransportParameters {
     // Puts the connection id of these bytes into its field.
     #[inline(never)]
     fn decode_cid(&mut self, id: TransportParameterId, bytes: &[u8])
-        requires kind { (row_of id).kind ≡ Kind.Id }
+        requires kind { IsOfKind (row_of id).kind (Value.Id bytes.now) }
         requires short { length bytes.now ≤ MAX_CID_SIZE }
         ensures { Sets id (Value.Id bytes.now) self.old self.new }
     {

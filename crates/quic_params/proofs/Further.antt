@@ -215,7 +215,7 @@ in_order_once (e ∷ es) (f ∷ fs) b p q =
     ap (λ (x : Entry). x ∷ es) (same_entry e f u.0 u.1) ∙ ap (λ (l : List Entry). f ∷ l) rest
 
 -- entries, the last first, in front of others
-in_order_from : (es fs : List Entry) (a b : List ℕ) → AreEntries es a → AreInOrder fs b
+pub in_order_from : (es fs : List Entry) (a b : List ℕ) → AreEntries es a → AreInOrder fs b
     → AreInOrder (reverse_aux es fs) (a ++ b)
 in_order_from [] fs a b p q = subst (AreInOrder fs) (ap (λ l. l ++ b) (sym p)) q
 in_order_from (e ∷ es) fs a b p q =

@@ -1,5 +1,5 @@
 -- Where a list is refused.
-use Rattle.std.specs.Prelude.{◌≡◌, ◌≢◌, ℕ, ◌⊎◌, ◌*◌, ◌^◌, Bool, true, false, cond, nat_le, nat_lt, List, [], ◌∷◌, ◌++◌, length, Option, Some, None, Result, Ok, Err}
+use Rattle.std.specs.Prelude.{◌≡◌, ℕ, ◌⊎◌, Bool, cond, List, [], ◌∷◌, ◌++◌, length, Option, Some, None, Result, Ok, Err}
 use Rattle.quic_base.specs.Codec.{Takes, NoFront}
 use Rattle.quic_base.specs.Varint.{Encodes}
 use Rattle.quic_base.specs.declared.ids.Side.{Side}
@@ -8,13 +8,12 @@ use Rattle.quic_params.specs.declared.error.Error.TheVariants.{IllegalValue}
 use Rattle.quic_params.specs.declared.error.Refusal.{Refusal}
 use Rattle.quic_params.specs.declared.options.ReadOptions.{ReadOptions}
 use Rattle.quic_params.specs.declared.parameter.TransportParameterId.{TransportParameterId}
-use Rattle.quic_params.specs.declared.parameter.TransportParameterId.TheVariants as Id
 use Rattle.quic_params.specs.declared.record.TransportParameters.{TransportParameters}
 use Rattle.quic_params.specs.Table.{row_of}
 use Rattle.quic_params.specs.Entry.{Entry, IsBadList}
 use Rattle.quic_params.specs.Further.{AreInOrder, HasEntryNumber}
 use Rattle.quic_params.specs.Meaning.{IsMeantWith, IsValid}
-use Rattle.quic_params.specs.Answer.{delay_at, address_at, absent_at}
+use Rattle.quic_params.specs.Answer.{rules}
 
 -- an entry is refused or cut off, from which on so many bytes are left
 pub record IsRefusedFrom (options : ReadOptions) (bytes : List ℕ) (error : Error) (left : ℕ) : Type 0 where
@@ -32,23 +31,6 @@ pub record IsRefusedEntry (options : ReadOptions) (bytes : List ℕ) (refusal : 
   pub offset_is : refusal.offset ≡ length bad.front
   pub number_is : IsNumberAt bad.rest refusal.id
 
--- what a side takes, as `IsValid` has it: each rule's parameter, and whether the record keeps the rule
-abbrev pub rules : Side → TransportParameters → List (TransportParameterId × Bool)
-rules side params =
-    (Id.AckDelayExponent, nat_le params.ack_delay_exponent 20)
-    ∷ (Id.MaxAckDelay, nat_lt params.max_ack_delay (2 ^ 14))
-    ∷ (Id.ActiveConnectionIdLimit, nat_le 2 params.active_connection_id_limit)
-    ∷ (Id.MaxUdpPayloadSize, nat_le 1200 params.max_udp_payload_size)
-    ∷ (Id.InitialMaxStreamsBidi, nat_le params.initial_max_streams_bidi (2 ^ 60))
-    ∷ (Id.InitialMaxStreamsUni, nat_le params.initial_max_streams_uni (2 ^ 60))
-    ∷ (Id.MinAckDelayDraft07, delay_at params.min_ack_delay (1000 * params.max_ack_delay))
-    ∷ (Id.PreferredAddress, address_at params.preferred_address)
-    ∷ (Id.OriginalDestinationConnectionId, absent_at side params.original_dst_cid)
-    ∷ (Id.PreferredAddress, absent_at side params.preferred_address)
-    ∷ (Id.RetrySourceConnectionId, absent_at side params.retry_src_cid)
-    ∷ (Id.StatelessResetToken, absent_at side params.stateless_reset_token)
-    ∷ []
-
 -- the parameter of the first rule that isn't kept
 abbrev pub first_broken : List (TransportParameterId × Bool) → Option TransportParameterId
 first_broken [] = None
@@ -63,8 +45,8 @@ pub record IsLastEntry (number : ℕ) (offset : ℕ) (bytes : List ℕ) : Type 0
   pub rest : List ℕ
   pub whole : bytes ≡ front ++ rest
   pub offset_is : offset ≡ length front
-  pub first : AreInOrder before front
-  pub then : AreInOrder (entry ∷ after) rest
+  pub begins : AreInOrder before front
+  pub ends : AreInOrder (entry ∷ after) rest
   pub number_is : entry.number ≡ number
   pub last : ¬ (HasEntryNumber number after)
 

@@ -15,7 +15,7 @@ entries-preserved g c =
 
 pub returns-in-Err-clause-left : goal.returns-in-Err-clause-left
 returns-in-Err-clause-left g c =
-    stops_in c.args.options _ _ _ _ _ _ c.entries.invariant.0 (omega (arith, c.entries-test.ensures, c.entries-test.true))
+    stops_in c.args.options _ _ _ _ _ _ c.entries.invariant.0 (omega arith)
     c.in-Err.ensures.err c.in-Err.ensures.left
 
 pub returns-in-Err-clause-kept : goal.returns-in-Err-clause-kept
@@ -27,4 +27,4 @@ returns-clause-kept g c = c.entries.invariant.1
 pub returns-in-Err-clause-err : goal.returns-in-Err-clause-err
 returns-in-Err-clause-err g c =
     refused_from c.args.options _ _ _ _ _ _ c.remaining-left.ensures c.entries.invariant.0
-    (omega (arith, c.entries-test.ensures, c.entries-test.true)) c.in-Err.ensures.err
+    (omega arith) c.in-Err.ensures.err

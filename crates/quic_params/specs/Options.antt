@@ -4,12 +4,15 @@ use Rattle.quic_params.specs.declared.options.ReadOptions.{ReadOptions}
 use Rattle.quic_params.specs.declared.parameter.Kind.{Kind}
 use Rattle.quic_params.specs.declared.parameter.Kind.TheVariants as K
 
+abbrev pub reading : Bool → Bool → ReadOptions
+reading any_width no_repeats = record { any_width = any_width; no_repeats = no_repeats }
+
 abbrev pub as_quinn : ReadOptions
-as_quinn = record { any_width = false; no_repeats = false }
+as_quinn = reading false false
 
 -- RFC 9000, sections 7.4 and 16
 abbrev pub as_rfc : ReadOptions
-as_rfc = record { any_width = true; no_repeats = true }
+as_rfc = reading true true
 
 abbrev pub in_any_width : Kind → Kind
 in_any_width (K.Integer default) = K.Varint

@@ -153,19 +153,19 @@ pub search_found : (n m : ℕ) (x list rest behind : List ℕ) (found : Option �
     → offset ≡ length list - length rest → m ≡ n → Takes (IsEntry m x) rest behind → Search n list rest found
     → Search n list behind (Some offset)
 search_found n m x list rest behind found offset o e t s = passed n m x list rest behind found (Some offset) s t (λ left l h.
-  record {
-    before = s.before;
-    entry = at m x;
-    after = [];
-    front = s.front;
-    rest = t.front;
-    whole = refl;
-    offset_is = omega (arith, o, ap length s.whole, length-append s.front rest);
-    begins = s.begins;
-    ends = one m x t.front t.is;
-    number_is = e;
-    last = λ h. h;
-  })
+    record {
+      before = s.before;
+      entry = at m x;
+      after = [];
+      front = s.front;
+      rest = t.front;
+      whole = refl;
+      offset_is = omega (arith, o, ap length s.whole, length-append s.front rest);
+      begins = s.begins;
+      ends = one m x t.front t.is;
+      number_is = e;
+      last = λ h. h;
+    })
 
 pub search_more : (n m : ℕ) (x list rest behind : List ℕ) (found : Option ℕ) → m ≢ n → Takes (IsEntry m x) rest behind
     → Search n list rest found → Search n list behind found

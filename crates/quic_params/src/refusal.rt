@@ -64,7 +64,8 @@ fn is_delay_kept(delay: Option<VarInt>, max_ack_delay: VarInt) -> bool
     ensures { result ≡ delay_at delay (1000 * max_ack_delay) }
 {
     match delay {
-        Some(delay) => u128::from(delay.into_inner()) <= 1000 * u128::from(max_ack_delay.into_inner()),
+        Some(delay) => u128::from(delay.into_inner())
+            <= 1000 * u128::from(max_ack_delay.into_inner()),
         None => true,
     }
 }

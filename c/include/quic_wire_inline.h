@@ -80,8 +80,8 @@ int32_t quic_wire_number_write_(uint64_t, uint32_t, uint8_t *, size_t);
 size_t quic_wire_varint_len_(uint64_t);
 size_t quic_wire_varint_read_(const uint8_t *, size_t, uint64_t *);
 size_t quic_wire_varint_write_(uint64_t, uint32_t, uint8_t *, size_t);
-int32_t quic_wire_params_read_(uint32_t, const uint8_t *, size_t,
-                               quic_wire_params *);
+int32_t quic_wire_params_read_(uint32_t, uint32_t, const uint8_t *, size_t,
+                               quic_wire_params *, quic_wire_refusal *);
 int32_t quic_wire_params_write_(uint32_t, const quic_wire_params *, uint8_t *,
                                 size_t, size_t *);
 int32_t quic_wire_params_write_with_(uint32_t, const quic_wire_params *,
@@ -551,16 +551,18 @@ QUIC_WIRE_API int quic_wire_set_len(uint8_t *packet, size_t packetlen,
                 : QUIC_WIRE_ERR_ARGUMENT;
 }
 
-QUIC_WIRE_API int quic_wire_params_read(uint32_t side, const uint8_t *list,
-                                        size_t listlen,
-                                        quic_wire_params *params, size_t size) {
+QUIC_WIRE_API int quic_wire_params_read(uint32_t side, uint32_t flags,
+                                        const uint8_t *list, size_t listlen,
+                                        quic_wire_params *params, size_t size,
+                                        quic_wire_refusal *refusal) {
+  quic_wire_refusal unasked;
   if ((!list && listlen) || !params)
     return QUIC_WIRE_ERR_ARGUMENT;
   if (size != sizeof *params)
     return QUIC_WIRE_ERR_LENGTH;
   return quic_wire_params_read_(
-      side, list ? list : (const uint8_t *)quic_wire_nothing_(), listlen,
-      params);
+      side, flags, list ? list : (const uint8_t *)quic_wire_nothing_(), listlen,
+      params, refusal ? refusal : &unasked);
 }
 
 QUIC_WIRE_API int quic_wire_params_write(uint32_t side,

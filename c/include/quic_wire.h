@@ -1239,6 +1239,36 @@ QUIC_WIRE_API int quic_wire_param_write(uint64_t id, const uint8_t *value,
                                         size_t valuelen, uint8_t *dest,
                                         size_t destlen, size_t *written);
 
+/**
+ * Reads the entry at the front of a |list| as quic_wire_param_read does, whose
+ * value must be one integer, in any encoding, and gives that in |value|.
+ *
+ * Returns what quic_wire_param_read does; QUIC_WIRE_ERR_PARAMS_MALFORMED also
+ * where the value is no integer.  |param| and |value| change only where an
+ * entry was read.
+ */
+QUIC_WIRE_CHECKED QUIC_WIRE_API int64_t
+quic_wire_param_read_number(const uint8_t *list, size_t listlen,
+                            quic_wire_param *param, uint64_t *value);
+
+/**
+ * Writes an entry up to its value of |valuelen| bytes, which the caller puts
+ * behind it.  Returns what quic_wire_param_write does, with the length of what
+ * comes before the value.
+ */
+QUIC_WIRE_API int quic_wire_param_header_write(uint64_t id, size_t valuelen,
+                                               uint8_t *dest, size_t destlen,
+                                               size_t *written);
+
+/**
+ * Writes an entry whose value is an integer in its shortest encoding.  Returns
+ * what quic_wire_param_write does, QUIC_WIRE_ERR_NUMBER also where |value| is
+ * 2^62 or more.
+ */
+QUIC_WIRE_API int quic_wire_param_write_number(uint64_t id, uint64_t value,
+                                               uint8_t *dest, size_t destlen,
+                                               size_t *written);
+
 /** Whether quic_wire_params has the parameter of this number: 1 or 0. */
 QUIC_WIRE_API int quic_wire_param_is_known(uint64_t id);
 

@@ -90,6 +90,12 @@ int32_t quic_wire_params_write_with_(uint32_t, const quic_wire_params *,
 int64_t quic_wire_param_read_(const uint8_t *, size_t, quic_wire_param *);
 int32_t quic_wire_param_write_(uint64_t, const uint8_t *, size_t, uint8_t *,
                                size_t, size_t *);
+int64_t quic_wire_param_read_number_(const uint8_t *, size_t, quic_wire_param *,
+                                     uint64_t *);
+int32_t quic_wire_param_header_write_(uint64_t, size_t, uint8_t *, size_t,
+                                      size_t *);
+int32_t quic_wire_param_write_number_(uint64_t, uint64_t, uint8_t *, size_t,
+                                      size_t *);
 uint32_t quic_wire_param_is_known_(uint64_t);
 int32_t quic_wire_set_insert_(quic_wire_range *, size_t, size_t *, uint64_t,
                               uint64_t);
@@ -611,6 +617,37 @@ QUIC_WIRE_API int quic_wire_param_write(uint64_t id, const uint8_t *value,
   return quic_wire_param_write_(
       id, value ? value : (const uint8_t *)quic_wire_nothing_(), valuelen,
       dest ? dest : (uint8_t *)quic_wire_nothing_(), destlen, written);
+}
+
+QUIC_WIRE_API int64_t quic_wire_param_read_number(const uint8_t *list,
+                                                  size_t listlen,
+                                                  quic_wire_param *param,
+                                                  uint64_t *value) {
+  if ((!list && listlen) || !param || !value)
+    return QUIC_WIRE_ERR_ARGUMENT;
+  return quic_wire_param_read_number_(
+      list ? list : (const uint8_t *)quic_wire_nothing_(), listlen, param,
+      value);
+}
+
+QUIC_WIRE_API int quic_wire_param_header_write(uint64_t id, size_t valuelen,
+                                               uint8_t *dest, size_t destlen,
+                                               size_t *written) {
+  if ((!dest && destlen) || !written)
+    return QUIC_WIRE_ERR_ARGUMENT;
+  return quic_wire_param_header_write_(
+      id, valuelen, dest ? dest : (uint8_t *)quic_wire_nothing_(), destlen,
+      written);
+}
+
+QUIC_WIRE_API int quic_wire_param_write_number(uint64_t id, uint64_t value,
+                                               uint8_t *dest, size_t destlen,
+                                               size_t *written) {
+  if ((!dest && destlen) || !written)
+    return QUIC_WIRE_ERR_ARGUMENT;
+  return quic_wire_param_write_number_(
+      id, value, dest ? dest : (uint8_t *)quic_wire_nothing_(), destlen,
+      written);
 }
 
 QUIC_WIRE_API int quic_wire_param_is_known(uint64_t id) {

@@ -1,5 +1,5 @@
 //! The entries of a list of transport parameters, whether a record has them or not (RFC 9000, section 18).
-ghost use Rattle.std.specs.Prelude.{◌≡◌, ◌≢◌, ◌⊎◌, ◌↔◌, ◌+◌, ◌<◌, ◌≤◌, ◌^◌, ℕ, [], length, pos};
+ghost use Rattle.std.specs.Prelude.{◌≡◌, ◌≢◌, ◌⊎◌, ◌↔◌, ◌+◌, ◌<◌, ◌≤◌, ◌^◌, ℕ, [], length, pos, MatchOption};
 ghost use Rattle.quic_base.specs.Varint.{shortest_varint};
 ghost use Rattle.quic_params.specs.Entry.{IsCutEntry};
 ghost use Rattle.quic_params.specs.Writing.{entry_header, shortest_entry};
@@ -89,6 +89,18 @@ pub extern "C" fn quic_wire_param_write_(
     }
 }
 
+// The number that the value of the entry in front is.
+fn number_of(list: &[u8], read: &CEntry) -> Option<u64>
+    requires { GivesParameter list.now read.now }
+    ensures { MatchOption result (HasNoNumber list.now) (GivesNumber list.now read.now) }
+{
+    let value = &list[read.value..read.value + read.value_len];
+    match value_number(value) {
+        Some(number) => Some(number.into_inner()),
+        None => None,
+    }
+}
+
 /// Reads the entry at the front of a list as `quic_wire_param_read_` does, whose value must be one number, in any width
 /// (RFC 9000, sections 16 and 18), and gives that too. It returns `ParametersMalformed` also where the value isn't one.
 /// `entry` and `value` change only where an entry was read.
@@ -112,11 +124,11 @@ pub extern "C" fn quic_wire_param_read_number_(
     if end <= 0 {
         return end;
     }
-    let Some(number) = value_number(&list[read.value..read.value + read.value_len]) else {
+    let Some(number) = number_of(list, &read) else {
         return i64::from(Failure::ParametersMalformed.number());
     };
     *entry = read;
-    *value = number.into_inner();
+    *value = number;
     end
 }
 

@@ -50,7 +50,7 @@ static void header(size_t i) {
 
 static void params_read(size_t i) {
     quic_wire_params params;
-    sum += (uint64_t)quic_wire_params_read(QUIC_WIRE_SIDE_CLIENT, lines[i], lens[i], &params, sizeof params);
+    sum += (uint64_t)quic_wire_params_read(QUIC_WIRE_SIDE_CLIENT, 0, lines[i], lens[i], &params, sizeof params, NULL);
 }
 
 // Writes the first list that a client may have got.
@@ -60,7 +60,7 @@ static void params_write(size_t i) {
     size_t written = 0;
     if (!has_params)
         has_params =
-            quic_wire_params_read(QUIC_WIRE_SIDE_CLIENT, lines[i], lens[i], &params, sizeof params) == QUIC_WIRE_OK;
+            quic_wire_params_read(QUIC_WIRE_SIDE_CLIENT, 0, lines[i], lens[i], &params, sizeof params, NULL) == QUIC_WIRE_OK;
     sum += (uint64_t)quic_wire_params_write(QUIC_WIRE_SIDE_SERVER, &params, sizeof params, room, sizeof room, &written) +
            written;
 }

@@ -84,6 +84,9 @@ static void params_bytes(void) {
   FIELD(params, preferred_token);
   FIELD(params, preferred_v6);
   FIELD(params, preferred_v4);
+  STRUCT(refusal);
+  FIELD(refusal, id);
+  FIELD(refusal, offset);
 }
 
 int main(void) {

@@ -35,6 +35,7 @@ export const LAYOUT = {
       stateless_reset_token: [212, 16], preferred_token: [228, 16], preferred_v6: [244, 16], preferred_v4: [260, 4],
     },
   },
+  refusal: { size: 16, fields: { id: [0, 8], offset: [8, 8] } },
 };
 
 // What calls return: QUIC_WIRE_OK, QUIC_WIRE_ITEM, QUIC_WIRE_ERR_PAYLOAD_EMPTY.

@@ -67,7 +67,7 @@ export class Library {
     this.calls = calls;
     this.memory = calls.memory;
     this.free = aligned(Number(calls.__heap_base.value));
-    for (const name of ["frame_iter", "frame", "range_iter", "canon", "header", "params"]) {
+    for (const name of ["frame_iter", "frame", "range_iter", "canon", "header", "params", "refusal"]) {
       this[name] = new Struct(this.memory, name, this.take(LAYOUT[name].size));
     }
     this.count = this.take(8);
@@ -308,13 +308,13 @@ export class Library {
     return { first: memory[header], numberLength: answer, number: written };
   }
 
-  // What a side reads in the first |length| bytes of a list: a copy of the struct, or why the list is refused.
-  readParams(side, length = this.length) {
+  // What a side reads in a list: a copy of the struct, or why the list is refused and where the entry begins.
+  readParams(side) {
     const answer = this.call(
-      "params_read", side === "server" ? 1 : 0, ...this.held(length), this.at(this.params.place),
+      "params_read", side === "server" ? 1 : 0, 0, ...this.held(), this.at(this.params.place), this.at(this.refusal.place),
     );
     if (answer !== OK) {
-      return { record: null, reason: answer };
+      return { record: null, reason: answer, offset: this.refusal.number("offset") };
     }
     const { params } = this;
     const copy = ([field, [, bytes]]) => {

@@ -184,7 +184,6 @@ export function allowedOf(id) {
   return ALLOWED.get(id) ?? "";
 }
 
-export const MAX_ACK_DELAY = 0x0bn;
 export const MIN_ACK_DELAY = 0xff04de1bn;
 
 export function parameterOf(id) {

@@ -5,7 +5,7 @@
 import { agrees, frameFields, frameSummary, paddingRun } from "./frame-fields.js";
 import { Words } from "./library.js";
 import {
-  ACK, allowedOf, FRAME_REASONS, frameName, frameTone, MAX_ACK_DELAY, MIN_ACK_DELAY, PACKET_REASONS,
+  ACK, allowedOf, FRAME_REASONS, frameName, frameTone, MIN_ACK_DELAY, PACKET_REASONS,
   PACKET_UNSUPPORTED_VERSION, packetName, packetTone, PADDING, parameterOf, PARAMS_MALFORMED, PARAMS_REASONS,
   REASON_END, REASON_LONG_TYPE, REASON_TYPE, typeName,
 } from "./names.js";
@@ -252,10 +252,10 @@ class ParamsReading extends Reading {
     this.unit = "parameter";
     this.error = null;
     this.scan();
-    const { record, reason } = library.readParams(choices.side);
+    const { record, reason, offset } = library.readParams(choices.side);
     this.record = record;
     if (!record) {
-      this.refused = this.findBad(reason);
+      this.refused = this.begins.indexOf(offset);
       if (reason === PARAMS_MALFORMED) {
         // Nothing after the entry was read.
         this.begins = this.begins.subarray(0, this.refused + 1);
@@ -272,37 +272,13 @@ class ParamsReading extends Reading {
   scan() {
     const begins = new Words();
     begins.push(0);
-    this.delayEnd = 0;
     for (let entry = nextEntry(this.bytes, 0); entry.end !== null; entry = nextEntry(this.bytes, entry.end)) {
-      if (entry.id === MAX_ACK_DELAY) {
-        this.delayEnd = begins.count;
-      } else if (entry.id === MIN_ACK_DELAY) {
+      if (entry.id === MIN_ACK_DELAY) {
         this.lastMinDelay = begins.count - 1;
       }
       begins.push(entry.end);
     }
     this.begins = begins.all();
-  }
-
-  // The entry with which the list came to be refused for this reason: the one after the longest prefix of the list that
-  // isn't. Prefixes are read by the same call as the list. A refused prefix remains so with each further entry, except
-  // that a max_ack_delay may allow for a min_ack_delay before it.
-  findBad(reason) {
-    const isRefused = (count) => {
-      const answer = this.library.readParams(this.choices.side, this.begins[count]);
-      return reason === PARAMS_MALFORMED ? answer.reason === reason : answer.reason !== 0;
-    };
-    let low = this.delayEnd > 0 && !isRefused(this.delayEnd) ? this.delayEnd : 0;
-    let high = this.whole + 1;
-    while (high - low > 1) {
-      const middle = (low + high) >> 1;
-      if (isRefused(middle)) {
-        high = middle;
-      } else {
-        low = middle;
-      }
-    }
-    return low;
   }
 
   describe(reason) {

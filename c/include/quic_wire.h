@@ -531,6 +531,21 @@ typedef struct quic_wire_param {
                               them */
 } QUIC_WIRE_ALIGNED quic_wire_param;
 
+/** Where a list of transport parameters is refused. */
+typedef struct quic_wire_refusal {
+  uint64_t id;           /* the number of the parameter, or QUIC_WIRE_NO_PARAM
+                            where the list ends within that */
+  quic_wire_size offset; /* where its entry begins in the list */
+} QUIC_WIRE_ALIGNED quic_wire_refusal;
+
+/** The value of a parameter's number where there is none. */
+#define QUIC_WIRE_NO_PARAM UINT64_MAX
+
+/** Flags of quic_wire_params_read; 0 is quinn-proto's reading, and both are RFC
+ * 9000's.  Other bits are ignored. */
+#define QUIC_WIRE_READ_ANY_WIDTH 0x080u /* integers may be in any encoding */
+#define QUIC_WIRE_READ_NO_REPEATS 0x100u /* no parameter may be there twice */
+
 /** Numbers of parameters that quic_wire_params has no field for: the versions
  * of RFC 9368, and the |n|th of those that have no meaning and that each peer
  * passes (RFC 9000, section 18.1). */
@@ -584,6 +599,8 @@ QUIC_WIRE_ASSERT(offsetof(quic_wire_params, original_dst_cid) == 132,
 QUIC_WIRE_ASSERT(offsetof(quic_wire_params, preferred_v4) == 260, "no room");
 QUIC_WIRE_ASSERT(sizeof(quic_wire_param) == 24, "64-bit words");
 QUIC_WIRE_ASSERT(offsetof(quic_wire_param, value) == 8, "64-bit words");
+QUIC_WIRE_ASSERT(sizeof(quic_wire_refusal) == 16, "64-bit words");
+QUIC_WIRE_ASSERT(offsetof(quic_wire_refusal, offset) == 8, "64-bit words");
 #undef QUIC_WIRE_ASSERT
 #endif
 
@@ -1137,23 +1154,29 @@ QUIC_WIRE_API int quic_wire_set_len(uint8_t *packet, size_t packetlen,
  * Reads a list of transport parameters to its end (RFC 9000, sections 7.4 and
  * 18), as QUIC_WIRE_SIDE_CLIENT one that a server sent, as
  * QUIC_WIRE_SIDE_SERVER one that a client sent, which must lack what a server
- * alone sends.  The list of no bytes gives each parameter its default.  An
- * integer with a default that isn't in its shortest encoding is refused as
- * malformed, though section 16 allows it; max_datagram_frame_size and
- * min_ack_delay are taken in any.
+ * alone sends.  The list of no bytes gives each parameter its default.
+ *
+ * With 0 in |flags| an integer that has a default must be in its shortest
+ * encoding, and grease_quic_bit and min_ack_delay may be there twice, as in
+ * quinn-proto.  With QUIC_WIRE_READ_ANY_WIDTH an integer may be in any encoding
+ * (section 16), and with QUIC_WIRE_READ_NO_REPEATS no known parameter may be
+ * there twice (section 7.4).
  *
  * Returns 0 and the parameters; QUIC_WIRE_ERR_PARAMS_MALFORMED or
  * QUIC_WIRE_ERR_PARAMS_ILLEGAL where the list is refused with a
- * TRANSPORT_PARAMETER_ERROR; QUIC_WIRE_ERR_KIND where |side| is neither;
- * QUIC_WIRE_ERR_ARGUMENT for NULL.  |params| changes only with 0.
+ * TRANSPORT_PARAMETER_ERROR, and in |refusal|, which may be NULL, the entry
+ * that is refused first: its number, and where it begins; QUIC_WIRE_ERR_KIND
+ * where |side| is neither; QUIC_WIRE_ERR_ARGUMENT for NULL.  |params| changes
+ * only with 0, |refusal| only where the list is refused.
  *
  * |size| is `sizeof *params`, so that the struct can grow at its end in a later
  * version without a change for callers of this one: a size that the library
  * doesn't know is refused with QUIC_WIRE_ERR_LENGTH.
  */
 QUIC_WIRE_CHECKED QUIC_WIRE_API int
-quic_wire_params_read(uint32_t side, const uint8_t *list, size_t listlen,
-                      quic_wire_params *params, size_t size);
+quic_wire_params_read(uint32_t side, uint32_t flags, const uint8_t *list,
+                      size_t listlen, quic_wire_params *params, size_t size,
+                      quic_wire_refusal *refusal);
 
 /**
  * Writes the shortest list of these parameters, as QUIC_WIRE_SIDE_CLIENT or as
@@ -1183,17 +1206,27 @@ QUIC_WIRE_API int quic_wire_params_write(uint32_t side,
  * has each of these numbers once, or |orderlen| is 0, and then the entries
  * are written in the order of their numbers.
  *
- *    0 max_idle_timeout                     11 (a reserved one, never written)
- *    1 max_udp_payload_size                 12 stateless_reset_token
- *    2 initial_max_data                     13 disable_active_migration
- *    3 initial_max_stream_data_bidi_local   14 max_datagram_frame_size
- *    4 initial_max_stream_data_bidi_remote  15 preferred_address
- *    5 initial_max_stream_data_uni          16
- * original_destination_connection_id 6 initial_max_streams_bidi             17
- * initial_source_connection_id 7 initial_max_streams_uni              18
- * retry_source_connection_id 8 ack_delay_exponent                   19
- * grease_quic_bit 9 max_ack_delay                        20 min_ack_delay 10
- * active_connection_id_limit
+ *  - 0 max_idle_timeout
+ *  - 1 max_udp_payload_size
+ *  - 2 initial_max_data
+ *  - 3 initial_max_stream_data_bidi_local
+ *  - 4 initial_max_stream_data_bidi_remote
+ *  - 5 initial_max_stream_data_uni
+ *  - 6 initial_max_streams_bidi
+ *  - 7 initial_max_streams_uni
+ *  - 8 ack_delay_exponent
+ *  - 9 max_ack_delay
+ *  - 10 active_connection_id_limit
+ *  - 11 (a reserved one, never written)
+ *  - 12 stateless_reset_token
+ *  - 13 disable_active_migration
+ *  - 14 max_datagram_frame_size
+ *  - 15 preferred_address
+ *  - 16 original_destination_connection_id
+ *  - 17 initial_source_connection_id
+ *  - 18 retry_source_connection_id
+ *  - 19 grease_quic_bit
+ *  - 20 min_ack_delay
  *
  * Each entry is written in its least widths, and the peer reads the same
  * |params|.  Returns what quic_wire_params_write does; QUIC_WIRE_ERR_PARAM also
@@ -1229,6 +1262,36 @@ QUIC_WIRE_CHECKED QUIC_WIRE_API int64_t quic_wire_param_read(
 QUIC_WIRE_API int quic_wire_param_write(uint64_t id, const uint8_t *value,
                                         size_t valuelen, uint8_t *dest,
                                         size_t destlen, size_t *written);
+
+/**
+ * Reads the entry at the front of a |list| as quic_wire_param_read does, whose
+ * value must be one integer, in any encoding, and gives that in |value|.
+ *
+ * Returns what quic_wire_param_read does; QUIC_WIRE_ERR_PARAMS_MALFORMED also
+ * where the value is no integer.  |param| and |value| change only where an
+ * entry was read.
+ */
+QUIC_WIRE_CHECKED QUIC_WIRE_API int64_t
+quic_wire_param_read_number(const uint8_t *list, size_t listlen,
+                            quic_wire_param *param, uint64_t *value);
+
+/**
+ * Writes an entry up to its value of |valuelen| bytes, which the caller puts
+ * behind it.  Returns what quic_wire_param_write does, with the length of what
+ * comes before the value.
+ */
+QUIC_WIRE_API int quic_wire_param_header_write(uint64_t id, size_t valuelen,
+                                               uint8_t *dest, size_t destlen,
+                                               size_t *written);
+
+/**
+ * Writes an entry whose value is an integer in its shortest encoding.  Returns
+ * what quic_wire_param_write does, QUIC_WIRE_ERR_NUMBER also where |value| is
+ * 2^62 or more.
+ */
+QUIC_WIRE_API int quic_wire_param_write_number(uint64_t id, uint64_t value,
+                                               uint8_t *dest, size_t destlen,
+                                               size_t *written);
 
 /** Whether quic_wire_params has the parameter of this number: 1 or 0. */
 QUIC_WIRE_API int quic_wire_param_is_known(uint64_t id);

@@ -82,8 +82,8 @@ int32_t quic_wire_number_write_(uint64_t, uint32_t, uint8_t *, size_t);
 size_t quic_wire_varint_len_(uint64_t);
 size_t quic_wire_varint_read_(const uint8_t *, size_t, uint64_t *);
 size_t quic_wire_varint_write_(uint64_t, uint32_t, uint8_t *, size_t);
-int32_t quic_wire_params_read_(uint32_t, const uint8_t *, size_t,
-                               quic_wire_params *);
+int32_t quic_wire_params_read_(uint32_t, uint32_t, const uint8_t *, size_t,
+                               quic_wire_params *, quic_wire_refusal *);
 int32_t quic_wire_params_write_(uint32_t, const quic_wire_params *, uint8_t *,
                                 size_t, size_t *);
 int32_t quic_wire_params_write_with_(uint32_t, const quic_wire_params *,
@@ -92,6 +92,12 @@ int32_t quic_wire_params_write_with_(uint32_t, const quic_wire_params *,
 int64_t quic_wire_param_read_(const uint8_t *, size_t, quic_wire_param *);
 int32_t quic_wire_param_write_(uint64_t, const uint8_t *, size_t, uint8_t *,
                                size_t, size_t *);
+int64_t quic_wire_param_read_number_(const uint8_t *, size_t, quic_wire_param *,
+                                     uint64_t *);
+int32_t quic_wire_param_header_write_(uint64_t, size_t, uint8_t *, size_t,
+                                      size_t *);
+int32_t quic_wire_param_write_number_(uint64_t, uint64_t, uint8_t *, size_t,
+                                      size_t *);
 uint32_t quic_wire_param_is_known_(uint64_t);
 int32_t quic_wire_set_insert_(quic_wire_range *, size_t, size_t *, uint64_t,
                               uint64_t);
@@ -564,16 +570,18 @@ QUIC_WIRE_API int quic_wire_set_len(uint8_t *packet, size_t packetlen,
                 : QUIC_WIRE_ERR_ARGUMENT;
 }
 
-QUIC_WIRE_API int quic_wire_params_read(uint32_t side, const uint8_t *list,
-                                        size_t listlen,
-                                        quic_wire_params *params, size_t size) {
+QUIC_WIRE_API int quic_wire_params_read(uint32_t side, uint32_t flags,
+                                        const uint8_t *list, size_t listlen,
+                                        quic_wire_params *params, size_t size,
+                                        quic_wire_refusal *refusal) {
+  quic_wire_refusal unasked;
   if ((!list && listlen) || !params)
     return QUIC_WIRE_ERR_ARGUMENT;
   if (size != sizeof *params)
     return QUIC_WIRE_ERR_LENGTH;
   return quic_wire_params_read_(
-      side, list ? list : (const uint8_t *)quic_wire_nothing_(), listlen,
-      params);
+      side, flags, list ? list : (const uint8_t *)quic_wire_nothing_(), listlen,
+      params, refusal ? refusal : &unasked);
 }
 
 QUIC_WIRE_API int quic_wire_params_write(uint32_t side,
@@ -622,6 +630,37 @@ QUIC_WIRE_API int quic_wire_param_write(uint64_t id, const uint8_t *value,
   return quic_wire_param_write_(
       id, value ? value : (const uint8_t *)quic_wire_nothing_(), valuelen,
       dest ? dest : (uint8_t *)quic_wire_nothing_(), destlen, written);
+}
+
+QUIC_WIRE_API int64_t quic_wire_param_read_number(const uint8_t *list,
+                                                  size_t listlen,
+                                                  quic_wire_param *param,
+                                                  uint64_t *value) {
+  if ((!list && listlen) || !param || !value)
+    return QUIC_WIRE_ERR_ARGUMENT;
+  return quic_wire_param_read_number_(
+      list ? list : (const uint8_t *)quic_wire_nothing_(), listlen, param,
+      value);
+}
+
+QUIC_WIRE_API int quic_wire_param_header_write(uint64_t id, size_t valuelen,
+                                               uint8_t *dest, size_t destlen,
+                                               size_t *written) {
+  if ((!dest && destlen) || !written)
+    return QUIC_WIRE_ERR_ARGUMENT;
+  return quic_wire_param_header_write_(
+      id, valuelen, dest ? dest : (uint8_t *)quic_wire_nothing_(), destlen,
+      written);
+}
+
+QUIC_WIRE_API int quic_wire_param_write_number(uint64_t id, uint64_t value,
+                                               uint8_t *dest, size_t destlen,
+                                               size_t *written) {
+  if ((!dest && destlen) || !written)
+    return QUIC_WIRE_ERR_ARGUMENT;
+  return quic_wire_param_write_number_(
+      id, value, dest ? dest : (uint8_t *)quic_wire_nothing_(), destlen,
+      written);
 }
 
 QUIC_WIRE_API int quic_wire_param_is_known(uint64_t id) {

@@ -207,7 +207,7 @@ static void print_numbers(const quic_wire_params *p) {
 
 static int print_params(const uint8_t *list, size_t len, uint32_t side) {
   quic_wire_params p;
-  int answer = quic_wire_params_read(side, list, len, &p, sizeof p);
+  int answer = quic_wire_params_read(side, 0, list, len, &p, sizeof p, NULL);
   if (answer != QUIC_WIRE_OK) {
     printf("error %s\n", quic_wire_strerror(answer));
     return 0;

@@ -144,7 +144,7 @@ const PARAMS_SIZE = 264n;
 function params(bytes, side) {
     const view = give(bytes);
     const p = at.out;
-    const answer = wire.quic_wire_params_read(side, pointer(at.bytes), BigInt(bytes.length), pointer(p), PARAMS_SIZE);
+    const answer = wire.quic_wire_params_read(side, 0, pointer(at.bytes), BigInt(bytes.length), pointer(p), PARAMS_SIZE, 0n);
     if (answer !== OK) return [error(answer)];
     const present = view.getUint32(p, true);
     const cid = (lenPlace, place) => id(slice(p + place, view.getUint32(p + lenPlace, true)));

@@ -37,8 +37,8 @@ static uint64_t others_of(const uint8_t *bytes, size_t len) {
   uint64_t sum =
       (uint64_t)quic_wire_canonical(bytes, len, to, sizeof to, &canon);
   sum += canon.len;
-  if (quic_wire_params_read(QUIC_WIRE_SIDE_CLIENT, bytes, len, &params,
-                            sizeof params) == QUIC_WIRE_OK)
+  if (quic_wire_params_read(QUIC_WIRE_SIDE_CLIENT, 0, bytes, len, &params,
+                            sizeof params, NULL) == QUIC_WIRE_OK)
     sum += (uint64_t)quic_wire_params_write(
         QUIC_WIRE_SIDE_SERVER, &params, sizeof params, to, sizeof to, &written);
   sum += (uint64_t)quic_wire_header_read(bytes, len, 8, versions, 1, 0, &header);

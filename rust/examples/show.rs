@@ -5,7 +5,7 @@ use quic_wire::frame::{EmptyPayload, Iter};
 use quic_wire::packet::{
     LongType, PacketDecodeError, Packets, PartialDecode, ProtectedHeader, DEFAULT_SUPPORTED_VERSIONS,
 };
-use quic_wire::transport_parameters::{Error, PreferredAddress, Side, TransportParameters};
+use quic_wire::transport_parameters::{ErrorKind, PreferredAddress, Side, TransportParameters};
 use quic_wire::MAX_CID_SIZE;
 use std::env;
 use std::io::{self, Read, Write};
@@ -119,7 +119,7 @@ fn print_params(side: Side, list: &[u8], out: &mut impl Write) -> io::Result<boo
     let p = match TransportParameters::read(side, list) {
         Ok(p) => p,
         Err(error) => {
-            let reason = if error == Error::IllegalValue { "illegal value" } else { "malformed" };
+            let reason = if error.kind() == ErrorKind::IllegalValue { "illegal value" } else { "malformed" };
             writeln!(out, "error {reason}")?;
             return Ok(false);
         }

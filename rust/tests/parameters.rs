@@ -1,6 +1,6 @@
 //! Transport parameters that are read, written and put in an order.
 #![cfg(feature = "alloc")]
-use quic_wire::transport_parameters::{entries, Entry, Error, PreferredAddress, TransportParameters};
+use quic_wire::transport_parameters::{entries, Entry, ErrorKind, PreferredAddress, ReadOptions, TransportParameters};
 use quic_wire::{ConnectionId, Side, WriteError};
 use std::collections::{HashMap, HashSet};
 
@@ -27,9 +27,12 @@ fn parameters_are_read_back() {
     let mut list = [0; 128];
     let len = given.write(Side::Server, &mut list).unwrap();
     assert_eq!(TransportParameters::read(Side::Client, &list[..len]), Ok(given));
-    assert_eq!(TransportParameters::read(Side::Server, &list[..len]), Err(Error::IllegalValue));
+    let refused = |side, list: &[u8]| TransportParameters::read(side, list).map_err(|error| (error.kind(), error.id()));
+    // A preferred address, which a server alone sends.
+    assert_eq!(refused(Side::Server, &list[..len]), Err((ErrorKind::IllegalValue, Some(0x0d))));
     assert_eq!(given.write(Side::Server, &mut list[..len - 1]), Err(WriteError::NoRoom(len)));
-    assert_eq!(TransportParameters::read(Side::Client, &list[..len - 1]), Err(Error::Malformed));
+    // The last entry is that of min_ack_delay.
+    assert_eq!(refused(Side::Client, &list[..len - 1]), Err((ErrorKind::Malformed, Some(0xff04_de1b))));
     assert_eq!(TransportParameters::read(Side::Client, &[]), Ok(TransportParameters::default()));
     let mut vec = vec![];
     assert_eq!((given.write(Side::Server, &mut vec), &vec[..]), (Ok(len), &list[..len]));
@@ -73,8 +76,10 @@ fn what_is_out_of_range_is_named() {
         assert_eq!(parameters.write(side, &mut list), Err(WriteError::OutOfRange(what)));
         assert!(list.is_empty());
     }
-    assert_eq!(Error::Malformed.to_string(), "transport parameters are malformed");
-    assert_eq!(quic_wire::Error::from(Error::IllegalValue).to_string(), "a transport parameter has an illegal value");
+    let error = |list: &[u8]| TransportParameters::read(Side::Client, list).unwrap_err();
+    assert_eq!(error(&[0x01]).to_string(), "transport parameters are malformed");
+    let illegal = quic_wire::Error::from(error(&[0x0a, 1, 21]));
+    assert_eq!(illegal.to_string(), "a transport parameter has an illegal value");
 }
 
 // Entries one after the other.
@@ -135,7 +140,8 @@ fn further_parameters_are_checked() {
     for (answer, what) in refused {
         assert_eq!(answer, Err(WriteError::OutOfRange(what)));
     }
-    assert_eq!(entries(&[0x01, 5, 0]).collect::<Vec<_>>(), [Err(Error::Malformed)]);
+    let cut_off = entries(&[0x04, 1, 9, 0x01, 5, 0]).last().unwrap().unwrap_err();
+    assert_eq!((cut_off.kind(), cut_off.id(), cut_off.offset()), (ErrorKind::Malformed, Some(1), 3));
     assert_eq!(Entry::reserved(u64::MAX / 31, &[]), None);
 }
 
@@ -153,4 +159,70 @@ fn ids_are_keys() {
     assert_eq!((map.get(&[1, 2, 3][..]), map.get(&[][..]), map.get(&[9][..])), (Some(&5), Some(&6), None));
     assert!(ConnectionId::default() < id && id < ConnectionId::new(&[1, 3]).unwrap());
     assert_eq!(format!("{id:?} {id}"), "010203 010203");
+}
+
+// What each way of reading says of a list: its `initial_max_data`, or the number and the place of what it refuses.
+type Answer = Result<u64, (Option<u64>, usize)>;
+
+#[test]
+fn a_list_is_read_as_quinn_or_as_rfc_9000_has_it() {
+    let rows: [(&[u8], [Answer; 4]); 8] = [
+        // initial_max_data of 9 in one byte, two, four, eight (RFC 9000, section 16).
+        (&[0x04, 1, 9], [Ok(9); 4]),
+        (&[0x04, 2, 0x40, 9], [Err((Some(4), 0)), Ok(9), Err((Some(4), 0)), Ok(9)]),
+        (&[0x05, 1, 0, 0x04, 4, 0x80, 0, 0, 9], [Err((Some(4), 3)), Ok(9), Err((Some(4), 3)), Ok(9)]),
+        (&[0x04, 8, 0xc0, 0, 0, 0, 0, 0, 0, 9], [Err((Some(4), 0)), Ok(9), Err((Some(4), 0)), Ok(9)]),
+        // Twice a parameter that has a default, and one that hasn't (section 7.4).
+        (&[0x04, 1, 9, 0x04, 1, 9], [Err((Some(4), 3)); 4]),
+        (&[0x6a, 0xb2, 0, 0x6a, 0xb2, 0], [Ok(0), Ok(0), Err((Some(0x2ab2), 3)), Err((Some(0x2ab2), 3))]),
+        // A number that is cut off, and one whose entry is.
+        (&[0x04, 1, 9, 0x40], [Err((None, 3)); 4]),
+        (&[0x04, 1, 9, 0x11, 4, 0], [Err((Some(0x11), 3)); 4]),
+    ];
+    for (list, answers) in rows {
+        for (bits, answer) in answers.into_iter().enumerate() {
+            let options = ReadOptions { any_width: bits & 1 != 0, no_repeats: bits & 2 != 0 };
+            let read = TransportParameters::read_with(Side::Client, options, list);
+            let seen = read.map(|p| p.initial_max_data).map_err(|error| (error.id(), error.offset()));
+            assert_eq!(seen, answer, "{list:x?} with {options:?}");
+        }
+    }
+    assert_eq!(ReadOptions::default(), ReadOptions::QUINN);
+}
+
+// Each rule of which parameters a side takes (section 18.2) names its parameter; of two broken rules the first, in the
+// order of this table.
+#[test]
+fn an_illegal_value_names_its_parameter() {
+    let mut token = vec![0x02, 16];
+    token.extend([9; 16]);
+    // An address of IPv4, and an empty id.
+    let mut address = vec![0x0d, 41, 127, 0, 0, 1, 1, 187];
+    address.extend([0; 35]);
+    let rows: [(Side, u64, Vec<u8>); 11] = [
+        (Side::Client, 0x0a, vec![0x0a, 1, 21]),
+        (Side::Client, 0x0b, vec![0x0b, 4, 0x80, 0, 0x40, 0]),
+        (Side::Client, 0x0e, vec![0x0e, 1, 1]),
+        (Side::Client, 0x03, vec![0x03, 2, 0x44, 0xaf]),
+        (Side::Client, 0x08, vec![0x08, 8, 0xd0, 0, 0, 0, 0, 0, 0, 1]),
+        (Side::Client, 0x09, vec![0x09, 8, 0xd0, 0, 0, 0, 0, 0, 0, 1]),
+        (Side::Client, 0xff04_de1b, vec![0xc0, 0, 0, 0, 0xff, 0x04, 0xde, 0x1b, 4, 0x80, 0, 0x61, 0xa9]),
+        (Side::Client, 0x0d, address),
+        (Side::Server, 0x00, vec![0x00, 0]),
+        (Side::Server, 0x10, vec![0x10, 0]),
+        (Side::Server, 0x02, token),
+    ];
+    let refused = |side, list: &[u8]| {
+        let error = TransportParameters::read(side, list).unwrap_err();
+        (error.kind(), error.id(), error.offset())
+    };
+    for (i, (side, id, entry)) in rows.iter().enumerate() {
+        let list = [&[0x04, 1, 9][..], entry].concat();
+        assert_eq!(refused(*side, &list), (ErrorKind::IllegalValue, Some(*id), 3));
+        // A server refuses the others' too, so that any two may be in one list.
+        for (_, _, later) in &rows[i + 1..] {
+            let list = [&later[..], entry].concat();
+            assert_eq!(refused(Side::Server, &list), (ErrorKind::IllegalValue, Some(*id), later.len()));
+        }
+    }
 }

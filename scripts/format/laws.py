@@ -108,7 +108,10 @@ def laws():
         "IsBroken strict before found bytes type reason"))
     stated(LEAST, "IsLeast", "no_other", "(other : List ℕ) → IsSame other payload → AreOrExceed other least")
     stated(SAME, "IsSameValue", "(Ranges some) (Ranges others)", "(n : ℕ) → is_in some n ≡ is_in others n")
-    stated(MEANING, "IsReadAnswer", "side bytes (Ok params)", "IsMeant params bytes × IsValid side params")
+    stated(MEANING, "IsReadAnswerWith", "options side bytes (Ok params)", (
+        "IsMeantWith options params bytes × IsValid side params"))
+    stated(MEANING, "IsReadAnswer", "side bytes answer", "IsReadAnswerWith as_quinn side bytes answer")
+    stated(MEANING, "IsMeant", "params bytes", "IsMeantWith as_quinn params bytes")
     yield ""
     yield (
         f"All of them in {LAWS}, for all bytes. `ExactlyOne` (crates/{ONE}.antt): there is such a value, and every"

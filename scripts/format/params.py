@@ -10,6 +10,7 @@ ADDRESS = "quic_params/specs/Address"
 ENTRY = "quic_params/specs/Entry"
 RECORD = "quic_params/specs/Record"
 MEANING = "quic_params/specs/Meaning"
+OPTIONS = "quic_params/specs/Options"
 RESERVED = "quic_params/specs/Reserved"
 
 # The RFC's names of what is named otherwise, and sections of other documents than RFC 9000, 18.2.
@@ -129,14 +130,19 @@ def page():
     stated(ENTRY, "IsEntry", "number bytes", "Follows (Encodes number) (Follows (Encodes (length bytes)) (λ value. value ≡ bytes))")
     stated(ENTRY, "AreEntries", "(last ∷ earlier) bytes", (
         "Follows (AreEntries earlier) (IsEntry last.number last.bytes) bytes"))
-    stated(ENTRY, "IsRepeat", "id before", "((row_of id).once ≡ true) × IsGiven id before")
+    stated(ENTRY, "IsRepeat", "options id before", (
+        "(once_read options (row_of id).once ≡ true) × IsGiven id before"))
+    stated(OPTIONS, "once_read", "options once", "options.no_repeats || once")
+    stated(OPTIONS, "kind_read", "options kind", "cond options.any_width (in_any_width kind) kind")
+    stated(OPTIONS, "in_any_width", "(K.Integer default)", "K.Varint")
+    stated(OPTIONS, "as_quinn", "", "reading false false")
     stated(ENTRY, "Accepts", "Passed", (
-        "((id : TransportParameterId) → ¬ (IsKnownParameter id entry.number)) → after ≡ before → Accepts before entry"
-        " after"))
+        "((id : TransportParameterId) → ¬ (IsKnownParameter id entry.number)) → after ≡ before → Accepts options before"
+        " entry after"))
     stated(ENTRY, "Accepts", "Taken", (
-        "(id : TransportParameterId) (value : Value) → IsKnownParameter id entry.number → ¬ (IsRepeat id before)"
-        " → IsEncoded (row_of id).kind value entry.bytes → after ≡ record { id = id; value = value } ∷ before"
-        " → Accepts before entry after"))
+        "(id : TransportParameterId) (value : Value) → IsKnownParameter id entry.number → ¬ (IsRepeat options id before)"
+        " → IsEncoded (kind_read options (row_of id).kind) value entry.bytes → after ≡ record { id = id; value = value } ∷ before"
+        " → Accepts options before entry after"))
     stated(ENTRY, "IsKnownParameter", "number_is", "(row_of id).number ≡ number")
     free = stated(RESERVED, "IsReserved", "number", "number % <step> ≡ <first>")
     yield from ["## Transport parameters", "", "### Lists (18)", ""]
@@ -145,7 +151,8 @@ def page():
         "Transport Parameter ID (i)", "Transport Parameter Length (i)", "Transport Parameter Value (..)"])
     yield (
         f"`AreEntries`, `IsEntry`, crates/{ENTRY}.antt. Entries without a row are ignored (`Accepts`), repeated ones"
-        " refused unless they may (`IsRepeat`).")
+        " refused unless they may (`IsRepeat`). As RFC 9000 has them read no known parameter may repeat, and integers may be"
+        f" in any width (`as_rfc`, crates/{OPTIONS}.antt); the table is of quinn-proto's reading, `as_quinn`.")
     yield from ["", "### Parameters (18.2)", ""]
     yield from columns([["ID", "Name", "Value", "Default", "Must be"], *rows()])
     others = quoted(name for name in clauses(TABLE, "row_of") if name in NAMES)

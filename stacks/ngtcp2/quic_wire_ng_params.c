@@ -104,7 +104,8 @@ static int read_params(ngtcp2_transport_params *params, quic_wire_params *w,
   int rv;
 
   memset(params, 0, sizeof(*params));
-  if (quic_wire_params_read(side, data, datalen, w, sizeof(*w)) != 0) {
+  if (quic_wire_params_read(side, QUIC_WIRE_READ_ANY_WIDTH, data, datalen, w,
+                            sizeof(*w), NULL) != 0) {
     return NGTCP2_ERR_MALFORMED_TRANSPORT_PARAM;
   }
   params_of(params, w);

@@ -1,18 +1,57 @@
 /* Transport parameters: read, written, and with further entries. */
 #include "abuse.h"
 
+/* What flags take, and where a list is refused. */
+static void params_flags(void) {
+  static const struct {
+    uint8_t list[9];
+    size_t len;
+    uint32_t flags;
+    int answer;
+    uint64_t id;
+    size_t offset;
+  } rows[] = {
+      /* max_idle_timeout in two bytes (RFC 9000, section 16) */
+      {{4, 1, 9, 1, 2, 0x40, 9}, 7, 0, QUIC_WIRE_ERR_PARAMS_MALFORMED, 1, 3},
+      {{4, 1, 9, 1, 2, 0x40, 9}, 7, ~QUIC_WIRE_READ_ANY_WIDTH,
+       QUIC_WIRE_ERR_PARAMS_MALFORMED, 1, 3},
+      {{4, 1, 9, 1, 2, 0x40, 9}, 7, QUIC_WIRE_READ_ANY_WIDTH, 0, 99, 99},
+      /* grease_quic_bit twice (section 7.4) */
+      {{0x6a, 0xb2, 0, 0x6a, 0xb2, 0}, 6, ~QUIC_WIRE_READ_NO_REPEATS, 0, 99,
+       99},
+      {{0x6a, 0xb2, 0, 0x6a, 0xb2, 0}, 6, QUIC_WIRE_READ_NO_REPEATS,
+       QUIC_WIRE_ERR_PARAMS_MALFORMED, 0x2ab2, 3},
+      /* an ack_delay_exponent of 21, before another entry */
+      {{4, 1, 9, 10, 1, 21, 1, 1, 9}, 9, 0, QUIC_WIRE_ERR_PARAMS_ILLEGAL, 10, 3},
+      /* the list ends within a number */
+      {{4, 1, 9, 0x40}, 4, 0, QUIC_WIRE_ERR_PARAMS_MALFORMED,
+       QUIC_WIRE_NO_PARAM, 3}};
+  size_t i;
+  for (i = 0; i < sizeof rows / sizeof *rows; i++) {
+    quic_wire_params params;
+    quic_wire_refusal refusal = {99, 99};
+    WANT(quic_wire_params_read(QUIC_WIRE_SIDE_CLIENT, rows[i].flags,
+                               rows[i].list, rows[i].len, &params,
+                               sizeof params, &refusal) == rows[i].answer);
+    WANT(refusal.id == rows[i].id && refusal.offset == rows[i].offset);
+    WANT(quic_wire_params_read(QUIC_WIRE_SIDE_CLIENT, rows[i].flags,
+                               rows[i].list, rows[i].len, &params,
+                               sizeof params, NULL) == rows[i].answer);
+  }
+}
+
 void params_nulls(void) {
   quic_wire_params params;
   uint8_t byte = 0, out[8];
   size_t n = 77;
-  WANT(quic_wire_params_read(QUIC_WIRE_SIDE_CLIENT, NULL, 1, &params,
-                             sizeof params) == INVALID);
-  WANT(quic_wire_params_read(QUIC_WIRE_SIDE_CLIENT, &byte, 1, NULL,
-                             sizeof params) == INVALID);
-  WANT(quic_wire_params_read(2, &byte, 1, &params, sizeof params) ==
+  WANT(quic_wire_params_read(QUIC_WIRE_SIDE_CLIENT, 0, NULL, 1, &params,
+                             sizeof params, NULL) == INVALID);
+  WANT(quic_wire_params_read(QUIC_WIRE_SIDE_CLIENT, 0, &byte, 1, NULL,
+                             sizeof params, NULL) == INVALID);
+  WANT(quic_wire_params_read(2, 0, &byte, 1, &params, sizeof params, NULL) ==
        QUIC_WIRE_ERR_KIND);
-  WANT(quic_wire_params_read(QUIC_WIRE_SIDE_SERVER, NULL, 0, &params,
-                             sizeof params) == 0);
+  WANT(quic_wire_params_read(QUIC_WIRE_SIDE_SERVER, 0, NULL, 0, &params,
+                             sizeof params, NULL) == 0);
   WANT(params.max_ack_delay == 25 && params.present == 0);
   WANT(quic_wire_params_write(QUIC_WIRE_SIDE_CLIENT, NULL, sizeof params, out,
                               8, &n) == INVALID);
@@ -30,8 +69,9 @@ void params_nulls(void) {
   WANT(quic_wire_params_write(QUIC_WIRE_SIDE_CLIENT, &params, sizeof params,
                               NULL, 0, &n) == QUIC_WIRE_ERR_NOBUF &&
        n == 3);
-  WANT(quic_wire_params_read(QUIC_WIRE_SIDE_CLIENT, &byte, 0, &params,
-                             sizeof params - 1) == QUIC_WIRE_ERR_LENGTH);
+  params_flags();
+  WANT(quic_wire_params_read(QUIC_WIRE_SIDE_CLIENT, 0, &byte, 0, &params,
+                             sizeof params - 1, NULL) == QUIC_WIRE_ERR_LENGTH);
   n = 77;
   WANT(quic_wire_params_write(QUIC_WIRE_SIDE_CLIENT, &params, sizeof params + 8,
                               out, 8, &n) == QUIC_WIRE_ERR_LENGTH);
@@ -59,8 +99,8 @@ static void further_made(struct further *f) {
   static const uint8_t versions[] = {0, 0, 0, 1};
   size_t n = 0, m = 0;
   uint8_t k;
-  WANT(quic_wire_params_read(QUIC_WIRE_SIDE_SERVER, NULL, 0, &f->params,
-                             sizeof f->params) == 0);
+  WANT(quic_wire_params_read(QUIC_WIRE_SIDE_SERVER, 0, NULL, 0, &f->params,
+                             sizeof f->params, NULL) == 0);
   f->params.max_idle_timeout = 5;
   f->params.initial_max_data = 9;
   WANT(quic_wire_param_write(QUIC_WIRE_PARAM_VERSION_INFORMATION, versions, 4,
@@ -94,8 +134,8 @@ static void further_written(const struct further *f) {
                                    f->entries, f->len, f->order,
                                    sizeof f->order, out, sizeof out, &w) == 0);
   WANT(w == sizeof turned && !memcmp(out, turned, w));
-  WANT(quic_wire_params_read(QUIC_WIRE_SIDE_SERVER, out, w, &got, sizeof got) ==
-       0);
+  WANT(quic_wire_params_read(QUIC_WIRE_SIDE_SERVER, 0, out, w, &got,
+                             sizeof got, NULL) == 0);
   WANT(!memcmp(&got, &f->params, sizeof got));
   WANT(quic_wire_params_write_with(
            side, &f->params, sizeof f->params, f->entries, f->len, f->order,
@@ -253,7 +293,8 @@ int params_written(uint32_t side) {
        QUIC_WIRE_OK);
   WANT(less == n && (!n || !memcmp(dest, room, n)));
   memset(&got, 0xbb, sizeof got);
-  WANT(quic_wire_params_read(side, dest, n, &got, sizeof got) == QUIC_WIRE_OK);
+  WANT(quic_wire_params_read(side, (uint32_t)any(), dest, n, &got, sizeof got,
+                             NULL) == QUIC_WIRE_OK);
   WANT(!memcmp(&got, &given, sizeof got));
   free(dest);
   return 1;
@@ -318,7 +359,7 @@ static void params_mixed(uint32_t side, const quic_wire_params *params,
       side ^ 1, params, sizeof *params, further, filled, order,
       any() % 4 ? all : 0, out, sizeof out, &n);
   WANT(answer == 0);
-  WANT(quic_wire_params_read(side, out, n, &got, sizeof got) == 0);
+  WANT(quic_wire_params_read(side, 0, out, n, &got, sizeof got, NULL) == 0);
   WANT(!memcmp(&got, params, sizeof got));
   if (n) {
     WANT(quic_wire_params_write_with(side ^ 1, params, sizeof *params, further,
@@ -335,14 +376,18 @@ static void params_mixed(uint32_t side, const quic_wire_params *params,
 /* Any bytes as a list, and any words as parameters. */
 void params_any(const uint8_t *list, size_t len) {
   quic_wire_params got, same;
+  quic_wire_refusal refusal = {0, 77};
   uint32_t side = (uint32_t)(any() % 3);
+  uint32_t flags = any() % 2 ? (uint32_t)any() : 0;
   uint8_t dest[512];
   size_t n = 0, k;
   int answer;
   memset(&got, 0xbb, sizeof got);
   memset(&same, 0xbb, sizeof same);
-  answer = quic_wire_params_read(side, list, len, &got, sizeof got);
+  answer = quic_wire_params_read(side, flags, list, len, &got, sizeof got,
+                                 any() % 4 ? &refusal : NULL);
   WANT((side > 1) == (answer == QUIC_WIRE_ERR_KIND));
+  WANT(refusal.offset <= len || refusal.offset == 77);
   if (answer == QUIC_WIRE_OK) {
     WANT(quic_wire_params_write(side ^ 1, &got, sizeof got, dest, sizeof dest,
                                 &n) == QUIC_WIRE_OK);

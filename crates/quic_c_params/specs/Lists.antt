@@ -1,9 +1,10 @@
 -- Lists of parameters by their entries, and with further ones: RFC 9000, section 18.
 use Rattle.std.specs.Prelude.{◌≡◌, ℕ, ◌+◌, ◌<◌, ◌≤◌, ◌^◌, ◌⊎◌, List, [], ◌++◌, length, take, drop, Result, Ok, IfOk, IfErr, OnErr}
 use Rattle.quic_base.specs.Codec.{Takes}
+use Rattle.quic_base.specs.Varint.{Encodes}
 use Rattle.quic_params.specs.declared.parameter.TransportParameterId.{TransportParameterId}
 use Rattle.quic_params.specs.declared.record.TransportParameters.{TransportParameters}
-use Rattle.quic_params.specs.Entry.{Entry, IsEntry, IsKnownParameter}
+use Rattle.quic_params.specs.Entry.{Entry, IsCutEntry, IsEntry, IsKnownParameter}
 use Rattle.quic_params.specs.Further.{AreInOrder, AreOthers, IsOrderOf, asked, listed}
 use Rattle.quic_params.specs.Meaning.{IsReadAnswer}
 use Rattle.quic_params.specs.Table.{parameter_count}
@@ -22,6 +23,16 @@ pub record GivesParameter (list : List ℕ) (words : CEntry) : Type 0 where
   pub entry : Takes (IsEntry words.id (take words.value_len (drop words.value list))) list
       (drop (words.value + words.value_len) list)
   pub within : words.value + words.value_len ≤ length list
+
+-- The words describe that entry, whose value is this number in some width.
+pub record GivesNumber (list : List ℕ) (words : CEntry) (number : ℕ) : Type 0 where
+  pub entry : GivesParameter list words
+  pub value : Encodes number (take words.value_len (drop words.value list))
+
+-- No entry is whole at the front, or the value of the one that is there is no number.
+abbrev pub HasNoNumber : List ℕ → Type 0
+HasNoNumber list = IsCutEntry list ⊎ ((words : CEntry) × GivesParameter list words
+    × ((number : ℕ) → ¬ (Encodes number (take words.value_len (drop words.value list)))))
 
 -- The bytes were written at the front, those after them didn't change, and their count is given; or there is less room
 -- than that, how much they need is reported, and nothing changed.

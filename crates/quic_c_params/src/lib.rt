@@ -10,4 +10,4 @@ mod show;
 mod words;
 mod write;
 
-pub use words::{CEntry, CParams};
+pub use words::{CEntry, CParams, CRefusal};

@@ -1,12 +1,13 @@
 //! Reads a list of transport parameters into a struct of words.
-ghost use Rattle.std.specs.Prelude.{◌≡◌, ◌⊎◌, ◌<◌, pos, MatchOption};
-ghost use Rattle.quic_c_params.specs.Answers.{IsSide, failure_of, GivesParams, RefusesList};
+ghost use Rattle.std.specs.Prelude.{◌≡◌, ◌⊎◌, ◌<◌, ℕ, Option, pos, MatchOption};
+ghost use Rattle.quic_c_params.specs.Answers.{IsSide, failure_of, number_word_of, options_of, refusal_words, GivesParams, RefusesList};
+ghost use Rattle.quic_params.specs.declared.error.Refusal.{Refusal};
 ghost use Rattle.quic_results.specs.Results.{failed};
 
 use crate::show::show;
-use crate::words::CParams;
+use crate::words::{CParams, CRefusal};
 use quic_base::ids::Side;
-use quic_params::transport_parameters::{Error, TransportParameters};
+use quic_params::transport_parameters::{Error, ReadOptions, Refusal, TransportParameters};
 use quic_results::results::Failure;
 
 // The side of a word.
@@ -30,31 +31,72 @@ fn failure_of(error: Error) -> Failure
     }
 }
 
+// How a list is read, from the bits 0x080 and 0x100 of the flags.
+fn options_of(flags: u32) -> ReadOptions
+    ensures { result ≡ options_of flags }
+{
+    ReadOptions {
+        any_width: flags / 0x080 % 2 == 1,
+        no_repeats: flags / 0x100 % 2 == 1,
+    }
+}
+
+// The number of a parameter, 2^64 - 1 for none.
+fn number_word_of(number: Option<u64>) -> u64
+    ensures { result ≡ number_word_of number }
+{
+    match number {
+        Some(number) => number,
+        None => u64::MAX,
+    }
+}
+
+// A refusal as words.
+fn refusal_words(refusal: &Refusal) -> CRefusal
+    ensures { result ≡ refusal_words refusal.now }
+{
+    CRefusal {
+        id: number_word_of(refusal.id),
+        offset: refusal.offset,
+    }
+}
+
 /// Reads a list of transport parameters that a side got from its peer, to the list's end (RFC 9000, sections 7.4 and
 /// 18): `side` is 0 if a client reads the list of a server, 1 if a server reads that of a client. It returns 0 with the
 /// words of the record: numbers that are not in the list have their defaults, and other values that are absent are 0 in
 /// all of their words and bytes, without a bit. It returns `ParametersMalformed` if the first entry that the side
-/// refuses is cut off, has an invalid value, or is a repeat, and `ParametersIllegal` if it refuses a value; `Kind`
-/// exactly if `side` is above 1. Nothing changes then.
+/// refuses is cut off, has an invalid value, or is a repeat, and `ParametersIllegal` if it refuses a value, both with
+/// the refusal: the number of the parameter, or 2^64 - 1 if the list ends within that, and where its entry begins;
+/// `Kind` exactly if `side` is above 1. Nothing else changes.
 ///
-/// An integer with a default in a longer encoding than its shortest is an invalid value, though RFC 9000, section 16,
-/// allows it; `max_datagram_frame_size` and `min_ack_delay` may be in any encoding.
+/// With 0 in `flags` an integer that has a default and isn't in its shortest encoding is an invalid value, as in
+/// quinn-proto, and `grease_quic_bit` and `min_ack_delay` may be repeated. With the bit 0x080 an integer may be in any
+/// encoding (RFC 9000, section 16); with 0x100 no known parameter may be repeated (section 7.4). Other bits are
+/// ignored. `max_datagram_frame_size` and `min_ack_delay` may be in any encoding.
 #[unsafe(no_mangle)]
-pub extern "C" fn quic_wire_params_read_(side: u32, bytes: &[u8], out: &mut CParams) -> i32
-    ensures { (result ≡ pos 0) × GivesParams side bytes.now out.new
-        ⊎ (result ≡ failed Failure.Kind) × (1 < side) × (out.new ≡ out.old)
-        ⊎ ((error : Error) × (result ≡ failed (failure_of error)) × RefusesList side bytes.now error
-        × (out.new ≡ out.old)) }
+pub extern "C" fn quic_wire_params_read_(
+    side: u32,
+    flags: u32,
+    bytes: &[u8],
+    out: &mut CParams,
+    refusal: &mut CRefusal,
+) -> i32
+    ensures { (result ≡ pos 0) × GivesParams side flags bytes.now out.new × (refusal.new ≡ refusal.old)
+        ⊎ (result ≡ failed Failure.Kind) × (1 < side) × (out.new ≡ out.old) × (refusal.new ≡ refusal.old)
+        ⊎ ((refused : Refusal) × (result ≡ failed (failure_of refused.error)) × RefusesList side flags bytes.now refused
+        × (out.new ≡ out.old) × (refusal.new ≡ refusal_words refused)) }
 {
     let Some(reader) = side_of(side) else {
         return Failure::Kind.number();
     };
-    let mut rest = bytes;
-    match TransportParameters::read(reader, &mut rest) {
+    match TransportParameters::read_list(reader, options_of(flags), bytes) {
         Ok(params) => {
             *out = show(&params);
             0
         }
-        Err(error) => failure_of(error).number(),
+        Err(refused) => {
+            *refusal = refusal_words(&refused);
+            failure_of(refused.error).number()
+        }
     }
 }

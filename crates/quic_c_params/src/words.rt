@@ -79,7 +79,19 @@ pub struct CEntry {
     pub value_len: usize,
 }
 
+/// Where a list of parameters is refused.
+#[repr(C)]
+#[derive(Clone, Copy, PartialEq, Eq)]
+pub struct CRefusal {
+    /// The number of the parameter, or 2^64 - 1 if the list ends within that.
+    pub id: u64,
+    /// Where its entry begins in the list.
+    pub offset: usize,
+}
+
 // The sizes that every declaration of these structs in C must have.
 const _: () = prove!(std::mem::size_of::<CParams>() == 264);
 
 const _: () = prove!(std::mem::size_of::<CEntry>() == 24);
+
+const _: () = prove!(std::mem::size_of::<CRefusal>() == 16);

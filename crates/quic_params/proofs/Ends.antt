@@ -5,9 +5,12 @@ use Rattle.quic_base.specs.Codec.{Takes, Follows}
 use Rattle.quic_base.specs.Varint.{Encodes}
 use Rattle.quic_params.specs.declared.error.Error.{Error}
 use Rattle.quic_params.specs.declared.error.Error.TheVariants.{Malformed}
+use Rattle.quic_params.specs.declared.options.ReadOptions.{ReadOptions}
+use Rattle.quic_params.specs.declared.parameter.Kind.{Kind}
 use Rattle.quic_params.specs.declared.parameter.Row.{Row}
 use Rattle.quic_params.specs.declared.parameter.TransportParameterId.{TransportParameterId}
 use Rattle.quic_params.specs.declared.record.TransportParameters.{TransportParameters}
+use Rattle.quic_params.specs.Options.{kind_read, once_read}
 use Rattle.quic_params.specs.Table.{row_of}
 use Rattle.quic_params.specs.Value.{IsNoValue}
 use Rattle.quic_params.specs.Entry.{Given, IsEnd, IsKnownParameter, RefusesList, StopsAtEntry, StopsAt, StopsIn, within_entry}
@@ -37,10 +40,10 @@ drop_within count len mid le fits =
 -- ---- stops
 
 -- at an entry that is refused, whose header was read, and so many bytes of its value
-entry_left : (before : List Given) (old mid new : List ℕ) (n len count : ℕ) (error : Error)
+entry_left : (opt : ReadOptions) (before : List Given) (old mid new : List ℕ) (n len count : ℕ) (error : Error)
     → Takes (Follows (Encodes n) (Encodes len)) old mid → len ≤ length mid
-    → RefusesList before (at n (take len mid)) error → count ≤ len → new ≡ drop count mid → StopsAt before old error new
-entry_left before old mid new n len count error t le r within e =
+    → RefusesList opt before (at n (take len mid)) error → count ≤ len → new ≡ drop count mid → StopsAt opt before old error new
+entry_left opt before old mid new n len count error t le r within e =
     let w = entry_taken old mid n len t le in
     let parts : (t.front ++ take len mid) ++ drop len mid ≡ w.front ++ drop len mid =
     append_assoc t.front (take len mid) (drop len mid) ∙ ap (λ l. t.front ++ l) (take-append-drop len mid) ∙ sym t.split
@@ -62,40 +65,41 @@ entry_left before old mid new n len count error t le r within e =
     (e ∙ drop_within count len mid within le)
 
 -- at a repeat, whose row is known by an equation
-pub repeat_left : (p : TransportParameters) (seen : List Bool) (before : List Given) (old mid : List ℕ) (n len : ℕ)
+pub repeat_left : (opt : ReadOptions) (p : TransportParameters) (seen : List Bool) (before : List Given) (old mid : List ℕ) (n len : ℕ)
     (i : TransportParameterId) (w : Row)
     → w ≡ row_of i
-    → Takes (Follows (Encodes n) (Encodes len)) old mid → len ≤ length mid → IsKnownParameter i n → w.once ≡ true
+    → Takes (Follows (Encodes n) (Encodes len)) old mid → len ≤ length mid → IsKnownParameter i n
+    → once_read opt w.once ≡ true
     → get_or seen w.index false ≡ true → Holds p seen before
-    → StopsAt before old Malformed mid
-repeat_left p seen before old mid n len i w e t le k once seen_it h =
-    let again : (row_of i).once ≡ true = sym (ap (λ r. r.once) e) ∙ once in
+    → StopsAt opt before old Malformed mid
+repeat_left opt p seen before old mid n len i w e t le k once seen_it h =
+    let again : once_read opt (row_of i).once ≡ true = sym (ap (λ r. once_read opt r.once) e) ∙ once in
     let marked : get_or seen (row_of i).index false ≡ true = sym (ap (λ r. get_or seen r.index false) e) ∙ seen_it in
-    entry_left before old mid mid n len 0 Malformed t le (record
+    entry_left opt before old mid mid n len 0 Malformed t le (record
     { id = i; known = k; cause = inl ((again, h.given_there i marked), refl) }) (omega arith) refl
 
 -- at a value that is none
-pub value_left : (p : TransportParameters) (seen : List Bool) (before : List Given) (old mid new : List ℕ)
+pub value_left : (opt : ReadOptions) (p : TransportParameters) (seen : List Bool) (before : List Given) (old mid new : List ℕ)
     (n len count : ℕ) (i : TransportParameterId) (error : Error) (w : Row)
     → w ≡ row_of i
     → Takes (Follows (Encodes n) (Encodes len)) old mid → len ≤ length mid → IsKnownParameter i n
-    → ¬ ((w.once ≡ true) × (get_or seen w.index false ≡ true))
-    → IsNoValue w.kind (take len mid) error → Holds p seen before → count ≤ len → new ≡ drop count mid
-    → StopsAt before old error new
-value_left p seen before old mid new n len count i error w e t le k once bad h within rest =
-    let once_there : ¬ (((row_of i).once ≡ true) × (get_or seen (row_of i).index false ≡ true)) =
-    subst (λ (r : Row). ¬ ((r.once ≡ true) × (get_or seen r.index false ≡ true))) e once in
-    let none : IsNoValue (row_of i).kind (take len mid) error =
-    subst (λ (r : Row). IsNoValue r.kind (take len mid) error) e bad in
-    entry_left before old mid new n len count error t le (record
+    → ¬ ((once_read opt w.once ≡ true) × (get_or seen w.index false ≡ true))
+    → (k : Kind) → k ≡ kind_read opt w.kind → IsNoValue k (take len mid) error → Holds p seen before → count ≤ len → new ≡ drop count mid
+    → StopsAt opt before old error new
+value_left opt p seen before old mid new n len count i error w e t le k once x kind_is bad h within rest =
+    let once_there : ¬ ((once_read opt (row_of i).once ≡ true) × (get_or seen (row_of i).index false ≡ true)) =
+    subst (λ (r : Row). ¬ ((once_read opt r.once ≡ true) × (get_or seen r.index false ≡ true))) e once in
+    let none : IsNoValue (kind_read opt (row_of i).kind) (take len mid) error =
+    subst (λ (y : Kind). IsNoValue y (take len mid) error) (kind_is ∙ ap (λ (r : Row). kind_read opt r.kind) e) bad in
+    entry_left opt before old mid new n len count error t le (record
     { id = i; known = k; cause = inr ((λ r. once_there (r.0, h.marked i r.1)), none) }) within rest
 
 -- at a list
-pub stops_in : (whole old left : List ℕ) (p : TransportParameters) (seen : List Bool) (e : Error)
-    → HasRead whole old p seen → 0 < length old
-    → ((before : List Given) → Holds p seen before → StopsAtEntry before old e)
-    → ((before : List Given) → Holds p seen before → StopsAt before old e left) → StopsIn whole e left
-stops_in whole old left p seen e h lt stop at = record {
+pub stops_in : (opt : ReadOptions) (whole old left : List ℕ) (p : TransportParameters) (seen : List Bool) (e : Error)
+    → HasRead opt whole old p seen → 0 < length old
+    → ((before : List Given) → Holds p seen before → StopsAtEntry opt before old e)
+    → ((before : List Given) → Holds p seen before → StopsAt opt before old e left) → StopsIn opt whole e left
+stops_in opt whole old left p seen e h lt stop at = record {
   bad = record {
     entries = h.entries;
     given = h.given;

@@ -12,6 +12,7 @@ use Rattle.quic_base.specs.declared.ids.Side.{Side}
 use Rattle.quic_params.specs.declared.parameter.TransportParameterId.{TransportParameterId}
 use Rattle.quic_params.specs.declared.parameter.TransportParameterId.TheVariants.{MaxIdleTimeout}
 use Rattle.quic_params.specs.declared.record.TransportParameters.{TransportParameters}
+use Rattle.quic_params.specs.Options.{as_quinn}
 use Rattle.quic_params.specs.Table.{ids, parameter_count}
 use Rattle.quic_params.specs.Entry.{Entry, Given, IsEntry, IsGiven, Passed, AreEntries, Give}
 use Rattle.quic_params.specs.Meaning.{IsMeant, IsReadAnswer}
@@ -214,7 +215,7 @@ in_order_once (e ∷ es) (f ∷ fs) b p q =
     ap (λ (x : Entry). x ∷ es) (same_entry e f u.0 u.1) ∙ ap (λ (l : List Entry). f ∷ l) rest
 
 -- entries, the last first, in front of others
-in_order_from : (es fs : List Entry) (a b : List ℕ) → AreEntries es a → AreInOrder fs b
+pub in_order_from : (es fs : List Entry) (a b : List ℕ) → AreEntries es a → AreInOrder fs b
     → AreInOrder (reverse_aux es fs) (a ++ b)
 in_order_from [] fs a b p q = subst (AreInOrder fs) (ap (λ l. l ++ b) (sym p)) q
 in_order_from (e ∷ es) fs a b p q =
@@ -230,7 +231,7 @@ of_record side b p h =
       subst (AreInOrder (reverse m.entries)) (append-nil b) (in_order_from m.entries [] b [] m.list.encoded refl),
       record {
         given = m.given;
-        gives = subst (λ (l : List Entry). Give l m.given) (sym (reverse-reverse m.entries))
+        gives = subst (λ (l : List Entry). Give as_quinn l m.given) (sym (reverse-reverse m.entries))
             m.list.gives;
         is_record = m.is_record;
       },

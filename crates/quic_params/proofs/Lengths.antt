@@ -26,7 +26,7 @@ use Rattle.quic_params.specs.Writing.{encoding, shortest_entry, encoded_entry, i
 use Rattle.quic_params.proofs.Hosts.{octets_long}
 use Rattle.quic_params.proofs.Sizes.{size_below}
 
-short_below : (n : ℕ) → length (shortest_varint n) ≤ 8
+pub short_below : (n : ℕ) → length (shortest_varint n) ≤ 8
 short_below n = omega (arith, length-short n, size_below n)
 
 v4_below : (o : Option SocketAddrV4) → IfSome o IsSocketAddrV4 → length (v4_bytes o) ≤ 6
@@ -45,7 +45,7 @@ v6_below (Some s) t =
       t.0.0,
     )
 
-address_below : (a : PreferredAddress) → IsTypedAddress a → length (encoding (V.Address a)) ≤ 61
+pub address_below : (a : PreferredAddress) → IsTypedAddress a → length (encoding (V.Address a)) ≤ 61
 address_below a t =
     let tail = long_id a.connection_id ++ a.stateless_reset_token in
     omega (

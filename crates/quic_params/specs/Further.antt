@@ -6,6 +6,7 @@ use Rattle.quic_params.specs.declared.parameter.TransportParameterId.{TransportP
 use Rattle.quic_params.specs.declared.record.TransportParameters.{TransportParameters}
 use Rattle.quic_params.specs.Table.{ids, parameter_count}
 use Rattle.quic_params.specs.Entry.{Entry, Given, IsEntry, IsKnownParameter, Give}
+use Rattle.quic_params.specs.Options.{as_quinn}
 use Rattle.quic_params.specs.Record.{IsRecord}
 use Rattle.quic_params.specs.Writing.{shortest_entry, written_for}
 
@@ -17,7 +18,7 @@ AreInOrder (first ∷ others) bytes = Follows (IsEntry first.number first.bytes)
 -- the record has what the entries give, each accepted after those before it
 pub record IsRecordOf (entries : List Entry) (params : TransportParameters) : Type 0 where
   pub given : List Given
-  pub gives : Give (reverse entries) given
+  pub gives : Give as_quinn (reverse entries) given
   pub is_record : IsRecord given params
 
 -- an entry that can be written and that no record has

@@ -5,10 +5,10 @@ ghost use Rattle.quic_params.specs.Address.{IsAddress, IsV4, IsV6, AreAddressFie
 ghost use Rattle.quic_base.specs.Codec.{NoFront};
 ghost use Rattle.quic_base.specs.Number.{IsNumber, IsOctets};
 ghost use Rattle.std.specs.Net.Addr.{ipv4_octets, ipv6_octets};
-ghost use Rattle.quic_params.specs.Record.{Sets};
-ghost use Rattle.quic_params.specs.State.{PutsParameter};
+ghost use Rattle.quic_params.specs.Record.{IsOfKind, Sets};
+ghost use Rattle.quic_params.specs.State.{FitsKind, PutsParameter};
 ghost use Rattle.quic_params.specs.Table.{row_of};
-ghost use Rattle.quic_params.specs.Value.{IsNoValue};
+ghost use Rattle.quic_params.specs.Value.{IsAddressAnswer, IsNoValue};
 
 use crate::error::Error;
 use crate::parameter::{Kind, TransportParameterId};
@@ -21,9 +21,10 @@ use quic_base::laws::encodings;
 use quic_base::varint::VarInt;
 use std::net::{Ipv4Addr, Ipv6Addr, SocketAddrV4, SocketAddrV6};
 
-// The number that the bytes encode, in any width.
+/// The number that all of the bytes encode, in any width: the value of a parameter that is an integer (RFC 9000,
+/// sections 16 and 18.2). `None` if they encode none.
 #[tactic(auto, using(crate::proofs::Values::numbers))]
-fn varint(bytes: &[u8]) -> Option<VarInt>
+pub fn value_number(bytes: &[u8]) -> Option<VarInt>
     ensures value { MatchOption result ((n : ℕ) → ¬ (Encodes n bytes.now)) (λ n. Encodes n bytes.now) }
     ensures bound { MatchOption result (Unit {0}) (λ n. n < 2 ^ 62) }
 {
@@ -44,7 +45,7 @@ fn integer(bytes: &[u8]) -> Option<VarInt>
         (λ n. (n < 2 ^ 62) × (bytes.now ≡ shortest_varint n)) }
 {
     encodings();
-    let n = varint(bytes)?;
+    let n = value_number(bytes)?;
     if n.size() == bytes.len() {
         Some(n)
     } else {
@@ -61,7 +62,7 @@ impl TransportParameters {
         kind: Kind,
         bytes: &[u8],
     ) -> Result<(), Error>
-        requires { kind ≡ (row_of id).kind }
+        requires { FitsKind kind (row_of id).kind }
         ensures ok { OnOk result (PutsParameter id kind bytes.now self.old self.new) }
         ensures err { IfErr result (λ e. IsNoValue kind bytes.now e) }
     {
@@ -73,7 +74,7 @@ impl TransportParameters {
                 self.set_number(id, n);
             }
             Kind::Varint => {
-                let Some(n) = varint(bytes) else {
+                let Some(n) = value_number(bytes) else {
                     return Err(Error::Malformed);
                 };
                 self.set_number(id, n);
@@ -98,7 +99,7 @@ impl TransportParameters {
     // Puts the connection id of these bytes into its field.
     #[inline(never)]
     fn decode_cid(&mut self, id: TransportParameterId, bytes: &[u8])
-        requires kind { (row_of id).kind ≡ Kind.Id }
+        requires kind { IsOfKind (row_of id).kind (Value.Id bytes.now) }
         requires short { length bytes.now ≤ MAX_CID_SIZE }
         ensures { Sets id (Value.Id bytes.now) self.old self.new }
     {
@@ -204,4 +205,23 @@ fn address_of(bytes: &[u8]) -> Result<PreferredAddress, Error>
         return Err(Error::Malformed);
     }
     Ok(address)
+}
+
+impl PreferredAddress {
+    /// Reads the value of `preferred_address`, which fills the bytes (RFC 9000, section 18.2): `IllegalValue` if it has
+    /// neither address, whatever follows, or an empty connection id; `Malformed` if the bytes are no such value. It
+    /// allocates no memory.
+    pub fn decode(bytes: &[u8]) -> Result<PreferredAddress, Error>
+        ensures { IsAddressAnswer bytes.now result }
+    {
+        match address_of(bytes) {
+            Ok(address) => {
+                if address.connection_id.as_slice().is_empty() {
+                    return Err(Error::IllegalValue);
+                }
+                Ok(address)
+            }
+            Err(e) => Err(e),
+        }
+    }
 }

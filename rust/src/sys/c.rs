@@ -1,11 +1,11 @@
 //! The functions of `quic_wire.h` that the library has; those of the header that C alone needs look for NULL.
 #[cfg(test)]
 use super::words::Gap;
-use super::words::{Canon, Frame, Frames, HeaderFields, HeaderPlaces, Param, Params, Range, Ranges};
+use super::words::{Canon, Frame, Frames, HeaderFields, HeaderPlaces, Param, Params, Range, Ranges, Refusal};
 
 extern "C" {
     /// An archive of another version lacks it, so that it isn't linked.
-    pub static quic_wire_abi_7: u8;
+    pub static quic_wire_abi_8: u8;
 
     pub fn quic_wire_frames_fill_(
         frames: *mut Frames,
@@ -106,7 +106,14 @@ extern "C" {
     pub fn quic_wire_number_expand_(written: u64, len: u32, expected: u64) -> u64;
     pub fn quic_wire_varint_read_(bytes: *const u8, len: usize, value: *mut u64) -> usize;
     pub fn quic_wire_varint_write_(value: u64, width: u32, out: *mut u8, out_len: usize) -> usize;
-    pub fn quic_wire_params_read_(side: u32, list: *const u8, len: usize, out: *mut Params) -> i32;
+    pub fn quic_wire_params_read_(
+        side: u32,
+        flags: u32,
+        list: *const u8,
+        len: usize,
+        out: *mut Params,
+        refusal: *mut Refusal,
+    ) -> i32;
     pub fn quic_wire_params_write_(
         side: u32,
         params: *const Params,

@@ -11,7 +11,7 @@ mod c;
 mod c_alone;
 mod words;
 
-pub use words::{Canon, Frame, Frames, HeaderFields, HeaderPlaces, Param, Params, Range, Ranges};
+pub use words::{Canon, Frame, Frames, HeaderFields, HeaderPlaces, Param, Params, Range, Ranges, Refusal, NO_PARAM};
 
 use crate::frame::Entry;
 use core::mem::MaybeUninit;
@@ -72,6 +72,10 @@ pub const PACKET_CUT: i32 = -46;
 pub const PACKET_RETRY: i32 = -47;
 pub const PARAMS_ILLEGAL: i32 = -61;
 
+/// Flags of [`params_read`].
+pub const READ_ANY_WIDTH: u32 = 0x080;
+pub const READ_NO_REPEATS: u32 = 0x100;
+
 // Keeps the symbol of the version in whatever links this crate.
 struct Linked(#[allow(dead_code)] *const u8);
 
@@ -79,7 +83,7 @@ struct Linked(#[allow(dead_code)] *const u8);
 unsafe impl Sync for Linked {}
 
 #[used]
-static LINKED: Linked = Linked(&raw const c::quic_wire_abi_7);
+static LINKED: Linked = Linked(&raw const c::quic_wire_abi_8);
 
 // What a writer answers: the bytes at the front of its room, or its answer and how many it asks for.
 fn wrote(answer: i32, written: usize) -> Result<Filled, (i32, usize)> {
@@ -314,10 +318,10 @@ pub fn varint_write(value: u64, width: u32, out: &mut Room) -> Option<Filled> {
 }
 
 #[inline]
-pub fn params_read(side: u32, list: &[u8], out: &mut Params) -> i32 {
-    // SAFETY: `list` gives its own pointer and length; `out` is borrowed alone. The library looks at no other memory
-    // and keeps no pointer.
-    unsafe { c::quic_wire_params_read_(side, list.as_ptr(), list.len(), out) }
+pub fn params_read(side: u32, flags: u32, list: &[u8], out: &mut Params, refusal: &mut Refusal) -> i32 {
+    // SAFETY: `list` gives its own pointer and length; `out` and `refusal` are borrowed alone. The library looks at no
+    // other memory and keeps no pointer.
+    unsafe { c::quic_wire_params_read_(side, flags, list.as_ptr(), list.len(), out, refusal) }
 }
 
 #[inline]

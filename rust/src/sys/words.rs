@@ -139,6 +139,18 @@ pub struct Param {
     pub valuelen: usize,
 }
 
+/// Where a list of transport parameters is refused: the number of the parameter, or [`NO_PARAM`], and the place of its
+/// entry.
+#[repr(C)]
+#[derive(Clone, Copy, Debug, Default, PartialEq, Eq, Hash)]
+pub struct Refusal {
+    pub id: u64,
+    pub offset: usize,
+}
+
+/// The value of a parameter's number where there is none.
+pub const NO_PARAM: u64 = u64::MAX;
+
 // Each struct is the header's: its size, its alignment, and the place and size of each field.
 macro_rules! layout {
     ($type:ty, $size:literal, $align:literal: $($field:ident $at:literal $len:literal,)*) => {
@@ -173,3 +185,4 @@ layout!(Params, 264, 8: present 0 4, reserved 4 4, max_idle_timeout 8 8, max_udp
     preferred_cid 192 20, stateless_reset_token 212 16, preferred_token 228 16, preferred_v6 244 16,
     preferred_v4 260 4,);
 layout!(Param, 24, 8: id 0 8, value 8 8, valuelen 16 8,);
+layout!(Refusal, 16, 8: id 0 8, offset 8 8,);

@@ -1,5 +1,5 @@
 //! Lists of transport parameters by their entries: what the record doesn't have, and the order (RFC 9000, section 18).
-use super::{Error, Side, TransportParameters};
+use super::{Error, ErrorKind, Side, TransportParameters};
 use crate::buffer::Buffer;
 use crate::sys;
 use crate::text::Short;
@@ -96,34 +96,41 @@ impl fmt::Debug for Entry<'_> {
 /// # Ok::<(), quic_wire::Error>(())
 /// ```
 pub fn entries(list: &[u8]) -> Entries<'_> {
-    Entries(list)
+    Entries { list, at: 0 }
 }
 
 /// The entries of a list.
 ///
 /// ```
-/// use quic_wire::transport_parameters::{entries, Error};
-/// let ids: Vec<_> = entries(&[0x01, 1, 7, 0x04, 9]).map(|entry| entry.map(|entry| entry.id)).collect();
-/// assert_eq!(ids, [Ok(1), Err(Error::Malformed)]);
+/// use quic_wire::transport_parameters::entries;
+/// let mut both = entries(&[0x01, 1, 7, 0x04, 9]);
+/// assert_eq!(both.next().unwrap()?.id, 1);
+/// let error = both.next().unwrap().unwrap_err();
+/// assert_eq!((error.id(), error.offset()), (Some(4), 3));
+/// # Ok::<(), quic_wire::Error>(())
 /// ```
 #[derive(Clone)]
-pub struct Entries<'a>(&'a [u8]);
+pub struct Entries<'a> {
+    list: &'a [u8],
+    // Where the next entry begins.
+    at: usize,
+}
 
 impl<'a> Iterator for Entries<'a> {
     type Item = Result<Entry<'a>, Error>;
 
     fn next(&mut self) -> Option<Self::Item> {
         let mut read = sys::Param::default();
-        match sys::param_read(self.0, &mut read) {
+        let (offset, rest) = (self.at, &self.list[self.at..]);
+        match sys::param_read(rest, &mut read) {
             end @ 1.. => {
-                let (front, rest) = self.0.split_at(end as usize);
-                self.0 = rest;
-                Some(Ok(Entry { id: read.id, value: &front[read.value..] }))
+                self.at += end as usize;
+                Some(Ok(Entry { id: read.id, value: &rest[read.value..end as usize] }))
             }
             0 => None,
             _ => {
-                self.0 = &[];
-                Some(Err(Error::Malformed))
+                self.at = self.list.len();
+                Some(Err(Error { kind: ErrorKind::Malformed, id: varint::read(rest).map(|(id, _)| id), offset }))
             }
         }
     }

@@ -26,32 +26,104 @@ use crate::{sys, varint};
 use core::fmt;
 use core::net::{SocketAddrV4, SocketAddrV6};
 
-/// Why a list is refused (`TRANSPORT_PARAMETER_ERROR`).
-///
-/// ```
-/// use quic_wire::transport_parameters::{Error, TransportParameters};
-/// use quic_wire::Side;
-/// assert_eq!(TransportParameters::read(Side::Client, &[0x01]), Err(Error::Malformed));
-/// assert_eq!(TransportParameters::read(Side::Client, &[0x0a, 1, 21]), Err(Error::IllegalValue));
-/// ```
+/// What is wrong with a list that is refused.
 #[derive(Clone, Copy, Debug, PartialEq, Eq, Hash)]
-pub enum Error {
+pub enum ErrorKind {
     /// A value is out of its range, a client sent what a server alone sends, or the preferred address has no address.
     IllegalValue,
     /// It is no list: an entry is cut off, no value of its kind, or a repeat.
     Malformed,
 }
 
+/// Why a list is refused (`TRANSPORT_PARAMETER_ERROR`), and at which parameter.
+///
+/// ```
+/// use quic_wire::transport_parameters::{ErrorKind, TransportParameters};
+/// use quic_wire::Side;
+/// // An ack_delay_exponent of 21 behind a max_idle_timeout.
+/// let error = TransportParameters::read(Side::Client, &[0x01, 1, 30, 0x0a, 1, 21]).unwrap_err();
+/// assert_eq!((error.kind(), error.id(), error.offset()), (ErrorKind::IllegalValue, Some(0x0a), 3));
+/// ```
+#[derive(Clone, Copy, Debug, PartialEq, Eq, Hash)]
+pub struct Error {
+    kind: ErrorKind,
+    id: Option<u64>,
+    offset: usize,
+}
+
+impl Error {
+    /// What is wrong.
+    pub fn kind(&self) -> ErrorKind {
+        self.kind
+    }
+
+    /// The number of the parameter that is refused. `None` if the list ends within that number.
+    ///
+    /// Of an entry that is cut off, no value of its kind or a repeat it is that entry's. If the record isn't accepted,
+    /// it is the parameter of the first rule that the record breaks, in the order in which quinn-proto tests them.
+    ///
+    /// ```
+    /// use quic_wire::transport_parameters::TransportParameters;
+    /// use quic_wire::Side;
+    /// let id = |list| TransportParameters::read(Side::Client, list).unwrap_err().id();
+    /// assert_eq!((id(&[0x04, 9]), id(&[0x40])), (Some(0x04), None));
+    /// ```
+    pub fn id(&self) -> Option<u64> {
+        self.id
+    }
+
+    /// Where its entry begins in the list, in bytes; the last one of its number, if the record isn't accepted.
+    pub fn offset(&self) -> usize {
+        self.offset
+    }
+}
+
 impl fmt::Display for Error {
     fn fmt(&self, f: &mut fmt::Formatter<'_>) -> fmt::Result {
-        f.write_str(match self {
-            Error::IllegalValue => "a transport parameter has an illegal value",
-            Error::Malformed => "transport parameters are malformed",
+        f.write_str(match self.kind {
+            ErrorKind::IllegalValue => "a transport parameter has an illegal value",
+            ErrorKind::Malformed => "transport parameters are malformed",
         })
     }
 }
 
 impl core::error::Error for Error {}
+
+/// How a list is read, where RFC 9000 and quinn-proto differ. The default, [`ReadOptions::QUINN`], is quinn-proto's
+/// reading.
+///
+/// ```
+/// use quic_wire::transport_parameters::{ReadOptions, TransportParameters};
+/// use quic_wire::Side;
+/// // An initial_max_data of 9 in two bytes.
+/// let list = [0x04, 2, 0x40, 9];
+/// assert!(TransportParameters::read(Side::Client, &list).is_err());
+/// let read = TransportParameters::read_with(Side::Client, ReadOptions::RFC_9000, &list)?;
+/// assert_eq!(read.initial_max_data, 9);
+/// # Ok::<(), quic_wire::Error>(())
+/// ```
+#[derive(Clone, Copy, Debug, Default, PartialEq, Eq, Hash)]
+pub struct ReadOptions {
+    /// Takes an integer that has a default in an encoding of any width (RFC 9000, section 16), in place of the shortest
+    /// one alone.
+    pub any_width: bool,
+    /// Refuses each known parameter that is there twice (RFC 9000, section 7.4), `grease_quic_bit` and `min_ack_delay`
+    /// too, whose last value counts otherwise.
+    pub no_repeats: bool,
+}
+
+impl ReadOptions {
+    /// The reading of quinn-proto.
+    pub const QUINN: ReadOptions = ReadOptions { any_width: false, no_repeats: false };
+
+    /// The reading of RFC 9000.
+    pub const RFC_9000: ReadOptions = ReadOptions { any_width: true, no_repeats: true };
+
+    fn flags(self) -> u32 {
+        let flag = |is_set: bool, flag| if is_set { flag } else { 0 };
+        flag(self.any_width, sys::READ_ANY_WIDTH) | flag(self.no_repeats, sys::READ_NO_REPEATS)
+    }
+}
 
 /// An address that a server would rather be reached at (RFC 9000, section 18.2).
 ///
@@ -156,8 +228,8 @@ impl TransportParameters {
     /// Reads a list that `side` got from its peer: a server takes nothing that a server alone sends. Parameters that
     /// aren't known are passed; [`entries`] gives these.
     ///
-    /// An integer with a default is refused as malformed where its encoding is longer than its shortest, though section
-    /// 16 of RFC 9000 allows it. `max_datagram_frame_size` and `min_ack_delay` are taken in any.
+    /// An integer that has a default must be in its shortest encoding, as in quinn-proto, though section 16 of RFC 9000
+    /// allows others: [`TransportParameters::read_with`] takes them.
     ///
     /// ```
     /// use quic_wire::transport_parameters::TransportParameters;
@@ -173,12 +245,34 @@ impl TransportParameters {
     ///
     /// Where the list is refused.
     pub fn read(side: Side, list: &[u8]) -> Result<TransportParameters, Error> {
-        let mut words = sys::Params::default();
-        match sys::params_read(side as u32, list, &mut words) {
-            sys::OK => Ok(TransportParameters::of(&words)),
-            sys::PARAMS_ILLEGAL => Err(Error::IllegalValue),
-            _ => Err(Error::Malformed),
-        }
+        TransportParameters::read_with(side, ReadOptions::QUINN, list)
+    }
+
+    /// Reads a list as [`TransportParameters::read`] does, in the way that the options say.
+    ///
+    /// ```
+    /// use quic_wire::transport_parameters::{ReadOptions, TransportParameters};
+    /// use quic_wire::Side;
+    /// // Twice a grease_quic_bit.
+    /// let list = [0x6a, 0xb2, 0, 0x6a, 0xb2, 0];
+    /// let read = |options| TransportParameters::read_with(Side::Client, options, &list);
+    /// assert!(read(ReadOptions::QUINN)?.grease_quic_bit);
+    /// assert_eq!(read(ReadOptions::RFC_9000).unwrap_err().offset(), 3);
+    /// # Ok::<(), quic_wire::Error>(())
+    /// ```
+    ///
+    /// # Errors
+    ///
+    /// Where the list is refused.
+    pub fn read_with(side: Side, options: ReadOptions, list: &[u8]) -> Result<TransportParameters, Error> {
+        let (mut words, mut refusal) = (sys::Params::default(), sys::Refusal::default());
+        let kind = match sys::params_read(side as u32, options.flags(), list, &mut words, &mut refusal) {
+            sys::OK => return Ok(TransportParameters::of(&words)),
+            sys::PARAMS_ILLEGAL => ErrorKind::IllegalValue,
+            _ => ErrorKind::Malformed,
+        };
+        let id = (refusal.id != sys::NO_PARAM).then_some(refusal.id);
+        Err(Error { kind, id, offset: refusal.offset })
     }
 
     /// Writes the shortest list that `side` sends, and answers how many bytes it has. Its peer reads the same.

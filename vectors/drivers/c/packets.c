@@ -141,7 +141,7 @@ void answer_params_write(const line *in) {
   quic_wire_params params;
   uint8_t out[1024];
   size_t len;
-  if (quic_wire_params_read(reader, in->bytes, in->len, &params, sizeof params) != QUIC_WIRE_OK ||
+  if (quic_wire_params_read(reader, 0, in->bytes, in->len, &params, sizeof params, NULL) != QUIC_WIRE_OK ||
       quic_wire_params_write(sender, &params, sizeof params, out, sizeof out, &len) != QUIC_WIRE_OK) {
     puts("invalid");
     return;
@@ -154,7 +154,7 @@ void answer_params_write(const line *in) {
 void answer_params(const line *in) {
   uint32_t side = item(in, "from") ? QUIC_WIRE_SIDE_SERVER : QUIC_WIRE_SIDE_CLIENT;
   quic_wire_params params;
-  if (quic_wire_params_read(side, in->bytes, in->len, &params, sizeof params) != QUIC_WIRE_OK) {
+  if (quic_wire_params_read(side, 0, in->bytes, in->len, &params, sizeof params, NULL) != QUIC_WIRE_OK) {
     puts("invalid TRANSPORT_PARAMETER_ERROR");
     return;
   }

@@ -1,7 +1,7 @@
 //! Lists of transport parameters.
 use crate::fault;
 use crate::output::{unknown, Field, Output, Value};
-use quic_wire::transport_parameters::{Error, PreferredAddress, TransportParameters};
+use quic_wire::transport_parameters::{ErrorKind, PreferredAddress, TransportParameters};
 use quic_wire::{ConnectionId, Side};
 use std::io::{self, Write};
 use Value::{Flag, Ids, Number, Unknown, Word};
@@ -10,7 +10,7 @@ pub fn show(list: &[u8], side: Side, output: &mut Output<impl Write>) -> io::Res
     let read = match TransportParameters::read(side, list) {
         Ok(read) => read,
         Err(error) => {
-            let what = if error == Error::IllegalValue { "illegal value" } else { "malformed" };
+            let what = if error.kind() == ErrorKind::IllegalValue { "illegal value" } else { "malformed" };
             let (at, fields) = fault::of_parameters(list, side, error);
             return output.error(what, at, &fields);
         }

@@ -2,7 +2,7 @@
 use super::{closed, Walk};
 use crate::output::{Field, Value};
 use quic_wire::transport_error::Code;
-use quic_wire::transport_parameters::{Error, TransportParameters};
+use quic_wire::transport_parameters::Error;
 use quic_wire::{varint, Side};
 use std::ops::Range;
 
@@ -43,7 +43,7 @@ const PARAMETERS: [Parameter; 20] = [
     of_rfc_9000(0x0f, "initial_src_cid", CID),
     of_rfc_9000(0x10, "retry_src_cid", CID),
     Parameter { id: 0x20, name: "max_datagram_frame_size", wanted: NUMBER, section: "RFC 9221, section 3" },
-    Parameter { id: 0x2ab2, name: "grease_quic_bit", wanted: "no bytes", section: "RFC 9287, section 3" },
+    Parameter { id: GREASE_QUIC_BIT, name: "grease_quic_bit", wanted: "no bytes", section: "RFC 9287, section 3" },
     Parameter {
         id: MIN_ACK_DELAY,
         name: "min_ack_delay",
@@ -51,7 +51,7 @@ const PARAMETERS: [Parameter; 20] = [
         section: "the ACK frequency extension, section 3",
     },
 ];
-// It is judged by max_ack_delay, which may be behind it.
+const GREASE_QUIC_BIT: u64 = 0x2ab2;
 const MIN_ACK_DELAY: u64 = 0xff04_de1b;
 // How many bytes of a value are shown.
 const MOST: usize = 64;
@@ -67,28 +67,16 @@ struct Entry {
     value: Range<usize>,
 }
 
-// The entries of a list, and the place of one that is cut off with its id, if that is whole.
-fn entries(list: &[u8]) -> impl Iterator<Item = Result<Entry, (usize, Option<u64>)>> + '_ {
+// The entries of a list up to one that is cut off.
+fn entries(list: &[u8]) -> impl Iterator<Item = Entry> + '_ {
     let mut walk = Walk::new(list);
     std::iter::from_fn(move || {
         let begin = walk.at;
-        if begin >= list.len() {
-            return None;
-        }
-        let id = walk.number("Transport Parameter ID");
-        let mut value = || {
-            let len = walk.number("Transport Parameter Length")?;
-            let from = walk.at;
-            walk.take("Transport Parameter Value", len)?;
-            Ok::<_, super::Place>(from..walk.at)
-        };
-        match (id, value()) {
-            (Ok(id), Ok(value)) => Some(Ok(Entry { id, place: begin..walk.at, value })),
-            _ => {
-                walk.at = list.len();
-                Some(Err((begin, id.ok())))
-            }
-        }
+        let id = walk.number("Transport Parameter ID").ok()?;
+        let len = walk.number("Transport Parameter Length").ok()?;
+        let from = walk.at;
+        walk.take("Transport Parameter Value", len).ok()?;
+        Some(Entry { id, place: begin..walk.at, value: from..walk.at })
     })
 }
 
@@ -98,26 +86,15 @@ fn known(id: u64) -> Option<&'static Parameter> {
 
 /// Where the parameter is that makes a list one that is refused, and what is known of it.
 pub fn of_parameters(list: &[u8], side: Side, error: Error) -> (Option<usize>, Vec<Field<'static>>) {
-    let mut judged_by_another = None;
-    for entry in entries(list) {
-        let entry = match entry {
-            Ok(entry) => entry,
-            Err((at, id)) if error == Error::Malformed => return (Some(at), of_cut_off(id)),
-            Err(_) => break,
-        };
-        let Some(known) = known(entry.id) else { continue };
-        let is_repeated = error == Error::Malformed && is_repeated(list, &entry);
-        if is_repeated || TransportParameters::read(side, &list[entry.place.clone()]) == Err(error) {
-            if known.id != MIN_ACK_DELAY || error == Error::Malformed {
-                return (Some(entry.place.start), of_entry(list, side, &entry, known));
-            }
-            judged_by_another = Some((entry, known));
-        }
-    }
-    match judged_by_another {
-        Some((entry, known)) => (Some(entry.place.start), of_entry(list, side, &entry, known)),
-        None => (None, closed(Code::TRANSPORT_PARAMETER_ERROR, REPEATED).to_vec()),
-    }
+    let at = error.offset();
+    let fields = match entries(list).find(|entry| entry.place.start == at) {
+        Some(entry) => match known(entry.id) {
+            Some(known) => of_entry(list, side, &entry, known),
+            None => closed(Code::TRANSPORT_PARAMETER_ERROR, REPEATED).to_vec(),
+        },
+        None => of_cut_off(error.id()),
+    };
+    (Some(at), fields)
 }
 
 fn of_cut_off(id: Option<u64>) -> Vec<Field<'static>> {
@@ -129,8 +106,10 @@ fn of_cut_off(id: Option<u64>) -> Vec<Field<'static>> {
     fields
 }
 
+// Whether it is a repeat that is refused: quinn-proto takes two parameters more than once.
 fn is_repeated(list: &[u8], entry: &Entry) -> bool {
-    entries(&list[..entry.place.start]).flatten().any(|other| other.id == entry.id)
+    ![GREASE_QUIC_BIT, MIN_ACK_DELAY].contains(&entry.id)
+        && entries(&list[..entry.place.start]).any(|other| other.id == entry.id)
 }
 
 fn of_entry(list: &[u8], side: Side, entry: &Entry, known: &Parameter) -> Vec<Field<'static>> {

@@ -1,7 +1,7 @@
 use Rattle.std.proofs.Common.{ℕ, arith, sym, subst}
 use Rattle.quic_base.specs.Varint.{Encodes}
 use Rattle.quic_params.proofs.Values.{cut_number, part_number, whole_number}
-use Rattle.quic_params.proofs.value_decode.varint.Goals as goal
+use Rattle.quic_params.proofs.value_decode.value_number.Goals as goal
 
 pub returns-in_default-clause-value : goal.returns-in_default-clause-value
 returns-in_default-clause-value c = λ n. cut_number n _ (c.in_default.ensures.cut n)

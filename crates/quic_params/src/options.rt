@@ -1,0 +1,57 @@
+//! How lists of parameters are read.
+ghost use Rattle.std.specs.Prelude.{◌≡◌};
+ghost use Rattle.quic_params.specs.Options.{as_quinn, kind_read, once_read};
+
+use crate::parameter::Kind;
+
+/// How a list is read, where RFC 9000 and quinn-proto differ. The default is quinn-proto's reading: both `false`.
+#[derive(Clone, Copy, Debug, PartialEq, Eq)]
+pub struct ReadOptions {
+    /// Takes an integer that has a default in an encoding of any width (RFC 9000, section 16), in place of the shortest
+    /// one alone.
+    pub any_width: bool,
+    /// Refuses each known parameter that is there twice (RFC 9000, section 7.4), `grease_quic_bit` and `min_ack_delay`
+    /// too, whose last value counts otherwise.
+    pub no_repeats: bool,
+}
+
+impl ReadOptions {
+    /// The reading of quinn-proto.
+    pub const QUINN: ReadOptions = ReadOptions {
+        any_width: false,
+        no_repeats: false,
+    };
+
+    /// The reading of RFC 9000.
+    pub const RFC_9000: ReadOptions = ReadOptions {
+        any_width: true,
+        no_repeats: true,
+    };
+
+    // The kind by which a value is read.
+    #[inline(always)]
+    pub(crate) fn kind_read(self, kind: Kind) -> Kind
+        ensures { result ≡ kind_read self kind }
+    {
+        match kind {
+            Kind::Integer(_) if self.any_width => Kind::Varint,
+            _ => kind,
+        }
+    }
+
+    // Whether a parameter that is there twice is refused, from what its row says.
+    #[inline(always)]
+    pub(crate) fn once_read(self, once: bool) -> bool
+        ensures { result ≡ once_read self once }
+    {
+        self.no_repeats || once
+    }
+}
+
+impl Default for ReadOptions {
+    ghost is_default = { λ options. options ≡ as_quinn };
+
+    fn default() -> ReadOptions {
+        ReadOptions::QUINN
+    }
+}

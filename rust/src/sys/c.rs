@@ -5,7 +5,7 @@ use super::words::{Canon, Frame, Frames, HeaderFields, HeaderPlaces, Param, Para
 
 extern "C" {
     /// An archive of another version lacks it, so that it isn't linked.
-    pub static quic_wire_abi_7: u8;
+    pub static quic_wire_abi_8: u8;
 
     pub fn quic_wire_frames_fill_(
         frames: *mut Frames,
@@ -15,16 +15,7 @@ extern "C" {
         room: usize,
         count: *mut usize,
     ) -> i32;
-    pub fn quic_wire_frames_fill_basic_(
-        frames: *mut Frames,
-        payload: *const u8,
-        len: usize,
-        out: *mut Frame,
-        room: usize,
-        count: *mut usize,
-    ) -> i32;
     pub fn quic_wire_frames_next_(frames: *mut Frames, payload: *const u8, len: usize, out: *mut Frame) -> i32;
-    pub fn quic_wire_frames_next_basic_(frames: *mut Frames, payload: *const u8, len: usize, out: *mut Frame) -> i32;
     pub fn quic_wire_ack_ranges_init_unchecked_(
         ranges: *mut Ranges,
         payload: *const u8,
@@ -156,12 +147,12 @@ extern "C" {
     pub fn quic_wire_number_read_(bytes: *const u8, len: usize, number_len: u32, written: *mut u64) -> i32;
     pub fn quic_wire_number_write_(number: u64, number_len: u32, out: *mut u8, out_len: usize) -> i32;
     pub fn quic_wire_varint_len_(value: u64) -> usize;
-    pub fn quic_wire_frames_init_(frames: *mut Frames, payload: *const u8, len: usize) -> i32;
-    pub fn quic_wire_frames_init_strict_(frames: *mut Frames, payload: *const u8, len: usize) -> i32;
+    pub fn quic_wire_frames_init_(frames: *mut Frames, payload: *const u8, len: usize, flags: u32) -> i32;
     pub fn quic_wire_frames_first_(
         frames: *mut Frames,
         payload: *const u8,
         len: usize,
+        flags: u32,
         out: *mut Frame,
         room: usize,
         count: *mut usize,
@@ -169,15 +160,7 @@ extern "C" {
     pub fn quic_wire_frame_read_(
         payload: *const u8,
         len: usize,
-        strict: u32,
-        out: *mut Frame,
-        gaps: *mut Gap,
-        room: usize,
-    ) -> i64;
-    pub fn quic_wire_frame_read_basic_(
-        payload: *const u8,
-        len: usize,
-        strict: u32,
+        flags: u32,
         out: *mut Frame,
         gaps: *mut Gap,
         room: usize,

@@ -195,9 +195,7 @@ impl<'a> Iter<'a> {
         let mut count = 0;
         match sys::frames_fill(&mut self.state, self.payload, entries, &mut count) {
             sys::ITEM => Some(Ok(Batch { payload: self.payload, entries: entries[..count].iter() })),
-            answer @ sys::FRAME_LIMIT..=sys::FRAME_END => {
-                Some(Err(invalid_by(entries[0].get().numbers[0], answer)))
-            }
+            answer @ sys::FRAME_LIMIT..=sys::FRAME_END => Some(Err(invalid_by(entries[0].get().numbers[0], answer))),
             _ => None,
         }
     }

@@ -5,7 +5,7 @@ ghost use Rattle.quic_c.specs.Shown.{has_flag, rules_in};
 ghost use Rattle.quic_frames.specs.Checking.{IsRefusedFrame};
 ghost use Rattle.quic_c.specs.Filling.{AnswersFill, AnswersFirst, Fills, further};
 
-use crate::flags::{checks_frames, next_by, only_types, rules_in};
+use crate::flags::{next_by, rules_in, types_alone};
 use crate::frames::{show_invalid, type_in, type_read, type_word};
 use crate::show::{parts_of, show_parts};
 use crate::words::{CFrame, CFrameIter};
@@ -39,7 +39,7 @@ fn fill<const COPY: usize>(
     let mut end = iter.offset();
     let mut last = iter.last_type();
     while count < out.len() {
-        let frame = match next_by(iter, rules) {
+        let frame = match next_by::<0, COPY>(iter, rules) {
             Some(Ok(frame)) => frame,
             Some(Err(invalid)) => {
                 if count == 0 {
@@ -133,11 +133,10 @@ pub extern "C" fn quic_wire_frames_fill_(
     ensures answers { AnswersFill (rules_in frames.old.flags) frames.old payload.now out.old count.old result frames.new
         out.new count.new }
 {
-    let rules = rules_in(frames.flags);
-    if checks_frames(rules) {
+    let Some(rules) = types_alone(frames.flags) else {
         return fill_checked(frames, payload, out, count);
-    }
-    fill_on::<1>(frames, payload, only_types(rules.short_types), out, count)
+    };
+    fill_on::<1>(frames, payload, rules, out, count)
 }
 
 // Begins at the front of a payload with these flags, and fills entries with its first frames.
@@ -215,9 +214,8 @@ pub extern "C" fn quic_wire_frames_first_(
 ) -> i32
     ensures answers { AnswersFirst flags payload.now frames.old out.old count.old result frames.new out.new count.new }
 {
-    let rules = rules_in(flags);
-    if checks_frames(rules) {
+    let Some(rules) = types_alone(flags) else {
         return first_checked(frames, payload, flags, out, count);
-    }
-    first_by::<0>(frames, payload, flags, only_types(rules.short_types), out, count)
+    };
+    first_by::<0>(frames, payload, flags, rules, out, count)
 }

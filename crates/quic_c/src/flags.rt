@@ -1,5 +1,5 @@
 //! The rules that flags name, and the next frame by rules.
-ghost use Rattle.std.specs.Prelude.{◌≡◌, IfErr, IfOk, IfSome, None, Some, false};
+ghost use Rattle.std.specs.Prelude.{◌≡◌, IfErr, IfOk, IfSome, None};
 ghost use Rattle.quic_frames.specs.Checking.{FindsKept, IsRefusedFrame};
 ghost use Rattle.quic_frames.specs.Rules.{breach_text, only_types};
 ghost use Rattle.quic_frames.specs.Walk.{IsSpent, invalid_of};
@@ -21,13 +21,19 @@ pub(crate) fn rules_in(flags: u32) -> Rules
     }
 }
 
-// Whether frames are checked besides their types' encodings. Callers have a copy of their own for each answer, so that
-// frames are read without tests where nothing is checked.
+// The flags by which frames are checked besides their types' encodings.
+const CHECKS: u32 = 0x20e;
+
+// The rules that flags name, if by these no frame is checked besides its type's encoding. Callers read by a copy of their
+// own then, which the compiler frees of tests.
 #[inline(always)]
-pub(crate) fn checks_frames(rules: Rules) -> bool
-    ensures { result ≡ false → rules ≡ only_types rules.short_types }
+pub(crate) fn types_alone(flags: u32) -> Option<Rules>
+    ensures { IfSome result (λ rules. (rules ≡ rules_in flags) × (rules ≡ only_types rules.short_types)) }
 {
-    rules.data_limit | rules.stream_limit | rules.tokens | rules.no_ack_frequency
+    if flags & CHECKS != 0 {
+        return None;
+    }
+    Some(only_types(flags & 0x001 != 0))
 }
 
 // The rules that check the types' encodings at most.
@@ -56,9 +62,9 @@ fn broken(ty: Option<FrameType>, breach: Breach) -> InvalidFrame
 }
 
 // The next frame: as the iterator gives it, but one that breaks a rule is an error. The caller reads no more after an
-// error.
+// error. Each call has a copy of its own, so that it is inlined.
 #[inline(always)]
-pub(crate) fn next_by<'a>(
+pub(crate) fn next_by<'a, const CALL: usize, const COPY: usize>(
     iter: &mut Iter<'a>,
     rules: Rules,
 ) -> Option<Result<Frame<'a>, InvalidFrame>>

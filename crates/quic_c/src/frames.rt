@@ -7,7 +7,7 @@ ghost use Rattle.quic_c.specs.Shown.{state_of, at_front, has_flag, rules_in, typ
 ghost use Rattle.quic_c.specs.Answers.{AnswersNext};
 ghost use Rattle.quic_results.specs.Results.{failed, frame_failure};
 
-use crate::flags::{checks_frames, next_by, only_types, rules_in};
+use crate::flags::{next_by, rules_in, types_alone};
 use crate::show::show;
 use crate::words::{CFrame, CFrameIter};
 use quic_frames::frame::{FrameType, InvalidFrame, Iter, Rules};
@@ -116,7 +116,7 @@ fn give_next<const COPY: usize>(
     ensures { AnswersNext rules frames.old iter.old.payload out.old result frames.new out.new }
 {
     let begin = frames.offset;
-    match next_by(iter, rules) {
+    match next_by::<1, COPY>(iter, rules) {
         None => 0,
         Some(Ok(frame)) => {
             let (end, ty) = (iter.offset(), type_read(iter));
@@ -173,9 +173,8 @@ pub extern "C" fn quic_wire_frames_next_(
 ) -> i32
     ensures returns { AnswersNext (rules_in frames.old.flags) frames.old payload.now out.old result frames.new out.new }
 {
-    let rules = rules_in(frames.flags);
-    if checks_frames(rules) {
+    let Some(rules) = types_alone(frames.flags) else {
         return next_checked(frames, payload, out);
-    }
-    next_on::<0, 1>(frames, payload, only_types(rules.short_types), out)
+    };
+    next_on::<0, 1>(frames, payload, rules, out)
 }

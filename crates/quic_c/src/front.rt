@@ -9,7 +9,7 @@ ghost use Rattle.quic_c.specs.Shown.{frame_kind_of, frame_words, invalid_words, 
 ghost use Rattle.quic_c.specs.Front.{AnswersRead, FillsGaps, ShowsAck, ShowsFront, moved_by, reported_behind};
 ghost use Rattle.quic_results.specs.Results.{failed, frame_failure};
 
-use crate::flags::{checks_frames, next_by, only_types, rules_in};
+use crate::flags::{next_by, only_types, rules_in, types_alone};
 use crate::frames::{show_invalid, type_read};
 use crate::show::{parts_of, show};
 use crate::words::{CFrame, CGap};
@@ -138,7 +138,7 @@ fn read_front<const COPY: usize>(
     let Some(mut iter) = Iter::resume(payload, 0, None, rules.short_types) else {
         return none_left();
     };
-    match next_by(&mut iter, rules) {
+    match next_by::<2, COPY>(&mut iter, rules) {
         None => none_left(),
         Some(Ok(frame)) => {
             let ty = type_read(&iter);
@@ -190,15 +190,14 @@ pub extern "C" fn quic_wire_frame_read_(
 ) -> i64
     ensures answers { AnswersRead (rules_in flags) payload.now out.old gaps.old result out.new gaps.new }
 {
-    let rules = rules_in(flags);
-    if checks_frames(rules) {
+    let Some(rules) = types_alone(flags) else {
         return read_checked(payload, flags, out, gaps);
-    }
+    };
     if payload.is_empty() {
         return none_left();
     }
     if payload[0] & 0xf8 == 0x08 {
-        return read_front::<2>(payload, only_types(rules.short_types), out, gaps);
+        return read_front::<2>(payload, rules, out, gaps);
     }
     read_ack(payload, rules.short_types, out, gaps)
 }

@@ -6,7 +6,7 @@ use Rattle.quic_frames.proofs.Checking.{kept_found, breach_found}
 use Rattle.quic_c.proofs.flags.next_by.Goals as goal
 
 pub returns-in-None-breach-clause-found : goal.returns-in-None-breach-clause-found
-returns-in-None-breach-clause-found c =
+returns-in-None-breach-clause-found g c =
     let here = c.args.iter.now in
     let finds : Finds here c.in-Some-Ok.frame c.next.new.self =
     subst (λ f. Advances here (Some f) c.next.new.self) c.in-Some-Ok.field-0-is c.in-Some-Ok.ensures.steps in
@@ -14,7 +14,7 @@ returns-in-None-breach-clause-found c =
     c.in-None-breach.is
 
 pub returns-in-Some-clause-refused : goal.returns-in-Some-clause-refused
-returns-in-Some-clause-refused c =
+returns-in-Some-clause-refused g c =
     let here = c.args.iter.now in
     let finds : Finds here c.in-Some-Ok.frame c.next.new.self =
     subst (λ f. Advances here (Some f) c.next.new.self) c.in-Some-Ok.field-0-is c.in-Some-Ok.ensures.steps in

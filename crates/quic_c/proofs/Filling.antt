@@ -94,6 +94,15 @@ filling_goes_on rules old before here after count end next new frame entry stop 
       kept = drop-set-lt (count + 1) after count entry (omega arith) ∙ drop_more_same after before count s.kept;
     }
 
+-- where none was filled
+pub none_filled : (rules : Rules) (old : IterState) (before : List CFrame) (here : IterState) (after : List CFrame)
+    (count end : ℕ) → Filling rules old before here after count end → count ≡ 0 → (here ≡ old) × (after ≡ before)
+none_filled rules old before here after count end s none =
+    let first : Shows (GivesEntry rules) old (take 0 after) here =
+    subst (λ (n : ℕ). Shows (GivesEntry rules) old (take n after) here) none s.shows in
+    let all : drop 0 after ≡ drop 0 before = subst (λ (n : ℕ). drop n after ≡ drop n before) none s.kept in
+    (sym first, all)
+
 -- where it ends
 pub filling_ends : (rules : Rules) (old : IterState) (before : List CFrame) (here : IterState) (after : List CFrame)
     (count end : ℕ) (last : Option ℕ)

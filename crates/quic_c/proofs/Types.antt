@@ -1,16 +1,21 @@
 -- The types of frames that were read.
-use Rattle.std.proofs.Common.{◌≡◌, ℕ, ◌<◌, ◌^◌, Bool, true, false, List, [], ◌∷◌, Option, Some, refl, sym, ap, subst, ◌∙◌, inl, inr, arith}
+use Rattle.std.proofs.Common.{◌≡◌, ℕ, ◌<◌, ◌^◌, Bool, true, false, List, [], ◌∷◌, Option, None, Some, refl, sym, ap, subst, ◌∙◌, inl, inr, arith}
 use Rattle.std.specs.Prelude.{◌⊎◌, ◌↔◌, ◌==◌, ◌&&◌, nat_lt, IsTrue}
 use Rattle.std.specs.Map.{lookup}
 use Rattle.std.proofs.lemmas.Bool.{false≢true}
 use Rattle.std.proofs.lemmas.Bool.Decides.{nat_tests}
 use Rattle.quic_frame_fields.specs.Payload.{TypedFrame}
+use Rattle.quic_frame_fields.specs.Reading.{Invalid}
 use Rattle.quic_frame_fields.specs.Table.{Row, rows, row_of}
 use Rattle.quic_frames.specs.declared.frame.Frame.{Frame}
 use Rattle.quic_frames.specs.IterState.{IterState}
 use Rattle.quic_frames.specs.Padding.{PassesPadding}
 use Rattle.quic_frames.specs.declared.frame.rules.Rules.{Rules}
-use Rattle.quic_frames.specs.Rules.{Keeps}
+use Rattle.quic_frames.specs.declared.frame.rules.Breach.{Breach}
+use Rattle.quic_frames.specs.Checking.{IsRefusedFrame}
+use Rattle.quic_frames.specs.Meaning.{meaning_of}
+use Rattle.quic_frames.specs.Rules.{Keeps, breach_of, breach_text}
+use Rattle.quic_frames.proofs.Checking.{breach_found}
 use Rattle.quic_frames.specs.Walk.{first_of, Finds}
 use Rattle.quic_c.specs.declared.words.CFrame.{CFrame}
 use Rattle.quic_c.specs.declared.words.CFrameIter.{CFrameIter}
@@ -99,6 +104,21 @@ gives_frame rules old new payload out here next frame type finds kept is_here is
           ∙ ap (λ (n : ℕ). frame_words old.offset new.offset n frame)
           (begins ∙ ap (λ (x : TypedFrame). x.type) (sym f.1));
     }
+
+-- a frame of which a test found none
+pub keeps : (rules : Rules) (here next : IterState) (frame : Frame) (test : Option Breach) (finds : Finds here frame next)
+    → test ≡ breach_of rules (meaning_of frame) → test ≡ None → Keeps rules finds.found
+keeps rules here next frame test finds tests none = ap (breach_of rules) finds.says ∙ sym tests ∙ none
+
+-- a frame of which a test found a breach, and what is reported of it
+pub is_refused : (rules : Rules) (here next : IterState) (frame : Frame) (test : Option Breach) (last : Option ℕ)
+    (reported : Invalid) → Finds here frame next → test ≡ breach_of rules (meaning_of frame)
+    → (b : Breach) × (test ≡ Some b) → last ≡ next.last
+    → ((b : Breach) → test ≡ Some b → reported ≡ record { type = last; reason = breach_text b })
+    → IsRefusedFrame rules here reported
+is_refused rules here next frame test last reported finds tests some is says =
+    let by_type : Option ℕ → Invalid = λ t. record { type = t; reason = breach_text some.0 } in
+    inr (breach_found rules here next frame test some.0 reported finds tests some.1 (says some.0 some.1 ∙ ap by_type is))
 
 pub reads_front : (rules : Rules) (payload : List ℕ) (before : List CGap) (stop : ℕ) (words : CFrame)
     (after : List CGap) (frame : Frame) (next rest : IterState) (type : ℕ)

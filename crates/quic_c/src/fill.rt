@@ -5,7 +5,7 @@ ghost use Rattle.quic_c.specs.Shown.{has_flag, rules_in};
 ghost use Rattle.quic_frames.specs.Checking.{IsRefusedFrame};
 ghost use Rattle.quic_c.specs.Filling.{AnswersFill, AnswersFirst, Fills, further};
 
-use crate::flags::{next_by, rules_in, types_alone};
+use crate::flags::{broken, is_broken, rules_in, types_alone};
 use crate::frames::{show_invalid, type_in, type_read, type_word};
 use crate::show::{parts_of, show_parts};
 use crate::words::{CFrame, CFrameIter};
@@ -39,7 +39,7 @@ fn fill<const COPY: usize>(
     let mut end = iter.offset();
     let mut last = iter.last_type();
     while count < out.len() {
-        let frame = match next_by::<0, COPY>(iter, rules) {
+        let frame = match iter.next() {
             Some(Ok(frame)) => frame,
             Some(Err(invalid)) => {
                 if count == 0 {
@@ -49,6 +49,13 @@ fn fill<const COPY: usize>(
             }
             None => break,
         };
+        let breach = rules.breach(&frame);
+        if is_broken(breach) {
+            if count == 0 {
+                return Err(broken(iter.last_type(), breach));
+            }
+            break;
+        }
         let ty = type_read(iter);
         let parts = parts_of(&frame);
         if parts.kind == 0 {

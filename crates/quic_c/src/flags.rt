@@ -1,11 +1,11 @@
-//! The rules that flags name, and the next frame by rules.
-ghost use Rattle.std.specs.Prelude.{◌≡◌, IfErr, IfOk, IfSome, None};
-ghost use Rattle.quic_frames.specs.Checking.{FindsKept, IsRefusedFrame};
+//! The rules that flags name, and what is reported of a frame that breaks one.
+ghost use Rattle.std.specs.Prelude.{◌≡◌, IfSome, None, Some, false, true};
 ghost use Rattle.quic_frames.specs.Rules.{breach_text, only_types};
-ghost use Rattle.quic_frames.specs.Walk.{IsSpent, invalid_of};
+ghost use Rattle.quic_frames.specs.declared.frame.rules.Breach.{Breach};
+ghost use Rattle.quic_frames.specs.Walk.{invalid_of};
 ghost use Rattle.quic_c.specs.Shown.{rules_in};
 
-use quic_frames::frame::{Breach, Frame, FrameType, InvalidFrame, Iter, Rules};
+use quic_frames::frame::{Breach, FrameType, InvalidFrame, Rules};
 
 // The rules that flags name. Their other bits mean nothing for frames.
 #[inline(always)]
@@ -50,34 +50,26 @@ pub(crate) fn only_types(short_types: bool) -> Rules
     }
 }
 
-// What is reported of a frame of this type that breaks a rule.
-#[inline(never)]
-fn broken(ty: Option<FrameType>, breach: Breach) -> InvalidFrame
-    ensures { invalid_of result ≡ record { type = ty; reason = breach_text breach } }
+// Whether a frame breaks a rule.
+#[inline(always)]
+pub(crate) fn is_broken(breach: Option<Breach>) -> bool
+    ensures kept { result ≡ false → breach ≡ None }
+    ensures broken { result ≡ true → (b : Breach) × (breach ≡ Some b) }
 {
-    InvalidFrame {
-        ty,
-        reason: breach.reason(),
+    match breach {
+        Some(_) => true,
+        None => false,
     }
 }
 
-// The next frame: as the iterator gives it, but one that breaks a rule is an error. The caller reads no more after an
-// error. Each call has a copy of its own, so that it is inlined.
-#[inline(always)]
-pub(crate) fn next_by<'a, const CALL: usize, const COPY: usize>(
-    iter: &mut Iter<'a>,
-    rules: Rules,
-) -> Option<Result<Frame<'a>, InvalidFrame>>
-    ensures spent { result ≡ None → IsSpent iter.old }
-    ensures found { IfSome result (λ r. IfOk r (λ frame. FindsKept rules iter.old frame iter.new)) }
-    ensures refused { IfSome result (λ r. IfErr r (λ i. IsRefusedFrame rules iter.old (invalid_of i))) }
+// What is reported of a frame of this type that breaks a rule.
+#[inline(never)]
+pub(crate) fn broken(ty: Option<FrameType>, breach: Option<Breach>) -> InvalidFrame
+    ensures { (b : Breach) → breach ≡ Some b → invalid_of result ≡ record { type = ty; reason = breach_text b } }
 {
-    match iter.next() {
-        None => None,
-        Some(Err(invalid)) => Some(Err(invalid)),
-        Some(Ok(frame)) => match rules.breach(&frame) {
-            None => Some(Ok(frame)),
-            Some(breach) => Some(Err(broken(iter.last_type(), breach))),
-        },
-    }
+    let reason = match breach {
+        Some(breach) => breach.reason(),
+        None => "malformed",
+    };
+    InvalidFrame { ty, reason }
 }

@@ -7,7 +7,7 @@ ghost use Rattle.quic_c.specs.Shown.{state_of, at_front, has_flag, rules_in, typ
 ghost use Rattle.quic_c.specs.Answers.{AnswersNext};
 ghost use Rattle.quic_results.specs.Results.{failed, frame_failure};
 
-use crate::flags::{next_by, rules_in, types_alone};
+use crate::flags::{broken, is_broken, rules_in, types_alone};
 use crate::show::show;
 use crate::words::{CFrame, CFrameIter};
 use quic_frames::frame::{FrameType, InvalidFrame, Iter, Rules};
@@ -116,9 +116,13 @@ fn give_next<const COPY: usize>(
     ensures { AnswersNext rules frames.old iter.old.payload out.old result frames.new out.new }
 {
     let begin = frames.offset;
-    match next_by::<1, COPY>(iter, rules) {
+    match iter.next() {
         None => 0,
         Some(Ok(frame)) => {
+            let breach = rules.breach(&frame);
+            if is_broken(breach) {
+                return refuse(begin, &broken(iter.last_type(), breach), frames, out);
+            }
             let (end, ty) = (iter.offset(), type_read(iter));
             *out = show(begin, end, ty as u16, &frame);
             frames.offset = end;

@@ -3,13 +3,12 @@ ghost use Rattle.std.specs.Prelude.{◌≡◌, ◌↔◌, ◌⊎◌, ◌<◌, �
 ghost use Rattle.quic_frame_fields.specs.Field.{AreBelow};
 ghost use Rattle.quic_frames.specs.declared.frame.Frame.TheVariants as frames;
 ghost use Rattle.quic_frames.specs.Padding.{PassesPadding};
-ghost use Rattle.quic_frames.specs.Rules.{only_types};
 ghost use Rattle.quic_frames.specs.Walk.{left, first_of, resumed};
 ghost use Rattle.quic_c.specs.Shown.{frame_kind_of, frame_words, invalid_words, rules_in, type_word};
 ghost use Rattle.quic_c.specs.Front.{AnswersRead, FillsGaps, ShowsAck, ShowsFront, moved_by, reported_behind};
 ghost use Rattle.quic_results.specs.Results.{failed, frame_failure};
 
-use crate::flags::{next_by, only_types, rules_in, types_alone};
+use crate::flags::{broken, is_broken, rules_in, types_alone};
 use crate::frames::{show_invalid, type_read};
 use crate::show::{parts_of, show};
 use crate::words::{CFrame, CGap};
@@ -138,9 +137,13 @@ fn read_front<const COPY: usize>(
     let Some(mut iter) = Iter::resume(payload, 0, None, rules.short_types) else {
         return none_left();
     };
-    match next_by::<2, COPY>(&mut iter, rules) {
+    match iter.next() {
         None => none_left(),
         Some(Ok(frame)) => {
+            let breach = rules.breach(&frame);
+            if is_broken(breach) {
+                return refuse(&broken(iter.last_type(), breach), out);
+            }
             let ty = type_read(&iter);
             let end = pass_run(&mut iter, &frame);
             *out = show_front(end, ty as u16, &frame, gaps);
@@ -148,18 +151,6 @@ fn read_front<const COPY: usize>(
         }
         Some(Err(invalid)) => refuse(&invalid, out),
     }
-}
-
-// An ACK, or another frame with the same first byte, by a call that isn't inlined.
-#[inline(never)]
-fn read_ack(payload: &[u8], short_types: bool, out: &mut CFrame, gaps: &mut [CGap]) -> i64
-    ensures { AnswersRead (only_types short_types) payload.now out.old gaps.old result out.new gaps.new }
-{
-    let rules = only_types(short_types);
-    if !payload.is_empty() && payload[0] & 0xfe == 0x02 {
-        return read_front::<0>(payload, rules, out, gaps);
-    }
-    read_front::<1>(payload, rules, out, gaps)
 }
 
 // A frame where frames are checked, by a copy for STREAM and one for the others.
@@ -172,6 +163,20 @@ fn read_checked(payload: &[u8], flags: u32, out: &mut CFrame, gaps: &mut [CGap])
         return read_front::<3>(payload, rules, out, gaps);
     }
     read_front::<4>(payload, rules, out, gaps)
+}
+
+// An ACK, or a frame with another first byte, or any where frames are checked, by a call that isn't inlined.
+#[inline(never)]
+fn read_other(payload: &[u8], flags: u32, out: &mut CFrame, gaps: &mut [CGap]) -> i64
+    ensures { AnswersRead (rules_in flags) payload.now out.old gaps.old result out.new gaps.new }
+{
+    let Some(rules) = types_alone(flags) else {
+        return read_checked(payload, flags, out, gaps);
+    };
+    if !payload.is_empty() && payload[0] & 0xfe == 0x02 {
+        return read_front::<0>(payload, rules, out, gaps);
+    }
+    read_front::<1>(payload, rules, out, gaps)
 }
 
 /// Reads the frame at the front of the rest of a payload (RFC 9000, section 19), by the rules of these flags. It returns
@@ -190,16 +195,15 @@ pub extern "C" fn quic_wire_frame_read_(
 ) -> i64
     ensures answers { AnswersRead (rules_in flags) payload.now out.old gaps.old result out.new gaps.new }
 {
-    let Some(rules) = types_alone(flags) else {
-        return read_checked(payload, flags, out, gaps);
-    };
     if payload.is_empty() {
         return none_left();
     }
     if payload[0] & 0xf8 == 0x08 {
-        return read_front::<2>(payload, rules, out, gaps);
+        if let Some(rules) = types_alone(flags) {
+            return read_front::<2>(payload, rules, out, gaps);
+        }
     }
-    read_ack(payload, rules.short_types, out, gaps)
+    read_other(payload, flags, out, gaps)
 }
 
 /// A payload can be read frame by frame, each at the front of what is left: what an iterator gives from a place on is

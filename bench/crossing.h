@@ -55,7 +55,7 @@ static u64 frames_of(const uint8_t *payload, size_t len) {
     quic_wire_frame_iter frames;
     quic_wire_frame frame;
     u64 sum = 0;
-    if (quic_wire_frames_init(&frames, payload, len))
+    if (quic_wire_frames_init(&frames, payload, len, 0))
         return 0;
     while (quic_wire_frames_next(&frames, payload, len, &frame) == QUIC_WIRE_ITEM) {
         sum += sum_of(&frame);
@@ -68,7 +68,7 @@ static u64 ranges_of(const uint8_t *payload, size_t len) {
     quic_wire_frame_iter frames;
     quic_wire_frame frame;
     u64 sum = 0;
-    if (quic_wire_frames_init(&frames, payload, len))
+    if (quic_wire_frames_init(&frames, payload, len, 0))
         return 0;
     while (quic_wire_frames_next(&frames, payload, len, &frame) == QUIC_WIRE_ITEM) {
         quic_wire_range_iter at;
@@ -106,7 +106,7 @@ static u64 many_frames_of(const uint8_t *payload, size_t len) {
     quic_wire_frame filled[MANY];
     size_t count;
     u64 sum = 0;
-    int answer = quic_wire_frames_first(&frames, payload, len, filled, MANY, &count);
+    int answer = quic_wire_frames_first(&frames, payload, len, 0, filled, MANY, &count);
     while (answer == QUIC_WIRE_ITEM) {
         for (size_t k = 0; k < count; k++)
             sum += sum_of(&filled[k]);
@@ -123,7 +123,7 @@ static u64 many_acks_of(const uint8_t *payload, size_t len) {
     quic_wire_frame filled[MANY];
     size_t count;
     u64 sum = 0;
-    if (quic_wire_frames_init(&frames, payload, len))
+    if (quic_wire_frames_init(&frames, payload, len, 0))
         return 0;
     while (frames.offset < len &&
            quic_wire_frames_fill(&frames, payload, len, filled, MANY, &count) == QUIC_WIRE_ITEM)

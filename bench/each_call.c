@@ -28,12 +28,12 @@ static double now(void) {
 static void first(size_t i) {
     quic_wire_frame_iter at;
     size_t n = 0;
-    sum += (uint64_t)quic_wire_frames_first(&at, lines[i], lens[i], frames, 64, &n) + n;
+    sum += (uint64_t)quic_wire_frames_first(&at, lines[i], lens[i], 0, frames, 64, &n) + n;
 }
 
 static void next(size_t i) {
     quic_wire_frame_iter at;
-    if (quic_wire_frames_init(&at, lines[i], lens[i]) == QUIC_WIRE_OK)
+    if (quic_wire_frames_init(&at, lines[i], lens[i], 0) == QUIC_WIRE_OK)
         while (quic_wire_frames_next(&at, lines[i], lens[i], frames) == QUIC_WIRE_ITEM) sum += frames->kind;
 }
 

@@ -14,7 +14,7 @@ static void frames(void) {
   FIELD(frame_iter, offset);
   FIELD(frame_iter, last_type);
   FIELD(frame_iter, ended);
-  FIELD(frame_iter, strict);
+  FIELD(frame_iter, flags);
   STRUCT(frame);
   FIELD(frame, kind);
   FIELD(frame, type);

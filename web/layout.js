@@ -3,7 +3,7 @@
 
 // Of each struct its size, and of each field its offset and how many bytes it has, an array's all.
 export const LAYOUT = {
-  frame_iter: { size: 24, fields: { offset: [0, 8], last_type: [8, 8], ended: [16, 4], strict: [20, 4] } },
+  frame_iter: { size: 24, fields: { offset: [0, 8], last_type: [8, 8], ended: [16, 4], flags: [20, 4] } },
   frame: {
     size: 80,
     fields: {

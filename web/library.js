@@ -8,6 +8,8 @@ import { EMPTY, ITEM, LAYOUT, NO_TYPE, OK, Struct } from "./layout.js";
 // How many frames, and how many ranges of an ACK, one call gives at most.
 const ROOM = 1024;
 const MAX_VERSIONS = 64;
+// QUIC_WIRE_READ_SHORT_TYPES.
+const SHORT_TYPES = 0x001;
 // Bits of a first byte.
 const LONG_FORM = 0x80;
 // QUIC_WIRE_READ_GREASED_BIT.
@@ -117,7 +119,7 @@ export class Library {
     this.frame_iter.set("offset", offset);
     this.frame_iter.set("last_type", NO_TYPE);
     this.frame_iter.set("ended", 0);
-    this.frame_iter.set("strict", strict ? 1 : 0);
+    this.frame_iter.set("flags", strict ? SHORT_TYPES : 0);
   }
 
   // Where all frames begin, then where the last one ends; their kinds; and what ended them, or null. PADDING frames
@@ -125,8 +127,8 @@ export class Library {
   readFrames(strict) {
     const begins = new Words();
     const kinds = new Words();
-    const init = strict ? "frames_init_strict" : "frames_init";
-    const begun = this.call(init, this.at(this.frame_iter.place), ...this.held());
+    const flags = strict ? SHORT_TYPES : 0;
+    const begun = this.call("frames_init", this.at(this.frame_iter.place), ...this.held(), flags);
     let error = begun === EMPTY ? { empty: true } : null;
     while (!error && this.frame_iter.number("offset") < this.length) {
       const answer = this.call(

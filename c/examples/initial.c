@@ -71,7 +71,7 @@ static void print_frames(const uint8_t *payload, size_t len) {
   quic_wire_frame_iter frames;
   quic_wire_frame frame;
   size_t count;
-  int answer = quic_wire_frames_init(&frames, payload, len);
+  int answer = quic_wire_frames_init(&frames, payload, len, QUIC_WIRE_READ_RFC);
   while (answer >= 0 &&
          (answer = quic_wire_frames_fill(&frames, payload, len, &frame, 1,
                                          &count)) == QUIC_WIRE_ITEM)

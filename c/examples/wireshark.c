@@ -84,7 +84,7 @@ static int read_frames(const uint8_t *payload, size_t len,
                        quic_wire_frame_iter *frames, quic_wire_frame *some,
                        uint32_t *count) {
   size_t filled = 0;
-  int answer = quic_wire_frames_init_strict(frames, payload, len);
+  int answer = quic_wire_frames_init(frames, payload, len, QUIC_WIRE_READ_RFC);
   while (answer >= 0 &&
          (answer = quic_wire_frames_fill(frames, payload, len, some, AT_ONCE,
                                          &filled)) == QUIC_WIRE_ITEM)

@@ -185,8 +185,12 @@ typedef enum quic_wire_result {
   QUIC_WIRE_ERR_FRAME_END = -21,       /* the bytes end within a frame */
   QUIC_WIRE_ERR_FRAME_TYPE = -22,      /* the type is unknown */
   QUIC_WIRE_ERR_FRAME_MALFORMED = -23, /* a field has no value of its kind */
-  QUIC_WIRE_ERR_FRAME_LONG_TYPE = -24, /* of strict readers alone: the type
-                                          isn't in its shortest encoding */
+  QUIC_WIRE_ERR_FRAME_LONG_TYPE = -24, /* the type isn't in its shortest
+                                          encoding, and must be:
+                                          QUIC_WIRE_READ_SHORT_TYPES */
+  QUIC_WIRE_ERR_FRAME_LIMIT = -25, /* data end past 2^62 - 1, or more than 2^60
+                                      streams: QUIC_WIRE_READ_DATA_LIMIT,
+                                      QUIC_WIRE_READ_STREAM_LIMIT */
 
   /* A packet is dropped (section 5.2). */
   QUIC_WIRE_ERR_PACKET_END = -40,       /* the bytes end within the header */
@@ -275,6 +279,24 @@ typedef enum quic_wire_frame_kind {
 #define QUIC_WIRE_RULE_PROBING 0x400u     /* P: it probes a path */
 #define QUIC_WIRE_RULE_FLOW_CONTROLLED 0x800u /* F */
 
+/** Flags for what reads: what RFC 9000 has a receiver refuse, and what is
+ * refused only where its flag is set.  With 0 all is taken that quinn-proto
+ * takes.  A function doesn't look at flags of other functions, so one value may
+ * be passed to all. */
+#define QUIC_WIRE_READ_SHORT_TYPES 0x001u /* a frame's type that isn't in its
+                                             shortest encoding (section 12.4) */
+#define QUIC_WIRE_READ_DATA_LIMIT 0x002u /* data of CRYPTO or STREAM that end
+                                            past 2^62 - 1 (19.6, 19.8) */
+#define QUIC_WIRE_READ_STREAM_LIMIT 0x004u /* MAX_STREAMS or STREAMS_BLOCKED of
+                                              more than 2^60 (19.11, 19.14) */
+#define QUIC_WIRE_READ_NO_ACK_FREQUENCY 0x008u /* ACK_FREQUENCY, IMMEDIATE_ACK:
+                                                  unknown types (12.4) where
+                                                  their extension wasn't
+                                                  negotiated */
+#define QUIC_WIRE_READ_TOKENS 0x200u /* a NEW_TOKEN without a token (19.7) */
+/** All of these. */
+#define QUIC_WIRE_READ_RFC 0x20fu
+
 /** The value of a type where there is none. */
 #define QUIC_WIRE_NO_TYPE UINT64_MAX
 
@@ -283,9 +305,9 @@ typedef enum quic_wire_frame_kind {
 typedef struct quic_wire_frame_iter {
   quic_wire_size offset; /* the end of the last whole frame, in bytes */
   uint64_t last_type;    /* its type as in the payload, or QUIC_WIRE_NO_TYPE */
-  uint32_t ended;        /* not 0 once an invalid frame was met */
-  uint32_t strict;       /* not 0: a type that isn't in its shortest encoding is
-                            an error (RFC 9000, section 12.4) */
+  uint32_t ended;        /* not 0 once a frame was refused */
+  uint32_t flags;        /* QUIC_WIRE_READ_SHORT_TYPES and so on, which may
+                            change between calls */
 } QUIC_WIRE_ALIGNED quic_wire_frame_iter;
 
 /** What the kinds of frames say in numbers: the fields of a frame's union. */
@@ -336,8 +358,8 @@ typedef struct quic_wire_ack_frequency {
 
 /** A frame.  Each number of the union that |kind| doesn't name is 0, as
  * quic_wire_frame_write asks.  Numbers that were read are below 2^62, but
- * for those of paths.  Whether data end below 2^62, and whether limits of
- * streams are at most 2^60, isn't looked at: that is the connection's. */
+ * for those of paths.  Where data end, how many streams a limit allows, and
+ * whether a token is empty, is looked at by the flags of those names. */
 typedef struct quic_wire_frame {
   uint16_t kind;  /* QUIC_WIRE_FRAME_PADDING and so on */
   uint16_t type;  /* the type as it is in the payload: 0x08 to 0x0f of a
@@ -570,7 +592,7 @@ QUIC_WIRE_ASSERT(offsetof(quic_wire_frame_iter, offset) == 0, "64-bit words");
 QUIC_WIRE_ASSERT(offsetof(quic_wire_frame_iter, last_type) == 8,
                  "64-bit words");
 QUIC_WIRE_ASSERT(offsetof(quic_wire_frame_iter, ended) == 16, "no room");
-QUIC_WIRE_ASSERT(offsetof(quic_wire_frame_iter, strict) == 20, "no room");
+QUIC_WIRE_ASSERT(offsetof(quic_wire_frame_iter, flags) == 20, "no room");
 QUIC_WIRE_ASSERT(sizeof(quic_wire_frame) == 80, "64-bit words");
 QUIC_WIRE_ASSERT(offsetof(quic_wire_frame, type) == 2, "no room");
 QUIC_WIRE_ASSERT(offsetof(quic_wire_frame, flags) == 4, "no room");
@@ -627,29 +649,21 @@ QUIC_WIRE_API uint32_t quic_wire_close_code(int result);
 /* ---- Frames, read */
 
 /**
- * Begins at the front of a |payload| of |payloadlen| bytes, with 0 in
- * |frames->strict|.  Returns 0, or QUIC_WIRE_ERR_PAYLOAD_EMPTY,
+ * Begins at the front of a |payload| of |payloadlen| bytes, which is read by
+ * |flags|, QUIC_WIRE_READ_...  Returns 0, or QUIC_WIRE_ERR_PAYLOAD_EMPTY,
  * QUIC_WIRE_ERR_ARGUMENT for NULL.
  */
 QUIC_WIRE_API int quic_wire_frames_init(quic_wire_frame_iter *frames,
                                         const uint8_t *payload,
-                                        size_t payloadlen);
-
-/**
- * The same with 1 in |frames->strict|: a type that isn't in its shortest
- * encoding is an error, QUIC_WIRE_ERR_FRAME_LONG_TYPE.  Other fields may have
- * any width.
- */
-QUIC_WIRE_API int quic_wire_frames_init_strict(quic_wire_frame_iter *frames,
-                                               const uint8_t *payload,
-                                               size_t payloadlen);
+                                        size_t payloadlen, uint32_t flags);
 
 /**
  * Reads the next frame.  |payload| is the one that |frames| began with.
  *
  * Returns QUIC_WIRE_ITEM and the frame; 0 where none remains;
- * QUIC_WIRE_ERR_FRAME_END and so on, once, where the next frame is invalid,
- * with its type in |frame| (quic_wire_error_type), and then 0;
+ * QUIC_WIRE_ERR_FRAME_END and so on, once, where the next frame is invalid or
+ * refused by |frames->flags|, with its type in |frame| (quic_wire_error_type),
+ * and then 0;
  * QUIC_WIRE_ERR_PLACE where |frames->offset| is above |payloadlen|;
  * QUIC_WIRE_ERR_ARGUMENT for NULL. |frame| changes only with QUIC_WIRE_ITEM and
  * QUIC_WIRE_ERR_FRAME_...
@@ -660,29 +674,18 @@ QUIC_WIRE_API int quic_wire_frames_next(quic_wire_frame_iter *frames,
                                         quic_wire_frame *frame);
 
 /**
- * The same where the ACK frequency extension wasn't negotiated: an
- * ACK_FREQUENCY or IMMEDIATE_ACK has an unknown type, QUIC_WIRE_ERR_FRAME_TYPE,
- * but one with an invalid field is reported for that field.  A caller may
- * change between the two at any time.
- */
-QUIC_WIRE_API int quic_wire_frames_next_basic(quic_wire_frame_iter *frames,
-                                              const uint8_t *payload,
-                                              size_t payloadlen,
-                                              quic_wire_frame *frame);
-
-/**
  * Reads the next frames, as many as the |room| entries of |out| hold, with one
  * call.  |payload| is the one that |frames| began with.  A PADDING frame and
  * all the zero bytes after it are one entry: quic_wire_padding_count.
  *
  * Returns QUIC_WIRE_ITEM, and in |*count| how many entries were filled, one at
  * least; 0 where no frame remains; QUIC_WIRE_ERR_FRAME_END and so on, once,
- * where the next frame is invalid, with its type in |out[0]|
- * (quic_wire_error_type), and then 0; QUIC_WIRE_ERR_NOBUF where |room| is 0;
- * QUIC_WIRE_ERR_PLACE where |frames->offset| is above |payloadlen|;
- * QUIC_WIRE_ERR_ARGUMENT for NULL. Frames before an invalid one are given
- * first, and the next call reports it.  Entries after those that were filled
- * don't change, and |*count| changes only with QUIC_WIRE_ITEM.  Once
+ * where the next frame is invalid or refused by |frames->flags|, with its type
+ * in |out[0]| (quic_wire_error_type), and then 0; QUIC_WIRE_ERR_NOBUF where
+ * |room| is 0; QUIC_WIRE_ERR_PLACE where |frames->offset| is above
+ * |payloadlen|; QUIC_WIRE_ERR_ARGUMENT for NULL.  Frames before an invalid one
+ * are given first, and the next call reports it.  Entries after those that were
+ * filled don't change, and |*count| changes only with QUIC_WIRE_ITEM.  Once
  * |frames->offset| is |payloadlen| no frame remains, and no call is needed to
  * learn that.
  */
@@ -690,14 +693,6 @@ QUIC_WIRE_API int quic_wire_frames_fill(quic_wire_frame_iter *frames,
                                         const uint8_t *payload,
                                         size_t payloadlen, quic_wire_frame *out,
                                         size_t room, size_t *count);
-
-/** The same without the ACK frequency extension, as quic_wire_frames_next_basic
- * reads. */
-QUIC_WIRE_API int quic_wire_frames_fill_basic(quic_wire_frame_iter *frames,
-                                              const uint8_t *payload,
-                                              size_t payloadlen,
-                                              quic_wire_frame *out, size_t room,
-                                              size_t *count);
 
 /**
  * Begins at the front of a |payload| and reads its first frames, as many as the
@@ -707,14 +702,14 @@ QUIC_WIRE_API int quic_wire_frames_fill_basic(quic_wire_frame_iter *frames,
  *
  * Returns QUIC_WIRE_ITEM, and in |*count| how many entries were filled, one at
  * least; QUIC_WIRE_ERR_PAYLOAD_EMPTY; QUIC_WIRE_ERR_FRAME_END and so on, with
- * the type in |out[0]|, if the payload doesn't begin with a valid frame;
- * QUIC_WIRE_ERR_NOBUF where |room| is 0; QUIC_WIRE_ERR_ARGUMENT for NULL.
- * |*count| changes only with QUIC_WIRE_ITEM, and nothing changes but with that
- * and QUIC_WIRE_ERR_FRAME_...
+ * the type in |out[0]|, if the payload doesn't begin with a valid frame, or with
+ * one that |flags| refuse; QUIC_WIRE_ERR_NOBUF where |room| is 0;
+ * QUIC_WIRE_ERR_ARGUMENT for NULL.  |*count| changes only with QUIC_WIRE_ITEM,
+ * and nothing changes but with that and QUIC_WIRE_ERR_FRAME_...
  */
 QUIC_WIRE_API int quic_wire_frames_first(quic_wire_frame_iter *frames,
                                          const uint8_t *payload,
-                                         size_t payloadlen,
+                                         size_t payloadlen, uint32_t flags,
                                          quic_wire_frame *out, size_t room,
                                          size_t *count);
 
@@ -722,8 +717,7 @@ QUIC_WIRE_API int quic_wire_frames_first(quic_wire_frame_iter *frames,
  * Reads the frame at the front of the rest of a payload, without an iterator:
  * the caller goes on where it ends, which is returned, until no byte remains.
  * |frame|'s places count from |payload|.  A PADDING frame and the bytes of 0
- * after it are one frame.  Where |strict| is not 0, a type that isn't in its
- * shortest encoding is an error (RFC 9000, section 12.4).
+ * after it are one frame.  |flags| are QUIC_WIRE_READ_...
  *
  * Of an ACK |frame->datalen| is its first range, less one, the ranges below it
  * are written to the |room| entries of |gaps| as they are encoded, and
@@ -734,20 +728,13 @@ QUIC_WIRE_API int quic_wire_frames_first(quic_wire_frame_iter *frames,
  * Returns where the frame ends, which is above 0; QUIC_WIRE_ERR_PAYLOAD_EMPTY
  * where no byte remains; QUIC_WIRE_ERR_FRAME_END and so on, with the type in
  * |frame|, if the bytes don't begin with a valid frame (the type is
- * QUIC_WIRE_NO_TYPE if they end within that); QUIC_WIRE_ERR_ARGUMENT for NULL.
+ * QUIC_WIRE_NO_TYPE if they end within that), or with one that |flags| refuse;
+ * QUIC_WIRE_ERR_ARGUMENT for NULL.
  */
 QUIC_WIRE_API int64_t quic_wire_frame_read(const uint8_t *payload,
-                                           size_t payloadlen, int strict,
+                                           size_t payloadlen, uint32_t flags,
                                            quic_wire_frame *frame,
                                            quic_wire_gap *gaps, size_t room);
-
-/** The same without the ACK frequency extension, as quic_wire_frames_next_basic
- * reads. */
-QUIC_WIRE_API int64_t quic_wire_frame_read_basic(const uint8_t *payload,
-                                                 size_t payloadlen, int strict,
-                                                 quic_wire_frame *frame,
-                                                 quic_wire_gap *gaps,
-                                                 size_t room);
 
 /** How many PADDING frames an entry of quic_wire_frames_fill has that was read
  * from this payload: one whose type may be encoded in up to 8 bytes, and one

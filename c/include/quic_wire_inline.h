@@ -16,24 +16,16 @@
 /* The functions of the proved library.  Their pointers must not be NULL. */
 uint32_t quic_wire_close_code_(int32_t);
 uint32_t quic_wire_frame_rules_(uint32_t);
-int32_t quic_wire_frames_init_(quic_wire_frame_iter *, const uint8_t *, size_t);
-int32_t quic_wire_frames_init_strict_(quic_wire_frame_iter *, const uint8_t *,
-                                      size_t);
+int32_t quic_wire_frames_init_(quic_wire_frame_iter *, const uint8_t *, size_t,
+                               uint32_t);
 int32_t quic_wire_frames_next_(quic_wire_frame_iter *, const uint8_t *, size_t,
                                quic_wire_frame *);
-int32_t quic_wire_frames_next_basic_(quic_wire_frame_iter *, const uint8_t *,
-                                     size_t, quic_wire_frame *);
 int32_t quic_wire_frames_fill_(quic_wire_frame_iter *, const uint8_t *, size_t,
                                quic_wire_frame *, size_t, size_t *);
-int32_t quic_wire_frames_fill_basic_(quic_wire_frame_iter *, const uint8_t *,
-                                     size_t, quic_wire_frame *, size_t,
-                                     size_t *);
 int32_t quic_wire_frames_first_(quic_wire_frame_iter *, const uint8_t *, size_t,
-                                quic_wire_frame *, size_t, size_t *);
+                                uint32_t, quic_wire_frame *, size_t, size_t *);
 int64_t quic_wire_frame_read_(const uint8_t *, size_t, uint32_t,
                               quic_wire_frame *, quic_wire_gap *, size_t);
-int64_t quic_wire_frame_read_basic_(const uint8_t *, size_t, uint32_t,
-                                    quic_wire_frame *, quic_wire_gap *, size_t);
 int32_t quic_wire_ack_ranges_init_(quic_wire_range_iter *, const uint8_t *,
                                    size_t, const quic_wire_frame *);
 int32_t quic_wire_ack_ranges_init_unchecked_(quic_wire_range_iter *,
@@ -126,22 +118,12 @@ QUIC_WIRE_API uint32_t quic_wire_close_code(int result) {
 
 QUIC_WIRE_API int quic_wire_frames_init(quic_wire_frame_iter *frames,
                                         const uint8_t *payload,
-                                        size_t payloadlen) {
+                                        size_t payloadlen, uint32_t flags) {
   if (!frames || (!payload && payloadlen))
     return QUIC_WIRE_ERR_ARGUMENT;
   if (!payload)
     payload = (const uint8_t *)quic_wire_nothing_();
-  return quic_wire_frames_init_(frames, payload, payloadlen);
-}
-
-QUIC_WIRE_API int quic_wire_frames_init_strict(quic_wire_frame_iter *frames,
-                                               const uint8_t *payload,
-                                               size_t payloadlen) {
-  if (!frames || (!payload && payloadlen))
-    return QUIC_WIRE_ERR_ARGUMENT;
-  if (!payload)
-    payload = (const uint8_t *)quic_wire_nothing_();
-  return quic_wire_frames_init_strict_(frames, payload, payloadlen);
+  return quic_wire_frames_init_(frames, payload, payloadlen, flags);
 }
 
 QUIC_WIRE_API int quic_wire_frames_next(quic_wire_frame_iter *frames,
@@ -153,17 +135,6 @@ QUIC_WIRE_API int quic_wire_frames_next(quic_wire_frame_iter *frames,
   if (!payload)
     payload = (const uint8_t *)quic_wire_nothing_();
   return quic_wire_frames_next_(frames, payload, payloadlen, frame);
-}
-
-QUIC_WIRE_API int quic_wire_frames_next_basic(quic_wire_frame_iter *frames,
-                                              const uint8_t *payload,
-                                              size_t payloadlen,
-                                              quic_wire_frame *frame) {
-  if (!frames || !frame || (!payload && payloadlen))
-    return QUIC_WIRE_ERR_ARGUMENT;
-  if (!payload)
-    payload = (const uint8_t *)quic_wire_nothing_();
-  return quic_wire_frames_next_basic_(frames, payload, payloadlen, frame);
 }
 
 QUIC_WIRE_API int quic_wire_frames_fill(quic_wire_frame_iter *frames,
@@ -179,24 +150,9 @@ QUIC_WIRE_API int quic_wire_frames_fill(quic_wire_frame_iter *frames,
   return quic_wire_frames_fill_(frames, payload, payloadlen, out, room, count);
 }
 
-QUIC_WIRE_API int quic_wire_frames_fill_basic(quic_wire_frame_iter *frames,
-                                              const uint8_t *payload,
-                                              size_t payloadlen,
-                                              quic_wire_frame *out, size_t room,
-                                              size_t *count) {
-  if (!frames || !count || (!payload && payloadlen) || (!out && room))
-    return QUIC_WIRE_ERR_ARGUMENT;
-  if (!payload)
-    payload = (const uint8_t *)quic_wire_nothing_();
-  if (!out)
-    out = (quic_wire_frame *)quic_wire_nothing_();
-  return quic_wire_frames_fill_basic_(frames, payload, payloadlen, out, room,
-                                      count);
-}
-
 QUIC_WIRE_API int quic_wire_frames_first(quic_wire_frame_iter *frames,
                                          const uint8_t *payload,
-                                         size_t payloadlen,
+                                         size_t payloadlen, uint32_t flags,
                                          quic_wire_frame *out, size_t room,
                                          size_t *count) {
   if (!frames || !count || (!out && room))
@@ -208,11 +164,12 @@ QUIC_WIRE_API int quic_wire_frames_first(quic_wire_frame_iter *frames,
   }
   if (!out)
     out = (quic_wire_frame *)quic_wire_nothing_();
-  return quic_wire_frames_first_(frames, payload, payloadlen, out, room, count);
+  return quic_wire_frames_first_(frames, payload, payloadlen, flags, out, room,
+                                 count);
 }
 
 QUIC_WIRE_API int64_t quic_wire_frame_read(const uint8_t *payload,
-                                           size_t payloadlen, int strict,
+                                           size_t payloadlen, uint32_t flags,
                                            quic_wire_frame *frame,
                                            quic_wire_gap *gaps, size_t room) {
   if ((!payload && payloadlen) || !frame || (!gaps && room))
@@ -221,23 +178,7 @@ QUIC_WIRE_API int64_t quic_wire_frame_read(const uint8_t *payload,
     payload = (const uint8_t *)quic_wire_nothing_();
   if (!gaps)
     gaps = (quic_wire_gap *)quic_wire_nothing_();
-  return quic_wire_frame_read_(payload, payloadlen, (uint32_t)strict, frame,
-                               gaps, room);
-}
-
-QUIC_WIRE_API int64_t quic_wire_frame_read_basic(const uint8_t *payload,
-                                                 size_t payloadlen, int strict,
-                                                 quic_wire_frame *frame,
-                                                 quic_wire_gap *gaps,
-                                                 size_t room) {
-  if ((!payload && payloadlen) || !frame || (!gaps && room))
-    return QUIC_WIRE_ERR_ARGUMENT;
-  if (!payload)
-    payload = (const uint8_t *)quic_wire_nothing_();
-  if (!gaps)
-    gaps = (quic_wire_gap *)quic_wire_nothing_();
-  return quic_wire_frame_read_basic_(payload, payloadlen, (uint32_t)strict,
-                                     frame, gaps, room);
+  return quic_wire_frame_read_(payload, payloadlen, flags, frame, gaps, room);
 }
 
 QUIC_WIRE_API size_t quic_wire_padding_count(const uint8_t *payload,

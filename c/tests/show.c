@@ -64,8 +64,8 @@ static void print_invalid(uint64_t type, int result) {
 static int print_frames(const uint8_t *payload, size_t len, int strict) {
   quic_wire_frame_iter frames;
   quic_wire_frame frame;
-  int answer = (strict ? quic_wire_frames_init_strict
-                       : quic_wire_frames_init)(&frames, payload, len);
+  const uint32_t flags = strict ? QUIC_WIRE_READ_SHORT_TYPES : 0;
+  int answer = quic_wire_frames_init(&frames, payload, len, flags);
   if (answer < 0) {
     print_invalid(QUIC_WIRE_NO_TYPE, answer);
     return 0;

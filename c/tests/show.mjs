@@ -62,8 +62,8 @@ function frames(bytes, strict) {
     const view = give(bytes);
     const [state, out, payload] = [at.state, at.out, at.bytes].map(pointer);
     const length = BigInt(bytes.length);
-    const init = strict ? wire.quic_wire_frames_init_strict : wire.quic_wire_frames_init;
-    let answer = init(state, payload, length);
+    const READ_SHORT_TYPES = 0x001;
+    let answer = wire.quic_wire_frames_init(state, payload, length, strict ? READ_SHORT_TYPES : 0);
     if (answer !== OK) return [error(answer)];
     const lines = [];
     while ((answer = wire.quic_wire_frames_next(state, payload, length, out)) === ITEM) {

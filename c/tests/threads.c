@@ -19,11 +19,12 @@ static uint64_t frames_of(const uint8_t *payload, size_t len) {
   quic_wire_frame frame, many[64];
   size_t n = 0;
   uint64_t sum = 0;
-  if (quic_wire_frames_init(&frames, payload, len) == QUIC_WIRE_OK)
+  if (quic_wire_frames_init(&frames, payload, len, 0) == QUIC_WIRE_OK)
     while (quic_wire_frames_next(&frames, payload, len, &frame) ==
            QUIC_WIRE_ITEM)
       sum += frame.kind;
-  sum += (uint64_t)quic_wire_frames_first(&frames, payload, len, many, 64, &n);
+  sum += (uint64_t)quic_wire_frames_first(&frames, payload, len, 0, many, 64,
+                                          &n);
   return sum + n;
 }
 

@@ -1,7 +1,7 @@
 //! abuse [ROUNDS [SEED]]: every call with random and damaged bytes and words. What they answer must hang together,
 //! however they are asked: one frame or many, from the front or resumed, in place or copied, written and read.
 use quic_wire::canonical::canonical;
-use quic_wire::frame::{Ack, CryptoMeta, DatagramMeta, Entry, Frame, Iter, StreamMeta};
+use quic_wire::frame::{Ack, CryptoMeta, DatagramMeta, Entry, Frame, Iter, Rules, StreamMeta};
 use quic_wire::packet::{
     Header, HeaderError, HeaderPlaces, LongType, PacketNumber, PacketPlace, Packets, PacketsMut, VersionNegotiation,
 };
@@ -55,6 +55,12 @@ impl Random {
         payload
     }
 
+    fn rules(&mut self) -> Rules {
+        let mut flag = || self.below(2) == 0;
+        let (short_types, data_limit, stream_limit) = (flag(), flag(), flag());
+        Rules { short_types, data_limit, stream_limit, tokens: flag(), no_ack_frequency: flag() }
+    }
+
     fn datagram(&mut self) -> Vec<u8> {
         let mut datagram = self.bytes(90);
         if self.below(4) > 0 && datagram.len() > 6 {
@@ -67,22 +73,14 @@ impl Random {
     }
 }
 
-fn how(iter: Iter<'_>, basic: bool) -> Iter<'_> {
-    if basic {
-        iter.without_ack_frequency()
-    } else {
-        iter
-    }
-}
-
 fn frames(random: &mut Random) {
     let payload = random.payload();
-    let (strict, basic) = (random.below(2) == 0, random.below(2) == 0);
-    let begin = || how(if strict { Iter::strict(&payload) } else { Iter::new(&payload) }.unwrap(), basic);
+    let rules = random.rules();
+    let begin = || Iter::with_rules(&payload, rules).unwrap();
     let (mut one, mut all, mut last) = (begin(), Vec::new(), None);
     let end = loop {
         let before = (one.offset(), one.last_type());
-        let mut resumed = how(Iter::resume(&payload, before.0, last, strict).unwrap(), basic);
+        let mut resumed = Iter::resume(&payload, before.0, last, rules).unwrap();
         let item = one.next();
         assert_eq!(item, resumed.next());
         assert_eq!((one.offset(), one.last_type()), (resumed.offset(), resumed.last_type()));
@@ -104,13 +102,14 @@ fn frames(random: &mut Random) {
         }
     };
     assert_eq!(reported, end);
-    assert!(!basic || !all.iter().any(|item| matches!(item.1, Frame::ImmediateAck | Frame::AckFrequency(_))));
+    let is_extension = |frame: &Frame<'_>| matches!(frame, Frame::ImmediateAck | Frame::AckFrequency(_));
+    assert!(!rules.no_ack_frequency || !all.iter().any(|item| is_extension(&item.1)));
     let is_padding = |frame: &Frame<'_>| *frame == Frame::Padding;
     let others = |all: &[(std::ops::Range<usize>, Frame<'_>)]| {
         all.iter().filter(|(_, frame)| !is_padding(frame)).map(|item| format!("{item:?}")).collect::<Vec<_>>()
     };
     assert_eq!((others(&all), many.offset()), (others(&given), one.offset()));
-    written(&payload, &all, end.is_some() || strict);
+    written(&payload, &all, end.is_some() || rules != Rules::default());
 }
 
 // Each frame is written and read, and what is canonical is what is written of all.

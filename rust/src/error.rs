@@ -90,7 +90,7 @@ impl Error {
     /// ```
     ///
     /// An invalid frame is a `FRAME_ENCODING_ERROR`, but for a type that isn't in its shortest encoding (RFC 9000,
-    /// section 12.4), which strict iterators alone refuse ([`Iter::strict`](crate::frame::Iter::strict)).
+    /// section 12.4), which is refused by [`Rules::short_types`](crate::frame::Rules::short_types) alone.
     pub fn code(&self) -> Option<Code> {
         match self {
             Error::EmptyPayload | Error::Frame(InvalidFrame { reason: Reason::LongType, .. }) => {

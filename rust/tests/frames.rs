@@ -3,7 +3,7 @@
 use quic_wire::canonical::{canonical, CanonError};
 use quic_wire::frame::{
     Ack, ApplicationClose, Close, ConnectionClose, CryptoMeta, Datagram, DatagramMeta, EmptyPayload, Entry, Frame,
-    FrameType, InvalidFrame, Iter, NewConnectionId, Reason, Stream, StreamMeta, WriteError,
+    FrameType, InvalidFrame, Iter, NewConnectionId, Reason, Rules, Stream, StreamMeta, WriteError,
 };
 use quic_wire::transport_error::Code;
 use quic_wire::Side;
@@ -26,7 +26,7 @@ fn frames_borrow_the_payload() {
 
 #[test]
 fn an_iterator_is_small_and_gives_its_place() {
-    assert!(size_of::<Iter<'_>>() == 48, "{}", size_of::<Iter<'_>>());
+    assert!(size_of::<Iter<'_>>() == 40, "{}", size_of::<Iter<'_>>());
     // Two PADDING in three bytes, one in eight, two more, and a PING.
     let payload = [0x40, 0x00, 0x00, 0xc0, 0, 0, 0, 0, 0, 0, 0, 0, 0, 0x01];
     let mut frames = Iter::new(&payload).unwrap();
@@ -74,14 +74,14 @@ fn an_iterator_goes_on_where_another_stopped() {
     let all = read(&payload);
     let (mut offset, mut last_type) = (0, None);
     for frame in &all {
-        let mut frames = Iter::resume(&payload, offset, last_type, false).unwrap();
+        let mut frames = Iter::resume(&payload, offset, last_type, Rules::default()).unwrap();
         assert_eq!(frames.next(), Some(Ok(*frame)));
         (offset, last_type) = (frames.offset(), frames.last_type());
     }
     assert_eq!((offset, last_type), (8, Some(FrameType::STREAM)));
-    assert!(Iter::resume(&payload, 8, last_type, false).unwrap().next().is_none());
-    assert!(Iter::resume(&payload, 9, None, false).is_none());
-    let refused = Iter::resume(&[0x01, 0x40], 1, Some(FrameType::PING), true).unwrap().next();
+    assert!(Iter::resume(&payload, 8, last_type, Rules::default()).unwrap().next().is_none());
+    assert!(Iter::resume(&payload, 9, None, Rules::default()).is_none());
+    let refused = Iter::resume(&[0x01, 0x40], 1, Some(FrameType::PING), Rules::RFC).unwrap().next();
     assert_eq!(refused.unwrap().unwrap_err().ty, Some(FrameType::PING));
 }
 
@@ -93,7 +93,7 @@ fn an_owner_of_a_payload_reads_it_as_an_iterator_does() {
         for frames in [
             Iter::new(payload).unwrap(),
             Iter::strict(payload).unwrap(),
-            Iter::new(payload).unwrap().without_ack_frequency(),
+            Iter::with_rules(payload, Rules::RFC).unwrap(),
         ] {
             let mut read = frames.progress();
             let mut all = frames.clone();
@@ -113,7 +113,7 @@ fn an_owner_of_a_payload_reads_it_as_an_iterator_does() {
     assert_eq!(read.next(&[0x01, 0x01]), Some(Ok(Frame::Ping)));
     assert!(read.iter(&[]).is_none(), "the payload ends before the place");
     assert_eq!(read.next(&[]), None, "the payload ends before the place");
-    let debug = "Progress { offset: 1, last_type: Some(PING), strict: false, ack_frequency: true }";
+    let debug = format!("Progress {{ offset: 1, last_type: Some(PING), rules: {:?} }}", Rules::default());
     assert_eq!(format!("{read:?}"), debug);
 }
 
@@ -387,10 +387,10 @@ fn the_ack_frequency_extension_is_left_out_where_it_is_unknown() {
         let payload = [&[0x01, 0x00, 0x00, 0x0a, 4, 0], extension, &[0x01]].concat();
         let ty = read(&payload)[4].ty();
         let invalid = InvalidFrame { ty: Some(ty), reason: Reason::InvalidFrameId };
-        let begin = || Iter::strict(&payload).unwrap().without_ack_frequency();
+        let begin = || Iter::with_rules(&payload, Rules::RFC).unwrap();
         let mut frames = begin();
         assert!(frames.by_ref().take(4).eq(read(&payload)[..4].iter().map(|frame| Ok(*frame))));
-        let mut resumed = Iter::resume(&payload, 6, frames.last_type(), true).unwrap().without_ack_frequency();
+        let mut resumed = Iter::resume(&payload, 6, frames.last_type(), Rules::RFC).unwrap();
         let behind = (6, FrameType::new(0x0a));
         for mut iter in [frames, resumed.clone()] {
             assert_eq!((iter.offset(), iter.last_type()), behind);
@@ -412,9 +412,45 @@ fn the_ack_frequency_extension_is_left_out_where_it_is_unknown() {
             assert!(iter.fill(&mut entries).is_none() && iter.next().is_none());
         }
     }
-    let error = |payload: &[u8]| Iter::strict(payload).unwrap().without_ack_frequency().next().unwrap().unwrap_err();
+    let error = |payload: &[u8]| Iter::with_rules(payload, Rules::RFC).unwrap().next().unwrap().unwrap_err();
     assert_eq!(error(&[0x40, 0xaf, 1, 2, 3]).to_string(), "unexpected end in ACK_FREQUENCY");
     assert_eq!(error(&[0x40, 0x1f]).reason, Reason::LongType);
+}
+
+#[test]
+fn a_frame_that_breaks_a_rule_is_refused_by_that_rule_alone() {
+    let (none, most) = (Rules::default(), [0xff; 8]); // 2^62 - 1
+    let frame = |parts: &[&[u8]]| parts.concat();
+    let streams = |ty: u8, low: u8| frame(&[&[ty, 0xd0, 0, 0, 0, 0, 0, 0, low]]); // 2^60, or one more
+    let data = Rules { data_limit: true, ..none };
+    let limit = Rules { stream_limit: true, ..none };
+    let tokens = Rules { tokens: true, ..none };
+    // Each with what keeps the rule; RFC 9000, sections 19.6, 19.8, 19.11, 19.14 and 19.7.
+    let rows = [
+        (data, frame(&[&[0x06], &most, &[0]]), frame(&[&[0x06], &most, &[1, 7]]), Reason::LimitExceeded),
+        (data, frame(&[&[0x0c, 0], &most]), frame(&[&[0x0c, 0], &most, &[7]]), Reason::LimitExceeded),
+        (limit, streams(0x12, 0), streams(0x12, 1), Reason::LimitExceeded),
+        (limit, streams(0x13, 0), streams(0x13, 1), Reason::LimitExceeded),
+        (limit, streams(0x16, 0), streams(0x16, 1), Reason::LimitExceeded),
+        (limit, streams(0x17, 0), streams(0x17, 1), Reason::LimitExceeded),
+        (tokens, vec![0x07, 1, 7], vec![0x07, 0], Reason::Malformed),
+        (Rules { no_ack_frequency: true, ..none }, vec![0x01], vec![0x1f], Reason::InvalidFrameId),
+        (Rules { short_types: true, ..none }, vec![0x01], vec![0x40, 0x01], Reason::LongType),
+    ];
+    for (rules, kept, broken, reason) in rows {
+        let read = |payload: &[u8], rules| Iter::with_rules(payload, rules).unwrap().next().unwrap().map(|_| ());
+        assert_eq!(read(&kept, Rules::RFC), Ok(()), "{kept:x?} keeps all rules");
+        assert_eq!(read(&broken, none), Ok(()), "{broken:x?} is a frame");
+        let ty = Iter::new(&broken).unwrap().next().unwrap().unwrap();
+        for rules in [rules, Rules::RFC] {
+            let error = read(&broken, rules).unwrap_err();
+            assert_eq!(error.reason, reason, "{broken:x?} by {rules:?}");
+            assert!(ty != Frame::Ping || error.ty == Some(FrameType::PING), "{broken:x?} by {rules:?}");
+        }
+    }
+    let error = Iter::with_rules(&streams(0x13, 1), Rules::RFC).unwrap().next().unwrap().unwrap_err();
+    assert_eq!(error.to_string(), "limit exceeded in MAX_STREAMS_UNI");
+    assert_eq!(quic_wire::Error::from(error).code(), Some(Code::FRAME_ENCODING_ERROR));
 }
 
 /// Every frame of the payloads that `QUIC_WIRE_LIST` names is written, read back and the same.

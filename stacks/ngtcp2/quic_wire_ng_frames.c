@@ -172,9 +172,9 @@ ngtcp2_ssize ngtcp2_pkt_decode_frame(NG_BESIDE(ngtcp2_frame_decoder *room)
   /* The frame at the front, as ngtcp2 has them: a run of PADDING is one, and
    * the ranges of an ACK are gap and length, which are written where they go.
    */
-  if (quic_wire_frame_read_basic(payload, payloadlen, 1, &f,
-                                 (quic_wire_gap *)ranges,
-                                 NGTCP2_MAX_ACK_RANGES) < 0) {
+  if (quic_wire_frame_read(payload, payloadlen, QUIC_WIRE_READ_RFC, &f,
+                           (quic_wire_gap *)ranges,
+                           NGTCP2_MAX_ACK_RANGES) < 0) {
     return NGTCP2_ERR_FRAME_ENCODING;
   }
   if (f.kind == QUIC_WIRE_FRAME_STREAM) {

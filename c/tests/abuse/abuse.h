@@ -23,7 +23,7 @@
 /* Whether a result says that a frame is invalid. */
 #define REFUSED(result)                                                        \
   ((result) <= QUIC_WIRE_ERR_FRAME_END &&                                      \
-   (result) >= QUIC_WIRE_ERR_FRAME_LONG_TYPE)
+   (result) >= QUIC_WIRE_ERR_FRAME_LIMIT)
 
 /* A random number. */
 extern uint64_t any(void);
@@ -50,31 +50,22 @@ extern void padding_any(void);
 extern void read_rubbish(const uint8_t *payload, size_t len);
 extern void fill_rubbish(const uint8_t *payload, size_t len);
 extern void first_rubbish(const uint8_t *payload, size_t len);
-extern int strict_any(const uint8_t *bytes, size_t len);
-
-/* A word for strict reading. */
-extern uint32_t any_strict(void);
+extern int short_types_any(const uint8_t *bytes, size_t len);
 
 /* The next frame by single calls, with a run of PADDING as one, is |entry|. */
-extern void next_is(int basic, quic_wire_frame_iter *one,
-                    const uint8_t *payload, size_t len,
-                    const quic_wire_frame *entry);
+extern void next_is(quic_wire_frame_iter *one, const uint8_t *payload,
+                    size_t len, const quic_wire_frame *entry);
 
-/* extension.c: the calls that read, with |basic| those that leave out the
- * frames of the extension. */
-extern int next_by(int basic, quic_wire_frame_iter *frames,
-                   const uint8_t *payload, size_t len, quic_wire_frame *frame);
-extern int fill_by(int basic, quic_wire_frame_iter *frames,
-                   const uint8_t *payload, size_t len, quic_wire_frame *out,
-                   size_t room, size_t *count);
-extern int64_t read_by(int basic, const uint8_t *payload, size_t len,
-                       int strict, quic_wire_frame *frame, quic_wire_gap *gaps,
-                       size_t room);
+/* rules.c: what flags refuse. */
+extern void rules_examples(void);
+extern int rules_any(const uint8_t *bytes, size_t len);
 
-extern int is_extension(const quic_wire_frame *frame);
-extern void extension_nulls(void);
-extern void extension_examples(void);
-extern int extension_any(const uint8_t *bytes, size_t len);
+/* Flags, of which any bits may be set. */
+extern uint32_t any_flags(void);
+
+/* The result for a frame that flags refuse, though it is encoded as it should
+ * be; otherwise 0. */
+extern int refused_by(uint32_t flags, const quic_wire_frame *frame);
 
 /* fronts.c: frames at the front of what is left. */
 extern void fronts_nulls(void);

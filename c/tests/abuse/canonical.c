@@ -74,8 +74,8 @@ static void canonical_read(const uint8_t *payload, size_t len,
   quic_wire_frame frame, other;
   quic_wire_canon again = {77, 78};
   uint8_t *twice = block(n);
-  WANT(quic_wire_frames_init(&frames, payload, len) == 0);
-  WANT(quic_wire_frames_init(&others, dest, n) == 0);
+  WANT(quic_wire_frames_init(&frames, payload, len, 0) == 0);
+  WANT(quic_wire_frames_init(&others, dest, n, 0) == 0);
   while (quic_wire_frames_next(&frames, payload, len, &frame) == 1) {
     WANT(quic_wire_frames_next(&others, dest, n, &other) == 1);
     same_frame(payload, len, &frame, dest, n, &other);
@@ -98,7 +98,7 @@ int canonical_any(const uint8_t *payload, size_t len) {
   int answer, first;
   memset(dest, 0xa5, room);
   answer = quic_wire_canonical(payload, len, dest, room, &canon);
-  first = quic_wire_frames_init(&frames, payload, len);
+  first = quic_wire_frames_init(&frames, payload, len, 0);
   while (first >= 0 &&
          (first = quic_wire_frames_next(&frames, payload, len, &frame)) == 1)
     sum += shortest_len(payload, len, &frame, frame.end == len);

@@ -1,5 +1,5 @@
 /* Frames that are read: by an iterator, one with each call or many, from the
- * beginning and from any place, and by strict types. */
+ * beginning and from any place, and by types in their shortest encoding. */
 #include "abuse.h"
 
 static void iterator_nulls(void) {
@@ -7,13 +7,11 @@ static void iterator_nulls(void) {
   quic_wire_frame frame;
   uint8_t byte = 1;
   memset(&frame, 0, sizeof frame);
-  WANT(quic_wire_frames_init(NULL, &byte, 1) == INVALID);
-  WANT(quic_wire_frames_init(&frames, NULL, 1) == INVALID);
-  WANT(quic_wire_frames_init(&frames, NULL, 0) == QUIC_WIRE_ERR_PAYLOAD_EMPTY);
-  WANT(quic_wire_frames_init_strict(NULL, &byte, 1) == INVALID);
-  WANT(quic_wire_frames_init_strict(&frames, NULL, 1) == INVALID);
-  WANT(quic_wire_frames_init_strict(&frames, NULL, 0) ==
+  WANT(quic_wire_frames_init(NULL, &byte, 1, 0) == INVALID);
+  WANT(quic_wire_frames_init(&frames, NULL, 1, 0) == INVALID);
+  WANT(quic_wire_frames_init(&frames, NULL, 0, QUIC_WIRE_READ_RFC) ==
        QUIC_WIRE_ERR_PAYLOAD_EMPTY);
+  WANT(frames.flags == 0);
   WANT(quic_wire_frames_next(NULL, &byte, 1, &frame) == INVALID);
   WANT(quic_wire_frames_next(&frames, &byte, 1, NULL) == INVALID);
   WANT(quic_wire_frames_next(&frames, NULL, 1, &frame) == INVALID);
@@ -34,15 +32,16 @@ static void fill_nulls(void) {
        QUIC_WIRE_ERR_NOBUF);
   WANT(quic_wire_frames_fill(&frames, NULL, 0, &frame, 1, &n) == 0);
   WANT(n == 0 && frames.offset == 0);
-  WANT(quic_wire_frames_first(NULL, &byte, 1, &frame, 1, &n) == INVALID);
-  WANT(quic_wire_frames_first(&frames, NULL, 1, &frame, 1, &n) == INVALID);
-  WANT(quic_wire_frames_first(&frames, &byte, 1, NULL, 1, &n) == INVALID);
-  WANT(quic_wire_frames_first(&frames, &byte, 1, &frame, 1, NULL) == INVALID);
-  WANT(quic_wire_frames_first(&frames, &byte, 1, NULL, 0, &n) ==
+  WANT(quic_wire_frames_first(NULL, &byte, 1, 0, &frame, 1, &n) == INVALID);
+  WANT(quic_wire_frames_first(&frames, NULL, 1, 0, &frame, 1, &n) == INVALID);
+  WANT(quic_wire_frames_first(&frames, &byte, 1, 0, NULL, 1, &n) == INVALID);
+  WANT(quic_wire_frames_first(&frames, &byte, 1, 0, &frame, 1, NULL) ==
+       INVALID);
+  WANT(quic_wire_frames_first(&frames, &byte, 1, 0, NULL, 0, &n) ==
        QUIC_WIRE_ERR_NOBUF);
-  WANT(quic_wire_frames_first(&frames, NULL, 0, &frame, 1, &n) ==
+  WANT(quic_wire_frames_first(&frames, NULL, 0, 0, &frame, 1, &n) ==
        QUIC_WIRE_ERR_PAYLOAD_EMPTY);
-  WANT(quic_wire_frames_first(&frames, NULL, 0, NULL, 0, &n) ==
+  WANT(quic_wire_frames_first(&frames, NULL, 0, 0, NULL, 0, &n) ==
        QUIC_WIRE_ERR_PAYLOAD_EMPTY);
   WANT(n == 0 && frames.offset == 0);
 }
@@ -124,30 +123,27 @@ void padding_any(void) {
   free(payload);
 }
 
-uint32_t any_strict(void) { return (uint32_t)(any() % 4 ? any() % 4 : edge()); }
-
-/* Reads on from any place, with any last type, by either call in turn; |frame|
- * is left with any words. */
+/* Reads on from any place, with any last type and any flags, which change
+ * between calls; |frame| is left with any words. */
 static void read_on_rubbish(const uint8_t *payload, size_t len,
                             quic_wire_frame *frame) {
   quic_wire_frame_iter frames;
-  const uint32_t strict = any_strict();
   const uint8_t *token;
   uint64_t type;
   size_t k;
-  int answer = 0, basic = 0;
+  uint32_t flags = 0;
+  int answer = 0;
   frames.offset = place();
   frames.last_type = edge();
   frames.ended = (uint32_t)(any() % 4 ? 0 : edge());
-  frames.strict = strict;
   memset(frame, (int)(any() % 256), sizeof *frame);
   for (k = 0; k < 50; k++) {
-    basic = (int)(any() % 2);
-    answer = next_by(basic, &frames, payload, len, frame);
+    frames.flags = flags = any_flags();
+    answer = quic_wire_frames_next(&frames, payload, len, frame);
     if (answer != QUIC_WIRE_ITEM)
       break;
     WANT(frame->begin < frame->end && frame->end <= len);
-    WANT(!basic || !is_extension(frame));
+    WANT(refused_by(flags, frame) == 0);
     WANT(frame->data <= frame->end &&
          frame->datalen <= frame->end - frame->data);
     WANT(quic_wire_varint_read(payload + frame->begin, len - frame->begin,
@@ -166,7 +162,7 @@ static void read_on_rubbish(const uint8_t *payload, size_t len,
   WANT(!REFUSED(answer) || (frame->type == 0 && frame->flags == 0));
   WANT(k < 50 &&
        (answer == 0 || answer == QUIC_WIRE_ERR_PLACE || REFUSED(answer)));
-  WANT(frames.strict == strict);
+  WANT(frames.flags == flags);
 }
 
 /* Reads on, and asks for what a frame of any words and the ranges of any words
@@ -189,13 +185,13 @@ void read_rubbish(const uint8_t *payload, size_t len) {
   ranges_rubbish(payload, len, &frame);
 }
 
-void next_is(int basic, quic_wire_frame_iter *one, const uint8_t *payload,
-             size_t len, const quic_wire_frame *entry) {
+void next_is(quic_wire_frame_iter *one, const uint8_t *payload, size_t len,
+             const quic_wire_frame *entry) {
   quic_wire_frame frame, more;
-  WANT(next_by(basic, one, payload, len, &frame) == 1);
+  WANT(quic_wire_frames_next(one, payload, len, &frame) == 1);
   while (frame.kind == QUIC_WIRE_FRAME_PADDING && frame.end < entry->end) {
     WANT(payload[frame.end] == 0);
-    WANT(next_by(basic, one, payload, len, &more) == 1);
+    WANT(quic_wire_frames_next(one, payload, len, &more) == 1);
     WANT(more.kind == QUIC_WIRE_FRAME_PADDING && more.begin == frame.end);
     frame.end = frame.data = more.end;
   }
@@ -210,23 +206,23 @@ void fill_rubbish(const uint8_t *payload, size_t len) {
   quic_wire_frame_iter one, many;
   quic_wire_frame frame, filled[6], before[6];
   size_t room = 1 + any() % 5, count, k, calls;
-  int answer = 0, basic = 0;
+  int answer = 0;
   one.offset = place();
   one.last_type = edge();
   one.ended = (uint32_t)(any() % 8 ? 0 : edge());
-  one.strict = any_strict();
+  one.flags = any_flags();
   many = one;
   memset(before, 0xa5, sizeof before);
   for (calls = 0; calls < 50; calls++) {
     memcpy(filled, before, sizeof filled);
     count = 77;
-    basic = (int)(any() % 2);
-    answer = fill_by(basic, &many, payload, len, filled, room, &count);
+    one.flags = many.flags = any_flags();
+    answer = quic_wire_frames_fill(&many, payload, len, filled, room, &count);
     if (answer != QUIC_WIRE_ITEM)
       break;
     WANT(0 < count && count <= room);
     for (k = 0; k < count; k++) {
-      next_is(basic, &one, payload, len, &filled[k]);
+      next_is(&one, payload, len, &filled[k]);
       WANT(quic_wire_padding_count(payload, len, &filled[k]) ==
            padding_in(payload, &filled[k]));
     }
@@ -234,7 +230,7 @@ void fill_rubbish(const uint8_t *payload, size_t len) {
     WANT(!memcmp(filled + count, before, (6 - count) * sizeof frame));
   }
   WANT(calls < 50 && count == 77);
-  WANT(next_by(basic, &one, payload, len, &frame) == answer);
+  WANT(quic_wire_frames_next(&one, payload, len, &frame) == answer);
   if (REFUSED(answer)) {
     WANT(!memcmp(&frame, &filled[0], sizeof frame));
     WANT(!memcmp(filled + 1, before, 5 * sizeof frame));
@@ -250,19 +246,20 @@ void first_rubbish(const uint8_t *payload, size_t len) {
   quic_wire_frame_iter one, both;
   quic_wire_frame first[5], filled[5];
   size_t room = any() % 6, count = 77, others = 77;
+  const uint32_t flags = any_flags();
   int answer;
   memset(first, 0xa5, sizeof first);
   memset(filled, 0xa5, sizeof filled);
   memset(&one, 0x5a, sizeof one);
   memset(&both, 0x5a, sizeof both);
-  answer = quic_wire_frames_init(&both, payload, len);
+  answer = quic_wire_frames_init(&both, payload, len, flags);
   if (answer == QUIC_WIRE_OK) {
     answer = quic_wire_frames_fill(&both, payload, len, filled, room, &others);
     if (answer == QUIC_WIRE_ERR_NOBUF)
       memset(&both, 0x5a, sizeof both);
   }
   WANT(answer != 0);
-  WANT(quic_wire_frames_first(&one, payload, len, first, room, &count) ==
+  WANT(quic_wire_frames_first(&one, payload, len, flags, first, room, &count) ==
        answer);
   WANT(!memcmp(&one, &both, sizeof one) && count == others);
   WANT(!memcmp(first, filled, sizeof first));
@@ -277,26 +274,27 @@ static int has_long_type(const uint8_t *bytes, size_t len) {
   return width <= len && varint_len(type) < width;
 }
 
-/* Strict reading of any bytes, in which 0x40 is put somewhere, gives what other
- * reading gives, up to the first type that is too long.  Returns whether there
- * is such a one. */
-int strict_any(const uint8_t *bytes, size_t len) {
+/* Reading any bytes, in which 0x40 is put somewhere, by types in their shortest
+ * encoding gives what other reading gives, up to the first type that is too
+ * long.  Returns whether there is such a one. */
+int short_types_any(const uint8_t *bytes, size_t len) {
   size_t at = any() % 2 ? 0 : any() % (len + 1);
   uint8_t *payload = block(len + 1);
-  quic_wire_frame_iter strict, frames;
+  quic_wire_frame_iter checked, frames;
   quic_wire_frame frame, other;
   int answer = QUIC_WIRE_ITEM, is_long = 0;
   memcpy(payload, bytes, at);
   payload[at] = 0x40;
   memcpy(payload + at + 1, bytes + at, len - at);
   len++;
-  WANT(quic_wire_frames_init(&frames, payload, len) == 0);
-  WANT(quic_wire_frames_init_strict(&strict, payload, len) == 0);
-  if (any() % 2)
-    strict.strict = (uint32_t)any() | 2; /* any word but 0 */
+  WANT(quic_wire_frames_init(&frames, payload, len, 0) == 0);
+  WANT(quic_wire_frames_init(&checked, payload, len,
+                             QUIC_WIRE_READ_SHORT_TYPES) == 0);
+  if (any() % 2) /* bits that are no flags */
+    checked.flags |= (uint32_t)any() & ~QUIC_WIRE_READ_RFC;
   while (answer == QUIC_WIRE_ITEM && !is_long) {
-    is_long = has_long_type(payload + strict.offset, len - strict.offset);
-    answer = quic_wire_frames_next(&strict, payload, len, &frame);
+    is_long = has_long_type(payload + checked.offset, len - checked.offset);
+    answer = quic_wire_frames_next(&checked, payload, len, &frame);
     if (is_long) {
       WANT(answer == QUIC_WIRE_ERR_FRAME_LONG_TYPE);
       WANT(frame.begin == frames.offset);
@@ -305,7 +303,7 @@ int strict_any(const uint8_t *bytes, size_t len) {
       WANT(answer == 0 || !memcmp(&frame, &other, sizeof frame));
     }
   }
-  WANT(quic_wire_frames_next(&strict, payload, len, &frame) == 0);
+  WANT(quic_wire_frames_next(&checked, payload, len, &frame) == 0);
   free(payload);
   return is_long;
 }

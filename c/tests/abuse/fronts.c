@@ -16,14 +16,14 @@ void fronts_nulls(void) {
 /* A frame of |n| bytes that was read at |at| is the next one of an iterator; of
  * an ACK the ranges too, of which |gaps| has as many as there was room for, and
  * after them what it had |before|. */
-static void front_is_next(int basic, const uint8_t *payload, size_t len,
-                          size_t at, size_t n, const quic_wire_frame *frame,
+static void front_is_next(const uint8_t *payload, size_t len, size_t at,
+                          size_t n, const quic_wire_frame *frame,
                           const quic_wire_gap gaps[3],
                           const quic_wire_gap before[3], size_t room,
                           quic_wire_frame_iter *frames) {
   quic_wire_frame entry = *frame, want;
   size_t count;
-  WANT(fill_by(basic, frames, payload, len, &want, 1, &count) == 1);
+  WANT(quic_wire_frames_fill(frames, payload, len, &want, 1, &count) == 1);
   WANT(n > 0 && n == frame->end && frames->offset == at + frame->end);
   count = 0;
   if (frame->kind == QUIC_WIRE_FRAME_ACK) {
@@ -41,12 +41,12 @@ static void front_is_next(int basic, const uint8_t *payload, size_t len,
 
 /* An invalid frame at |at| is invalid for an iterator too, for the same reason.
  */
-static void front_refused(int basic, const uint8_t *payload, size_t len,
-                          size_t at, int64_t reason,
+static void front_refused(const uint8_t *payload, size_t len, size_t at,
+                          int64_t reason,
                           const quic_wire_frame *frame,
                           quic_wire_frame_iter *frames) {
   quic_wire_frame want;
-  WANT(next_by(basic, frames, payload, len, &want) == reason);
+  WANT(quic_wire_frames_next(frames, payload, len, &want) == reason);
   WANT(want.begin == at && frame->begin == 0);
   WANT(quic_wire_error_type(frame) == quic_wire_error_type(&want) ||
        quic_wire_error_type(frame) == QUIC_WIRE_NO_TYPE);
@@ -59,27 +59,28 @@ void front_rubbish(const uint8_t *payload, size_t len) {
   quic_wire_frame frame, want;
   quic_wire_gap gaps[3], before[3];
   size_t at = 0, room = any() % 3;
-  int strict = (int)any_strict(), basic = (int)(any() % 2);
+  const uint32_t flags = any_flags();
   int64_t n;
-  int answer = quic_wire_frames_init(&frames, payload, len);
-  frames.strict = (uint32_t)strict;
+  int answer = quic_wire_frames_init(&frames, payload, len, flags);
+  frames.flags = flags;
   memset(before, 0xa5, sizeof before);
   do {
     memcpy(gaps, before, sizeof gaps);
     memset(&frame, 0xa5, sizeof frame);
-    n = read_by(basic, payload + at, len - at, strict, &frame, gaps, room);
+    n = quic_wire_frame_read(payload + at, len - at, flags, &frame, gaps, room);
     if (n < 0)
       break;
-    WANT(!basic || !is_extension(&frame));
-    front_is_next(basic, payload, len, at, (size_t)n, &frame, gaps, before,
+    WANT(refused_by(flags, &frame) == 0);
+    front_is_next(payload, len, at, (size_t)n, &frame, gaps, before,
                   room, &frames);
     at += (size_t)n;
   } while (1);
   WANT(!memcmp(gaps, before, sizeof gaps));
   if (n == QUIC_WIRE_ERR_PAYLOAD_EMPTY) {
-    WANT(at == len && (!len || !next_by(basic, &frames, payload, len, &want)));
+    WANT(at == len &&
+         (!len || !quic_wire_frames_next(&frames, payload, len, &want)));
     return;
   }
   WANT(REFUSED(n) && answer == 0);
-  front_refused(basic, payload, len, at, n, &frame, &frames);
+  front_refused(payload, len, at, n, &frame, &frames);
 }

@@ -45,8 +45,7 @@ size_t varint_len(uint64_t n) {
 static void nulls(void) {
   frames_nulls();
   fronts_nulls();
-  extension_nulls();
-  extension_examples();
+  rules_examples();
   acks_nulls();
   written_nulls();
   without_data();
@@ -63,7 +62,7 @@ static void nulls(void) {
 }
 
 static void rubbish(int rounds) {
-  int i, fields = 0, headers = 0, forms = 0, longs = 0, extensions = 0;
+  int i, fields = 0, headers = 0, forms = 0, longs = 0, refused = 0;
   for (i = 0; i < rounds; i++) {
     size_t len = any() % 40, k;
     uint8_t *bytes = block(len);
@@ -81,8 +80,8 @@ static void rubbish(int rounds) {
     protect_rubbish(bytes, len);
     headers += header_written();
     forms += canonical_any(bytes, len);
-    longs += strict_any(bytes, len);
-    extensions += extension_any(bytes, len);
+    longs += short_types_any(bytes, len);
+    refused += rules_any(bytes, len);
     number_len_any();
     number_expand_any();
     number_bytes_any();
@@ -98,7 +97,7 @@ static void rubbish(int rounds) {
     free(bytes);
   }
   WANT(fields > rounds / 20 && headers > rounds / 3 && forms > rounds / 50);
-  WANT(longs > rounds / 5 && extensions > rounds / 5);
+  WANT(longs > rounds / 5 && refused > rounds / 5);
 }
 
 int main(int argc, char **argv) {

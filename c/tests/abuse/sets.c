@@ -81,7 +81,7 @@ static void read_ack(const uint8_t *bytes, size_t len,
   quic_wire_frame frame;
   quic_wire_range_iter ranges;
   quic_wire_range range;
-  WANT(quic_wire_frames_init(&frames, bytes, len) == 0);
+  WANT(quic_wire_frames_init(&frames, bytes, len, 0) == 0);
   WANT(quic_wire_frames_next(&frames, bytes, len, &frame) == QUIC_WIRE_ITEM);
   WANT(frame.kind == QUIC_WIRE_FRAME_ACK && frame.end == len);
   WANT(quic_wire_ack_ranges_init(&ranges, bytes, len, &frame) == 0);

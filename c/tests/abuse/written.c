@@ -38,7 +38,7 @@ void without_data(void) {
   quic_wire_frame frame;
   uint8_t out[8] = {0};
   size_t n = 0, k;
-  WANT(quic_wire_frames_init(&frames, payload, sizeof payload) == 0);
+  WANT(quic_wire_frames_init(&frames, payload, sizeof payload, 0) == 0);
   WANT(quic_wire_frames_next(&frames, payload, sizeof payload, &frame) == 1);
   WANT(quic_wire_frames_next(&frames, payload, sizeof payload, &frame) == 1);
   WANT(frame.kind == QUIC_WIRE_FRAME_PING && frame.begin == 5 &&
@@ -86,7 +86,7 @@ void write_rubbish(const uint8_t *data, size_t len) {
   if (answer == 0) {
     WANT(written <= room);
     WANT(!memcmp(out + written, before + written, room - written));
-    WANT(quic_wire_frames_init(&frames, out, written) == 0);
+    WANT(quic_wire_frames_init(&frames, out, written, 0) == 0);
     WANT(quic_wire_frames_next(&frames, out, written, &again) == 1);
     WANT(again.kind == frame.kind && again.flags == frame.flags);
     WANT(again.end == written && again.datalen == frame.datalen);

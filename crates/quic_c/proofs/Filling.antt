@@ -1,15 +1,17 @@
 -- Entries that are filled one after the other.
-use Rattle.std.proofs.Common.{◌≡◌, ℕ, ◌+◌, ◌<◌, ◌≤◌, Bool, true, List, [], ◌∷◌, ◌++◌, length, take, drop, set, Option, refl, sym, ap, subst, ◌∙◌, inl, inr, arith}
+use Rattle.std.proofs.Common.{◌≡◌, ℕ, ◌+◌, ◌<◌, ◌≤◌, List, [], ◌∷◌, ◌++◌, length, take, drop, set, Option, refl, sym, ap, subst, ◌∙◌, inl, inr, arith}
 use Rattle.std.specs.Prelude.{◌⊎◌, zero, suc}
 use Rattle.std.proofs.lemmas.List.{take_more_set, drop-set-lt}
 use Rattle.std.proofs.Math.ListN.{length-set}
 use Rattle.std.proofs.lemmas.Grind.{drop_more_same}
 use Rattle.quic_frames.specs.declared.frame.Frame.{Frame}
 use Rattle.quic_frames.specs.IterState.{IterState}
+use Rattle.quic_frames.specs.declared.frame.rules.Rules.{Rules}
+use Rattle.quic_frames.specs.Rules.{Keeps}
 use Rattle.quic_frames.specs.Walk.{Finds}
 use Rattle.quic_frames.specs.Padding.{PassesPadding, behind}
 use Rattle.quic_c.specs.declared.words.CFrame.{CFrame}
-use Rattle.quic_c.specs.Shown.{frame_kind_of, frame_words, IsExtension}
+use Rattle.quic_c.specs.Shown.{frame_kind_of, frame_words}
 use Rattle.quic_c.specs.Filling.{GivesEntry, Shows, HasNoFrame, Fills, further}
 
 -- one entry more
@@ -44,13 +46,13 @@ passed_payload old new count p = ap (λ (w : IterState). w.payload) (passed_furt
 -- ---- the loop
 
 -- So many entries are filled, from a place up to one that ends there.
-pub record Filling (basic : Bool) (old : IterState) (before : List CFrame) (here : IterState) (after : List CFrame)
+pub record Filling (rules : Rules) (old : IterState) (before : List CFrame) (here : IterState) (after : List CFrame)
     (count end : ℕ) : Type 0 where
   pub few : count ≤ length after
   pub all : length after ≡ length before
   pub place : here.offset ≡ end
   pub comes : here ≡ further old here.offset here.last
-  pub shows : Shows (GivesEntry basic) old (take count after) here
+  pub shows : Shows (GivesEntry rules) old (take count after) here
   pub kept : drop count after ≡ drop count before
 
 pub kinds : (n : ℕ) → (n ≡ 0) ⊎ (0 < n)
@@ -66,21 +68,21 @@ next_further here next new frame f run one =
       | inr is ↦ subst (λ (w : IterState). IsFurther here w) (sym (one is)) (found_further here next frame f)
     ]
 
-pub filling_goes_on : (basic : Bool) (old : IterState) (before : List CFrame) (here : IterState) (after : List CFrame) (count end : ℕ)
+pub filling_goes_on : (rules : Rules) (old : IterState) (before : List CFrame) (here : IterState) (after : List CFrame) (count end : ℕ)
     (next new : IterState) (frame : Frame) (entry : CFrame) (stop type : ℕ)
-    → Filling basic old before here after count end → count < length after → (finds : Finds here frame next)
-    → ((basic ≡ true) × IsExtension (frame_kind_of frame) → ⊥)
+    → Filling rules old before here after count end → count < length after → (finds : Finds here frame next)
+    → Keeps rules finds.found
     → (frame_kind_of frame ≡ 0 → (more : ℕ) × PassesPadding next more new)
     → (0 < frame_kind_of frame → new ≡ next)
     → stop ≡ new.offset → type ≡ finds.found.type → entry ≡ frame_words end stop type frame
-    → Filling basic old before new (set after count entry) (count + 1) stop
-filling_goes_on basic old before here after count end next new frame entry stop type s room f known run one e begins words =
+    → Filling rules old before new (set after count entry) (count + 1) stop
+filling_goes_on rules old before here after count end next new frame entry stop type s room f kept run one e begins words =
     let same_words : entry ≡ frame_words here.offset new.offset f.found.type frame =
     words ∙ ap (λ (n : ℕ). frame_words n stop type frame) (sym s.place)
     ∙ ap (λ (n : ℕ). frame_words here.offset n type frame) e
     ∙ ap (λ (n : ℕ). frame_words here.offset new.offset n frame) begins in
-    let gives : GivesEntry basic here entry new =
-    record { frame = frame; next = next; finds = f; known = known; run = run; one = one; words = same_words } in
+    let gives : GivesEntry rules here entry new =
+    record { frame = frame; next = next; finds = f; kept = kept; run = run; one = one; words = same_words } in
     let front : take (count + 1) (set after count entry) ≡ take count after ++ entry ∷ [] =
     take_more_set after count entry room in
     record {
@@ -88,18 +90,27 @@ filling_goes_on basic old before here after count end next new frame entry stop 
       all = simp length-set s.all;
       place = sym e;
       comes = further_on old here new s.comes (next_further here next new frame f run one);
-      shows = rw front (shows-append (GivesEntry basic) old (take count after) here entry new s.shows gives);
+      shows = rw front (shows-append (GivesEntry rules) old (take count after) here entry new s.shows gives);
       kept = drop-set-lt (count + 1) after count entry (omega arith) ∙ drop_more_same after before count s.kept;
     }
 
+-- where none was filled
+pub none_filled : (rules : Rules) (old : IterState) (before : List CFrame) (here : IterState) (after : List CFrame)
+    (count end : ℕ) → Filling rules old before here after count end → count ≡ 0 → (here ≡ old) × (after ≡ before)
+none_filled rules old before here after count end s none =
+    let first : Shows (GivesEntry rules) old (take 0 after) here =
+    subst (λ (n : ℕ). Shows (GivesEntry rules) old (take n after) here) none s.shows in
+    let all : drop 0 after ≡ drop 0 before = subst (λ (n : ℕ). drop n after ≡ drop n before) none s.kept in
+    (sym first, all)
+
 -- where it ends
-pub filling_ends : (basic : Bool) (old : IterState) (before : List CFrame) (here : IterState) (after : List CFrame)
+pub filling_ends : (rules : Rules) (old : IterState) (before : List CFrame) (here : IterState) (after : List CFrame)
     (count end : ℕ) (last : Option ℕ)
-    → Filling basic old before here after count end → last ≡ here.last
-    → (count ≡ length before) ⊎ HasNoFrame basic here → Fills basic old before (further old end last) after count
-filling_ends basic old before here after count end last s e full =
+    → Filling rules old before here after count end → last ≡ here.last
+    → (count ≡ length before) ⊎ HasNoFrame rules here → Fills rules old before (further old end last) after count
+filling_ends rules old before here after count end last s e full =
     let is : here ≡ further old end last =
     s.comes ∙ ap (λ (n : ℕ). further old n here.last) s.place ∙ ap (further old end) (sym e) in
-    let fills : Fills basic old before here after count =
+    let fills : Fills rules old before here after count =
     record { few = rw (← s.all) s.few; shows = s.shows; kept = s.kept; full = full } in
-    subst (λ (w : IterState). Fills basic old before w after count) is fills
+    subst (λ (w : IterState). Fills rules old before w after count) is fills

@@ -1,3 +1,4 @@
+mod Unset
 pub mod Places
 mod Shapes
 mod DescribedFrames

@@ -1,5 +1,5 @@
 -- The types of frames that were read.
-use Rattle.std.proofs.Common.{◌≡◌, ℕ, ◌<◌, ◌^◌, Bool, true, false, List, [], ◌∷◌, Option, Some, refl, sym, ap, subst, ◌∙◌, inl, inr, arith}
+use Rattle.std.proofs.Common.{◌≡◌, ℕ, ◌<◌, ◌^◌, Bool, true, false, List, [], ◌∷◌, Option, None, Some, refl, sym, ap, subst, ◌∙◌, inl, inr, arith}
 use Rattle.std.specs.Prelude.{◌⊎◌, ◌↔◌, ◌==◌, ◌&&◌, nat_lt, IsTrue}
 use Rattle.std.specs.Map.{lookup}
 use Rattle.std.proofs.lemmas.Bool.{false≢true}
@@ -10,12 +10,18 @@ use Rattle.quic_frame_fields.specs.Table.{Row, rows, row_of}
 use Rattle.quic_frames.specs.declared.frame.Frame.{Frame}
 use Rattle.quic_frames.specs.IterState.{IterState}
 use Rattle.quic_frames.specs.Padding.{PassesPadding}
+use Rattle.quic_frames.specs.declared.frame.rules.Rules.{Rules}
+use Rattle.quic_frames.specs.declared.frame.rules.Breach.{Breach}
+use Rattle.quic_frames.specs.Checking.{IsRefusedFrame}
+use Rattle.quic_frames.specs.Meaning.{meaning_of}
+use Rattle.quic_frames.specs.Rules.{Keeps, breach_of, breach_text}
+use Rattle.quic_frames.proofs.Checking.{breach_found}
 use Rattle.quic_frames.specs.Walk.{first_of, Finds}
 use Rattle.quic_c.specs.declared.words.CFrame.{CFrame}
 use Rattle.quic_c.specs.declared.words.CFrameIter.{CFrameIter}
 use Rattle.quic_c.specs.declared.words.CGap.{CGap}
-use Rattle.quic_c.specs.Shown.{frame_kind_of, frame_words, type_in, state_of, IsExtension}
-use Rattle.quic_c.specs.Answers.{GivesFrameWords, IsRefusedFrame, unknown_type}
+use Rattle.quic_c.specs.Shown.{frame_kind_of, frame_words, type_in, state_of}
+use Rattle.quic_c.specs.Answers.{GivesFrameWords}
 use Rattle.quic_c.specs.Filling.{further}
 use Rattle.quic_c.specs.Front.{ReadsFront, ShowsFront}
 
@@ -82,50 +88,51 @@ found_between here next old new frame finds p q =
     subst (λ (w : IterState). (f : Finds w frame new) × (f.found ≡ finds.found)) p
     (subst (λ (w : IterState). (f : Finds here frame w) × (f.found ≡ finds.found)) q (finds, refl))
 
-pub gives_frame : (basic : Bool) (old new : CFrameIter) (payload : List ℕ) (out : CFrame) (here next : IterState)
+pub gives_frame : (rules : Rules) (old new : CFrameIter) (payload : List ℕ) (out : CFrame) (here next : IterState)
     (frame : Frame) (type : ℕ) (finds : Finds here frame next)
-    → ((basic ≡ true) × IsExtension (frame_kind_of frame) → ⊥) → state_of old payload ≡ here
+    → Keeps rules finds.found → state_of old payload ≡ here
     → state_of new payload ≡ next → type ≡ finds.found.type
-    → out ≡ frame_words old.offset new.offset type frame → GivesFrameWords basic old payload new out
-gives_frame basic old new payload out here next frame type finds known is_here is_next begins words =
+    → out ≡ frame_words old.offset new.offset type frame → GivesFrameWords rules old payload new out
+gives_frame rules old new payload out here next frame type finds kept is_here is_next begins words =
     let f =
     found_between here next (state_of old payload) (state_of new payload) frame finds (sym is_here) (sym is_next) in
     record {
       frame = frame;
       finds = f.0;
-      known = known;
+      kept = subst (Keeps rules) (sym f.1) kept;
       words = words
           ∙ ap (λ (n : ℕ). frame_words old.offset new.offset n frame)
           (begins ∙ ap (λ (x : TypedFrame). x.type) (sym f.1));
     }
 
--- if a test finds that a frame isn't one of the extension, and these have unknown types
-pub is_kept : (basic test : Bool) (frame : Frame) → IsTrue test ↔ (basic ≡ true) × IsExtension (frame_kind_of frame)
-    → test ≡ false
-    → (basic ≡ true) × IsExtension (frame_kind_of frame) → ⊥
-is_kept basic test frame tests e x = false≢true (sym e ∙ tests.1 x)
+-- a frame of which a test found none
+pub keeps : (rules : Rules) (here next : IterState) (frame : Frame) (test : Option Breach) (finds : Finds here frame next)
+    → test ≡ breach_of rules (meaning_of frame) → test ≡ None → Keeps rules finds.found
+keeps rules here next frame test finds tests none = ap (breach_of rules) finds.says ∙ sym tests ∙ none
 
--- a frame of the extension is refused if these have unknown types
-pub unknown_refused : (basic : Bool) (here next : IterState) (frame : Frame) (reported : Invalid)
-    → Finds here frame next
-    → (basic ≡ true) × IsExtension (frame_kind_of frame) → reported ≡ unknown_type (frame_kind_of frame)
-    → IsRefusedFrame basic here reported
-unknown_refused basic here next frame reported finds is reports =
-    inr (is.0, record { frame = frame; next = next; finds = finds; extension = is.1; is = reports })
+-- a frame of which a test found a breach, and what is reported of it
+pub is_refused : (rules : Rules) (here next : IterState) (frame : Frame) (test : Option Breach) (last : Option ℕ)
+    (reported : Invalid) → Finds here frame next → test ≡ breach_of rules (meaning_of frame)
+    → (b : Breach) × (test ≡ Some b) → last ≡ next.last
+    → ((b : Breach) → test ≡ Some b → reported ≡ record { type = last; reason = breach_text b })
+    → IsRefusedFrame rules here reported
+is_refused rules here next frame test last reported finds tests some is says =
+    let by_type : Option ℕ → Invalid = λ t. record { type = t; reason = breach_text some.0 } in
+    inr (breach_found rules here next frame test some.0 reported finds tests some.1 (says some.0 some.1 ∙ ap by_type is))
 
-pub reads_front : (strict basic : Bool) (payload : List ℕ) (before : List CGap) (stop : ℕ) (words : CFrame)
+pub reads_front : (rules : Rules) (payload : List ℕ) (before : List CGap) (stop : ℕ) (words : CFrame)
     (after : List CGap) (frame : Frame) (next rest : IterState) (type : ℕ)
-    → (finds : Finds (first_of strict payload) frame next) → ((basic ≡ true) × IsExtension (frame_kind_of frame) → ⊥)
+    → (finds : Finds (first_of rules.short_types payload) frame next) → Keeps rules finds.found
     → (frame_kind_of frame ≡ 0 → (more : ℕ) × PassesPadding next more rest) → (0 < frame_kind_of frame → rest ≡ next)
     → stop ≡ rest.offset → type ≡ finds.found.type → ShowsFront stop type frame before words after
-    → ReadsFront strict basic payload before stop words after
-reads_front strict basic payload before stop words after frame next rest type finds known run one ends begins shows =
+    → ReadsFront rules payload before stop words after
+reads_front rules payload before stop words after frame next rest type finds kept run one ends begins shows =
     record {
       frame = frame;
       next = next;
       rest = rest;
       finds = finds;
-      known = known;
+      kept = kept;
       run = run;
       one = one;
       ends = ends;

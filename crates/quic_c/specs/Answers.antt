@@ -1,68 +1,52 @@
 -- What the calls answer.
-use Rattle.std.specs.Prelude.{◌≡◌, ℕ, ◌+◌, ◌<◌, ◌≤◌, ◌^◌, ◌⊎◌, ◌↔◌, ℤ, pos, slice_range, length, List, [], ◌∷◌, ◌++◌, Bool, true, Some}
+use Rattle.std.specs.Prelude.{◌≡◌, ℕ, ◌+◌, ◌<◌, ◌≤◌, ◌^◌, ◌⊎◌, ◌↔◌, ℤ, pos, slice_range, length, List, [], ◌∷◌, ◌++◌}
 use Rattle.quic_frames.specs.declared.frame.Frame.{Frame}
 use Rattle.quic_frame_fields.specs.declared.frame.fault.Fault.{Fault}
 use Rattle.quic_frame_fields.specs.AckPlace.{BeginsWithAck}
 use Rattle.quic_frame_fields.specs.Field.{AreBlocks}
 use Rattle.quic_frame_fields.specs.FirstRange.{BeginsWithRange, RangeStops, SplitsRanges}
 use Rattle.quic_frame_fields.specs.Numbers.{AreEncoded}
-use Rattle.quic_frame_fields.specs.declared.frame.fault.Fault.TheVariants.{InvalidFrameId}
-use Rattle.quic_frame_fields.specs.Reading.{Invalid, invalid}
+use Rattle.quic_frame_fields.specs.Reading.{Invalid}
 use Rattle.quic_frames.specs.IterState.{IterState}
-use Rattle.quic_frames.specs.Walk.{Finds, LacksFrame, IsSpent}
+use Rattle.quic_frames.specs.declared.frame.rules.Rules.{Rules}
+use Rattle.quic_frames.specs.Checking.{IsRefusedFrame}
+use Rattle.quic_frames.specs.Rules.{Keeps}
+use Rattle.quic_frames.specs.Walk.{Finds, IsSpent}
 use Rattle.quic_c.specs.declared.words.CFrameIter.{CFrameIter}
 use Rattle.quic_c.specs.declared.words.CFrame.{CFrame}
 use Rattle.quic_c.specs.declared.words.CRange.{CRange}
 use Rattle.quic_c.specs.declared.words.CRangeIter.{CRangeIter}
-use Rattle.quic_c.specs.Shown.{state_of, type_word, frame_words, invalid_words, frame_kind_of, IsExtension}
+use Rattle.quic_c.specs.Shown.{state_of, type_word, frame_words, invalid_words}
 use Rattle.quic_results.specs.declared.results.Failure.TheVariants as failure
 use Rattle.quic_results.specs.Results.{failed, frame_failure}
 
--- what is reported of a frame of a kind if its type is unknown
-abbrev pub unknown_type : ℕ → Invalid
-unknown_type kind = invalid (Some kind) InvalidFrameId
-
--- A frame of the extension for ACK frequency is there, and is reported as one of an unknown type.
-pub record IsUnknown (state : IterState) (reported : Invalid) : Type 0 where
-  pub frame : Frame
-  pub next : IterState
-  pub finds : Finds state frame next
-  pub extension : IsExtension (frame_kind_of frame)
-  pub is : reported ≡ unknown_type (frame_kind_of frame)
-
--- The next frame isn't given, and this is reported: the bytes aren't a valid frame, or it is a frame of that extension
--- and these have unknown types.
-abbrev pub IsRefusedFrame : Bool → IterState → Invalid → Type 0
-IsRefusedFrame basic state reported = LacksFrame state reported ⊎ (basic ≡ true) × IsUnknown state reported
-
--- A frame was read at the place in the words, and its words were given: one of that extension only if these are known.
-pub record GivesFrameWords (basic : Bool) (old : CFrameIter) (payload : List ℕ) (new : CFrameIter)
+-- A frame was read at the place in the words that breaks no rule, and its words were given.
+pub record GivesFrameWords (rules : Rules) (old : CFrameIter) (payload : List ℕ) (new : CFrameIter)
     (out : CFrame) : Type 0 where
   pub frame : Frame
   pub finds : Finds (state_of old payload) frame (state_of new payload)
-  pub known : (basic ≡ true) × IsExtension (frame_kind_of frame) → ⊥
+  pub kept : Keeps rules finds.found
   pub words : out ≡ frame_words old.offset new.offset finds.found.type frame
 
 -- The next frame isn't given, and the reason is returned, with the type; nothing is left.
-pub record GivesInvalid (basic : Bool) (old : CFrameIter) (payload : List ℕ) (result : ℤ) (new : CFrameIter)
+pub record GivesInvalid (rules : Rules) (old : CFrameIter) (payload : List ℕ) (result : ℤ) (new : CFrameIter)
     (out : CFrame) : Type 0 where
   pub reported : Invalid
-  pub first : IsRefusedFrame basic (state_of old payload) reported
+  pub first : IsRefusedFrame rules (state_of old payload) reported
   pub reason : result ≡ failed (frame_failure reported.reason)
   pub over : new ≡ record old { ended = 1 }
   pub words : out ≡ invalid_words old.offset (type_word reported.type)
 
--- What a call for the next frame returns and leaves; if `basic` is true, frames of that extension have unknown types. 1
--- with the frame; 0 if none is left; the reason why a frame isn't given, with its type; that the place is outside of
+-- What a call for the next frame returns and leaves, by rules: 1 with the frame; 0 if none is left; the reason why a frame isn't given, with its type; that the place is outside of
 -- the payload. Nothing changes with 0 and outside.
-pub record AnswersNext (basic : Bool) (old : CFrameIter) (payload : List ℕ) (before : CFrame) (result : ℤ)
+pub record AnswersNext (rules : Rules) (old : CFrameIter) (payload : List ℕ) (before : CFrame) (result : ℤ)
     (new : CFrameIter) (after : CFrame) : Type 0 where
   pub returns : (result ≡ pos 1) ⊎ (result ≡ pos 0) ⊎ (result ≡ failed failure.Place)
-      ⊎ GivesInvalid basic old payload result new after
-  pub frame : result ≡ pos 1 → GivesFrameWords basic old payload new after
+      ⊎ GivesInvalid rules old payload result new after
+  pub frame : result ≡ pos 1 → GivesFrameWords rules old payload new after
   pub end : result ≡ pos 0 → IsSpent (state_of old payload)
   pub outside : (result ≡ failed failure.Place) ↔ (length payload < old.offset)
-  pub same : (result ≡ pos 1) ⊎ GivesInvalid basic old payload result new after ⊎ ((new ≡ old) × (after ≡ before))
+  pub same : (result ≡ pos 1) ⊎ GivesInvalid rules old payload result new after ⊎ ((new ≡ old) × (after ≡ before))
 
 -- the bytes between two places
 abbrev pub blocks_in : CRangeIter → List ℕ → List ℕ

@@ -1,5 +1,5 @@
 -- The frame at the front of a payload, and the ranges of an ACK as gap and length.
-use Rattle.std.specs.Prelude.{◌≡◌, ℕ, ◌+◌, ◌-◌, ◌<◌, ◌≤◌, ◌⊎◌, ◌↔◌, ℤ, pos, true, List, [], ◌∷◌, length, take, drop, nat_lt, Bool, Option, None, Some, if◌then◌else◌}
+use Rattle.std.specs.Prelude.{◌≡◌, ℕ, ◌+◌, ◌-◌, ◌<◌, ◌≤◌, ◌⊎◌, ◌↔◌, ℤ, pos, List, [], ◌∷◌, length, take, drop, nat_lt, Option, None, Some, if◌then◌else◌}
 use Rattle.quic_frames.specs.declared.frame.Frame.{Frame}
 use Rattle.quic_frames.specs.declared.frame.Frame.TheVariants as frames
 use Rattle.quic_frame_fields.specs.declared.frame.ack.Ack.{Ack}
@@ -7,11 +7,13 @@ use Rattle.quic_frame_fields.specs.Acks.{ranges_acked}
 use Rattle.quic_frame_fields.specs.Reading.{Invalid, Item, Whole, Broken}
 use Rattle.quic_frames.specs.IterState.{IterState}
 use Rattle.quic_frames.specs.Padding.{PassesPadding}
+use Rattle.quic_frames.specs.declared.frame.rules.Rules.{Rules}
+use Rattle.quic_frames.specs.Checking.{IsRefusedFrame}
+use Rattle.quic_frames.specs.Rules.{Keeps}
 use Rattle.quic_frames.specs.Walk.{first_of, Finds}
 use Rattle.quic_c.specs.declared.words.CFrame.{CFrame}
 use Rattle.quic_c.specs.declared.words.CGap.{CGap}
-use Rattle.quic_c.specs.Answers.{IsRefusedFrame}
-use Rattle.quic_c.specs.Shown.{frame_kind_of, frame_words, invalid_words, type_word, counts_flag, IsExtension}
+use Rattle.quic_c.specs.Shown.{frame_kind_of, frame_words, invalid_words, type_word, counts_flag}
 use Rattle.quic_results.specs.declared.results.Failure.TheVariants as failure
 use Rattle.quic_results.specs.Results.{failed, frame_failure}
 
@@ -55,35 +57,34 @@ abbrev pub ShowsFront : ℕ → ℕ → Frame → List CGap → CFrame → List 
 ShowsFront stop type (frames.Ack a) before words after = ShowsAck stop type a before words after
 ShowsFront stop type frame before words after = (words ≡ frame_words 0 stop type frame) × (after ≡ before)
 
--- The frame at the front is given as the iterator over the payload gives it; if `basic` is true, it is a frame of RFC
--- 9000 or DATAGRAM. A frame of PADDING (RFC 9000, section 19.1) includes the PADDING that follows, each byte of which
--- is a frame. The rest of the payload begins where it ends.
-pub record ReadsFront (strict basic : Bool) (payload : List ℕ) (before : List CGap) (stop : ℕ) (words : CFrame)
+-- The frame at the front is given as the iterator over the payload gives it, and breaks no rule. A frame of PADDING (RFC
+-- 9000, section 19.1) includes the PADDING that follows, each byte of which is a frame. The rest of the payload begins
+-- where it ends.
+pub record ReadsFront (rules : Rules) (payload : List ℕ) (before : List CGap) (stop : ℕ) (words : CFrame)
     (after : List CGap) : Type 0 where
   pub frame : Frame
   pub next : IterState
   pub rest : IterState
-  pub finds : Finds (first_of strict payload) frame next
-  pub known : (basic ≡ true) × IsExtension (frame_kind_of frame) → ⊥
+  pub finds : Finds (first_of rules.short_types payload) frame next
+  pub kept : Keeps rules finds.found
   pub run : frame_kind_of frame ≡ 0 → (more : ℕ) × PassesPadding next more rest
   pub one : 0 < frame_kind_of frame → rest ≡ next
   pub ends : stop ≡ rest.offset
   pub shows : ShowsFront stop finds.found.type frame before words after
 
--- The bytes don't begin with a valid frame, or only with one of that extension and `basic` is true, and the reason is
--- returned, with the type.
-pub record ReportsNone (strict basic : Bool) (payload : List ℕ) (result : ℤ) (words : CFrame) : Type 0 where
+-- The bytes don't begin with a valid frame, or with one that breaks a rule, and the reason is returned, with the type.
+pub record ReportsNone (rules : Rules) (payload : List ℕ) (result : ℤ) (words : CFrame) : Type 0 where
   pub reported : Invalid
-  pub first : IsRefusedFrame basic (first_of strict payload) reported
+  pub first : IsRefusedFrame rules (first_of rules.short_types payload) reported
   pub reason : result ≡ failed (frame_failure reported.reason)
   pub is : words ≡ invalid_words 0 (type_word reported.type)
 
 -- What a call for the frame at the front returns and leaves: where the frame ends, with its words; that there is no
 -- byte, and nothing changes; or the reason why a frame isn't given, with its type, and no entry changes.
-pub record AnswersRead (strict basic : Bool) (payload : List ℕ) (before : CFrame) (room : List CGap) (result : ℤ)
+pub record AnswersRead (rules : Rules) (payload : List ℕ) (before : CFrame) (room : List CGap) (result : ℤ)
     (after : CFrame) (gaps : List CGap) : Type 0 where
-  pub returns : (result ≡ failed failure.PayloadEmpty) ⊎ ReportsNone strict basic payload result after
-      ⊎ ((stop : ℕ) × (result ≡ pos stop) × ReadsFront strict basic payload room stop after gaps)
+  pub returns : (result ≡ failed failure.PayloadEmpty) ⊎ ReportsNone rules payload result after
+      ⊎ ((stop : ℕ) × (result ≡ pos stop) × ReadsFront rules payload room stop after gaps)
   pub empty : (result ≡ failed failure.PayloadEmpty) ↔ (payload ≡ [])
   pub same : result ≡ failed failure.PayloadEmpty → after ≡ before
   pub kept : ((stop : ℕ) × (result ≡ pos stop)) ⊎ (gaps ≡ room)

@@ -1,9 +1,10 @@
 -- Frames and iterators over a payload as C sees them.
-use Rattle.std.specs.Prelude.{◌≡◌, ℕ, ◌+◌, ◌-◌, ◌^◌, ◌⊎◌, List, [], ◌∷◌, length, nat_lt, Bool, Option, Some, None, not, ◌==◌, if◌then◌else◌}
+use Rattle.std.specs.Prelude.{ℕ, ◌+◌, ◌-◌, ◌^◌, bit_and, List, [], ◌∷◌, length, nat_lt, Bool, Option, Some, None, not, ◌==◌, if◌then◌else◌}
 use Rattle.quic_base.specs.Ids.{dir_number}
 use Rattle.quic_errors.specs.Types.{type_or_zero}
 use Rattle.quic_frames.specs.declared.frame.Frame.{Frame}
 use Rattle.quic_frames.specs.declared.frame.Frame.TheVariants as frames
+use Rattle.quic_frames.specs.declared.frame.rules.Rules.{Rules}
 use Rattle.quic_frame_fields.specs.declared.frame.close.Close.TheVariants as closes
 use Rattle.quic_frame_fields.specs.declared.frame.ack.EcnCounts.{EcnCounts}
 use Rattle.quic_frames.specs.IterState.{IterState}
@@ -15,13 +16,23 @@ abbrev pub type_word : Option ℕ → ℕ
 type_word None = 2 ^ 64 - 1
 type_word (Some n) = n
 
--- whether only the shortest encoding of a type counts, by the word for that: any word but 0 means so
-abbrev pub is_strict : ℕ → Bool
-is_strict strict = not (strict == 0)
+-- A flag, one bit, is set.
+abbrev pub has_flag : ℕ → ℕ → Bool
+has_flag flag flags = not (bit_and flags flag == 0)
 
--- the words at the front of a payload, with that word
+-- the rules of flags, whose other bits mean nothing here
+abbrev pub rules_in : ℕ → Rules
+rules_in flags = record {
+  short_types = has_flag 0x001 flags;
+  data_limit = has_flag 0x002 flags;
+  stream_limit = has_flag 0x004 flags;
+  tokens = has_flag 0x200 flags;
+  no_ack_frequency = has_flag 0x008 flags;
+}
+
+-- the words at the front of a payload, with these flags
 abbrev pub at_front : ℕ → CFrameIter
-at_front strict = record { offset = 0; last_type = 2 ^ 64 - 1; ended = 0; strict = strict }
+at_front flags = record { offset = 0; last_type = 2 ^ 64 - 1; ended = 0; flags = flags }
 
 -- a type in a word: every word from 2^62 on means none
 abbrev pub type_in : ℕ → Option ℕ
@@ -30,7 +41,7 @@ type_in n = if nat_lt n (2 ^ 62) then Some n else None
 -- how far an iterator has come over a payload, by the words that the caller keeps
 abbrev pub state_of : CFrameIter → List ℕ → IterState
 state_of f payload = record {
-  strict = is_strict f.strict;
+  strict = has_flag 0x001 f.flags;
   payload = payload;
   offset = f.offset;
   last = type_in f.last_type;
@@ -63,10 +74,6 @@ frame_kind_of (frames.Datagram d) = 0x30
 frame_kind_of (frames.AckFrequency f) = 0xaf
 frame_kind_of frames.ImmediateAck = 0x1f
 frame_kind_of frames.HandshakeDone = 0x1e
-
--- ACK_FREQUENCY and IMMEDIATE_ACK, whose types are unknown where the extension for ACK frequency wasn't negotiated
-abbrev pub IsExtension : ℕ → Type 0
-IsExtension kind = (kind ≡ 0xaf) ⊎ (kind ≡ 0x1f)
 
 abbrev pub counts_numbers : Option EcnCounts → List ℕ
 counts_numbers None = 0 ∷ 0 ∷ 0 ∷ []

@@ -1,15 +1,15 @@
 //! Reads the frames of a payload, as many with one call as the caller has room for.
-ghost use Rattle.std.specs.Prelude.{◌≡◌, ◌<◌, ◌≤◌, ◌↔◌, ◌⊎◌, [], true, false, pos, length, IfOk, IfErr};
-ghost use Rattle.quic_frames.specs.Walk.{first_of, invalid_of, IsSpent};
-ghost use Rattle.quic_c.specs.Shown.{state_of, at_front};
-ghost use Rattle.quic_c.specs.Answers.{IsRefusedFrame};
-ghost use Rattle.quic_c.specs.Filling.{AnswersFill, Fills, ReportsInvalid, further};
-ghost use Rattle.quic_results.specs.Results.{failed};
+ghost use Rattle.std.specs.Prelude.{◌≡◌, ◌<◌, length, IfOk, IfErr};
+ghost use Rattle.quic_frames.specs.Walk.{invalid_of, IsSpent};
+ghost use Rattle.quic_c.specs.Shown.{has_flag, rules_in};
+ghost use Rattle.quic_frames.specs.Checking.{IsRefusedFrame};
+ghost use Rattle.quic_c.specs.Filling.{AnswersFill, AnswersFirst, Fills, further};
 
-use crate::frames::{is_unknown, show_invalid, type_in, type_read, type_word, unknown};
+use crate::flags::{broken, is_broken, rules_in, types_alone};
+use crate::frames::{show_invalid, type_in, type_read, type_word};
 use crate::show::{parts_of, show_parts};
 use crate::words::{CFrame, CFrameIter};
-use quic_frames::frame::{FrameType, InvalidFrame, Iter};
+use quic_frames::frame::{FrameType, InvalidFrame, Iter, Rules};
 use quic_results::results::{Failure, frame_failure};
 
 // How far entries were filled.
@@ -28,12 +28,12 @@ struct Filled {
 #[inline(always)]
 fn fill<const COPY: usize>(
     iter: &mut Iter<'_>,
-    basic: bool,
+    rules: Rules,
     out: &mut [CFrame],
 ) -> Result<Filled, InvalidFrame>
-    ensures filled { IfOk result (λ f. Fills basic iter.old out.old (further iter.old f.end f.last) out.new f.count) }
+    ensures filled { IfOk result (λ f. Fills rules iter.old out.old (further iter.old f.end f.last) out.new f.count) }
     ensures none { IfOk result (λ f. f.count ≡ 0 → 0 < length out.old → IsSpent iter.old) }
-    ensures invalid { IfErr result (λ i. IsRefusedFrame basic iter.old (invalid_of i) × (out.new ≡ out.old)) }
+    ensures invalid { IfErr result (λ i. IsRefusedFrame rules iter.old (invalid_of i) × (out.new ≡ out.old)) }
 {
     let mut count = 0;
     let mut end = iter.offset();
@@ -49,9 +49,10 @@ fn fill<const COPY: usize>(
             }
             None => break,
         };
-        if is_unknown(basic, &frame) {
+        let breach = rules.breach(&frame);
+        if is_broken(breach) {
             if count == 0 {
-                return Err(unknown(parts_of(&frame).kind));
+                return Err(broken(iter.last_type(), breach));
             }
             break;
         }
@@ -74,15 +75,16 @@ fn fill<const COPY: usize>(
 fn fill_on<const COPY: usize>(
     frames: &mut CFrameIter,
     payload: &[u8],
-    basic: bool,
+    rules: Rules,
     out: &mut [CFrame],
     count: &mut usize,
 ) -> i32
-    ensures { AnswersFill basic frames.old payload.now out.old count.old result frames.new out.new count.new }
+    requires { rules.short_types ≡ has_flag 0x001 frames.old.flags }
+    ensures { AnswersFill rules frames.old payload.now out.old count.old result frames.new out.new count.new }
 {
     let begin = frames.offset;
-    let strict = frames.strict != 0;
-    let Some(mut iter) = Iter::resume(payload, begin, type_in(frames.last_type), strict) else {
+    let last = type_in(frames.last_type);
+    let Some(mut iter) = Iter::resume(payload, begin, last, rules.short_types) else {
         return Failure::Place.number();
     };
     if out.is_empty() {
@@ -91,7 +93,7 @@ fn fill_on<const COPY: usize>(
     if frames.ended != 0 {
         return 0;
     }
-    match fill::<COPY>(&mut iter, basic, out) {
+    match fill::<COPY>(&mut iter, rules, out) {
         Ok(filled) => {
             if filled.count == 0 {
                 return 0;
@@ -109,11 +111,25 @@ fn fill_on<const COPY: usize>(
     }
 }
 
-/// The next frames (RFC 9000, section 19), as many as `out` has room for; a run of PADDING, each byte of which is a
-/// frame, is one entry. It returns 1 with how many entries were filled, at least one; 0 if no frame is left; the reason,
-/// once, with the type in the first entry, if the next bytes aren't a valid frame; `NoRoom` exactly if `out` has no entry
-/// and the place is in the payload; `Place` exactly if the place is outside of it. `count` changes only with 1, and
-/// nothing changes with 0, `NoRoom` and `Place`.
+// The next frames where frames are checked.
+#[inline(never)]
+fn fill_checked(
+    frames: &mut CFrameIter,
+    payload: &[u8],
+    out: &mut [CFrame],
+    count: &mut usize,
+) -> i32
+    ensures { AnswersFill (rules_in frames.old.flags) frames.old payload.now out.old count.old result frames.new out.new
+        count.new }
+{
+    fill_on::<3>(frames, payload, rules_in(frames.flags), out, count)
+}
+
+/// The next frames (RFC 9000, section 19), as many as `out` has room for, by the rules of the iterator's flags; a run of
+/// PADDING, each byte of which is a frame, is one entry. It returns 1 with how many entries were filled, at least one; 0
+/// if no frame is left; the reason, once, with the type in the first entry, if the next bytes aren't a valid frame or are
+/// one that breaks a rule; `NoRoom` exactly if `out` has no entry and the place is in the payload; `Place` exactly if the
+/// place is outside of it. `count` changes only with 1, and nothing changes with 0, `NoRoom` and `Place`.
 #[unsafe(no_mangle)]
 pub extern "C" fn quic_wire_frames_fill_(
     frames: &mut CFrameIter,
@@ -121,63 +137,44 @@ pub extern "C" fn quic_wire_frames_fill_(
     out: &mut [CFrame],
     count: &mut usize,
 ) -> i32
-    ensures answers { AnswersFill false frames.old payload.now out.old count.old result frames.new out.new count.new }
+    ensures answers { AnswersFill (rules_in frames.old.flags) frames.old payload.now out.old count.old result frames.new
+        out.new count.new }
 {
-    fill_on::<1>(frames, payload, false, out, count)
+    let Some(rules) = types_alone(frames.flags) else {
+        return fill_checked(frames, payload, out, count);
+    };
+    fill_on::<1>(frames, payload, rules, out, count)
 }
 
-/// The same, but a frame of the extension for ACK frequency has an unknown type: `FrameType`.
-#[unsafe(no_mangle)]
-pub extern "C" fn quic_wire_frames_fill_basic_(
+// Begins at the front of a payload with these flags, and fills entries with its first frames.
+#[inline(always)]
+fn first_by<const COPY: usize>(
     frames: &mut CFrameIter,
     payload: &[u8],
+    flags: u32,
+    rules: Rules,
     out: &mut [CFrame],
     count: &mut usize,
 ) -> i32
-    ensures answers { AnswersFill true frames.old payload.now out.old count.old result frames.new out.new count.new }
-{
-    fill_on::<2>(frames, payload, true, out, count)
-}
-
-/// Begins at the front of a payload and reads its first frames (RFC 9000, section 19), as `quic_wire_frames_init_` and
-/// then `quic_wire_frames_fill_` do. It returns 1 with how many entries were filled, at least one; `PayloadEmpty` exactly
-/// if the payload is empty, which is a PROTOCOL_VIOLATION (section 12.4); the reason, with the type in the first entry, if
-/// the payload doesn't begin with a valid frame; `NoRoom` exactly if the payload isn't empty and `out` has no entry.
-/// `count` changes only with 1, and nothing changes with `PayloadEmpty` and `NoRoom`.
-#[unsafe(no_mangle)]
-pub extern "C" fn quic_wire_frames_first_(
-    frames: &mut CFrameIter,
-    payload: &[u8],
-    out: &mut [CFrame],
-    count: &mut usize,
-) -> i32
-    ensures returns { (result ≡ pos 1) ⊎ (result ≡ failed Failure.PayloadEmpty) ⊎ (result ≡ failed Failure.NoRoom)
-        ⊎ ReportsInvalid false (at_front 0) payload.now out.old result frames.new out.new }
-    ensures frames { result ≡ pos 1
-        → (0 < count.new)
-        × Fills false (first_of false payload.now) out.old (state_of frames.new payload.now) out.new count.new }
-    ensures empty { (result ≡ failed Failure.PayloadEmpty) ↔ (payload.now ≡ []) }
-    ensures room { (result ≡ failed Failure.NoRoom) ↔ ((0 < length payload.now) × (out.old ≡ [])) }
-    ensures same { (result ≡ pos 1) ⊎ ReportsInvalid false (at_front 0) payload.now out.old result frames.new out.new
-        ⊎ ((frames.new ≡ frames.old) × (out.new ≡ out.old)) }
-    ensures counted { (result ≡ pos 1) ⊎ (count.new ≡ count.old) }
+    requires { rules ≡ rules_in flags }
+    ensures { AnswersFirst flags payload.now frames.old out.old count.old result frames.new out.new count.new }
 {
     if payload.is_empty() {
         return Failure::PayloadEmpty.number();
     }
-    let Some(mut iter) = Iter::resume(payload, 0, None, false) else {
+    let Some(mut iter) = Iter::resume(payload, 0, None, rules.short_types) else {
         return Failure::PayloadEmpty.number();
     };
     if out.is_empty() {
         return Failure::NoRoom.number();
     }
-    match fill::<0>(&mut iter, false, out) {
+    match fill::<COPY>(&mut iter, rules, out) {
         Ok(filled) => {
             *frames = CFrameIter {
                 offset: filled.end,
                 last_type: type_word(filled.last),
                 ended: 0,
-                strict: 0,
+                flags,
             };
             *count = filled.count;
             1
@@ -187,10 +184,45 @@ pub extern "C" fn quic_wire_frames_first_(
                 offset: 0,
                 last_type: u64::MAX,
                 ended: 1,
-                strict: 0,
+                flags,
             };
             out[0] = show_invalid(0, &invalid);
             frame_failure(invalid.reason).number()
         }
     }
+}
+
+// The same where frames are checked.
+#[inline(never)]
+fn first_checked(
+    frames: &mut CFrameIter,
+    payload: &[u8],
+    flags: u32,
+    out: &mut [CFrame],
+    count: &mut usize,
+) -> i32
+    ensures { AnswersFirst flags payload.now frames.old out.old count.old result frames.new out.new count.new }
+{
+    first_by::<2>(frames, payload, flags, rules_in(flags), out, count)
+}
+
+/// Begins at the front of a payload and reads its first frames (RFC 9000, section 19), as `quic_wire_frames_init_` and
+/// then `quic_wire_frames_fill_` do. It returns 1 with how many entries were filled, at least one; `PayloadEmpty` exactly
+/// if the payload is empty, which is a PROTOCOL_VIOLATION (section 12.4); the reason, with the type in the first entry, if
+/// the payload doesn't begin with a valid frame or begins with one that breaks a rule; `NoRoom` exactly if the payload
+/// isn't empty and `out` has no entry. `count` changes only with 1, and nothing changes with `PayloadEmpty` and `NoRoom`.
+#[unsafe(no_mangle)]
+pub extern "C" fn quic_wire_frames_first_(
+    frames: &mut CFrameIter,
+    payload: &[u8],
+    flags: u32,
+    out: &mut [CFrame],
+    count: &mut usize,
+) -> i32
+    ensures answers { AnswersFirst flags payload.now frames.old out.old count.old result frames.new out.new count.new }
+{
+    let Some(rules) = types_alone(flags) else {
+        return first_checked(frames, payload, flags, out, count);
+    };
+    first_by::<0>(frames, payload, flags, rules, out, count)
 }

@@ -1,16 +1,16 @@
 //! Reads the frames of a payload, one with each call.
-ghost use Rattle.std.specs.Prelude.{◌≡◌, ◌<◌, ◌≤◌, ◌^◌, ◌-◌, ◌↔◌, ◌⊎◌, ℕ, [], ◌∷◌, pos, length, codes, IsTrue, true, false, None};
+ghost use Rattle.std.specs.Prelude.{◌≡◌, ◌<◌, ◌≤◌, ◌^◌, ◌↔◌, ◌⊎◌, [], pos, length};
 ghost use Rattle.quic_frames.specs.declared.frame.Frame.{Frame};
-ghost use Rattle.quic_frame_fields.specs.Reading.{Invalid, Broken, invalid};
 ghost use Rattle.quic_frames.specs.IterState.{IterState};
-ghost use Rattle.quic_frames.specs.Walk.{first_of, invalid_of, Finds};
-ghost use Rattle.quic_c.specs.Shown.{state_of, at_front, is_strict, frame_kind_of, type_in, type_word, frame_words, invalid_words, IsExtension};
-ghost use Rattle.quic_c.specs.Answers.{AnswersNext, GivesInvalid, unknown_type};
+ghost use Rattle.quic_frames.specs.Walk.{first_of, Finds};
+ghost use Rattle.quic_c.specs.Shown.{state_of, at_front, has_flag, rules_in, type_in, type_word, invalid_words};
+ghost use Rattle.quic_c.specs.Answers.{AnswersNext};
 ghost use Rattle.quic_results.specs.Results.{failed, frame_failure};
 
-use crate::show::{parts_of, show};
+use crate::flags::{broken, is_broken, rules_in, types_alone};
+use crate::show::show;
 use crate::words::{CFrame, CFrameIter};
-use quic_frames::frame::{Frame, FrameType, InvalidFrame, Iter};
+use quic_frames::frame::{FrameType, InvalidFrame, Iter, Rules};
 use quic_results::results::{Failure, frame_failure};
 
 // The type in a word, if there is one.
@@ -47,36 +47,19 @@ pub(crate) fn type_read(iter: &Iter<'_>) -> u64
     ty.into_inner()
 }
 
-// Whether the frame is one of the extension for ACK frequency, if `basic` makes these unknown.
-#[inline(always)]
-pub(crate) fn is_unknown(basic: bool, frame: &Frame<'_>) -> bool
-    ensures { IsTrue result ↔ (basic ≡ true) × IsExtension (frame_kind_of frame.now) }
-{
-    match frame {
-        Frame::AckFrequency(_) => basic,
-        Frame::ImmediateAck => basic,
-        _ => false,
-    }
-}
-
-// What is reported of a frame of this kind if its type is unknown.
-#[inline(never)]
-pub(crate) fn unknown(kind: u16) -> InvalidFrame
-    ensures { invalid_of result ≡ unknown_type kind }
-{
-    InvalidFrame {
-        ty: Some(FrameType::of(u64::from(kind))),
-        reason: "invalid frame ID",
-    }
-}
-
-// Begins at the front of a payload, with the word for strict reading.
-#[inline(always)]
-fn begin(frames: &mut CFrameIter, payload: &[u8], strict: u32) -> i32
+/// Begins at the front of a payload, to read it by the rules of these flags. It returns 0, or `PayloadEmpty` exactly if
+/// the payload is empty, which is a PROTOCOL_VIOLATION (RFC 9000, section 12.4); then nothing changes.
+#[unsafe(no_mangle)]
+pub extern "C" fn quic_wire_frames_init_(
+    frames: &mut CFrameIter,
+    payload: &[u8],
+    flags: u32,
+) -> i32
     ensures returns { (result ≡ pos 0) ⊎ (result ≡ failed Failure.PayloadEmpty) }
     ensures empty { (result ≡ failed Failure.PayloadEmpty) ↔ (payload.now ≡ []) }
-    ensures front { result ≡ pos 0 → frames.new ≡ at_front strict }
-    ensures first { result ≡ pos 0 → state_of frames.new payload.now ≡ first_of (is_strict strict) payload.now }
+    ensures front { result ≡ pos 0 → frames.new ≡ at_front flags }
+    ensures first { result ≡ pos 0
+        → state_of frames.new payload.now ≡ first_of (rules_in flags).short_types payload.now }
     ensures refused { result ≡ failed Failure.PayloadEmpty → frames.new ≡ frames.old }
 {
     if payload.is_empty() {
@@ -86,35 +69,9 @@ fn begin(frames: &mut CFrameIter, payload: &[u8], strict: u32) -> i32
         offset: 0,
         last_type: u64::MAX,
         ended: 0,
-        strict,
+        flags,
     };
     0
-}
-
-/// Begins at the front of a payload. It returns 0, or `PayloadEmpty` exactly if the payload is empty, which is a
-/// PROTOCOL_VIOLATION (RFC 9000, section 12.4); then nothing changes.
-#[unsafe(no_mangle)]
-pub extern "C" fn quic_wire_frames_init_(frames: &mut CFrameIter, payload: &[u8]) -> i32
-    ensures returns { (result ≡ pos 0) ⊎ (result ≡ failed Failure.PayloadEmpty) }
-    ensures empty { (result ≡ failed Failure.PayloadEmpty) ↔ (payload.now ≡ []) }
-    ensures front { result ≡ pos 0 → frames.new ≡ at_front 0 }
-    ensures first { result ≡ pos 0 → state_of frames.new payload.now ≡ first_of false payload.now }
-    ensures refused { result ≡ failed Failure.PayloadEmpty → frames.new ≡ frames.old }
-{
-    begin(frames, payload, 0)
-}
-
-/// The same, but a type that is not in its shortest encoding is an error (RFC 9000, section 12.4). Other fields may
-/// have any width.
-#[unsafe(no_mangle)]
-pub extern "C" fn quic_wire_frames_init_strict_(frames: &mut CFrameIter, payload: &[u8]) -> i32
-    ensures returns { (result ≡ pos 0) ⊎ (result ≡ failed Failure.PayloadEmpty) }
-    ensures empty { (result ≡ failed Failure.PayloadEmpty) ↔ (payload.now ≡ []) }
-    ensures front { result ≡ pos 0 → frames.new ≡ at_front 1 }
-    ensures first { result ≡ pos 0 → state_of frames.new payload.now ≡ first_of true payload.now }
-    ensures refused { result ≡ failed Failure.PayloadEmpty → frames.new ≡ frames.old }
-{
-    begin(frames, payload, 1)
 }
 
 // An error as words.
@@ -150,20 +107,21 @@ fn refuse(begin: usize, invalid: &InvalidFrame, frames: &mut CFrameIter, out: &m
 #[inline(always)]
 fn give_next<const COPY: usize>(
     iter: &mut Iter<'_>,
-    basic: bool,
+    rules: Rules,
     frames: &mut CFrameIter,
     out: &mut CFrame,
 ) -> i32
     requires state { state_of frames.old iter.old.payload ≡ iter.old }
     requires within { frames.old.offset ≤ length iter.old.payload }
-    ensures { AnswersNext basic frames.old iter.old.payload out.old result frames.new out.new }
+    ensures { AnswersNext rules frames.old iter.old.payload out.old result frames.new out.new }
 {
     let begin = frames.offset;
     match iter.next() {
         None => 0,
         Some(Ok(frame)) => {
-            if is_unknown(basic, &frame) {
-                return refuse(begin, &unknown(parts_of(&frame).kind), frames, out);
+            let breach = rules.breach(&frame);
+            if is_broken(breach) {
+                return refuse(begin, &broken(iter.last_type(), breach), frames, out);
             }
             let (end, ty) = (iter.offset(), type_read(iter));
             *out = show(begin, end, ty as u16, &frame);
@@ -180,47 +138,47 @@ fn give_next<const COPY: usize>(
 fn next_on<const PADDING: usize, const OTHER: usize>(
     frames: &mut CFrameIter,
     payload: &[u8],
-    basic: bool,
+    rules: Rules,
     out: &mut CFrame,
 ) -> i32
-    ensures { AnswersNext basic frames.old payload.now out.old result frames.new out.new }
+    requires { rules.short_types ≡ has_flag 0x001 frames.old.flags }
+    ensures { AnswersNext rules frames.old payload.now out.old result frames.new out.new }
 {
     let begin = frames.offset;
-    let strict = frames.strict != 0;
-    let Some(mut iter) = Iter::resume(payload, begin, type_in(frames.last_type), strict) else {
+    let last = type_in(frames.last_type);
+    let Some(mut iter) = Iter::resume(payload, begin, last, rules.short_types) else {
         return Failure::Place.number();
     };
     if frames.ended != 0 {
         return 0;
     }
     match payload[begin..].first() {
-        Some(0) => give_next::<PADDING>(&mut iter, basic, frames, out),
-        _ => give_next::<OTHER>(&mut iter, basic, frames, out),
+        Some(0) => give_next::<PADDING>(&mut iter, rules, frames, out),
+        _ => give_next::<OTHER>(&mut iter, rules, frames, out),
     }
 }
 
-/// The next frame (RFC 9000, section 19). It returns 1 with the frame; 0 if none is left, and nothing changes; the
-/// reason, once, with the type, if the next bytes aren't a valid frame; `Place` exactly if the place is outside of the
-/// payload, and nothing changes.
+// The next frame where frames are checked.
+#[inline(never)]
+fn next_checked(frames: &mut CFrameIter, payload: &[u8], out: &mut CFrame) -> i32
+    ensures { AnswersNext (rules_in frames.old.flags) frames.old payload.now out.old result frames.new out.new }
+{
+    next_on::<2, 3>(frames, payload, rules_in(frames.flags), out)
+}
+
+/// The next frame (RFC 9000, section 19), by the rules of the iterator's flags. It returns 1 with the frame; 0 if none is
+/// left, and nothing changes; the reason, once, with the type, if the next bytes aren't a valid frame or are one that
+/// breaks a rule; `Place` exactly if the place is outside of the payload, and nothing changes.
 #[unsafe(no_mangle)]
 pub extern "C" fn quic_wire_frames_next_(
     frames: &mut CFrameIter,
     payload: &[u8],
     out: &mut CFrame,
 ) -> i32
-    ensures returns { AnswersNext false frames.old payload.now out.old result frames.new out.new }
+    ensures returns { AnswersNext (rules_in frames.old.flags) frames.old payload.now out.old result frames.new out.new }
 {
-    next_on::<0, 1>(frames, payload, false, out)
-}
-
-/// The same, but a frame of the extension for ACK frequency has an unknown type: `FrameType`.
-#[unsafe(no_mangle)]
-pub extern "C" fn quic_wire_frames_next_basic_(
-    frames: &mut CFrameIter,
-    payload: &[u8],
-    out: &mut CFrame,
-) -> i32
-    ensures returns { AnswersNext true frames.old payload.now out.old result frames.new out.new }
-{
-    next_on::<2, 3>(frames, payload, true, out)
+    let Some(rules) = types_alone(frames.flags) else {
+        return next_checked(frames, payload, out);
+    };
+    next_on::<0, 1>(frames, payload, rules, out)
 }

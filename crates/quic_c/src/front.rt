@@ -4,16 +4,17 @@ ghost use Rattle.quic_frame_fields.specs.Field.{AreBelow};
 ghost use Rattle.quic_frames.specs.declared.frame.Frame.TheVariants as frames;
 ghost use Rattle.quic_frames.specs.Padding.{PassesPadding};
 ghost use Rattle.quic_frames.specs.Walk.{left, first_of, resumed};
-ghost use Rattle.quic_c.specs.Shown.{frame_kind_of, frame_words, invalid_words, is_strict, type_word};
+ghost use Rattle.quic_c.specs.Shown.{frame_kind_of, frame_words, invalid_words, rules_in, type_word};
 ghost use Rattle.quic_c.specs.Front.{AnswersRead, FillsGaps, ShowsAck, ShowsFront, moved_by, reported_behind};
 ghost use Rattle.quic_results.specs.Results.{failed, frame_failure};
 
-use crate::frames::{is_unknown, show_invalid, type_read, unknown};
+use crate::flags::{broken, is_broken, rules_in, types_alone};
+use crate::frames::{show_invalid, type_read};
 use crate::show::{parts_of, show};
 use crate::words::{CFrame, CGap};
 use quic_base::coding::are_bytes;
 use quic_base::varint::split_var;
-use quic_frames::frame::{Ack, Frame, InvalidFrame, Iter};
+use quic_frames::frame::{Ack, Frame, InvalidFrame, Iter, Rules};
 use quic_results::results::{Failure, frame_failure};
 
 // Fills entries with the ranges below another one, as gap and length: how many, and whether none is left.
@@ -124,24 +125,24 @@ fn none_left() -> i64
 #[inline(always)]
 fn read_front<const COPY: usize>(
     payload: &[u8],
-    strict: bool,
-    basic: bool,
+    rules: Rules,
     out: &mut CFrame,
     gaps: &mut [CGap],
 ) -> i64
-    ensures { AnswersRead strict basic payload.now out.old gaps.old result out.new gaps.new }
+    ensures { AnswersRead rules payload.now out.old gaps.old result out.new gaps.new }
 {
     if payload.is_empty() {
         return none_left();
     }
-    let Some(mut iter) = Iter::resume(payload, 0, None, strict) else {
+    let Some(mut iter) = Iter::resume(payload, 0, None, rules.short_types) else {
         return none_left();
     };
     match iter.next() {
         None => none_left(),
         Some(Ok(frame)) => {
-            if is_unknown(basic, &frame) {
-                return refuse(&unknown(parts_of(&frame).kind), out);
+            let breach = rules.breach(&frame);
+            if is_broken(breach) {
+                return refuse(&broken(iter.last_type(), breach), out);
             }
             let ty = type_read(&iter);
             let end = pass_run(&mut iter, &frame);
@@ -152,67 +153,57 @@ fn read_front<const COPY: usize>(
     }
 }
 
-// An ACK, or another frame with the same first byte, by a call that isn't inlined.
+// A frame where frames are checked, by a copy for STREAM and one for the others.
 #[inline(never)]
-fn read_ack(payload: &[u8], strict: bool, basic: bool, out: &mut CFrame, gaps: &mut [CGap]) -> i64
-    ensures { AnswersRead strict basic payload.now out.old gaps.old result out.new gaps.new }
+fn read_checked(payload: &[u8], flags: u32, out: &mut CFrame, gaps: &mut [CGap]) -> i64
+    ensures { AnswersRead (rules_in flags) payload.now out.old gaps.old result out.new gaps.new }
 {
-    if !payload.is_empty() && payload[0] & 0xfe == 0x02 {
-        return read_front::<0>(payload, strict, basic, out, gaps);
+    let rules = rules_in(flags);
+    if !payload.is_empty() && payload[0] & 0xf8 == 0x08 {
+        return read_front::<3>(payload, rules, out, gaps);
     }
-    read_front::<1>(payload, strict, basic, out, gaps)
+    read_front::<4>(payload, rules, out, gaps)
 }
 
-// Reads the frame at the front; for STREAM by a copy that is inlined into the caller.
-#[inline(always)]
-fn read_by<const STREAM: usize>(
+// An ACK, or a frame with another first byte, or any where frames are checked, by a call that isn't inlined.
+#[inline(never)]
+fn read_other(payload: &[u8], flags: u32, out: &mut CFrame, gaps: &mut [CGap]) -> i64
+    ensures { AnswersRead (rules_in flags) payload.now out.old gaps.old result out.new gaps.new }
+{
+    let Some(rules) = types_alone(flags) else {
+        return read_checked(payload, flags, out, gaps);
+    };
+    if !payload.is_empty() && payload[0] & 0xfe == 0x02 {
+        return read_front::<0>(payload, rules, out, gaps);
+    }
+    read_front::<1>(payload, rules, out, gaps)
+}
+
+/// Reads the frame at the front of the rest of a payload (RFC 9000, section 19), by the rules of these flags. It returns
+/// where the frame ends, with its words, whose places count from this front; a run of PADDING, each byte of which is a
+/// frame, is one. For an ACK the length of data is the first range, less one, and the ranges below it are filled into
+/// `gaps` as gap and length, as many as there is room for; the offset of data is how many were filled, and `flags` has 4
+/// if there are more. It returns `PayloadEmpty` exactly if nothing is left; the reason, with the type in `out`, if the
+/// bytes don't begin with a valid frame or begin with one that breaks a rule. `out` doesn't change with `PayloadEmpty`,
+/// and `gaps` changes only for an ACK.
+#[unsafe(no_mangle)]
+pub extern "C" fn quic_wire_frame_read_(
     payload: &[u8],
-    strict: bool,
-    basic: bool,
+    flags: u32,
     out: &mut CFrame,
     gaps: &mut [CGap],
 ) -> i64
-    ensures { AnswersRead strict basic payload.now out.old gaps.old result out.new gaps.new }
+    ensures answers { AnswersRead (rules_in flags) payload.now out.old gaps.old result out.new gaps.new }
 {
     if payload.is_empty() {
         return none_left();
     }
     if payload[0] & 0xf8 == 0x08 {
-        return read_front::<STREAM>(payload, strict, basic, out, gaps);
+        if let Some(rules) = types_alone(flags) {
+            return read_front::<2>(payload, rules, out, gaps);
+        }
     }
-    read_ack(payload, strict, basic, out, gaps)
-}
-
-/// Reads the frame at the front of the rest of a payload (RFC 9000, section 19). If `strict` isn't 0, a type that is
-/// not in its shortest encoding is an error (section 12.4). It returns where the frame ends, with its words, whose
-/// places count from this front; a run of PADDING, each byte of which is a frame, is one. For an ACK the length of data
-/// is the first range, less one, and the ranges below it are filled into `gaps` as gap and length, as many as there is
-/// room for; the offset of data is how many were filled, and `flags` has 4 if there are more. It returns `PayloadEmpty`
-/// exactly if nothing is left; the reason, with the type in `out`, if the bytes don't begin with a valid frame. `out`
-/// doesn't change with `PayloadEmpty`, and `gaps` changes only for an ACK.
-#[unsafe(no_mangle)]
-pub extern "C" fn quic_wire_frame_read_(
-    payload: &[u8],
-    strict: u32,
-    out: &mut CFrame,
-    gaps: &mut [CGap],
-) -> i64
-    ensures answers { AnswersRead (is_strict strict) false payload.now out.old gaps.old result out.new gaps.new }
-{
-    read_by::<2>(payload, strict != 0, false, out, gaps)
-}
-
-/// The same, but a frame of the extension for ACK frequency has an unknown type: `FrameType`.
-#[unsafe(no_mangle)]
-pub extern "C" fn quic_wire_frame_read_basic_(
-    payload: &[u8],
-    strict: u32,
-    out: &mut CFrame,
-    gaps: &mut [CGap],
-) -> i64
-    ensures answers { AnswersRead (is_strict strict) true payload.now out.old gaps.old result out.new gaps.new }
-{
-    read_by::<3>(payload, strict != 0, true, out, gaps)
+    read_other(payload, flags, out, gaps)
 }
 
 /// A payload can be read frame by frame, each at the front of what is left: what an iterator gives from a place on is

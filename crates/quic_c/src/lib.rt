@@ -8,6 +8,7 @@ mod codes;
 mod data_headers;
 mod fill;
 mod fill_ranges;
+mod flags;
 mod frames;
 mod front;
 mod rules;

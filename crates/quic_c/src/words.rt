@@ -10,8 +10,8 @@ pub struct CFrameIter {
     pub last_type: u64,
     /// 0 until something wasn't a valid frame.
     pub ended: u32,
-    /// Not 0: a type that is not in its shortest encoding is an error.
-    pub strict: u32,
+    /// Which rules frames are read by, as bits (`flags.rt`).
+    pub flags: u32,
 }
 
 /// A frame.

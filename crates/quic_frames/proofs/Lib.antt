@@ -4,6 +4,7 @@ mod Rows
 mod Frames
 pub mod Items
 pub mod Readings
+pub mod Checks
 mod Later
 mod Reasons
 mod Finding
@@ -11,6 +12,7 @@ mod Placing
 mod Places
 mod Padding
 pub mod Turns
+pub mod Checking
 mod SizeBounds
 mod LeastFields
 mod LeastFrames

@@ -23,6 +23,8 @@ pub mod Least
 pub mod IterState
 pub mod Walk
 pub mod Padding
+pub mod Rules
+pub mod Checking
 pub mod Found
 pub mod Placed
 pub mod Written

@@ -5,6 +5,7 @@ use quic_base::ids::{Dir, StreamId};
 use quic_base::varint::VarInt;
 
 mod bounds;
+mod checked;
 mod encode;
 mod encode_into;
 mod field;
@@ -12,8 +13,10 @@ mod found;
 mod in_range;
 mod iter;
 mod reading;
+pub mod rules;
 mod size_bound;
 
+pub use checked::Checked;
 pub use iter::Iter;
 pub use quic_errors::frame_type::FrameType;
 pub use quic_errors::invalid_frame::InvalidFrame;
@@ -22,6 +25,7 @@ pub use quic_frame_fields::frame::{
     Datagram, EcnCounts, NewConnectionId, NewToken, ResetStream, StopSending, Stream, StreamMeta,
     StreamMetaVec, split_ack, split_first_range,
 };
+pub use rules::{Breach, Rules};
 pub use size_bound::{FrameStruct, RETIRE_CONNECTION_ID_SIZE_BOUND};
 
 /// A frame of a payload, whose bytes it borrows. Numbers that were read are below 2^62, except for the eight bytes of

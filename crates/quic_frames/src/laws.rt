@@ -14,6 +14,8 @@ ghost use Rattle.quic_frames.specs.Meaning.{meaning_of};
 ghost use Rattle.quic_frame_fields.specs.Payload.{Meaning, TypedFrame, IsFrame, AreFrames, AreClosed, IsBroken, Reading, Complete, IsReadingAfter, IsReadingOf, followed_by, last_type};
 ghost use Rattle.quic_frame_fields.specs.Reading.{Broken, invalid, items_of, reason_text};
 ghost use Rattle.quic_errors.specs.Codes.{long_type_reason};
+ghost use Rattle.quic_frames.specs.Rules.{IsCheckedAfter, only_types, unchecked};
+ghost use Rattle.quic_frames.specs.declared.frame.rules.Rules.{Rules};
 ghost use Rattle.quic_frames.specs.Placed.{Placed, ArePlaced, IsPlacedBroken, found_in, whole};
 ghost use Rattle.quic_frame_fields.specs.Shortest.{shortest_frame, stream_header};
 ghost use Rattle.quic_frame_fields.specs.declared.frame.Stream.{Stream};
@@ -153,4 +155,14 @@ pub fn retire_connection_id_is_bounded()
     ensures bounds { (last : Bool) (sequence : ℕ)
         → length (shortest_frame last
         (meaning_of (frames.RetireConnectionId sequence))) ≤ RETIRE_CONNECTION_ID_SIZE_BOUND }
+{}
+
+/// By rules a payload has one reading, too. Where no frame is checked, as by `Rules::default()`, it is that of the
+/// iterator without rules.
+pub fn checked_readings()
+    ensures one { (rules : Rules) (before : Option ℕ) (bytes : List ℕ) → AreBytes bytes
+        → ExactlyOne (IsCheckedAfter rules before bytes) }
+    ensures plain { (short_types : Bool) (before : Option ℕ) (bytes : List ℕ) (reading : Reading)
+        → IsReadingAfter short_types before bytes reading
+        → IsCheckedAfter (only_types short_types) before bytes (unchecked reading) }
 {}

@@ -56,9 +56,11 @@ pub enum Reason {
     InvalidFrameId,
     /// A field has a forbidden value.
     Malformed,
-    /// The type is not in its shortest encoding; only strict iterators reject it
-    /// ([`Iter::strict`](super::Iter::strict)).
+    /// The type is not in its shortest encoding, and must be ([`Rules::short_types`](super::Rules::short_types)).
     LongType,
+    /// Data end past 2^62 - 1, or there are more than 2^60 streams ([`Rules::data_limit`](super::Rules::data_limit),
+    /// [`Rules::stream_limit`](super::Rules::stream_limit)).
+    LimitExceeded,
 }
 
 impl Reason {
@@ -73,6 +75,7 @@ impl Reason {
             Reason::InvalidFrameId => "invalid frame ID",
             Reason::Malformed => "malformed",
             Reason::LongType => "frame type not in shortest form",
+            Reason::LimitExceeded => "limit exceeded",
         }
     }
 }
@@ -102,6 +105,7 @@ pub(crate) fn invalid_by(last_type: u64, answer: i32) -> InvalidFrame {
             sys::FRAME_END => Reason::UnexpectedEnd,
             sys::FRAME_TYPE => Reason::InvalidFrameId,
             sys::FRAME_LONG_TYPE => Reason::LongType,
+            sys::FRAME_LIMIT => Reason::LimitExceeded,
             _ => Reason::Malformed,
         },
     }

@@ -1,7 +1,7 @@
 //! A payload read frame by frame.
 use super::{
     invalid_by, Ack, AckFrequency, ApplicationClose, Close, ConnectionClose, Crypto, Datagram, Dir, EmptyPayload,
-    Frame, FrameType, InvalidFrame, NewConnectionId, NewToken, ResetStream, StopSending, Stream, StreamId,
+    Frame, FrameType, InvalidFrame, NewConnectionId, NewToken, ResetStream, Rules, StopSending, Stream, StreamId,
 };
 use crate::sys;
 use crate::text::Short;
@@ -12,7 +12,7 @@ use core::mem::MaybeUninit;
 use core::ops::Range;
 
 /// The frames of a payload, and then one [`InvalidFrame`] if the rest isn't a valid frame. A run of PADDING is a frame
-/// for each type, mostly a byte. It is 48 bytes; [`Iter::fill`] reads many frames with one call.
+/// for each type, mostly a byte. It is 40 bytes; [`Iter::fill`] reads many frames with one call.
 ///
 /// ```
 /// use quic_wire::frame::{Frame, Iter};
@@ -24,10 +24,8 @@ use core::ops::Range;
 #[derive(Clone)]
 pub struct Iter<'a> {
     payload: &'a [u8],
-    // The end of the last whole frame, and its type.
+    // The end of the last whole frame, its type, and the rules.
     state: sys::Frames,
-    // Whether ACK_FREQUENCY and IMMEDIATE_ACK are of unknown types.
-    basic: bool,
 }
 
 impl<'a> Iter<'a> {
@@ -45,7 +43,7 @@ impl<'a> Iter<'a> {
     /// Where it is empty.
     #[inline]
     pub fn new(payload: &'a [u8]) -> Result<Self, EmptyPayload> {
-        Iter::begin(payload, false)
+        Iter::with_rules(payload, Rules::default())
     }
 
     /// The same, but a type that is not in its shortest encoding is an error (RFC 9000, section 12.4). Other fields may
@@ -64,57 +62,55 @@ impl<'a> Iter<'a> {
     /// Where it is empty.
     #[inline]
     pub fn strict(payload: &'a [u8]) -> Result<Self, EmptyPayload> {
-        Iter::begin(payload, true)
+        Iter::with_rules(payload, Rules { short_types: true, ..Rules::default() })
     }
 
+    /// The same, but each frame is checked by `rules`, and the first that breaks one is an error.
+    ///
+    /// ```
+    /// use quic_wire::frame::{Frame, Iter, Reason, Rules};
+    /// let payload = [0x01, 0x07, 0x00]; // PING, and a NEW_TOKEN without a token
+    /// assert!(Iter::new(&payload)?.all(|frame| frame.is_ok()));
+    /// let mut frames = Iter::with_rules(&payload, Rules::RFC)?;
+    /// assert_eq!(frames.next(), Some(Ok(Frame::Ping)));
+    /// let error = frames.next().unwrap().unwrap_err();
+    /// assert_eq!((error.reason, frames.next()), (Reason::Malformed, None));
+    /// assert_eq!(error.to_string(), "malformed in NEW_TOKEN");
+    /// # Ok::<(), quic_wire::Error>(())
+    /// ```
+    ///
+    /// # Errors
+    ///
+    /// Where it is empty.
     #[inline]
-    fn begin(payload: &'a [u8], strict: bool) -> Result<Self, EmptyPayload> {
+    pub fn with_rules(payload: &'a [u8], rules: Rules) -> Result<Self, EmptyPayload> {
         if payload.is_empty() {
             return Err(EmptyPayload);
         }
-        let state = sys::Frames { offset: 0, last_type: u64::MAX, ended: 0, strict: u32::from(strict) };
-        Ok(Iter { payload, state, basic: false })
-    }
-
-    /// The same frames, but that ACK_FREQUENCY and IMMEDIATE_ACK are of unknown types, as they are where the ACK
-    /// frequency extension wasn't negotiated. One with an invalid field is reported for that field instead.
-    ///
-    /// ```
-    /// use quic_wire::frame::{Frame, Iter, Reason};
-    /// let payload = [0x01, 0x1f];
-    /// assert!(Iter::strict(&payload)?.eq([Ok(Frame::Ping), Ok(Frame::ImmediateAck)]));
-    /// let mut frames = Iter::strict(&payload)?.without_ack_frequency();
-    /// assert_eq!(frames.next(), Some(Ok(Frame::Ping)));
-    /// let error = frames.next().unwrap().unwrap_err();
-    /// assert_eq!((error.reason, frames.next()), (Reason::InvalidFrameId, None));
-    /// assert_eq!(error.to_string(), "invalid frame ID in IMMEDIATE_ACK");
-    /// # Ok::<(), quic_wire::Error>(())
-    /// ```
-    #[inline]
-    pub fn without_ack_frequency(self) -> Self {
-        Iter { basic: true, ..self }
+        let state = sys::Frames { offset: 0, last_type: u64::MAX, ended: 0, flags: rules.flags() };
+        Ok(Iter { payload, state })
     }
 
     /// Goes on at a place in a payload, after a frame of the type `last_type`: for an owner of the payload that can't
     /// keep a borrow of it, and keeps [`Iter::offset`] and [`Iter::last_type`]. `None` if the place is past the end.
     ///
     /// ```
-    /// use quic_wire::frame::{Frame, Iter};
+    /// use quic_wire::frame::{Frame, Iter, Rules};
     /// let payload = [0x01, 0x10, 0x05, 0x40];
     /// let mut frames = Iter::new(&payload)?;
     /// assert_eq!(frames.next(), Some(Ok(Frame::Ping)));
     /// let (offset, last_type) = (frames.offset(), frames.last_type());
     ///
-    /// let mut frames = Iter::resume(&payload, offset, last_type, false).unwrap();
+    /// let mut frames = Iter::resume(&payload, offset, last_type, Rules::default()).unwrap();
     /// assert_eq!(frames.next(), Some(Ok(Frame::MaxData(5))));
     /// assert_eq!(frames.next().unwrap().unwrap_err().to_string(), "unexpected end in MAX_DATA");
     /// # Ok::<(), quic_wire::Error>(())
     /// ```
     #[inline]
-    pub fn resume(payload: &'a [u8], offset: usize, last_type: Option<FrameType>, strict: bool) -> Option<Self> {
+    pub fn resume(payload: &'a [u8], offset: usize, last_type: Option<FrameType>, rules: Rules) -> Option<Self> {
         let last_type = last_type.map_or(u64::MAX, u64::from);
-        let state = sys::Frames { offset, last_type, ended: 0, strict: u32::from(strict) };
-        (offset <= payload.len()).then_some(Iter { payload, state, basic: false })
+        let state = sys::Frames { offset, last_type, ended: 0, flags: rules.flags() };
+        (offset <= payload.len()).then_some(Iter { payload, state })
     }
 
     /// The end of the last whole frame in the payload, in bytes.
@@ -157,7 +153,7 @@ impl<'a> Iter<'a> {
     /// ```
     #[inline]
     pub fn progress(&self) -> Progress {
-        Progress { state: self.state, basic: self.basic }
+        Progress { state: self.state }
     }
 
     /// The bytes that aren't read yet.
@@ -197,11 +193,9 @@ impl<'a> Iter<'a> {
         assert!(!entries.is_empty(), "frames are read into one entry at least");
         self.payload.get(self.state.offset)?;
         let mut count = 0;
-        match sys::frames_fill(&mut self.state, self.payload, self.basic, entries, &mut count) {
+        match sys::frames_fill(&mut self.state, self.payload, entries, &mut count) {
             sys::ITEM => Some(Ok(Batch { payload: self.payload, entries: entries[..count].iter() })),
-            answer @ sys::FRAME_LONG_TYPE..=sys::FRAME_END => {
-                Some(Err(invalid_by(entries[0].get().numbers[0], answer)))
-            }
+            answer @ sys::FRAME_LIMIT..=sys::FRAME_END => Some(Err(invalid_by(entries[0].get().numbers[0], answer))),
             _ => None,
         }
     }
@@ -221,7 +215,7 @@ impl<'a> Iterator for Iter<'a> {
             return Some(Ok(Frame::Padding));
         }
         let mut room = MaybeUninit::uninit();
-        match sys::frames_next(&mut self.state, self.payload, self.basic, &mut room) {
+        match sys::frames_next(&mut self.state, self.payload, &mut room) {
             (sys::ITEM, Some(frame)) => Some(Ok(frame_of(self.payload, frame))),
             (answer, Some(reported)) => Some(Err(invalid_by(reported.numbers[0], answer))),
             (_, None) => None,
@@ -232,10 +226,10 @@ impl<'a> Iterator for Iter<'a> {
 impl FusedIterator for Iter<'_> {}
 
 /// How far a payload was read, without a borrow of it: for an owner of the payload, which reads it frame by frame. It is
-/// 32 bytes.
+/// 24 bytes.
 ///
 /// ```
-/// use quic_wire::frame::{Frame, InvalidFrame, Iter, Progress};
+/// use quic_wire::frame::{Frame, InvalidFrame, Iter, Progress, Rules};
 /// struct Packet {
 ///     payload: Vec<u8>,
 ///     read: Progress,
@@ -246,7 +240,7 @@ impl FusedIterator for Iter<'_> {}
 ///     }
 /// }
 /// let payload = vec![0x01, 0x10, 0x05, 0x40];
-/// let read = Iter::strict(&payload)?.progress();
+/// let read = Iter::with_rules(&payload, Rules::RFC)?.progress();
 /// let mut packet = Packet { payload, read };
 /// assert_eq!(packet.next_frame(), Some(Ok(Frame::Ping)));
 /// assert_eq!(packet.next_frame(), Some(Ok(Frame::MaxData(5))));
@@ -257,7 +251,6 @@ impl FusedIterator for Iter<'_> {}
 #[derive(Clone, Copy, PartialEq, Eq, Hash)]
 pub struct Progress {
     state: sys::Frames,
-    basic: bool,
 }
 
 impl Progress {
@@ -275,7 +268,7 @@ impl Progress {
     /// ```
     #[inline]
     pub fn next<'a>(&mut self, payload: &'a [u8]) -> Option<Result<Frame<'a>, InvalidFrame>> {
-        let mut frames = Iter { payload, state: self.state, basic: self.basic };
+        let mut frames = Iter { payload, state: self.state };
         let item = frames.next();
         self.state = frames.state;
         item
@@ -292,8 +285,8 @@ impl Progress {
     /// ```
     #[inline]
     pub fn iter<'a>(&self, payload: &'a [u8]) -> Option<Iter<'a>> {
-        let Progress { state, basic } = *self;
-        (state.offset <= payload.len()).then_some(Iter { payload, state, basic })
+        let Progress { state } = *self;
+        (state.offset <= payload.len()).then_some(Iter { payload, state })
     }
 
     /// The end of the last whole frame in the payload, in bytes.
@@ -317,8 +310,7 @@ impl fmt::Debug for Progress {
         f.debug_struct("Progress")
             .field("offset", &self.state.offset)
             .field("last_type", &FrameType::new(self.state.last_type))
-            .field("strict", &(self.state.strict != 0))
-            .field("ack_frequency", &!self.basic)
+            .field("rules", &Rules::of(self.state.flags))
             .finish()
     }
 }
@@ -328,8 +320,7 @@ impl fmt::Debug for Iter<'_> {
         f.debug_struct("Iter")
             .field("offset", &self.offset())
             .field("last_type", &self.last_type())
-            .field("strict", &(self.state.strict != 0))
-            .field("ack_frequency", &!self.basic)
+            .field("rules", &Rules::of(self.state.flags))
             .field("rest", &Short(self.rest()))
             .finish()
     }
@@ -477,12 +468,12 @@ mod tests {
 
     #[test]
     fn padding_is_read_as_the_library_reads_it() {
-        for (behind, strict, basic) in (0..1024).map(|n| (n as u8, n & 256 != 0, n & 512 != 0)) {
+        for (behind, rules) in (0..512).map(|n| (n as u8, [Rules::default(), Rules::RFC][n / 256])) {
             let payload = [0x01, 0x00, behind];
-            let mut frames = Iter { basic, ..Iter::begin(&payload, strict).unwrap() };
+            let mut frames = Iter::with_rules(&payload, rules).unwrap();
             assert_eq!(frames.next(), Some(Ok(Frame::Ping)));
             let (mut state, mut room) = (frames.state, MaybeUninit::uninit());
-            let (answer, reported) = sys::frames_next(&mut state, &payload, basic, &mut room);
+            let (answer, reported) = sys::frames_next(&mut state, &payload, &mut room);
             assert_eq!((answer, reported.map(|frame| frame_of(&payload, frame))), (sys::ITEM, Some(Frame::Padding)));
             assert_eq!((frames.next(), frames.state), (Some(Ok(Frame::Padding)), state));
         }

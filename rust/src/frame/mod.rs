@@ -15,6 +15,7 @@ mod encode;
 mod headers;
 mod invalid;
 mod iter;
+mod rules;
 mod ty;
 
 pub use ack::{Ack, AckError, AckIter, AckPlace, EcnCounts};
@@ -23,6 +24,7 @@ pub use headers::{CryptoMeta, DatagramMeta, StreamMeta};
 pub(crate) use invalid::invalid_by;
 pub use invalid::{EmptyPayload, InvalidFrame, Reason};
 pub use iter::{Batch, Entry, Iter, Progress};
+pub use rules::Rules;
 pub use ty::{FrameType, NoFrameType};
 
 pub use crate::ids::{Dir, StreamId};

@@ -15,16 +15,7 @@ extern "C" {
         room: usize,
         count: *mut usize,
     ) -> i32;
-    pub fn quic_wire_frames_fill_basic_(
-        frames: *mut Frames,
-        payload: *const u8,
-        len: usize,
-        out: *mut Frame,
-        room: usize,
-        count: *mut usize,
-    ) -> i32;
     pub fn quic_wire_frames_next_(frames: *mut Frames, payload: *const u8, len: usize, out: *mut Frame) -> i32;
-    pub fn quic_wire_frames_next_basic_(frames: *mut Frames, payload: *const u8, len: usize, out: *mut Frame) -> i32;
     pub fn quic_wire_ack_ranges_init_unchecked_(
         ranges: *mut Ranges,
         payload: *const u8,
@@ -165,12 +156,12 @@ extern "C" {
     pub fn quic_wire_number_read_(bytes: *const u8, len: usize, number_len: u32, written: *mut u64) -> i32;
     pub fn quic_wire_number_write_(number: u64, number_len: u32, out: *mut u8, out_len: usize) -> i32;
     pub fn quic_wire_varint_len_(value: u64) -> usize;
-    pub fn quic_wire_frames_init_(frames: *mut Frames, payload: *const u8, len: usize) -> i32;
-    pub fn quic_wire_frames_init_strict_(frames: *mut Frames, payload: *const u8, len: usize) -> i32;
+    pub fn quic_wire_frames_init_(frames: *mut Frames, payload: *const u8, len: usize, flags: u32) -> i32;
     pub fn quic_wire_frames_first_(
         frames: *mut Frames,
         payload: *const u8,
         len: usize,
+        flags: u32,
         out: *mut Frame,
         room: usize,
         count: *mut usize,
@@ -178,15 +169,7 @@ extern "C" {
     pub fn quic_wire_frame_read_(
         payload: *const u8,
         len: usize,
-        strict: u32,
-        out: *mut Frame,
-        gaps: *mut Gap,
-        room: usize,
-    ) -> i64;
-    pub fn quic_wire_frame_read_basic_(
-        payload: *const u8,
-        len: usize,
-        strict: u32,
+        flags: u32,
         out: *mut Frame,
         gaps: *mut Gap,
         room: usize,

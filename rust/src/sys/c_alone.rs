@@ -4,7 +4,7 @@ extern crate std;
 
 use super::words::Gap;
 use super::{c, Entry, Frame, Frames, Range, Ranges, ITEM, NO_ROOM, OK, PAYLOAD_EMPTY};
-use crate::frame::{Ack, FrameType, Iter, Reason};
+use crate::frame::{Ack, FrameType, Iter, Reason, Rules};
 use crate::varint;
 use std::vec;
 use std::vec::Vec;
@@ -13,31 +13,24 @@ const INVALID: i32 = -1;
 const NOT_THERE: i32 = -2;
 const NO_LENGTH: i32 = -6;
 
-fn frames_init(frames: &mut Frames, payload: &[u8], strict: bool) -> i32 {
-    let init = if strict { c::quic_wire_frames_init_strict_ } else { c::quic_wire_frames_init_ };
+fn frames_init(frames: &mut Frames, payload: &[u8], flags: u32) -> i32 {
     // SAFETY: `payload` gives its own pointer and length; `frames` is borrowed alone. The library looks at no other
     // memory and keeps no pointer.
-    unsafe { init(frames, payload.as_ptr(), payload.len()) }
+    unsafe { c::quic_wire_frames_init_(frames, payload.as_ptr(), payload.len(), flags) }
 }
 
-fn frames_first(frames: &mut Frames, payload: &[u8], out: &mut [Frame], count: &mut usize) -> i32 {
+fn frames_first(frames: &mut Frames, payload: &[u8], flags: u32, out: &mut [Frame], count: &mut usize) -> i32 {
     let (bytes, len, entries, room) = (payload.as_ptr(), payload.len(), out.as_mut_ptr(), out.len());
     // SAFETY: `payload` and `out` each give their own pointer and length; `frames`, `out` and `count` are borrowed
     // alone. The library looks at no other memory and keeps no pointer.
-    unsafe { c::quic_wire_frames_first_(frames, bytes, len, entries, room, count) }
+    unsafe { c::quic_wire_frames_first_(frames, bytes, len, flags, entries, room, count) }
 }
 
-fn frame_read(payload: &[u8], strict: u32, basic: bool, out: &mut Frame, gaps: &mut [Gap]) -> i64 {
+fn frame_read(payload: &[u8], flags: u32, out: &mut Frame, gaps: &mut [Gap]) -> i64 {
     let (bytes, len, gaps, room) = (payload.as_ptr(), payload.len(), gaps.as_mut_ptr(), gaps.len());
     // SAFETY: `payload` and `gaps` each give their own pointer and length; `out` and `gaps` are borrowed alone. The
     // library looks at no other memory and keeps no pointer.
-    unsafe {
-        if basic {
-            c::quic_wire_frame_read_basic_(bytes, len, strict, out, gaps, room)
-        } else {
-            c::quic_wire_frame_read_(bytes, len, strict, out, gaps, room)
-        }
-    }
+    unsafe { c::quic_wire_frame_read_(bytes, len, flags, out, gaps, room) }
 }
 
 fn ack_ranges_init(ranges: &mut Ranges, payload: &[u8], frame: &Frame) -> i32 {
@@ -132,20 +125,21 @@ fn answer_of(reason: Reason) -> i32 {
         Reason::InvalidFrameId => -22,
         Reason::Malformed => -23,
         Reason::LongType => -24,
+        Reason::LimitExceeded => -25,
     }
 }
 
 const NO_GAP: Gap = Gap { gap: 0xa5, len: 0x5a };
 const NO_RANGE: Range = Range { start: 0xa5, end: 0x5a };
 
-/// `quic_wire_frames_init_` and `quic_wire_frames_init_strict_` begin at the front.
+/// `quic_wire_frames_init_` begins at the front, and keeps its flags.
 #[test]
 fn an_iterator_begins_at_the_front_of_a_payload() {
     rounds(|random| {
-        let (payload, strict) = (random.payload(), random.below(2) == 0);
-        let mut frames = Frames { offset: random.place(), last_type: random.number(), ended: 7, strict: 7 };
-        let begun = Frames { offset: 0, last_type: u64::MAX, ended: 0, strict: u32::from(strict) };
-        match frames_init(&mut frames, &payload, strict) {
+        let (payload, flags) = (random.payload(), random.next() as u32);
+        let mut frames = Frames { offset: random.place(), last_type: random.number(), ended: 7, flags: 7 };
+        let begun = Frames { offset: 0, last_type: u64::MAX, ended: 0, flags };
+        match frames_init(&mut frames, &payload, flags) {
             OK => assert_eq!((frames, payload.is_empty()), (begun, false)),
             answer => assert_eq!((answer, payload.len()), (PAYLOAD_EMPTY, 0)),
         }
@@ -157,47 +151,49 @@ fn an_iterator_begins_at_the_front_of_a_payload() {
 fn the_first_frames_are_those_of_an_iterator() {
     rounds(|random| {
         let (payload, room, rubbish) = (random.payload(), random.below(6), random.frame());
-        let before = Frames { offset: random.place(), last_type: random.number(), ended: 7, strict: 7 };
+        let before = Frames { offset: random.place(), last_type: random.number(), ended: 7, flags: 7 };
+        let flags = random.next() as u32;
         let (mut frames, mut out, mut count) = (before, [rubbish; 6], 77);
-        let answer = frames_first(&mut frames, &payload, &mut out[..room], &mut count);
+        let answer = frames_first(&mut frames, &payload, flags, &mut out[..room], &mut count);
         if payload.is_empty() || room == 0 {
             assert_eq!(answer, if payload.is_empty() { PAYLOAD_EMPTY } else { NO_ROOM });
             assert_eq!((frames, out, count), (before, [rubbish; 6], 77));
             return;
         }
-        let (mut iter, mut entries) = (Iter::new(&payload).unwrap(), [Entry(rubbish); 6]);
+        let iter = Iter::with_rules(&payload, Rules::of(flags)).unwrap();
+        let (mut iter, mut entries) = (iter, [Entry(rubbish); 6]);
         let reported = match iter.fill(&mut entries[..room]).unwrap() {
             Ok(batch) => (ITEM, batch.len()),
             Err(invalid) => (answer_of(invalid.reason), 77),
         };
         assert_eq!(((answer, count), out), (reported, entries.map(|entry| entry.0)));
         assert_eq!((frames.offset, FrameType::new(frames.last_type)), (iter.offset(), iter.last_type()));
-        assert_eq!((frames.ended != 0, frames.strict), (answer < 0, 0));
+        assert_eq!((frames.ended != 0, frames.flags), (answer < 0, flags));
     });
 }
 
-/// `quic_wire_frame_read_` and `quic_wire_frame_read_basic_` read what an iterator over the rest reads.
+/// `quic_wire_frame_read_` reads what an iterator over the rest reads.
 #[test]
 fn the_frame_at_the_front_is_that_of_an_iterator() {
     rounds(|random| {
         let (payload, mut at) = (random.payload(), 0);
-        let (strict, basic) = ([0, 1, random.next() as u32][random.below(3)], random.below(2) == 0);
-        while let Some(end) = front(random, &payload[at..], strict, basic) {
+        let flags = [0, 1, random.next() as u32][random.below(3)];
+        while let Some(end) = front(random, &payload[at..], flags) {
             at += end;
         }
     });
 }
 
 // Where the frame at the front ends, if one is there.
-fn front(random: &mut Random, payload: &[u8], strict: u32, basic: bool) -> Option<usize> {
+fn front(random: &mut Random, payload: &[u8], flags: u32) -> Option<usize> {
     let (before, room) = (random.frame(), random.below(5));
     let (mut frame, mut gaps) = (before, [NO_GAP; 5]);
-    let answer = frame_read(payload, strict, basic, &mut frame, &mut gaps[..room]);
-    let Ok(iter) = (if strict == 0 { Iter::new(payload) } else { Iter::strict(payload) }) else {
+    let answer = frame_read(payload, flags, &mut frame, &mut gaps[..room]);
+    let Ok(mut iter) = Iter::with_rules(payload, Rules::of(flags)) else {
         assert_eq!((answer, frame, gaps), (PAYLOAD_EMPTY.into(), before, [NO_GAP; 5]));
         return None;
     };
-    let (mut iter, mut entries) = (if basic { iter.without_ack_frequency() } else { iter }, [Entry::default()]);
+    let mut entries = [Entry::default()];
     let refused = iter.fill(&mut entries).unwrap().err();
     let [Entry(reported)] = entries;
     if let Some(invalid) = refused {
@@ -341,7 +337,7 @@ fn an_ack_that_is_written_by_gaps_is_read_back() {
             && ack.numbers[0].checked_sub(ack.datalen as u64).and_then(|l| gaps.iter().try_fold(l, below)).is_some();
         let Some(bytes) = written(random, &ack, &gaps) else { return assert!(!is_ack) };
         let (mut frame, mut read) = (random.frame(), [NO_GAP; 5]);
-        assert_eq!(frame_read(&bytes, 1, false, &mut frame, &mut read), bytes.len() as i64);
+        assert_eq!(frame_read(&bytes, 1, &mut frame, &mut read), bytes.len() as i64);
         assert!(is_ack && read[..frame.data] == gaps);
         assert_eq!((frame.kind, frame.flags, frame.datalen), (2, ack.flags, ack.datalen));
         assert_eq!(frame.numbers[..given], ack.numbers[..given]);

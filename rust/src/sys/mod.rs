@@ -58,10 +58,11 @@ pub const ITEM: i32 = 1;
 pub const CHANGED: i32 = 1;
 pub const NO_ROOM: i32 = -9;
 pub const PAYLOAD_EMPTY: i32 = -20;
-/// From here down to `FRAME_LONG_TYPE` a frame is invalid.
+/// From here down to `FRAME_LIMIT` a frame is invalid.
 pub const FRAME_END: i32 = -21;
 pub const FRAME_TYPE: i32 = -22;
 pub const FRAME_LONG_TYPE: i32 = -24;
+pub const FRAME_LIMIT: i32 = -25;
 pub const PACKET_END: i32 = -40;
 pub const PACKET_FIXED_BIT: i32 = -41;
 pub const PACKET_SMALL: i32 = -42;
@@ -94,44 +95,29 @@ fn wrote(answer: i32, written: usize) -> Result<Filled, (i32, usize)> {
     }
 }
 
-/// Reads frames into entries, of which `count` are then filled; with `basic` ACK_FREQUENCY and IMMEDIATE_ACK are of
-/// unknown types.
+/// Reads frames into entries, of which `count` are then filled.
 #[inline]
-pub fn frames_fill(frames: &mut Frames, payload: &[u8], basic: bool, out: &mut [Entry], count: &mut usize) -> i32 {
+pub fn frames_fill(frames: &mut Frames, payload: &[u8], out: &mut [Entry], count: &mut usize) -> i32 {
     let (bytes, len, entries, room) = (payload.as_ptr(), payload.len(), out.as_mut_ptr().cast::<Frame>(), out.len());
     // SAFETY: `payload` and `out` each give their own pointer and length, and an `Entry` is a `Frame` (`transparent`),
     // of which any words are valid; `out`, `frames` and `count` are borrowed alone, so nothing overlaps them. Any words
     // in `frames` serve. The library looks at no other memory and keeps no pointer.
-    unsafe {
-        if basic {
-            c::quic_wire_frames_fill_basic_(frames, bytes, len, entries, room, count)
-        } else {
-            c::quic_wire_frames_fill_(frames, bytes, len, entries, room, count)
-        }
-    }
+    unsafe { c::quic_wire_frames_fill_(frames, bytes, len, entries, room, count) }
 }
 
-/// Reads one frame into its room: `ITEM` with it, why it is invalid with its type, or 0. With `basic`
-/// ACK_FREQUENCY and IMMEDIATE_ACK are of unknown types.
+/// Reads one frame into its room: `ITEM` with it, why it is invalid with its type, or 0.
 #[inline]
 pub fn frames_next<'r>(
     frames: &mut Frames,
     payload: &[u8],
-    basic: bool,
     room: &'r mut MaybeUninit<Frame>,
 ) -> (i32, Option<&'r Frame>) {
     let (bytes, len, out) = (payload.as_ptr(), payload.len(), room.as_mut_ptr());
     // SAFETY: `payload` gives its own pointer and length, and `room` is that of one frame, which the library writes and
     // doesn't read; `frames` and `room` are borrowed alone. Any words in `frames` serve. It looks at no other memory
     // and keeps no pointer.
-    let answer = unsafe {
-        if basic {
-            c::quic_wire_frames_next_basic_(frames, bytes, len, out)
-        } else {
-            c::quic_wire_frames_next_(frames, bytes, len, out)
-        }
-    };
-    if matches!(answer, ITEM | FRAME_LONG_TYPE..=FRAME_END) {
+    let answer = unsafe { c::quic_wire_frames_next_(frames, bytes, len, out) };
+    if matches!(answer, ITEM | FRAME_LIMIT..=FRAME_END) {
         // SAFETY: with these answers the library has written all words of the frame, of which any are valid.
         (answer, Some(unsafe { room.assume_init_ref() }))
     } else {

@@ -8,7 +8,7 @@ pub struct Frames {
     pub offset: usize,
     pub last_type: u64,
     pub ended: u32,
-    pub strict: u32,
+    pub flags: u32,
 }
 
 /// A frame.
@@ -166,7 +166,7 @@ macro_rules! layout {
     };
 }
 
-layout!(Frames, 24, 8: offset 0 8, last_type 8 8, ended 16 4, strict 20 4,);
+layout!(Frames, 24, 8: offset 0 8, last_type 8 8, ended 16 4, flags 20 4,);
 layout!(Frame, 80, 8: kind 0 2, ty 2 2, flags 4 4, begin 8 8, end 16 8, data 24 8, datalen 32 8, numbers 40 40,);
 layout!(Range, 16, 8: start 0 8, end 8 8,);
 #[cfg(test)]

@@ -181,7 +181,7 @@ static size_t write_frames(const line *in, uint8_t *out) {
   quic_wire_frame_iter frames;
   quic_wire_frame frame;
   size_t end = 0, len;
-  int answer = quic_wire_frames_init(&frames, in->bytes, in->len);
+  int answer = quic_wire_frames_init(&frames, in->bytes, in->len, 0);
   while (answer >= 0 && (answer = quic_wire_frames_next(&frames, in->bytes, in->len,
                                                         &frame)) == QUIC_WIRE_ITEM) {
     if (write_frame(in, &frame, out + end, in->len - end, &len))

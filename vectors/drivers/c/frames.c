@@ -127,17 +127,16 @@ static void print_frame(FILE *out, const line *in, const quic_wire_frame *frame)
 }
 
 void answer_payload(const line *in, FILE *items, char **read) {
-  int (*next)(quic_wire_frame_iter *, const uint8_t *, size_t, quic_wire_frame *) =
-      item(in, "without") ? quic_wire_frames_next_basic : quic_wire_frames_next;
+  const uint32_t flags = (item(in, "strict") ? QUIC_WIRE_READ_SHORT_TYPES : 0) |
+                         (item(in, "without") ? QUIC_WIRE_READ_NO_ACK_FREQUENCY : 0);
   quic_wire_frame_iter frames;
   quic_wire_frame frame;
-  int answer = (item(in, "strict") ? quic_wire_frames_init_strict
-                                   : quic_wire_frames_init)(&frames, in->bytes, in->len);
+  int answer = quic_wire_frames_init(&frames, in->bytes, in->len, flags);
   if (answer == QUIC_WIRE_ERR_PAYLOAD_EMPTY) {
     puts("invalid PROTOCOL_VIOLATION {\"at\":0,\"before\":[]}");
     return;
   }
-  while ((answer = next(&frames, in->bytes, in->len, &frame)) == QUIC_WIRE_ITEM)
+  while ((answer = quic_wire_frames_next(&frames, in->bytes, in->len, &frame)) == QUIC_WIRE_ITEM)
     print_frame(items, in, &frame);
   fflush(items);
   if (answer == QUIC_WIRE_OK)

@@ -72,7 +72,7 @@ impl<'a> Iter<'a> {
     }
 
     // `new`, or `strict` if the flag is set.
-    fn begin(payload: &'a [u8], strict: bool) -> Result<Self, Error>
+    pub(super) fn begin(payload: &'a [u8], strict: bool) -> Result<Self, Error>
         ensures { BeginsWalk strict payload.now result }
     {
         if payload.is_empty() {
@@ -133,6 +133,16 @@ impl<'a> Iter<'a> {
             self.last = Some(FrameType::PADDING);
         }
         count
+    }
+
+    // Goes back to a place, after a frame of this type, and gives nothing from there on.
+    pub(super) fn end_at(&mut self, offset: usize, last: Option<FrameType>)
+        requires { offset ≤ length self.old.payload }
+        ensures { self.new ≡ record self.old { offset = offset; last = last; is_broken = true } }
+    {
+        self.offset = offset;
+        self.last = last;
+        self.is_broken = true;
     }
 
     /// The end of the last whole frame in the payload, in bytes.

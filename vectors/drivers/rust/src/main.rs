@@ -1,6 +1,6 @@
 //! Answers the lines of test vectors that need a single call of the crate quic-wire; all others are `skip`.
 use quic_wire::canonical::canonical;
-use quic_wire::frame::Iter;
+use quic_wire::frame::{Iter, Rules};
 use quic_wire::packet::{Header, LongType, PacketNumber, PacketPlace, VersionNegotiation};
 use quic_wire::transport_parameters::TransportParameters;
 use quic_wire::{varint, Side};
@@ -123,7 +123,8 @@ fn protect(packet: &mut [u8], context: &Context<'_>) -> Option<String> {
 
 /// Whether a payload is read without the ACK frequency extension; the program `quic-wire` always has it.
 fn read_basic(payload: &[u8]) -> String {
-    match Iter::new(payload).map(|frames| frames.without_ack_frequency().all(|frame| frame.is_ok())) {
+    let rules = Rules { no_ack_frequency: true, ..Rules::default() };
+    match Iter::with_rules(payload, rules).map(|mut frames| frames.all(|frame| frame.is_ok())) {
         Err(_) => "invalid PROTOCOL_VIOLATION".into(),
         Ok(false) => "invalid FRAME_ENCODING_ERROR".into(),
         Ok(true) => "valid".into(),

@@ -1,11 +1,14 @@
-use Rattle.std.proofs.Common.{◌≡◌, inl, inr, refl, true, Some, subst, ap, arith}
+use Rattle.std.proofs.Common.{◌≡◌, inl, inr, Some, refl, subst, ap, arith}
+use Rattle.quic_frames.specs.Checking.{IsRefusedFrame}
+use Rattle.quic_frames.specs.Rules.{breach_text}
+use Rattle.quic_frame_fields.specs.Reading.{Invalid}
 use Rattle.quic_frames.specs.Walk.{invalid_of, Finds, Advances}
-use Rattle.quic_c.specs.Shown.{frame_kind_of, frame_words, IsExtension}
-use Rattle.quic_c.specs.Answers.{IsRefusedFrame, unknown_type}
-use Rattle.quic_c.proofs.Filling.{filling_ends, filling_goes_on}
-use Rattle.quic_c.proofs.Types.{is_kept, unknown_refused}
+use Rattle.quic_frames.proofs.Checking.{breach_found}
+use Rattle.quic_c.specs.Shown.{frame_kind_of, frame_words}
+use Rattle.quic_c.proofs.Filling.{filling_ends, filling_goes_on, none_filled}
+use Rattle.quic_c.proofs.Types.{is_refused, keeps}
 use Rattle.quic_c.proofs.fill.fill.Goals as goal
-use Rattle.quic_c.proofs.fill.fill.Goals.{then-parts-eq0, else-parts-eq0, else-loop-count-test, then-loop-count-test+in-Some-Err+else-count-eq0, then-loop-count-test+in-None, then-loop-count-test+in-Some-Ok+then-is_unknown+else-count-eq0-2}
+use Rattle.quic_c.proofs.fill.fill.Goals.{then-parts-eq0, else-parts-eq0, else-loop-count-test, then-loop-count-test+in-Some-Err+else-count-eq0, then-loop-count-test+in-None, then-loop-count-test+in-Some-Ok+then-is_broken+else-count-eq0-2}
 
 pub loop-count-preserved : goal.loop-count-preserved
 loop-count-preserved g c =
@@ -13,17 +16,18 @@ loop-count-preserved g c =
     let frame = c.in-Some-Ok.frame in
     let finds : Finds here.iter frame c.next.new.self =
     subst (λ f. Advances here.iter (Some f) c.next.new.self) c.in-Some-Ok.field-0-is c.in-Some-Ok.ensures.steps in
+    let kept =
+    keeps c.args.rules here.iter c.next.new.self frame c.breach-breach.result finds c.breach-breach.ensures
+    (c.is_broken.ensures.kept c.if-is_broken.false) in
     let stop = c.offset-end-in-loop-count.result in
     let ty = c.type_read-ty.result in
     let begins = c.type_read-ty.ensures.value here.iter frame finds in
     let words : c.show_parts.result ≡ frame_words here.end stop ty frame =
     rw c.parts_of-parts.ensures at c.show_parts.ensures in
     let kind : c.parts_of-parts.result.kind ≡ frame_kind_of frame = ap (λ p. p.kind) c.parts_of-parts.ensures in
-    let known : (c.args.basic ≡ true) × IsExtension (frame_kind_of frame) → ⊥ =
-    is_kept _ _ frame c.is_unknown.ensures c.if-is_unknown.false in
-    let goes_on = filling_goes_on c.args.basic c.args.iter.now c.args.out.now here.iter here.out here.count here.end
+    let goes_on = filling_goes_on c.args.rules c.args.iter.now c.args.out.now here.iter here.out here.count here.end
     c.next.new.self c.if-parts-eq0.iter frame
-    c.show_parts.result stop ty here.invariant.0 c.loop-count-test.true finds known in
+    c.show_parts.result stop ty here.invariant.0 c.loop-count-test.true finds kept in
     elim c.if-parts-eq0.branch [
       | then-parts-eq0 w ↦ (
         goes_on (λ _. (w.pass_padding.result, rw w.iter-is w.pass_padding.ensures))
@@ -42,7 +46,7 @@ pub returns-clause-filled : goal.returns-clause-filled
 returns-clause-filled g c =
     let here = c.loop-count in
     let ends =
-    filling_ends c.args.basic c.args.iter.now c.args.out.now here.iter here.out here.count here.end here.last
+    filling_ends c.args.rules c.args.iter.now c.args.out.now here.iter here.out here.count here.end here.last
     here.invariant.0 here.invariant.1 in
     elim c.loop-count-test.branch [
       | else-loop-count-test w ↦ ends (inl (omega (arith, here.invariant.0.few, here.invariant.0.all, w.loop-count-test.false)))
@@ -51,12 +55,29 @@ returns-clause-filled g c =
           subst (λ f. Advances here.iter (Some f) w.next.new.self) w.in-Some-Err.field-0-is w.in-Some-Err.ensures.steps in
           ends (inr (inr (invalid_of w.in-Some-Err.invalid, inl steps.lacks)))
       | then-loop-count-test+in-None w ↦ ends (inr (inl w.in-None.ensures.steps.0))
-      | then-loop-count-test+in-Some-Ok+then-is_unknown+else-count-eq0-2 w ↦
+      | then-loop-count-test+in-Some-Ok+then-is_broken+else-count-eq0-2 w ↦
           let frame = w.in-Some-Ok.frame in
           let finds : Finds here.iter frame w.next.new.self =
           subst (λ f. Advances here.iter (Some f) w.next.new.self) w.in-Some-Ok.field-0-is w.in-Some-Ok.ensures.steps in
-          let refused : IsRefusedFrame c.args.basic here.iter (unknown_type (frame_kind_of frame)) =
-          unknown_refused c.args.basic here.iter w.next.new.self frame (unknown_type (frame_kind_of frame)) finds
-          (w.is_unknown.ensures.0 w.if-is_unknown.true) refl in
-          ends (inr (inr (unknown_type (frame_kind_of frame), refused)))
+          let some = w.is_broken.ensures.broken w.if-is_broken.true in
+          let reported : Invalid = record { type = w.next.new.self.last; reason = breach_text some.0 } in
+          let refused : IsRefusedFrame c.args.rules here.iter reported =
+          inr (breach_found c.args.rules here.iter w.next.new.self frame w.breach-breach.result some.0 reported finds
+          w.breach-breach.ensures some.1 refl) in
+          ends (inr (inr (reported, refused)))
     ]
+
+pub returns-then-count-eq0-2-clause-invalid : goal.returns-then-count-eq0-2-clause-invalid
+returns-then-count-eq0-2-clause-invalid g c =
+    let here = c.loop-count in
+    let frame = c.in-Some-Ok.frame in
+    let finds : Finds here.iter frame c.next.new.self =
+    subst (λ f. Advances here.iter (Some f) c.next.new.self) c.in-Some-Ok.field-0-is c.in-Some-Ok.ensures.steps in
+    let none =
+    none_filled c.args.rules c.args.iter.now c.args.out.now here.iter here.out here.count here.end here.invariant.0
+    c.if-count-eq0-2.true in
+    let refused =
+    is_refused c.args.rules here.iter c.next.new.self frame c.breach-breach.result c.last_type.result
+    (invalid_of c.broken.result) finds c.breach-breach.ensures (c.is_broken.ensures.broken c.if-is_broken.true)
+    c.last_type.ensures c.broken.ensures in
+    (subst (λ w. IsRefusedFrame c.args.rules w (invalid_of c.broken.result)) none.0 refused, none.1)

@@ -1,12 +1,13 @@
-use Rattle.std.proofs.Common.{rules, arith, inl, inr, sym, subst, ap, refl, ◌∙◌, ◌≡◌, [], ◌∷◌, Some, to_z, of_z, w32}
+use Rattle.std.proofs.Common.{rules, arith, inl, inr, sym, subst, ap, refl, ◌∙◌, ◌≡◌, Some, to_z, of_z, w32}
 use Rattle.quic_results.proofs.FrameFailures.{not_count, not_place}
 use Rattle.std.proofs.lemmas.Grind.{common_steps}
 use Rattle.quic_frames.specs.IterState.{IterState}
+use Rattle.quic_frames.specs.Checking.{IsRefusedFrame}
 use Rattle.quic_frames.specs.Walk.{invalid_of, Advances, Finds, LacksFrame, IsSpent}
-use Rattle.quic_c.specs.Answers.{GivesInvalid, IsRefusedFrame, unknown_type}
+use Rattle.quic_c.specs.Answers.{GivesInvalid}
 use Rattle.quic_c.specs.Filling.{further}
-use Rattle.quic_c.specs.Shown.{frame_kind_of, type_in, state_of}
-use Rattle.quic_c.proofs.Types.{behind_frame, gives_frame, is_kept, unknown_refused}
+use Rattle.quic_c.specs.Shown.{type_in, state_of}
+use Rattle.quic_c.proofs.Types.{behind_frame, gives_frame, is_refused, keeps}
 use Rattle.quic_c.proofs.frames.give_next.Goals as goal
 
 pub returns-in-None : goal.returns-in-None
@@ -20,17 +21,18 @@ returns-in-None g c = record {
 
 pub returns-in-Some-Err : goal.returns-in-Some-Err
 returns-in-Some-Err g c =
+    let reported = invalid_of c.in-Some-Err.invalid in
     let s =
     subst (λ f. Advances c.args.iter.now (Some f) c.next.new.self) c.in-Some-Err.field-0-is c.in-Some-Err.ensures.steps in
-    let here : LacksFrame (state_of c.args.frames.now c.args.iter.now.payload) (invalid_of c.in-Some-Err.invalid) =
-    subst (λ (w : IterState). LacksFrame w (invalid_of c.in-Some-Err.invalid)) (sym c.requires.state) s.lacks in
+    let here : LacksFrame (state_of c.args.frames.now c.args.iter.now.payload) reported =
+    subst (λ (w : IterState). LacksFrame w reported) (sym c.requires.state) s.lacks in
     let result = to_z w32 (of_z w32 c.refuse-in-Some-Err.result) in
     let count : result ≡ c.refuse-in-Some-Err.result = search rules in
     let reason = count ∙ c.refuse-in-Some-Err.ensures.reason in
-    let gives : GivesInvalid c.args.basic c.args.frames.now c.args.iter.now.payload result c.refuse-in-Some-Err.new.frames
+    let gives : GivesInvalid c.args.rules c.args.frames.now c.args.iter.now.payload result c.refuse-in-Some-Err.new.frames
     c.refuse-in-Some-Err.new.out =
     record {
-      reported = invalid_of c.in-Some-Err.invalid;
+      reported = reported;
       first = inl here;
       reason = reason;
       over = c.refuse-in-Some-Err.ensures.over;
@@ -38,17 +40,17 @@ returns-in-Some-Err g c =
     } in
     record {
       returns = inr (inr (inr gives));
-      frame = λ e. absurd (not_count (invalid_of c.in-Some-Err.invalid).reason 1 (sym reason ∙ e));
-      end = λ e. absurd (not_count (invalid_of c.in-Some-Err.invalid).reason 0 (sym reason ∙ e));
+      frame = λ e. absurd (not_count reported.reason 1 (sym reason ∙ e));
+      end = λ e. absurd (not_count reported.reason 0 (sym reason ∙ e));
       outside = (
-        λ e. absurd (not_place (invalid_of c.in-Some-Err.invalid).reason (sym reason ∙ e)),
+        λ e. absurd (not_place reported.reason (sym reason ∙ e)),
         λ beyond. absurd (omega (arith, beyond, c.requires.within)),
       );
       same = inr (inl gives);
     }
 
-pub returns-else-is_unknown : goal.returns-else-is_unknown
-returns-else-is_unknown g c =
+pub returns-else-is_broken : goal.returns-else-is_broken
+returns-else-is_broken g c =
     let frame = c.in-Some-Ok.frame in
     let type = c.type_read-ty.result in
     let stop = c.offset-end.result in
@@ -57,40 +59,41 @@ returns-else-is_unknown g c =
     let begins = c.type_read-ty.ensures.value c.args.iter.now frame finds in
     let on =
     behind_frame c.args.iter.now c.next.new.self frame finds stop type c.offset-end.ensures.value begins c.type_read-ty.ensures.fits in
-    let known = is_kept c.args.basic _ frame c.is_unknown.ensures c.if-is_unknown.false in
+    let kept =
+    keeps c.args.rules c.args.iter.now c.next.new.self frame c.breach-breach.result finds c.breach-breach.ensures
+    (c.is_broken.ensures.kept c.if-is_broken.false) in
     record {
       returns = inl refl;
-      frame = λ _. gives_frame c.args.basic _ _ _ _ c.args.iter.now c.next.new.self frame type finds known c.requires.state
+      frame = λ _. gives_frame c.args.rules _ _ _ _ c.args.iter.now c.next.new.self frame type finds kept
+          c.requires.state
           (ap (λ (w : IterState). further w stop (type_in type)) c.requires.state ∙ on) begins c.show.ensures;
       end = search rules;
       outside = grind (arith, common_steps);
       same = inl refl;
     }
 
-pub returns-then-is_unknown : goal.returns-then-is_unknown
-returns-then-is_unknown g c =
+pub returns-then-is_broken : goal.returns-then-is_broken
+returns-then-is_broken g c =
     let frame = c.in-Some-Ok.frame in
-    let reported = invalid_of c.unknown.result in
+    let reported = invalid_of c.broken.result in
     let finds : Finds c.args.iter.now frame c.next.new.self =
     subst (λ f. Advances c.args.iter.now (Some f) c.next.new.self) c.in-Some-Ok.field-0-is c.in-Some-Ok.ensures.steps in
-    let reports : reported ≡ unknown_type (frame_kind_of frame) =
-    c.unknown.ensures ∙ ap (λ p. unknown_type p.kind) c.parts_of.ensures in
-    let here : IsRefusedFrame c.args.basic c.args.iter.now reported =
-    unknown_refused c.args.basic c.args.iter.now c.next.new.self frame reported finds
-    (c.is_unknown.ensures.0 c.if-is_unknown.true) reports in
-    let first : IsRefusedFrame c.args.basic (state_of c.args.frames.now c.args.iter.now.payload) reported =
-    subst (λ (w : IterState). IsRefusedFrame c.args.basic w reported) (sym c.requires.state) here in
+    let here : IsRefusedFrame c.args.rules c.args.iter.now reported =
+    is_refused c.args.rules c.args.iter.now c.next.new.self frame c.breach-breach.result c.last_type.result reported finds
+    c.breach-breach.ensures (c.is_broken.ensures.broken c.if-is_broken.true) c.last_type.ensures c.broken.ensures in
+    let first : IsRefusedFrame c.args.rules (state_of c.args.frames.now c.args.iter.now.payload) reported =
+    subst (λ (w : IterState). IsRefusedFrame c.args.rules w reported) (sym c.requires.state) here in
     let result = to_z w32 (of_z w32 c.refuse.result) in
     let count : result ≡ c.refuse.result = search rules in
     let reason = count ∙ c.refuse.ensures.reason in
-    let gives : GivesInvalid c.args.basic c.args.frames.now c.args.iter.now.payload result c.refuse.new.frames c.refuse.new.out =
+    let gives : GivesInvalid c.args.rules c.args.frames.now c.args.iter.now.payload result c.refuse.new.frames c.refuse.new.out =
     record { reported = reported; first = first; reason = reason; over = c.refuse.ensures.over; words = c.refuse.ensures.words } in
     record {
       returns = inr (inr (inr gives));
-      frame = λ e. absurd (not_count (invalid_of c.unknown.result).reason 1 (sym reason ∙ e));
-      end = λ e. absurd (not_count (invalid_of c.unknown.result).reason 0 (sym reason ∙ e));
+      frame = λ e. absurd (not_count reported.reason 1 (sym reason ∙ e));
+      end = λ e. absurd (not_count reported.reason 0 (sym reason ∙ e));
       outside = (
-        λ e. absurd (not_place (invalid_of c.unknown.result).reason (sym reason ∙ e)),
+        λ e. absurd (not_place reported.reason (sym reason ∙ e)),
         λ beyond. absurd (omega (arith, beyond, c.requires.within)),
       );
       same = inr (inl gives);

@@ -1,0 +1,32 @@
+-- Flags of which none is set.
+use Rattle.std.proofs.Common.{◌≡◌, ℕ, Bool, false, refl, sym, ap, ◌∙◌}
+use Rattle.std.specs.Prelude.{bit_and, not, ◌==◌}
+use Rattle.std.specs.Int.Bits.{and_zero_l}
+use Rattle.std.proofs.lemmas.Nat.{and_assoc}
+use Rattle.quic_frames.specs.declared.frame.rules.Rules.{Rules}
+use Rattle.quic_frames.specs.Rules.{only_types}
+use Rattle.quic_c.specs.Shown.{has_flag, rules_in}
+
+-- nor is one that is among them
+unset : (flags mask flag : ℕ) → bit_and mask flag ≡ flag → bit_and flags mask ≡ 0 → has_flag flag flags ≡ false
+unset flags mask flag among none =
+    let is_zero : bit_and flags flag ≡ 0 =
+    ap (bit_and flags) (sym among) ∙ sym (and_assoc flag flags mask) ∙ ap (λ (n : ℕ). bit_and n flag) none
+    ∙ and_zero_l flag in
+    ap (λ (n : ℕ). not (n == 0)) is_zero
+
+-- so types alone are checked
+pub types_alone : (flags : ℕ) → bit_and flags 0x20e ≡ 0 → rules_in flags ≡ only_types (has_flag 0x001 flags)
+types_alone flags none =
+    let with_bits : Bool → Bool → Bool → Bool → Rules = λ data_limit stream_limit no_ack_frequency tokens. record {
+      short_types = has_flag 0x001 flags;
+      data_limit = data_limit;
+      stream_limit = stream_limit;
+      tokens = tokens;
+      no_ack_frequency = no_ack_frequency;
+    } in
+    let by = λ (flag : ℕ). has_flag flag flags in
+    ap (λ (b : Bool). with_bits b (by 0x004) (by 0x008) (by 0x200)) (unset flags 0x20e 0x002 refl none)
+    ∙ ap (λ (b : Bool). with_bits false b (by 0x008) (by 0x200)) (unset flags 0x20e 0x004 refl none)
+    ∙ ap (λ (b : Bool). with_bits false false b (by 0x200)) (unset flags 0x20e 0x008 refl none)
+    ∙ ap (λ (b : Bool). with_bits false false false b) (unset flags 0x20e 0x200 refl none)

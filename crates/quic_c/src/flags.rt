@@ -1,0 +1,75 @@
+//! The rules that flags name, and what is reported of a frame that breaks one.
+ghost use Rattle.std.specs.Prelude.{◌≡◌, IfSome, None, Some, false, true};
+ghost use Rattle.quic_frames.specs.Rules.{breach_text, only_types};
+ghost use Rattle.quic_frames.specs.declared.frame.rules.Breach.{Breach};
+ghost use Rattle.quic_frames.specs.Walk.{invalid_of};
+ghost use Rattle.quic_c.specs.Shown.{rules_in};
+
+use quic_frames::frame::{Breach, FrameType, InvalidFrame, Rules};
+
+// The rules that flags name. Their other bits mean nothing for frames.
+#[inline(always)]
+pub(crate) fn rules_in(flags: u32) -> Rules
+    ensures { result ≡ rules_in flags }
+{
+    Rules {
+        short_types: flags & 0x001 != 0,
+        data_limit: flags & 0x002 != 0,
+        stream_limit: flags & 0x004 != 0,
+        no_ack_frequency: flags & 0x008 != 0,
+        tokens: flags & 0x200 != 0,
+    }
+}
+
+// The flags by which frames are checked besides their types' encodings.
+const CHECKS: u32 = 0x20e;
+
+// The rules that flags name, if by these no frame is checked besides its type's encoding. Callers read by a copy of their
+// own then, which the compiler frees of tests.
+#[inline(always)]
+pub(crate) fn types_alone(flags: u32) -> Option<Rules>
+    ensures { IfSome result (λ rules. (rules ≡ rules_in flags) × (rules ≡ only_types rules.short_types)) }
+{
+    if flags & CHECKS != 0 {
+        return None;
+    }
+    Some(only_types(flags & 0x001 != 0))
+}
+
+// The rules that check the types' encodings at most.
+#[inline(always)]
+pub(crate) fn only_types(short_types: bool) -> Rules
+    ensures { result ≡ only_types short_types }
+{
+    Rules {
+        short_types,
+        data_limit: false,
+        stream_limit: false,
+        tokens: false,
+        no_ack_frequency: false,
+    }
+}
+
+// Whether a frame breaks a rule.
+#[inline(always)]
+pub(crate) fn is_broken(breach: Option<Breach>) -> bool
+    ensures kept { result ≡ false → breach ≡ None }
+    ensures broken { result ≡ true → (b : Breach) × (breach ≡ Some b) }
+{
+    match breach {
+        Some(_) => true,
+        None => false,
+    }
+}
+
+// What is reported of a frame of this type that breaks a rule.
+#[inline(never)]
+pub(crate) fn broken(ty: Option<FrameType>, breach: Option<Breach>) -> InvalidFrame
+    ensures { (b : Breach) → breach ≡ Some b → invalid_of result ≡ record { type = ty; reason = breach_text b } }
+{
+    let reason = match breach {
+        Some(breach) => breach.reason(),
+        None => "malformed",
+    };
+    InvalidFrame { ty, reason }
+}

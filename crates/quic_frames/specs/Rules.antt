@@ -1,0 +1,106 @@
+-- What RFC 9000 has a receiver check of frames that are encoded as they should be, and a payload's reading by such rules.
+use Rattle.std.specs.Prelude.{◌≡◌, ◌⊎◌, ℕ, ◌+◌, ◌-◌, ◌^◌, List, [], ◌∷◌, ◌++◌, length, All, Option, Some, None, Bool, false, nat_lt, ◌&&◌, ◌==◌, codes, if◌then◌else◌}
+use Rattle.quic_frames.specs.declared.frame.rules.Rules.{Rules}
+use Rattle.quic_frames.specs.declared.frame.rules.Breach.{Breach}
+use Rattle.quic_frames.specs.declared.frame.rules.Breach.TheVariants as breaches
+use Rattle.quic_frame_fields.specs.declared.frame.fault.Fault.TheVariants.{InvalidFrameId, Malformed}
+use Rattle.quic_frame_fields.specs.Field.{Value, Number, Bytes}
+use Rattle.quic_frame_fields.specs.Table.{Name, Crypto, NewToken, Stream, MaxStreams, StreamsBlocked, AckFrequency, ImmediateAck}
+use Rattle.quic_frame_fields.specs.Payload.{Meaning, TypedFrame, Reading, Complete, FailsAfter, IsReadingAfter}
+use Rattle.quic_frame_fields.specs.Reading.{Invalid, invalid, reason_text}
+
+-- The data end past the greatest offset, 2^62 - 1 (sections 19.6 and 19.8).
+abbrev pub ends_past : ℕ → ℕ → Bool
+ends_past offset count = nat_lt (2 ^ 62 - 1) (offset + count)
+
+-- No stream can have so great a number: 2^60 is the most of either direction (sections 19.11 and 19.14).
+abbrev pub is_past_streams : ℕ → Bool
+is_past_streams count = nat_lt (2 ^ 60) count
+
+abbrev pub broken_if : Bool → Breach → Option Breach
+broken_if is_broken breach = if is_broken then Some breach else None
+
+-- the rule that a frame breaks, if it breaks one of these: a limit; that a token isn't empty (section 19.7); that the
+-- ACK frequency extension, whose frames these are, was negotiated
+abbrev pub breach_by : Rules → Name → List Value → Option Breach
+breach_by rules Crypto (Number offset ∷ Bytes sent ∷ []) =
+    broken_if (rules.data_limit && ends_past offset (length sent)) breaches.Limit
+breach_by rules Stream (fin ∷ id ∷ Number offset ∷ Bytes sent ∷ []) =
+    broken_if (rules.data_limit && ends_past offset (length sent)) breaches.Limit
+breach_by rules MaxStreams (dir ∷ Number count ∷ []) =
+    broken_if (rules.stream_limit && is_past_streams count) breaches.Limit
+breach_by rules StreamsBlocked (dir ∷ Number count ∷ []) =
+    broken_if (rules.stream_limit && is_past_streams count) breaches.Limit
+breach_by rules NewToken (Bytes token ∷ []) = broken_if (rules.tokens && (length token == 0)) breaches.Token
+breach_by rules AckFrequency values = broken_if rules.no_ack_frequency breaches.Extension
+breach_by rules ImmediateAck values = broken_if rules.no_ack_frequency breaches.Extension
+breach_by rules name values = None
+
+abbrev pub breach_of : Rules → Meaning → Option Breach
+breach_of rules frame = breach_by rules frame.name frame.values
+
+-- why such a frame is refused
+abbrev pub breach_text : Breach → List ℕ
+breach_text breaches.Limit = codes "limit exceeded"
+breach_text breaches.Token = reason_text Malformed
+breach_text breaches.Extension = reason_text InvalidFrameId
+
+-- what is reported of it
+abbrev pub invalid_by : TypedFrame → Breach → Invalid
+invalid_by found breach = record { type = Some found.type; reason = breach_text breach }
+
+-- The frame breaks no rule.
+abbrev pub Keeps : Rules → TypedFrame → Type 0
+Keeps rules found = breach_of rules found.frame ≡ None
+
+-- What a payload is read as by rules: frames, and an error after them, if there is one.
+pub record Checked : Type 0 where
+  pub frames : List TypedFrame
+  pub error : Option Invalid
+
+-- a reading without rules for frames
+abbrev pub unchecked : Reading → Checked
+unchecked (Complete found) = record { frames = found; error = None }
+unchecked (FailsAfter found type reason) = record { frames = found; error = Some (invalid type reason) }
+
+-- The first of the frames that breaks a rule is reported, after those before it.
+pub record StopsAtBreach (rules : Rules) (frames : List TypedFrame) (checked : Checked) : Type 0 where
+  pub broken : TypedFrame
+  pub others : List TypedFrame
+  pub breach : Breach
+  pub parts : frames ≡ checked.frames ++ broken ∷ others
+  pub kept : All (Keeps rules) checked.frames
+  pub breaks : breach_of rules broken.frame ≡ Some breach
+  pub reported : checked.error ≡ Some (invalid_by broken breach)
+
+-- What a reading becomes by rules: itself if no frame breaks a rule; else it ends at the first that does.
+abbrev pub IsCheckedReading : Rules → Reading → Checked → Type 0
+IsCheckedReading rules reading checked =
+    (All (Keeps rules) (unchecked reading).frames × (checked ≡ unchecked reading))
+    ⊎ StopsAtBreach rules (unchecked reading).frames checked
+
+-- This is the reading of the bytes by rules, after a frame of the given type.
+abbrev pub IsCheckedAfter : Rules → Option ℕ → List ℕ → Checked → Type 0
+IsCheckedAfter rules before bytes checked =
+    (reading : Reading) × IsReadingAfter rules.short_types before bytes reading × IsCheckedReading rules reading checked
+
+-- This is the reading of a payload by rules.
+abbrev pub IsCheckedOf : Rules → List ℕ → Checked → Type 0
+IsCheckedOf rules bytes checked = IsCheckedAfter rules None bytes checked
+
+abbrev pub error_count : Option Invalid → ℕ
+error_count None = 0
+error_count (Some reported) = 1
+
+-- how many items it has
+abbrev pub checked_count : Checked → ℕ
+checked_count checked = length checked.frames + error_count checked.error
+
+-- no rule for frames that are encoded as they should be
+abbrev pub only_types : Bool → Rules
+only_types short_types = record
+    { short_types = short_types; data_limit = false; stream_limit = false; tokens = false; no_ack_frequency = false }
+
+-- quinn-proto's rules: none
+abbrev pub no_rules : Rules
+no_rules = only_types false

@@ -1,0 +1,95 @@
+//! The frames of a payload, read by rules.
+ghost use Rattle.std.specs.Prelude.{◌≡◌, ◌≤◌, ◌↔◌, [], IfErr, IfOk, IsErr, codes, length};
+ghost use Rattle.quic_base.specs.One.{ExactlyOne};
+ghost use Rattle.quic_errors.specs.Codes.{IsError, protocol_violation};
+ghost use Rattle.quic_frame_fields.specs.Payload.{Reading, IsReadingOf};
+ghost use Rattle.quic_frames.specs.Checking.{checked_first, IsCheckedLeft};
+ghost use Rattle.quic_frames.specs.Rules.{Checked as CheckedReading, IsCheckedOf, checked_count, no_rules, unchecked};
+
+use super::rules::Rules;
+use super::{Frame, InvalidFrame, Iter};
+use crate::transport_error::Error;
+use std::marker::Model;
+
+/// Reads a payload frame by frame, and checks each frame by rules. Contracts see the rules, and where the iterator is.
+#[derive(Drop)]
+pub struct Checked<'a> {
+    rules: Rules,
+    iter: Iter<'a>,
+}
+
+impl<'a> Model for Checked<'a> {
+    ghost use Rattle.quic_frames.specs.Checking.{CheckedState};
+
+    ghost Value = { CheckedState };
+
+    ghost view = { λ c. record { rules = c.rules; place = c.iter } };
+}
+
+impl<'a> Iter<'a> {
+    /// The frames of a payload, each of which is checked by `rules`: the first that breaks one is an error, with its type
+    /// and `limit exceeded`, `malformed` or `invalid frame ID`, after which nothing is given. An empty payload is refused
+    /// with `PROTOCOL_VIOLATION`. It doesn't allocate.
+    pub fn with_rules(payload: &'a [u8], rules: Rules) -> Result<Checked<'a>, Error>
+        ensures empty { IsErr result ↔ (payload.now ≡ []) }
+        ensures refusal { IfErr result (λ e. IsError e protocol_violation (codes "packet payload is empty")) }
+        ensures first { IfOk result (λ it. it ≡ checked_first rules payload.now) }
+
+        // Each payload has one reading by rules: that without them, up to the first frame that breaks one.
+        ensures one { ExactlyOne (IsCheckedOf rules payload.now) }
+
+        // That is what the iterator gives,
+        ensures gives { IfOk result (λ it. (reading : CheckedReading) → IsCheckedOf rules payload.now reading
+            → IsCheckedLeft it reading) }
+
+        // and it has at most as many items as the payload has bytes.
+        ensures few { (reading : CheckedReading) → IsCheckedOf rules payload.now reading
+            → checked_count reading ≤ length payload.now }
+    {
+        let iter = Iter::begin(payload, rules.short_types)?;
+        Ok(Checked { rules, iter })
+    }
+}
+
+impl<'a> Checked<'a> {
+    /// The end of the last whole frame in the payload that broke no rule, in bytes.
+    pub fn offset(&self) -> usize
+        ensures value { result ≡ self.now.place.offset }
+        ensures within { result ≤ length self.now.place.payload }
+    {
+        self.iter.offset()
+    }
+}
+
+/// Gives each frame, then one `InvalidFrame` if the rest isn't a valid frame or the next one breaks a rule, then nothing.
+/// It doesn't allocate. What frames borrow is as for `Iter`.
+impl<'a> Iterator for Checked<'a> {
+    ghost use Rattle.std.specs.Iterator.{at_most};
+    ghost use Rattle.quic_frames.specs.Checking.{AdvancesBy};
+    ghost use Rattle.quic_frames.specs.Walk.{bytes_left};
+
+    type Item = Result<Frame<'a>, InvalidFrame>;
+
+    ghost next_gives = { AdvancesBy };
+
+    ghost remaining = { λ c. at_most (bytes_left c.place) };
+
+    fn next(&mut self) -> Option<Result<Frame<'a>, InvalidFrame>> {
+        let (offset, last) = (self.iter.offset(), self.iter.last_type());
+        match self.iter.next() {
+            None => None,
+            Some(Err(invalid)) => Some(Err(invalid)),
+            Some(Ok(frame)) => match self.rules.breach(&frame) {
+                None => Some(Ok(frame)),
+                Some(breach) => {
+                    let ty = self.iter.last_type();
+                    self.iter.end_at(offset, last);
+                    Some(Err(InvalidFrame {
+                        ty,
+                        reason: breach.reason(),
+                    }))
+                }
+            },
+        }
+    }
+}

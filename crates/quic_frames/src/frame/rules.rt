@@ -1,0 +1,122 @@
+//! What RFC 9000 has a receiver check of frames that are encoded as they should be.
+ghost use Rattle.std.specs.Prelude.{◌≡◌, length};
+ghost use Rattle.quic_frames.specs.Rules.{breach_of, breach_text, broken_if, ends_past, is_past_streams, no_rules};
+ghost use Rattle.quic_frames.specs.Meaning.{meaning_of};
+
+use super::Frame;
+
+/// What is checked of a payload's frames besides their encoding. `Rules::default()` checks nothing more, as quinn-proto
+/// does; `Rules::RFC` checks all that RFC 9000 asks of a receiver.
+#[derive(Clone, Copy, Debug, PartialEq, Eq)]
+pub struct Rules {
+    /// A type must be in its shortest encoding (RFC 9000, section 12.4).
+    pub short_types: bool,
+    /// Data of CRYPTO and STREAM may not end past 2^62 - 1 (RFC 9000, sections 19.6 and 19.8).
+    pub data_limit: bool,
+    /// MAX_STREAMS and STREAMS_BLOCKED may not name more than 2^60 streams (RFC 9000, sections 19.11 and 19.14).
+    pub stream_limit: bool,
+    /// The token of NEW_TOKEN may not be empty (RFC 9000, section 19.7).
+    pub tokens: bool,
+    /// ACK_FREQUENCY and IMMEDIATE_ACK have unknown types, since their extension wasn't negotiated (RFC 9000, section
+    /// 12.4).
+    pub no_ack_frequency: bool,
+}
+
+/// The rule that a frame breaks.
+#[derive(Clone, Copy, Debug, PartialEq, Eq)]
+pub enum Breach {
+    /// Its data end too far, or it names too many streams.
+    Limit,
+    /// Its token is empty.
+    Token,
+    /// It is of an extension that wasn't negotiated.
+    Extension,
+}
+
+impl Breach {
+    /// The reason that is reported.
+    pub fn reason(self) -> &'static str
+        ensures { result.now ≡ breach_text self }
+    {
+        match self {
+            Breach::Limit => "limit exceeded",
+            Breach::Token => "malformed",
+            Breach::Extension => "invalid frame ID",
+        }
+    }
+}
+
+/// No rules, as quinn-proto reads.
+impl Default for Rules {
+    ghost is_default = { λ rules. rules ≡ no_rules };
+
+    fn default() -> Rules {
+        Rules {
+            short_types: false,
+            data_limit: false,
+            stream_limit: false,
+            tokens: false,
+            no_ack_frequency: false,
+        }
+    }
+}
+
+impl Rules {
+    /// All that RFC 9000 asks of a receiver without the ACK frequency extension.
+    pub const RFC: Rules = Rules {
+        short_types: true,
+        data_limit: true,
+        stream_limit: true,
+        tokens: true,
+        no_ack_frequency: true,
+    };
+
+    /// The rule that a frame breaks, if it breaks one. It doesn't look at `short_types`, since a frame doesn't hold how
+    /// its type was encoded.
+    #[inline(always)]
+    pub fn breach(self, frame: &Frame<'_>) -> Option<Breach>
+        ensures { result ≡ breach_of self (meaning_of frame.now) }
+    {
+        match frame {
+            Frame::Crypto(c) => {
+                broken_if(self.data_limit && ends_past(c.offset, c.bytes), Breach::Limit)
+            }
+            Frame::Stream(s) => {
+                broken_if(self.data_limit && ends_past(s.offset, s.bytes), Breach::Limit)
+            }
+            Frame::MaxStreams { count, .. } => {
+                broken_if(self.stream_limit && *count > MAX_STREAMS, Breach::Limit)
+            }
+            Frame::StreamsBlocked { limit, .. } => {
+                broken_if(self.stream_limit && *limit > MAX_STREAMS, Breach::Limit)
+            }
+            Frame::NewToken(t) => broken_if(self.tokens && t.token.is_empty(), Breach::Token),
+            Frame::AckFrequency(_) => broken_if(self.no_ack_frequency, Breach::Extension),
+            Frame::ImmediateAck => broken_if(self.no_ack_frequency, Breach::Extension),
+            _ => None,
+        }
+    }
+}
+
+// The most streams of either direction.
+const MAX_STREAMS: u64 = 1 << 60;
+
+// The greatest offset of data.
+const MAX_OFFSET: u64 = (1 << 62) - 1;
+
+// Whether data at an offset end past the greatest one.
+#[inline(always)]
+fn ends_past(offset: u64, bytes: &[u8]) -> bool
+    ensures { result ≡ ends_past offset (length bytes.now) }
+{
+    let count = bytes.len() as u64;
+    count > MAX_OFFSET || offset > MAX_OFFSET - count
+}
+
+// A breach, if there is one.
+#[inline(always)]
+fn broken_if(is_broken: bool, breach: Breach) -> Option<Breach>
+    ensures { result ≡ broken_if is_broken breach }
+{
+    if is_broken { Some(breach) } else { None }
+}

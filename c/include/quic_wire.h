@@ -79,6 +79,7 @@
  * dashes.  Words and structs come first:
  *
  *   Results
+ *   Flags of readers
  *   Frames (RFC 9000, section 19)
  *   Packets (RFC 9000, section 17)
  *   Transport parameters (RFC 9000, section 18)
@@ -231,6 +232,41 @@ typedef enum quic_wire_code {
   QUIC_WIRE_CODE_CRYPTO_ERROR = 0x100 /* plus the alert of TLS */
 } quic_wire_code;
 
+/* ---- Flags of readers */
+
+/** What functions that read check.  With 0 they read as quinn-proto does.  Each
+ * function looks at its own flags alone, so one value serves all. */
+
+/* Payloads: what is refused too. */
+#define QUIC_WIRE_READ_SHORT_TYPES 0x001u /* a frame's type that isn't in its
+                                             shortest encoding (section 12.4) */
+#define QUIC_WIRE_READ_DATA_LIMIT 0x002u /* data of CRYPTO or STREAM that end
+                                            past 2^62 - 1 (19.6, 19.8) */
+#define QUIC_WIRE_READ_STREAM_LIMIT 0x004u /* MAX_STREAMS or STREAMS_BLOCKED of
+                                              more than 2^60 (19.11, 19.14) */
+#define QUIC_WIRE_READ_NO_ACK_FREQUENCY 0x008u /* ACK_FREQUENCY, IMMEDIATE_ACK:
+                                                  their extension wasn't
+                                                  negotiated (12.4) */
+#define QUIC_WIRE_READ_TOKENS 0x200u /* a NEW_TOKEN without a token (19.7) */
+
+/* Packets: when the fixed bit may be clear, and what is refused too. */
+#define QUIC_WIRE_READ_GREASED_BIT 0x010u /* always, as was agreed (RFC 9287) */
+#define QUIC_WIRE_READ_ANY_VERSION 0x020u /* in version negotiations (17.2.1),
+                                             and in versions that aren't given
+                                             (RFC 8999) */
+#define QUIC_WIRE_READ_WHOLE_RETRY 0x040u /* a Retry without a token or a tag of
+                                             16 bytes (17.2.5) */
+
+/* Lists of transport parameters. */
+#define QUIC_WIRE_READ_ANY_WIDTH 0x080u /* integers may be in any encoding
+                                           (section 16) */
+#define QUIC_WIRE_READ_NO_REPEATS 0x100u /* no parameter may be there twice
+                                            (7.4) */
+
+/** All that RFC 9000 asks of a receiver that has negotiated no extension: each
+ * flag but QUIC_WIRE_READ_GREASED_BIT. */
+#define QUIC_WIRE_READ_RFC 0x3efu
+
 /* ---- Frames (RFC 9000, section 19) */
 
 /** The kinds of frames: the type, and one kind for all types of STREAM, of ACK
@@ -278,24 +314,6 @@ typedef enum quic_wire_frame_kind {
 #define QUIC_WIRE_RULE_NOT_COUNTED 0x200u /* C: it isn't counted in flight */
 #define QUIC_WIRE_RULE_PROBING 0x400u     /* P: it probes a path */
 #define QUIC_WIRE_RULE_FLOW_CONTROLLED 0x800u /* F */
-
-/** Flags for what reads: what RFC 9000 has a receiver refuse, and what is
- * refused only where its flag is set.  With 0 all is taken that quinn-proto
- * takes.  A function doesn't look at flags of other functions, so one value may
- * be passed to all. */
-#define QUIC_WIRE_READ_SHORT_TYPES 0x001u /* a frame's type that isn't in its
-                                             shortest encoding (section 12.4) */
-#define QUIC_WIRE_READ_DATA_LIMIT 0x002u /* data of CRYPTO or STREAM that end
-                                            past 2^62 - 1 (19.6, 19.8) */
-#define QUIC_WIRE_READ_STREAM_LIMIT 0x004u /* MAX_STREAMS or STREAMS_BLOCKED of
-                                              more than 2^60 (19.11, 19.14) */
-#define QUIC_WIRE_READ_NO_ACK_FREQUENCY 0x008u /* ACK_FREQUENCY, IMMEDIATE_ACK:
-                                                  unknown types (12.4) where
-                                                  their extension wasn't
-                                                  negotiated */
-#define QUIC_WIRE_READ_TOKENS 0x200u /* a NEW_TOKEN without a token (19.7) */
-/** All of these. */
-#define QUIC_WIRE_READ_RFC 0x20fu
 
 /** The value of a type where there is none. */
 #define QUIC_WIRE_NO_TYPE UINT64_MAX
@@ -438,17 +456,6 @@ typedef enum quic_wire_packet_kind {
 #define QUIC_WIRE_BITS_RESERVED 0x18 /* must be 0, under protection */
 #define QUIC_WIRE_BITS_RESERVED_LONG 0x0c /* of Initial, 0-RTT and Handshake */
 
-/** Flags of quic_wire_header_read.  With 0 it reads as quinn-proto does, which
- * asks for the fixed bit in each packet. */
-#define QUIC_WIRE_READ_GREASED_BIT 0x010 /* the fixed bit may be clear, as was
-                                            agreed (RFC 9287) */
-#define QUIC_WIRE_READ_ANY_VERSION 0x020 /* it isn't looked at in version
-                                            negotiations (section 17.2.1) and in
-                                            versions that aren't given */
-#define QUIC_WIRE_READ_WHOLE_RETRY 0x040 /* a Retry must have a token and a tag
-                                            of 16 bytes (section 17.2.5) */
-#define QUIC_WIRE_READ_RFC 0x3ef /* all that RFC 9000 asks of a receiver */
-
 /** Versions of QUIC. */
 #define QUIC_WIRE_VERSION_1 0x00000001u /* RFC 9000 */
 #define QUIC_WIRE_VERSION_2 0x6b3343cfu /* RFC 9369 */
@@ -562,11 +569,6 @@ typedef struct quic_wire_refusal {
 
 /** The value of a parameter's number where there is none. */
 #define QUIC_WIRE_NO_PARAM UINT64_MAX
-
-/** Flags of quic_wire_params_read; 0 is quinn-proto's reading, and both are RFC
- * 9000's.  Other bits are ignored. */
-#define QUIC_WIRE_READ_ANY_WIDTH 0x080u /* integers may be in any encoding */
-#define QUIC_WIRE_READ_NO_REPEATS 0x100u /* no parameter may be there twice */
 
 /** Numbers of parameters that quic_wire_params has no field for: the versions
  * of RFC 9368, and the |n|th of those that have no meaning and that each peer

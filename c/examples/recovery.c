@@ -1,0 +1,75 @@
+/* Loss recovery: packet numbers that came are kept as a set and acknowledged;
+ * the peer reads the ACK, takes what it acknowledges out of what is in flight,
+ * and finds what is lost (RFC 9002, section 6.1.1). */
+#include "paths.h"
+#include "quic_wire.h"
+
+enum { ROOM = 32, THRESHOLD = 3 };
+typedef struct set {
+  quic_wire_range runs[ROOM];
+  size_t count;
+} set;
+
+static void print_set(const char *name, const set *s) {
+  size_t i;
+  printf("%s", name);
+  for (i = 0; i < s->count; i++)
+    printf(" %" PRIu64 "-%" PRIu64, s->runs[i].start, s->runs[i].end - 1);
+  putchar('\n');
+}
+
+/* Adds a number.  Where there is no room the least ones are forgotten (RFC 9000,
+ * section 13.2.3). */
+static void add(set *s, uint64_t number) {
+  if (quic_wire_set_insert(s->runs, ROOM, &s->count, number, number + 1) !=
+      QUIC_WIRE_ERR_NOBUF)
+    return;
+  s->count--;
+  memmove(s->runs, s->runs + 1, s->count * sizeof *s->runs);
+  add(s, number);
+}
+
+static size_t write_ack(const set *came, uint8_t *dest, size_t room) {
+  static const uint64_t counts[3] = {20, 0, 1};
+  size_t n = 0;
+  const int answer = quic_wire_ack_write(8, came->runs, came->count, counts,
+                                         dest, room, &n);
+  check(answer == QUIC_WIRE_OK, quic_wire_strerror(answer));
+  return n;
+}
+
+static void read_ack(set *in_flight, const uint8_t *bytes, size_t len) {
+  quic_wire_frame frame;
+  quic_wire_range_iter ranges;
+  quic_wire_range range;
+  uint64_t lost;
+  const int64_t end =
+      quic_wire_frame_read(bytes, len, QUIC_WIRE_READ_RFC, &frame, NULL, 0);
+  check(end > 0 && frame.kind == QUIC_WIRE_FRAME_ACK, "no ACK");
+  check(quic_wire_ack_ranges_init(&ranges, bytes, len, &frame) == QUIC_WIRE_OK,
+        "no ACK");
+  printf("delay %" PRIu64 ", ce %" PRIu64 "\n", frame.ack.delay, frame.ack.ce);
+  while (quic_wire_ack_ranges_next(&ranges, bytes, len, &range) ==
+         QUIC_WIRE_ITEM)
+    check(quic_wire_set_remove(in_flight->runs, ROOM, &in_flight->count,
+                               range.start, range.end) >= 0,
+          "no room");
+  print_set("in flight", in_flight);
+  for (lost = 0; lost + THRESHOLD <= frame.ack.largest; lost++)
+    if (quic_wire_set_contains(in_flight->runs, in_flight->count, lost) == 1)
+      printf("lost %" PRIu64 "\n", lost);
+}
+
+int main(void) {
+  static const uint64_t numbers[] = {0, 1, 2, 5, 4, 9, 7, 12, 13, 12, 20};
+  set came = {{{0, 0}}, 0}, in_flight = {{{0, 23}}, 1};
+  uint8_t bytes[200];
+  size_t i;
+  for (i = 0; i < sizeof numbers / sizeof *numbers; i++)
+    add(&came, numbers[i]);
+  print_set("came", &came);
+  i = write_ack(&came, bytes, sizeof bytes);
+  print_hex("ack ", bytes, i);
+  read_ack(&in_flight, bytes, i);
+  return 0;
+}

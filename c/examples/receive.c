@@ -6,7 +6,8 @@
 
 enum { CIDLEN = 4 };
 static const uint32_t versions[] = {QUIC_WIRE_VERSION_1};
-static uint64_t expected[5]; /* by kind of packet */
+/* The number that is expected next, by kind of packet: 60,000 of 1-RTT came. */
+static uint64_t expected[5] = {0, 0, 0, 0, 60000};
 
 static void handle(const quic_wire_frame *frame, const uint8_t *payload,
                    size_t len) {

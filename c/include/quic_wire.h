@@ -377,7 +377,9 @@ typedef struct quic_wire_ack_frequency {
 /** A frame.  Each number of the union that |kind| doesn't name is 0, as
  * quic_wire_frame_write asks.  Numbers that were read are below 2^62, but
  * for those of paths.  Where data end, how many streams a limit allows, and
- * whether a token is empty, is looked at by the flags of those names. */
+ * whether a token is empty, is looked at by the flags of those names.  For
+ * languages without unions, as Go by cgo, QUIC_WIRE_PLAIN leaves |numbers|
+ * alone, in the order of the structs above. */
 typedef struct quic_wire_frame {
   uint16_t kind;  /* QUIC_WIRE_FRAME_PADDING and so on */
   uint16_t type;  /* the type as it is in the payload: 0x08 to 0x0f of a
@@ -392,6 +394,9 @@ typedef struct quic_wire_frame {
                              a close; the id of a NEW_CONNECTION_ID, with its
                              token after it */
   quic_wire_size datalen; /* how many bytes these are, without that token */
+#ifdef QUIC_WIRE_PLAIN
+  uint64_t numbers[5];
+#else
   QUIC_WIRE_EXTENSION union {
     uint64_t numbers[5];
     quic_wire_ack ack;
@@ -406,6 +411,7 @@ typedef struct quic_wire_frame {
     quic_wire_close close;
     quic_wire_ack_frequency ack_frequency;
   };
+#endif
 } QUIC_WIRE_ALIGNED quic_wire_frame;
 
 /** Packet numbers from |start| to below |end|. */
@@ -1013,10 +1019,11 @@ QUIC_WIRE_CHECKED QUIC_WIRE_API int quic_wire_protect(uint8_t *packet,
 
 /* ---- Numbers of packets, and of variable length */
 
-/** How many bytes of |number| are written whose receiver has acknowledged
- * |largest_acked|, 1 to 4, or 0 if nothing was acknowledged;
- * QUIC_WIRE_ERR_NUMBER where that is above |number|, or 2^31 or more below it.
- */
+/** In how many bytes |number| is written to a receiver that has acknowledged
+ * |largest_acked| (RFC 9000, section 17.1); with 0, where nothing was
+ * acknowledged, it is what appendix A.2 has then.  Returns 1 to 4;
+ * QUIC_WIRE_ERR_NUMBER where |largest_acked| is above |number|, or 2^31 or more
+ * below it. */
 QUIC_WIRE_API int quic_wire_number_len(uint64_t number, uint64_t largest_acked);
 
 /** The whole number of which the low |numberlen| bytes are written, by the one

@@ -1289,6 +1289,29 @@ QUIC_WIRE_API int quic_wire_param_write_number(uint64_t id, uint64_t value,
                                                uint8_t *dest, size_t destlen,
                                                size_t *written);
 
+/**
+ * Reads the |value| of a preferred_address, all of its |valuelen| bytes, as a
+ * client gets it (RFC 9000, section 18.2).
+ *
+ * Returns 0 and |params| with this address and defaults;
+ * QUIC_WIRE_ERR_PARAMS_ILLEGAL where it has no address or no connection id,
+ * QUIC_WIRE_ERR_PARAMS_MALFORMED where the bytes are no such value;
+ * QUIC_WIRE_ERR_LENGTH for another |size| than `sizeof *params`;
+ * QUIC_WIRE_ERR_ARGUMENT for NULL.  |params| changes only with 0.
+ */
+QUIC_WIRE_CHECKED QUIC_WIRE_API int
+quic_wire_preferred_address_read(const uint8_t *value, size_t valuelen,
+                                 quic_wire_params *params, size_t size);
+
+/**
+ * Writes the value of the preferred_address that |params| has.  Returns what
+ * quic_wire_params_write does of a server's, QUIC_WIRE_ERR_PARAM also where
+ * there is no such address.
+ */
+QUIC_WIRE_API int quic_wire_preferred_address_write(
+    const quic_wire_params *params, size_t size, uint8_t *dest, size_t destlen,
+    size_t *written);
+
 /** Whether quic_wire_params has the parameter of this number: 1 or 0. */
 QUIC_WIRE_API int quic_wire_param_is_known(uint64_t id);
 

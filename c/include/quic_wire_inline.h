@@ -90,6 +90,10 @@ int32_t quic_wire_param_header_write_(uint64_t, size_t, uint8_t *, size_t,
                                       size_t *);
 int32_t quic_wire_param_write_number_(uint64_t, uint64_t, uint8_t *, size_t,
                                       size_t *);
+int32_t quic_wire_preferred_address_read_(const uint8_t *, size_t,
+                                          quic_wire_params *);
+int32_t quic_wire_preferred_address_write_(const quic_wire_params *, uint8_t *,
+                                           size_t, size_t *);
 uint32_t quic_wire_param_is_known_(uint64_t);
 int32_t quic_wire_set_insert_(quic_wire_range *, size_t, size_t *, uint64_t,
                               uint64_t);
@@ -602,6 +606,29 @@ QUIC_WIRE_API int quic_wire_param_write_number(uint64_t id, uint64_t value,
   return quic_wire_param_write_number_(
       id, value, dest ? dest : (uint8_t *)quic_wire_nothing_(), destlen,
       written);
+}
+
+QUIC_WIRE_API int quic_wire_preferred_address_read(const uint8_t *value,
+                                                   size_t valuelen,
+                                                   quic_wire_params *params,
+                                                   size_t size) {
+  if ((!value && valuelen) || !params)
+    return QUIC_WIRE_ERR_ARGUMENT;
+  if (size != sizeof *params)
+    return QUIC_WIRE_ERR_LENGTH;
+  return quic_wire_preferred_address_read_(
+      value ? value : (const uint8_t *)quic_wire_nothing_(), valuelen, params);
+}
+
+QUIC_WIRE_API int quic_wire_preferred_address_write(
+    const quic_wire_params *params, size_t size, uint8_t *dest, size_t destlen,
+    size_t *written) {
+  if (!params || (!dest && destlen) || !written)
+    return QUIC_WIRE_ERR_ARGUMENT;
+  if (size != sizeof *params)
+    return QUIC_WIRE_ERR_LENGTH;
+  return quic_wire_preferred_address_write_(
+      params, dest ? dest : (uint8_t *)quic_wire_nothing_(), destlen, written);
 }
 
 QUIC_WIRE_API int quic_wire_param_is_known(uint64_t id) {

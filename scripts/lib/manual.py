@@ -52,10 +52,17 @@ def first_sentence(text):
     return re.split(r"(?<=[A-Za-z\d)|])[.;:](?:\s|$)", " ".join(text.split()))[0]
 
 
+def laid_out(paragraph):
+    """A paragraph; of a list each entry on a line of its own."""
+    if not paragraph.lstrip().startswith("- "):
+        return marked(paragraph)
+    return "\n.br\n".join(marked(entry) for entry in re.split(r"(?:^|\n)\s*- ", paragraph) if entry)
+
+
 def described(call):
     yield f".TP\n.B {escaped(call.declaration)}"
     paragraphs = re.split(r"\n\s*\n", call.text)
-    yield "\n.IP\n".join(map(marked, paragraphs))
+    yield "\n.IP\n".join(map(laid_out, paragraphs))
 
 
 def page(header, date):

@@ -40,6 +40,85 @@ static void params_flags(void) {
   }
 }
 
+/* Single entries: up to the value, of numbers, of numbers in any encoding. */
+static void params_entries(void) {
+  static const uint8_t wide[] = {0x40, 4, 2, 0x40, 9, 7};
+  uint8_t out[16];
+  quic_wire_param entry = {0, 0, 0};
+  uint64_t number = 0;
+  size_t n = 77;
+  WANT(quic_wire_param_header_write(0x2ab2, 64, out, 4, &n) == 0 && n == 4 &&
+       !memcmp(out, "\x6a\xb2\x40\x40", 4));
+  WANT(quic_wire_param_header_write(0x2ab2, 64, out, 3, &n) ==
+           QUIC_WIRE_ERR_NOBUF && n == 4);
+  WANT(quic_wire_param_header_write(1, 0, NULL, 1, &n) == INVALID);
+  WANT(quic_wire_param_header_write(1, 0, out, 2, NULL) == INVALID);
+  WANT(quic_wire_param_header_write((uint64_t)1 << 62, 0, out, 2, &n) ==
+       QUIC_WIRE_ERR_NUMBER);
+  WANT(quic_wire_param_write_number(4, 16383, out, 4, &n) == 0 && n == 4 &&
+       !memcmp(out, "\x04\x02\x7f\xff", 4));
+  WANT(quic_wire_param_write_number(4, 16383, NULL, 0, &n) ==
+           QUIC_WIRE_ERR_NOBUF && n == 4);
+  WANT(quic_wire_param_write_number(4, (uint64_t)1 << 62, out, 16, &n) ==
+       QUIC_WIRE_ERR_NUMBER);
+  WANT(quic_wire_param_write_number((uint64_t)1 << 62, 4, out, 16, &n) ==
+       QUIC_WIRE_ERR_NUMBER);
+  WANT(quic_wire_param_write_number(4, 4, out, 16, NULL) == INVALID && n == 4);
+  WANT(quic_wire_param_read_number(wide, 6, &entry, &number) == 5 &&
+       entry.id == 4 && entry.value == 3 && entry.valuelen == 2 && number == 9);
+  WANT(quic_wire_param_read_number(wide, 4, &entry, &number) ==
+       QUIC_WIRE_ERR_PARAMS_MALFORMED);
+  WANT(quic_wire_param_read_number(wide, 0, &entry, &number) == 0);
+  WANT(quic_wire_param_read_number((const uint8_t *)"\x04\x02\x09\x09", 4,
+                                   &entry, &number) ==
+           QUIC_WIRE_ERR_PARAMS_MALFORMED && number == 9 && entry.id == 4);
+  WANT(quic_wire_param_read_number(NULL, 1, &entry, &number) == INVALID);
+  WANT(quic_wire_param_read_number(wide, 6, NULL, &number) == INVALID);
+  WANT(quic_wire_param_read_number(wide, 6, &entry, NULL) == INVALID);
+}
+
+/* The value of a preferred address: 127.0.0.1:443, an id of two bytes. */
+static void params_address(void) {
+  uint8_t value[43] = {127, 0, 0, 1, 1, 0xbb}, out[43];
+  quic_wire_params params;
+  size_t n = 77, size = sizeof params;
+  value[24] = 2;
+  value[25] = value[26] = 5;
+  memset(value + 27, 9, 16);
+  WANT(quic_wire_preferred_address_read(value, 43, &params, size) == 0);
+  WANT(params.present == (QUIC_WIRE_HAS_PREFERRED_ADDRESS |
+                          QUIC_WIRE_HAS_PREFERRED_V4) &&
+       params.preferred_v4_port == 443 && params.preferred_cidlen == 2 &&
+       params.max_ack_delay == 25);
+  WANT(quic_wire_preferred_address_write(&params, size, out, 43, &n) == 0 &&
+       n == 43 && !memcmp(out, value, 43));
+  WANT(quic_wire_preferred_address_write(&params, size, out, 42, &n) ==
+           QUIC_WIRE_ERR_NOBUF && n == 43);
+  WANT(quic_wire_preferred_address_write(&params, size, NULL, 1, &n) ==
+       INVALID);
+  WANT(quic_wire_preferred_address_write(&params, size, out, 43, NULL) ==
+       INVALID);
+  WANT(quic_wire_preferred_address_write(NULL, size, out, 43, &n) == INVALID);
+  WANT(quic_wire_preferred_address_write(&params, size + 8, out, 43, &n) ==
+       QUIC_WIRE_ERR_LENGTH);
+  params.preferred_cidlen = 0;
+  WANT(quic_wire_preferred_address_write(&params, size, out, 43, &n) ==
+       QUIC_WIRE_ERR_PARAM);
+  WANT(quic_wire_params_read(QUIC_WIRE_SIDE_CLIENT, 0, NULL, 0, &params, size,
+                             NULL) == 0);
+  WANT(quic_wire_preferred_address_write(&params, size, out, 43, &n) ==
+       QUIC_WIRE_ERR_PARAM);
+  WANT(quic_wire_preferred_address_read(value, 42, &params, size) ==
+       QUIC_WIRE_ERR_PARAMS_MALFORMED);
+  WANT(quic_wire_preferred_address_read(NULL, 1, &params, size) == INVALID);
+  WANT(quic_wire_preferred_address_read(value, 43, NULL, size) == INVALID);
+  WANT(quic_wire_preferred_address_read(value, 43, &params, 8) ==
+       QUIC_WIRE_ERR_LENGTH);
+  value[0] = value[3] = value[4] = value[5] = 0;
+  WANT(quic_wire_preferred_address_read(value, 43, &params, size) ==
+       QUIC_WIRE_ERR_PARAMS_ILLEGAL);
+}
+
 void params_nulls(void) {
   quic_wire_params params;
   uint8_t byte = 0, out[8];
@@ -70,6 +149,8 @@ void params_nulls(void) {
                               NULL, 0, &n) == QUIC_WIRE_ERR_NOBUF &&
        n == 3);
   params_flags();
+  params_entries();
+  params_address();
   WANT(quic_wire_params_read(QUIC_WIRE_SIDE_CLIENT, 0, &byte, 0, &params,
                              sizeof params - 1, NULL) == QUIC_WIRE_ERR_LENGTH);
   n = 77;

@@ -8,7 +8,8 @@ ghost use Rattle.quic_results.specs.Results.{failed};
 
 use crate::words::CEntry;
 use quic_params::transport_parameters::{
-    known, split_entry, value_number, write_entry_header_into, write_entry_into, write_number_entry_into,
+    known, split_entry, value_number, write_entry_header_into, write_entry_into,
+    write_number_entry_into,
 };
 use quic_results::results::Failure;
 

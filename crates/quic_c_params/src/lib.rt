@@ -2,6 +2,7 @@
 //! Every argument may have every value: no function has a precondition.
 #![tactic(auto)]
 
+mod address;
 mod entries;
 mod further;
 mod lists;

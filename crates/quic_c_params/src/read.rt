@@ -22,7 +22,7 @@ pub(crate) fn side_of(word: u32) -> Option<Side>
 }
 
 // What is returned for an error.
-fn failure_of(error: Error) -> Failure
+pub(crate) fn failure_of(error: Error) -> Failure
     ensures { result ≡ failure_of error }
 {
     match error {

@@ -30,11 +30,11 @@ fn split(word: u32) -> (bool, u32)
 
 // What is present, by the bits of a word.
 #[derive(Clone, Copy)]
-struct Flags {
+pub(crate) struct Flags {
     token: bool,
     stays: bool,
     datagram: bool,
-    address: bool,
+    pub address: bool,
     v4: bool,
     v6: bool,
     original: bool,
@@ -44,7 +44,7 @@ struct Flags {
     delay: bool,
 }
 
-fn flags_in(word: u32) -> Flags
+pub(crate) fn flags_in(word: u32) -> Flags
     ensures { (p : TransportParameters) → word ≡ bits (present_in p) → HasFlags result p }
 {
     let (token, above) = split(word);

@@ -33,8 +33,11 @@ impl ReadOptions {
     pub(crate) fn kind_read(self, kind: Kind) -> Kind
         ensures { result ≡ kind_read self kind }
     {
+        if !self.any_width {
+            return kind;
+        }
         match kind {
-            Kind::Integer(_) if self.any_width => Kind::Varint,
+            Kind::Integer(_) => Kind::Varint,
             _ => kind,
         }
     }

@@ -198,11 +198,7 @@ fn fill_number(number: u64, room: &mut Room<NUMBER_ROOM>)
 
 /// Stores an entry whose value is a number in its least width, as `write_entry_into` does. The caller must ensure that
 /// both numbers are below 2^62.
-pub fn write_number_entry_into(
-    number: u64,
-    value: u64,
-    dest: &mut [u8],
-) -> Result<usize, usize>
+pub fn write_number_entry_into(number: u64, value: u64, dest: &mut [u8]) -> Result<usize, usize>
     requires number { number < 2 ^ 62 }
     requires value { value < 2 ^ 62 }
     ensures count { IfOk result (λ n. n ≡ length (shortest_entry number (shortest_varint value))) }

@@ -153,6 +153,28 @@ extern "C" {
 #[cfg(test)]
 extern "C" {
     pub fn quic_wire_frame_rules_(kind: u32) -> u32;
+    pub fn quic_wire_param_read_number_(list: *const u8, len: usize, entry: *mut Param, value: *mut u64) -> i64;
+    pub fn quic_wire_param_header_write_(
+        id: u64,
+        value_len: usize,
+        out: *mut u8,
+        out_len: usize,
+        written: *mut usize,
+    ) -> i32;
+    pub fn quic_wire_param_write_number_(
+        id: u64,
+        value: u64,
+        out: *mut u8,
+        out_len: usize,
+        written: *mut usize,
+    ) -> i32;
+    pub fn quic_wire_preferred_address_read_(value: *const u8, len: usize, out: *mut Params) -> i32;
+    pub fn quic_wire_preferred_address_write_(
+        params: *const Params,
+        out: *mut u8,
+        out_len: usize,
+        written: *mut usize,
+    ) -> i32;
     pub fn quic_wire_number_read_(bytes: *const u8, len: usize, number_len: u32, written: *mut u64) -> i32;
     pub fn quic_wire_number_write_(number: u64, number_len: u32, out: *mut u8, out_len: usize) -> i32;
     pub fn quic_wire_varint_len_(value: u64) -> usize;

@@ -3,7 +3,7 @@
 extern crate std;
 
 use super::words::Gap;
-use super::{c, Entry, Frame, Frames, Range, Ranges, ITEM, NO_ROOM, OK, PAYLOAD_EMPTY};
+use super::{c, Entry, Frame, Frames, Param, Params, Range, Ranges, ITEM, NO_ROOM, OK, PAYLOAD_EMPTY};
 use crate::frame::{Ack, FrameType, Iter, Reason, Rules};
 use crate::varint;
 use std::vec;
@@ -437,4 +437,70 @@ fn a_kind_of_frame_has_its_row() {
         // SAFETY: a number alone goes in and out, and any serves.
         assert_eq!(unsafe { c::quic_wire_frame_rules_(kind) }, wanted, "of {kind:x}");
     }
+}
+
+// A call that writes at the front of `out`: its answer and how many bytes it says.
+fn wrote(out: &mut [u8], call: impl Fn(*mut u8, usize, *mut usize) -> i32) -> (i32, usize) {
+    let mut written = 77;
+    (call(out.as_mut_ptr(), out.len(), &mut written), written)
+}
+
+#[test]
+fn entries_are_written_in_parts_and_of_numbers() {
+    use crate::transport_parameters::Entry;
+    const MALFORMED: i64 = -60;
+    for (id, value) in [(0, 0), (4, 63), (0x2ab2, 64), (varint::MAX, varint::MAX)] {
+        let (mut shortest, mut number) = (vec![], vec![]);
+        varint::write(value, &mut number).unwrap();
+        Entry { id, value: &number }.write(&mut shortest).unwrap();
+        let head = shortest.len() - number.len();
+        let mut out = vec![0; shortest.len()];
+        // SAFETY: `out` gives its own pointer and length, and is borrowed alone as `written` is. The library looks at
+        // no other memory and keeps no pointer.
+        let write_header = |to, room, written| unsafe {
+            c::quic_wire_param_header_write_(id, number.len(), to, room, written)
+        };
+        assert_eq!(wrote(&mut out, write_header), (OK, head));
+        assert_eq!((&out[..head], wrote(&mut out[..head - 1], write_header)), (&shortest[..head], (NO_ROOM, head)));
+        // SAFETY: as above.
+        let write_number =
+            |to, room, written| unsafe { c::quic_wire_param_write_number_(id, value, to, room, written) };
+        assert_eq!((wrote(&mut out, write_number), &out), ((OK, shortest.len()), &shortest));
+        let read = |list: &[u8]| {
+            let (mut entry, mut number) = (Param::default(), 77);
+            // SAFETY: `list` gives its own pointer and length; `entry` and `number` are borrowed alone. The library
+            // looks at no other memory and keeps no pointer.
+            let end =
+                unsafe { c::quic_wire_param_read_number_(list.as_ptr(), list.len(), &mut entry, &mut number) };
+            (end, entry.id, number)
+        };
+        assert_eq!(read(&shortest), (shortest.len() as i64, id, value));
+        assert_eq!(read(&shortest[..shortest.len() - 1]), (MALFORMED, 0, 77));
+    }
+}
+
+#[test]
+fn a_preferred_address_is_its_entry_alone() {
+    use crate::transport_parameters::{ConnectionId, PreferredAddress, Side, TransportParameters};
+    let preferred_address = PreferredAddress {
+        address_v4: None,
+        address_v6: Some("[::1]:443".parse().unwrap()),
+        connection_id: ConnectionId::new(&[7; 8]).unwrap(),
+        stateless_reset_token: [9; 16],
+    };
+    let given = TransportParameters { preferred_address: Some(preferred_address), ..TransportParameters::default() };
+    let mut list = vec![];
+    given.write(Side::Server, &mut list).unwrap();
+    // Of its entry the number and the length have a byte each.
+    let value = &list[2..];
+    let (mut words, mut whole) = (Params::default(), Params::default());
+    // SAFETY: `value` and `list` each give their own pointer and length; `words`, `whole` and what the library says of
+    // a refusal are borrowed alone. The library looks at no other memory and keeps no pointer.
+    let read = unsafe { c::quic_wire_preferred_address_read_(value.as_ptr(), value.len(), &mut words) };
+    assert_eq!(super::params_read(0, 0, &list, &mut whole, &mut super::Refusal::default()), OK);
+    assert_eq!((read, words), (OK, whole));
+    let mut out = vec![0; value.len()];
+    // SAFETY: `out` gives its own pointer and length, and is borrowed alone as `written` is. Any words serve.
+    let write = |to, room, written| unsafe { c::quic_wire_preferred_address_write_(&words, to, room, written) };
+    assert_eq!((wrote(&mut out, write), &out[..]), ((OK, value.len()), value));
 }

@@ -1,5 +1,5 @@
 -- An entry whose value is no number.
-use Rattle.std.proofs.Common.{◌≡◌, ℕ, ◌+◌, ◌-◌, List, take, drop, arith, inr, subst}
+use Rattle.std.proofs.Common.{◌≡◌, ℕ, ◌+◌, ◌-◌, take, drop, arith, inr, subst}
 use Rattle.quic_base.specs.Varint.{Encodes}
 use Rattle.quic_c_params.proofs.entries.number_of.Goals as goal
 

@@ -1,5 +1,5 @@
 -- What the side refuses is reported.
-use Rattle.std.proofs.Common.{◌≡◌, Err, ap, inr, of_z, refl, rules, subst, to_z, w32}
+use Rattle.std.proofs.Common.{◌≡◌, Err, inr, of_z, refl, rules, subst, to_z, w32}
 use Rattle.quic_params.specs.Meaning.{IsReadAnswerWith}
 use Rattle.quic_params.specs.Refusal.{IsPlacedAnswer}
 use Rattle.quic_params.specs.declared.options.ReadOptions.{ReadOptions}

@@ -1,11 +1,12 @@
 //! The rules that flags name, and what is reported of a frame that breaks one.
 ghost use Rattle.std.specs.Prelude.{◌≡◌, IfSome, None, Some, false, true};
-ghost use Rattle.quic_frames.specs.Rules.{breach_text, only_types};
+ghost use Rattle.quic_frames.specs.Meaning.{meaning_of};
+ghost use Rattle.quic_frames.specs.Rules.{breach_of, breach_text, only_types};
 ghost use Rattle.quic_frames.specs.declared.frame.rules.Breach.{Breach};
 ghost use Rattle.quic_frames.specs.Walk.{invalid_of};
 ghost use Rattle.quic_c.specs.Shown.{rules_in};
 
-use quic_frames::frame::{Breach, FrameType, InvalidFrame, Rules};
+use quic_frames::frame::{Breach, Frame, FrameType, InvalidFrame, Rules};
 
 // The rules that flags name. Their other bits mean nothing for frames.
 #[inline(always)]
@@ -48,6 +49,15 @@ pub(crate) fn only_types(short_types: bool) -> Rules
         tokens: false,
         no_ack_frequency: false,
     }
+}
+
+// The rule that a frame breaks. Where frames aren't checked, the copy for that has no test at all.
+#[inline(always)]
+pub(crate) fn breach_by<const CHECKED: bool>(rules: Rules, frame: &Frame<'_>) -> Option<Breach>
+    requires { CHECKED ≡ false → rules ≡ only_types rules.short_types }
+    ensures { result ≡ breach_of rules (meaning_of frame.now) }
+{
+    if CHECKED { rules.breach(frame) } else { None }
 }
 
 // Whether a frame breaks a rule.

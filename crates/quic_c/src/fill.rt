@@ -3,10 +3,10 @@ ghost use Rattle.std.specs.Prelude.{◌≡◌, ◌<◌, length, IfOk, IfErr, fal
 ghost use Rattle.quic_frames.specs.Walk.{invalid_of, IsSpent};
 ghost use Rattle.quic_c.specs.Shown.{has_flag, rules_in};
 ghost use Rattle.quic_frames.specs.Checking.{IsRefusedFrame};
-ghost use Rattle.quic_frames.specs.Rules.{only_types};
+ghost use Rattle.quic_frames.specs.Rules.{no_rules};
 ghost use Rattle.quic_c.specs.Filling.{AnswersFill, AnswersFirst, Fills, further};
 
-use crate::flags::{breach_by, broken, is_broken, rules_in, types_alone};
+use crate::flags::{breach_by, broken, is_broken, no_rules, rules_in};
 use crate::frames::{show_invalid, type_in, type_read, type_word};
 use crate::show::{parts_of, show_parts};
 use crate::words::{CFrame, CFrameIter};
@@ -32,7 +32,7 @@ fn fill<const COPY: usize, const CHECKED: bool>(
     rules: Rules,
     out: &mut [CFrame],
 ) -> Result<Filled, InvalidFrame>
-    requires { CHECKED ≡ false → rules ≡ only_types rules.short_types }
+    requires { CHECKED ≡ false → rules ≡ no_rules }
     ensures filled { IfOk result (λ f. Fills rules iter.old out.old (further iter.old f.end f.last) out.new f.count) }
     ensures none { IfOk result (λ f. f.count ≡ 0 → 0 < length out.old → IsSpent iter.old) }
     ensures invalid { IfErr result (λ i. IsRefusedFrame rules iter.old (invalid_of i) × (out.new ≡ out.old)) }
@@ -82,7 +82,7 @@ fn fill_on<const COPY: usize, const CHECKED: bool>(
     count: &mut usize,
 ) -> i32
     requires types { rules.short_types ≡ has_flag 0x001 frames.old.flags }
-    requires checked { CHECKED ≡ false → rules ≡ only_types rules.short_types }
+    requires checked { CHECKED ≡ false → rules ≡ no_rules }
     ensures { AnswersFill rules frames.old payload.now out.old count.old result frames.new out.new count.new }
 {
     let begin = frames.offset;
@@ -143,7 +143,7 @@ pub extern "C" fn quic_wire_frames_fill_(
     ensures answers { AnswersFill (rules_in frames.old.flags) frames.old payload.now out.old count.old result frames.new
         out.new count.new }
 {
-    let Some(rules) = types_alone(frames.flags) else {
+    let Some(rules) = no_rules(frames.flags) else {
         return fill_checked(frames, payload, out, count);
     };
     fill_on::<1, false>(frames, payload, rules, out, count)
@@ -160,7 +160,7 @@ fn first_by<const COPY: usize, const CHECKED: bool>(
     count: &mut usize,
 ) -> i32
     requires flags { rules ≡ rules_in flags }
-    requires checked { CHECKED ≡ false → rules ≡ only_types rules.short_types }
+    requires checked { CHECKED ≡ false → rules ≡ no_rules }
     ensures { AnswersFirst flags payload.now frames.old out.old count.old result frames.new out.new count.new }
 {
     if payload.is_empty() {
@@ -225,7 +225,7 @@ pub extern "C" fn quic_wire_frames_first_(
 ) -> i32
     ensures answers { AnswersFirst flags payload.now frames.old out.old count.old result frames.new out.new count.new }
 {
-    let Some(rules) = types_alone(flags) else {
+    let Some(rules) = no_rules(flags) else {
         return first_checked(frames, payload, flags, out, count);
     };
     first_by::<0, false>(frames, payload, flags, rules, out, count)

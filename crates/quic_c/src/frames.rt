@@ -2,13 +2,13 @@
 ghost use Rattle.std.specs.Prelude.{◌≡◌, ◌<◌, ◌≤◌, ◌^◌, ◌↔◌, ◌⊎◌, [], false, pos, length};
 ghost use Rattle.quic_frames.specs.declared.frame.Frame.{Frame};
 ghost use Rattle.quic_frames.specs.IterState.{IterState};
-ghost use Rattle.quic_frames.specs.Rules.{only_types};
+ghost use Rattle.quic_frames.specs.Rules.{no_rules};
 ghost use Rattle.quic_frames.specs.Walk.{first_of, Finds};
 ghost use Rattle.quic_c.specs.Shown.{state_of, at_front, has_flag, rules_in, type_in, type_word, invalid_words};
 ghost use Rattle.quic_c.specs.Answers.{AnswersNext};
 ghost use Rattle.quic_results.specs.Results.{failed, frame_failure};
 
-use crate::flags::{breach_by, broken, is_broken, rules_in, types_alone};
+use crate::flags::{breach_by, broken, is_broken, no_rules, rules_in};
 use crate::show::show;
 use crate::words::{CFrame, CFrameIter};
 use quic_frames::frame::{FrameType, InvalidFrame, Iter, Rules};
@@ -114,7 +114,7 @@ fn give_next<const COPY: usize, const CHECKED: bool>(
 ) -> i32
     requires state { state_of frames.old iter.old.payload ≡ iter.old }
     requires within { frames.old.offset ≤ length iter.old.payload }
-    requires checked { CHECKED ≡ false → rules ≡ only_types rules.short_types }
+    requires checked { CHECKED ≡ false → rules ≡ no_rules }
     ensures { AnswersNext rules frames.old iter.old.payload out.old result frames.new out.new }
 {
     let begin = frames.offset;
@@ -144,7 +144,7 @@ fn next_on<const PADDING: usize, const OTHER: usize, const CHECKED: bool>(
     out: &mut CFrame,
 ) -> i32
     requires types { rules.short_types ≡ has_flag 0x001 frames.old.flags }
-    requires checked { CHECKED ≡ false → rules ≡ only_types rules.short_types }
+    requires checked { CHECKED ≡ false → rules ≡ no_rules }
     ensures { AnswersNext rules frames.old payload.now out.old result frames.new out.new }
 {
     let begin = frames.offset;
@@ -180,7 +180,7 @@ pub extern "C" fn quic_wire_frames_next_(
 ) -> i32
     ensures returns { AnswersNext (rules_in frames.old.flags) frames.old payload.now out.old result frames.new out.new }
 {
-    let Some(rules) = types_alone(frames.flags) else {
+    let Some(rules) = no_rules(frames.flags) else {
         return next_checked(frames, payload, out);
     };
     next_on::<0, 1, false>(frames, payload, rules, out)

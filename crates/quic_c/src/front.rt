@@ -3,13 +3,13 @@ ghost use Rattle.std.specs.Prelude.{◌≡◌, ◌↔◌, ◌⊎◌, ◌<◌, �
 ghost use Rattle.quic_frame_fields.specs.Field.{AreBelow};
 ghost use Rattle.quic_frames.specs.declared.frame.Frame.TheVariants as frames;
 ghost use Rattle.quic_frames.specs.Padding.{PassesPadding};
-ghost use Rattle.quic_frames.specs.Rules.{only_types};
+ghost use Rattle.quic_frames.specs.Rules.{no_rules};
 ghost use Rattle.quic_frames.specs.Walk.{left, first_of, resumed};
 ghost use Rattle.quic_c.specs.Shown.{frame_kind_of, frame_words, invalid_words, rules_in, type_word};
 ghost use Rattle.quic_c.specs.Front.{AnswersRead, FillsGaps, ShowsAck, ShowsFront, moved_by, reported_behind};
 ghost use Rattle.quic_results.specs.Results.{failed, frame_failure};
 
-use crate::flags::{breach_by, broken, is_broken, rules_in, types_alone};
+use crate::flags::{breach_by, broken, is_broken, no_rules, rules_in};
 use crate::frames::{show_invalid, type_read};
 use crate::show::{parts_of, show};
 use crate::words::{CFrame, CGap};
@@ -130,7 +130,7 @@ fn read_front<const COPY: usize, const CHECKED: bool>(
     out: &mut CFrame,
     gaps: &mut [CGap],
 ) -> i64
-    requires { CHECKED ≡ false → rules ≡ only_types rules.short_types }
+    requires { CHECKED ≡ false → rules ≡ no_rules }
     ensures { AnswersRead rules payload.now out.old gaps.old result out.new gaps.new }
 {
     if payload.is_empty() {
@@ -172,7 +172,7 @@ fn read_checked(payload: &[u8], flags: u32, out: &mut CFrame, gaps: &mut [CGap])
 fn read_other(payload: &[u8], flags: u32, out: &mut CFrame, gaps: &mut [CGap]) -> i64
     ensures { AnswersRead (rules_in flags) payload.now out.old gaps.old result out.new gaps.new }
 {
-    let Some(rules) = types_alone(flags) else {
+    let Some(rules) = no_rules(flags) else {
         return read_checked(payload, flags, out, gaps);
     };
     if !payload.is_empty() && payload[0] & 0xfe == 0x02 {
@@ -201,7 +201,7 @@ pub extern "C" fn quic_wire_frame_read_(
         return none_left();
     }
     if payload[0] & 0xf8 == 0x08 {
-        if let Some(rules) = types_alone(flags) {
+        if let Some(rules) = no_rules(flags) {
             return read_front::<2, false>(payload, rules, out, gaps);
         }
     }

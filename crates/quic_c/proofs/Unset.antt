@@ -4,7 +4,7 @@ use Rattle.std.specs.Prelude.{bit_and, not, ◌==◌}
 use Rattle.std.specs.Int.Bits.{and_zero_l}
 use Rattle.std.proofs.lemmas.Nat.{and_assoc}
 use Rattle.quic_frames.specs.declared.frame.rules.Rules.{Rules}
-use Rattle.quic_frames.specs.Rules.{only_types}
+use Rattle.quic_frames.specs.Rules.{no_rules}
 use Rattle.quic_c.specs.Shown.{has_flag, rules_in}
 
 -- nor is one that is among them
@@ -15,18 +15,20 @@ unset flags mask flag among none =
     ∙ and_zero_l flag in
     ap (λ (n : ℕ). not (n == 0)) is_zero
 
--- so types alone are checked
-pub types_alone : (flags : ℕ) → bit_and flags 0x20e ≡ 0 → rules_in flags ≡ only_types (has_flag 0x001 flags)
-types_alone flags none =
-    let with_bits : Bool → Bool → Bool → Bool → Rules = λ data_limit stream_limit no_ack_frequency tokens. record {
-      short_types = has_flag 0x001 flags;
+-- so there are no rules
+pub rules_unset : (flags : ℕ) → bit_and flags 0x20f ≡ 0 → rules_in flags ≡ no_rules
+rules_unset flags none =
+    let with_bits : Bool → Bool → Bool → Bool → Bool → Rules =
+    λ short_types data_limit stream_limit no_ack_frequency tokens. record {
+      short_types = short_types;
       data_limit = data_limit;
       stream_limit = stream_limit;
       tokens = tokens;
       no_ack_frequency = no_ack_frequency;
     } in
     let by = λ (flag : ℕ). has_flag flag flags in
-    ap (λ (b : Bool). with_bits b (by 0x004) (by 0x008) (by 0x200)) (unset flags 0x20e 0x002 refl none)
-    ∙ ap (λ (b : Bool). with_bits false b (by 0x008) (by 0x200)) (unset flags 0x20e 0x004 refl none)
-    ∙ ap (λ (b : Bool). with_bits false false b (by 0x200)) (unset flags 0x20e 0x008 refl none)
-    ∙ ap (λ (b : Bool). with_bits false false false b) (unset flags 0x20e 0x200 refl none)
+    ap (λ (b : Bool). with_bits b (by 0x002) (by 0x004) (by 0x008) (by 0x200)) (unset flags 0x20f 0x001 refl none)
+    ∙ ap (λ (b : Bool). with_bits false b (by 0x004) (by 0x008) (by 0x200)) (unset flags 0x20f 0x002 refl none)
+    ∙ ap (λ (b : Bool). with_bits false false b (by 0x008) (by 0x200)) (unset flags 0x20f 0x004 refl none)
+    ∙ ap (λ (b : Bool). with_bits false false false b (by 0x200)) (unset flags 0x20f 0x008 refl none)
+    ∙ ap (λ (b : Bool). with_bits false false false false b) (unset flags 0x20f 0x200 refl none)

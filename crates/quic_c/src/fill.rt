@@ -1,11 +1,12 @@
 //! Reads the frames of a payload, as many with one call as the caller has room for.
-ghost use Rattle.std.specs.Prelude.{◌≡◌, ◌<◌, length, IfOk, IfErr};
+ghost use Rattle.std.specs.Prelude.{◌≡◌, ◌<◌, length, IfOk, IfErr, false};
 ghost use Rattle.quic_frames.specs.Walk.{invalid_of, IsSpent};
 ghost use Rattle.quic_c.specs.Shown.{has_flag, rules_in};
 ghost use Rattle.quic_frames.specs.Checking.{IsRefusedFrame};
+ghost use Rattle.quic_frames.specs.Rules.{no_rules};
 ghost use Rattle.quic_c.specs.Filling.{AnswersFill, AnswersFirst, Fills, further};
 
-use crate::flags::{broken, is_broken, rules_in, types_alone};
+use crate::flags::{breach_by, broken, is_broken, no_rules, rules_in};
 use crate::frames::{show_invalid, type_in, type_read, type_word};
 use crate::show::{parts_of, show_parts};
 use crate::words::{CFrame, CFrameIter};
@@ -26,11 +27,12 @@ struct Filled {
 // Fills entries with the next frames. If the first can't be given, its error is reported. Each caller has its own copy
 // of this function, into which it is inlined.
 #[inline(always)]
-fn fill<const COPY: usize>(
+fn fill<const COPY: usize, const CHECKED: bool>(
     iter: &mut Iter<'_>,
     rules: Rules,
     out: &mut [CFrame],
 ) -> Result<Filled, InvalidFrame>
+    requires { CHECKED ≡ false → rules ≡ no_rules }
     ensures filled { IfOk result (λ f. Fills rules iter.old out.old (further iter.old f.end f.last) out.new f.count) }
     ensures none { IfOk result (λ f. f.count ≡ 0 → 0 < length out.old → IsSpent iter.old) }
     ensures invalid { IfErr result (λ i. IsRefusedFrame rules iter.old (invalid_of i) × (out.new ≡ out.old)) }
@@ -49,7 +51,7 @@ fn fill<const COPY: usize>(
             }
             None => break,
         };
-        let breach = rules.breach(&frame);
+        let breach = breach_by::<CHECKED>(rules, &frame);
         if is_broken(breach) {
             if count == 0 {
                 return Err(broken(iter.last_type(), breach));
@@ -72,14 +74,15 @@ fn fill<const COPY: usize>(
 
 // Fills entries with the next frames at the place in the words.
 #[inline(always)]
-fn fill_on<const COPY: usize>(
+fn fill_on<const COPY: usize, const CHECKED: bool>(
     frames: &mut CFrameIter,
     payload: &[u8],
     rules: Rules,
     out: &mut [CFrame],
     count: &mut usize,
 ) -> i32
-    requires { rules.short_types ≡ has_flag 0x001 frames.old.flags }
+    requires types { rules.short_types ≡ has_flag 0x001 frames.old.flags }
+    requires checked { CHECKED ≡ false → rules ≡ no_rules }
     ensures { AnswersFill rules frames.old payload.now out.old count.old result frames.new out.new count.new }
 {
     let begin = frames.offset;
@@ -93,7 +96,7 @@ fn fill_on<const COPY: usize>(
     if frames.ended != 0 {
         return 0;
     }
-    match fill::<COPY>(&mut iter, rules, out) {
+    match fill::<COPY, CHECKED>(&mut iter, rules, out) {
         Ok(filled) => {
             if filled.count == 0 {
                 return 0;
@@ -122,7 +125,7 @@ fn fill_checked(
     ensures { AnswersFill (rules_in frames.old.flags) frames.old payload.now out.old count.old result frames.new out.new
         count.new }
 {
-    fill_on::<3>(frames, payload, rules_in(frames.flags), out, count)
+    fill_on::<3, true>(frames, payload, rules_in(frames.flags), out, count)
 }
 
 /// The next frames (RFC 9000, section 19), as many as `out` has room for, by the rules of the iterator's flags; a run of
@@ -140,15 +143,15 @@ pub extern "C" fn quic_wire_frames_fill_(
     ensures answers { AnswersFill (rules_in frames.old.flags) frames.old payload.now out.old count.old result frames.new
         out.new count.new }
 {
-    let Some(rules) = types_alone(frames.flags) else {
+    let Some(rules) = no_rules(frames.flags) else {
         return fill_checked(frames, payload, out, count);
     };
-    fill_on::<1>(frames, payload, rules, out, count)
+    fill_on::<1, false>(frames, payload, rules, out, count)
 }
 
 // Begins at the front of a payload with these flags, and fills entries with its first frames.
 #[inline(always)]
-fn first_by<const COPY: usize>(
+fn first_by<const COPY: usize, const CHECKED: bool>(
     frames: &mut CFrameIter,
     payload: &[u8],
     flags: u32,
@@ -156,7 +159,8 @@ fn first_by<const COPY: usize>(
     out: &mut [CFrame],
     count: &mut usize,
 ) -> i32
-    requires { rules ≡ rules_in flags }
+    requires flags { rules ≡ rules_in flags }
+    requires checked { CHECKED ≡ false → rules ≡ no_rules }
     ensures { AnswersFirst flags payload.now frames.old out.old count.old result frames.new out.new count.new }
 {
     if payload.is_empty() {
@@ -168,7 +172,7 @@ fn first_by<const COPY: usize>(
     if out.is_empty() {
         return Failure::NoRoom.number();
     }
-    match fill::<COPY>(&mut iter, rules, out) {
+    match fill::<COPY, CHECKED>(&mut iter, rules, out) {
         Ok(filled) => {
             *frames = CFrameIter {
                 offset: filled.end,
@@ -203,7 +207,7 @@ fn first_checked(
 ) -> i32
     ensures { AnswersFirst flags payload.now frames.old out.old count.old result frames.new out.new count.new }
 {
-    first_by::<2>(frames, payload, flags, rules_in(flags), out, count)
+    first_by::<2, true>(frames, payload, flags, rules_in(flags), out, count)
 }
 
 /// Begins at the front of a payload and reads its first frames (RFC 9000, section 19), as `quic_wire_frames_init_` and
@@ -221,8 +225,8 @@ pub extern "C" fn quic_wire_frames_first_(
 ) -> i32
     ensures answers { AnswersFirst flags payload.now frames.old out.old count.old result frames.new out.new count.new }
 {
-    let Some(rules) = types_alone(flags) else {
+    let Some(rules) = no_rules(flags) else {
         return first_checked(frames, payload, flags, out, count);
     };
-    first_by::<0>(frames, payload, flags, rules, out, count)
+    first_by::<0, false>(frames, payload, flags, rules, out, count)
 }

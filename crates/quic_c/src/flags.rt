@@ -1,11 +1,12 @@
 //! The rules that flags name, and what is reported of a frame that breaks one.
 ghost use Rattle.std.specs.Prelude.{◌≡◌, IfSome, None, Some, false, true};
-ghost use Rattle.quic_frames.specs.Rules.{breach_text, only_types};
+ghost use Rattle.quic_frames.specs.Meaning.{meaning_of};
+ghost use Rattle.quic_frames.specs.Rules.{breach_of, breach_text, no_rules};
 ghost use Rattle.quic_frames.specs.declared.frame.rules.Breach.{Breach};
 ghost use Rattle.quic_frames.specs.Walk.{invalid_of};
 ghost use Rattle.quic_c.specs.Shown.{rules_in};
 
-use quic_frames::frame::{Breach, FrameType, InvalidFrame, Rules};
+use quic_frames::frame::{Breach, Frame, FrameType, InvalidFrame, Rules};
 
 // The rules that flags name. Their other bits mean nothing for frames.
 #[inline(always)]
@@ -21,33 +22,27 @@ pub(crate) fn rules_in(flags: u32) -> Rules
     }
 }
 
-// The flags by which frames are checked besides their types' encodings.
-const CHECKS: u32 = 0x20e;
+// All flags of rules.
+const RULES: u32 = 0x20f;
 
-// The rules that flags name, if by these no frame is checked besides its type's encoding. Callers read by a copy of their
-// own then, which the compiler frees of tests.
+// No rules, if the flags name none. Callers read by a copy of their own then, which the compiler frees of tests.
 #[inline(always)]
-pub(crate) fn types_alone(flags: u32) -> Option<Rules>
-    ensures { IfSome result (λ rules. (rules ≡ rules_in flags) × (rules ≡ only_types rules.short_types)) }
+pub(crate) fn no_rules(flags: u32) -> Option<Rules>
+    ensures { IfSome result (λ rules. (rules ≡ rules_in flags) × (rules ≡ no_rules)) }
 {
-    if flags & CHECKS != 0 {
+    if flags & RULES != 0 {
         return None;
     }
-    Some(only_types(flags & 0x001 != 0))
+    Some(Rules::default())
 }
 
-// The rules that check the types' encodings at most.
+// The rule that a frame breaks. Where frames aren't checked, the copy for that has no test at all.
 #[inline(always)]
-pub(crate) fn only_types(short_types: bool) -> Rules
-    ensures { result ≡ only_types short_types }
+pub(crate) fn breach_by<const CHECKED: bool>(rules: Rules, frame: &Frame<'_>) -> Option<Breach>
+    requires { CHECKED ≡ false → rules ≡ no_rules }
+    ensures { result ≡ breach_of rules (meaning_of frame.now) }
 {
-    Rules {
-        short_types,
-        data_limit: false,
-        stream_limit: false,
-        tokens: false,
-        no_ack_frequency: false,
-    }
+    if CHECKED { rules.breach(frame) } else { None }
 }
 
 // Whether a frame breaks a rule.

@@ -1,13 +1,14 @@
 //! Reads the frames of a payload, one with each call.
-ghost use Rattle.std.specs.Prelude.{◌≡◌, ◌<◌, ◌≤◌, ◌^◌, ◌↔◌, ◌⊎◌, [], pos, length};
+ghost use Rattle.std.specs.Prelude.{◌≡◌, ◌<◌, ◌≤◌, ◌^◌, ◌↔◌, ◌⊎◌, [], false, pos, length};
 ghost use Rattle.quic_frames.specs.declared.frame.Frame.{Frame};
 ghost use Rattle.quic_frames.specs.IterState.{IterState};
+ghost use Rattle.quic_frames.specs.Rules.{no_rules};
 ghost use Rattle.quic_frames.specs.Walk.{first_of, Finds};
 ghost use Rattle.quic_c.specs.Shown.{state_of, at_front, has_flag, rules_in, type_in, type_word, invalid_words};
 ghost use Rattle.quic_c.specs.Answers.{AnswersNext};
 ghost use Rattle.quic_results.specs.Results.{failed, frame_failure};
 
-use crate::flags::{broken, is_broken, rules_in, types_alone};
+use crate::flags::{breach_by, broken, is_broken, no_rules, rules_in};
 use crate::show::show;
 use crate::words::{CFrame, CFrameIter};
 use quic_frames::frame::{FrameType, InvalidFrame, Iter, Rules};
@@ -105,7 +106,7 @@ fn refuse(begin: usize, invalid: &InvalidFrame, frames: &mut CFrameIter, out: &m
 // The next frame of an iterator at the place in the words. There is a copy for a first byte 0, PADDING, so that the
 // words of a run are stored by themselves; and each caller has its own copy, inlined into it.
 #[inline(always)]
-fn give_next<const COPY: usize>(
+fn give_next<const COPY: usize, const CHECKED: bool>(
     iter: &mut Iter<'_>,
     rules: Rules,
     frames: &mut CFrameIter,
@@ -113,13 +114,14 @@ fn give_next<const COPY: usize>(
 ) -> i32
     requires state { state_of frames.old iter.old.payload ≡ iter.old }
     requires within { frames.old.offset ≤ length iter.old.payload }
+    requires checked { CHECKED ≡ false → rules ≡ no_rules }
     ensures { AnswersNext rules frames.old iter.old.payload out.old result frames.new out.new }
 {
     let begin = frames.offset;
     match iter.next() {
         None => 0,
         Some(Ok(frame)) => {
-            let breach = rules.breach(&frame);
+            let breach = breach_by::<CHECKED>(rules, &frame);
             if is_broken(breach) {
                 return refuse(begin, &broken(iter.last_type(), breach), frames, out);
             }
@@ -135,13 +137,14 @@ fn give_next<const COPY: usize>(
 
 // The next frame at the place in the words, by one copy for PADDING and one for other frames.
 #[inline(always)]
-fn next_on<const PADDING: usize, const OTHER: usize>(
+fn next_on<const PADDING: usize, const OTHER: usize, const CHECKED: bool>(
     frames: &mut CFrameIter,
     payload: &[u8],
     rules: Rules,
     out: &mut CFrame,
 ) -> i32
-    requires { rules.short_types ≡ has_flag 0x001 frames.old.flags }
+    requires types { rules.short_types ≡ has_flag 0x001 frames.old.flags }
+    requires checked { CHECKED ≡ false → rules ≡ no_rules }
     ensures { AnswersNext rules frames.old payload.now out.old result frames.new out.new }
 {
     let begin = frames.offset;
@@ -153,8 +156,8 @@ fn next_on<const PADDING: usize, const OTHER: usize>(
         return 0;
     }
     match payload[begin..].first() {
-        Some(0) => give_next::<PADDING>(&mut iter, rules, frames, out),
-        _ => give_next::<OTHER>(&mut iter, rules, frames, out),
+        Some(0) => give_next::<PADDING, CHECKED>(&mut iter, rules, frames, out),
+        _ => give_next::<OTHER, CHECKED>(&mut iter, rules, frames, out),
     }
 }
 
@@ -163,7 +166,7 @@ fn next_on<const PADDING: usize, const OTHER: usize>(
 fn next_checked(frames: &mut CFrameIter, payload: &[u8], out: &mut CFrame) -> i32
     ensures { AnswersNext (rules_in frames.old.flags) frames.old payload.now out.old result frames.new out.new }
 {
-    next_on::<2, 3>(frames, payload, rules_in(frames.flags), out)
+    next_on::<2, 3, true>(frames, payload, rules_in(frames.flags), out)
 }
 
 /// The next frame (RFC 9000, section 19), by the rules of the iterator's flags. It returns 1 with the frame; 0 if none is
@@ -177,8 +180,8 @@ pub extern "C" fn quic_wire_frames_next_(
 ) -> i32
     ensures returns { AnswersNext (rules_in frames.old.flags) frames.old payload.now out.old result frames.new out.new }
 {
-    let Some(rules) = types_alone(frames.flags) else {
+    let Some(rules) = no_rules(frames.flags) else {
         return next_checked(frames, payload, out);
     };
-    next_on::<0, 1>(frames, payload, rules, out)
+    next_on::<0, 1, false>(frames, payload, rules, out)
 }

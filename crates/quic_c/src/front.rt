@@ -3,12 +3,13 @@ ghost use Rattle.std.specs.Prelude.{◌≡◌, ◌↔◌, ◌⊎◌, ◌<◌, �
 ghost use Rattle.quic_frame_fields.specs.Field.{AreBelow};
 ghost use Rattle.quic_frames.specs.declared.frame.Frame.TheVariants as frames;
 ghost use Rattle.quic_frames.specs.Padding.{PassesPadding};
+ghost use Rattle.quic_frames.specs.Rules.{no_rules};
 ghost use Rattle.quic_frames.specs.Walk.{left, first_of, resumed};
 ghost use Rattle.quic_c.specs.Shown.{frame_kind_of, frame_words, invalid_words, rules_in, type_word};
 ghost use Rattle.quic_c.specs.Front.{AnswersRead, FillsGaps, ShowsAck, ShowsFront, moved_by, reported_behind};
 ghost use Rattle.quic_results.specs.Results.{failed, frame_failure};
 
-use crate::flags::{broken, is_broken, rules_in, types_alone};
+use crate::flags::{breach_by, broken, is_broken, no_rules, rules_in};
 use crate::frames::{show_invalid, type_read};
 use crate::show::{parts_of, show};
 use crate::words::{CFrame, CGap};
@@ -123,12 +124,13 @@ fn none_left() -> i64
 
 // Reads the frame at the front. There is a copy for each kind of first byte, without tests for other kinds.
 #[inline(always)]
-fn read_front<const COPY: usize>(
+fn read_front<const COPY: usize, const CHECKED: bool>(
     payload: &[u8],
     rules: Rules,
     out: &mut CFrame,
     gaps: &mut [CGap],
 ) -> i64
+    requires { CHECKED ≡ false → rules ≡ no_rules }
     ensures { AnswersRead rules payload.now out.old gaps.old result out.new gaps.new }
 {
     if payload.is_empty() {
@@ -140,7 +142,7 @@ fn read_front<const COPY: usize>(
     match iter.next() {
         None => none_left(),
         Some(Ok(frame)) => {
-            let breach = rules.breach(&frame);
+            let breach = breach_by::<CHECKED>(rules, &frame);
             if is_broken(breach) {
                 return refuse(&broken(iter.last_type(), breach), out);
             }
@@ -160,9 +162,9 @@ fn read_checked(payload: &[u8], flags: u32, out: &mut CFrame, gaps: &mut [CGap])
 {
     let rules = rules_in(flags);
     if !payload.is_empty() && payload[0] & 0xf8 == 0x08 {
-        return read_front::<3>(payload, rules, out, gaps);
+        return read_front::<3, true>(payload, rules, out, gaps);
     }
-    read_front::<4>(payload, rules, out, gaps)
+    read_front::<4, true>(payload, rules, out, gaps)
 }
 
 // An ACK, or a frame with another first byte, or any where frames are checked, by a call that isn't inlined.
@@ -170,13 +172,13 @@ fn read_checked(payload: &[u8], flags: u32, out: &mut CFrame, gaps: &mut [CGap])
 fn read_other(payload: &[u8], flags: u32, out: &mut CFrame, gaps: &mut [CGap]) -> i64
     ensures { AnswersRead (rules_in flags) payload.now out.old gaps.old result out.new gaps.new }
 {
-    let Some(rules) = types_alone(flags) else {
+    let Some(rules) = no_rules(flags) else {
         return read_checked(payload, flags, out, gaps);
     };
     if !payload.is_empty() && payload[0] & 0xfe == 0x02 {
-        return read_front::<0>(payload, rules, out, gaps);
+        return read_front::<0, false>(payload, rules, out, gaps);
     }
-    read_front::<1>(payload, rules, out, gaps)
+    read_front::<1, false>(payload, rules, out, gaps)
 }
 
 /// Reads the frame at the front of the rest of a payload (RFC 9000, section 19), by the rules of these flags. It returns
@@ -199,8 +201,8 @@ pub extern "C" fn quic_wire_frame_read_(
         return none_left();
     }
     if payload[0] & 0xf8 == 0x08 {
-        if let Some(rules) = types_alone(flags) {
-            return read_front::<2>(payload, rules, out, gaps);
+        if let Some(rules) = no_rules(flags) {
+            return read_front::<2, false>(payload, rules, out, gaps);
         }
     }
     read_other(payload, flags, out, gaps)

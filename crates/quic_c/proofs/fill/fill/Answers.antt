@@ -17,7 +17,7 @@ loop-count-preserved g c =
     let finds : Finds here.iter frame c.next.new.self =
     subst (λ f. Advances here.iter (Some f) c.next.new.self) c.in-Some-Ok.field-0-is c.in-Some-Ok.ensures.steps in
     let kept =
-    keeps c.args.rules here.iter c.next.new.self frame c.breach-breach.result finds c.breach-breach.ensures
+    keeps c.args.rules here.iter c.next.new.self frame c.breach_by-breach.result finds c.breach_by-breach.ensures
     (c.is_broken.ensures.kept c.if-is_broken.false) in
     let stop = c.offset-end-in-loop-count.result in
     let ty = c.type_read-ty.result in
@@ -62,8 +62,8 @@ returns-clause-filled g c =
           let some = w.is_broken.ensures.broken w.if-is_broken.true in
           let reported : Invalid = record { type = w.next.new.self.last; reason = breach_text some.0 } in
           let refused : IsRefusedFrame c.args.rules here.iter reported =
-          inr (breach_found c.args.rules here.iter w.next.new.self frame w.breach-breach.result some.0 reported finds
-          w.breach-breach.ensures some.1 refl) in
+          inr (breach_found c.args.rules here.iter w.next.new.self frame w.breach_by-breach.result some.0 reported finds
+          w.breach_by-breach.ensures some.1 refl) in
           ends (inr (inr (reported, refused)))
     ]
 
@@ -77,7 +77,7 @@ returns-then-count-eq0-2-clause-invalid g c =
     none_filled c.args.rules c.args.iter.now c.args.out.now here.iter here.out here.count here.end here.invariant.0
     c.if-count-eq0-2.true in
     let refused =
-    is_refused c.args.rules here.iter c.next.new.self frame c.breach-breach.result c.last_type.result
-    (invalid_of c.broken.result) finds c.breach-breach.ensures (c.is_broken.ensures.broken c.if-is_broken.true)
+    is_refused c.args.rules here.iter c.next.new.self frame c.breach_by-breach.result c.last_type.result
+    (invalid_of c.broken.result) finds c.breach_by-breach.ensures (c.is_broken.ensures.broken c.if-is_broken.true)
     c.last_type.ensures c.broken.ensures in
     (subst (λ w. IsRefusedFrame c.args.rules w (invalid_of c.broken.result)) none.0 refused, none.1)

@@ -32,7 +32,7 @@ returns-in-Ok g c =
     (further (first_of c.args.rules.short_types payload) end last) c.fill.new.out c.in-Ok.filled.count =
     rw front at facts.filled in
     let by_flags = subst (λ (r : Rules). Fills r (first_of r.short_types payload) c.args.out.now
-    (further (first_of r.short_types payload) end last) c.fill.new.out c.in-Ok.filled.count) c.requires filled in
+    (further (first_of r.short_types payload) end last) c.fill.new.out c.in-Ok.filled.count) c.requires.flags filled in
     record {
       returns = inl refl;
       frames = λ _. (some, refl, rw c.type_word.ensures.back by_flags);
@@ -51,7 +51,7 @@ returns-in-Err g c =
     let it : IsRefusedFrame (rules_in c.args.flags) (state_of (at_front c.args.flags) c.args.payload.now)
     (invalid_of c.in-Err.invalid) =
     subst (λ (r : Rules). IsRefusedFrame r (first_of r.short_types c.args.payload.now) (invalid_of c.in-Err.invalid))
-    c.requires front in
+    c.requires.flags front in
     let room : 0 < length c.args.out.now = search rules in
     let shown = c.show_invalid.result in
     let result = to_z w32 (of_z w32 c.number-in-Err.result) in

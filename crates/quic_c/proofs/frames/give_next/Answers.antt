@@ -60,7 +60,7 @@ returns-else-is_broken g c =
     let on =
     behind_frame c.args.iter.now c.next.new.self frame finds stop type c.offset-end.ensures.value begins c.type_read-ty.ensures.fits in
     let kept =
-    keeps c.args.rules c.args.iter.now c.next.new.self frame c.breach-breach.result finds c.breach-breach.ensures
+    keeps c.args.rules c.args.iter.now c.next.new.self frame c.breach_by-breach.result finds c.breach_by-breach.ensures
     (c.is_broken.ensures.kept c.if-is_broken.false) in
     record {
       returns = inl refl;
@@ -79,8 +79,8 @@ returns-then-is_broken g c =
     let finds : Finds c.args.iter.now frame c.next.new.self =
     subst (λ f. Advances c.args.iter.now (Some f) c.next.new.self) c.in-Some-Ok.field-0-is c.in-Some-Ok.ensures.steps in
     let here : IsRefusedFrame c.args.rules c.args.iter.now reported =
-    is_refused c.args.rules c.args.iter.now c.next.new.self frame c.breach-breach.result c.last_type.result reported finds
-    c.breach-breach.ensures (c.is_broken.ensures.broken c.if-is_broken.true) c.last_type.ensures c.broken.ensures in
+    is_refused c.args.rules c.args.iter.now c.next.new.self frame c.breach_by-breach.result c.last_type.result reported finds
+    c.breach_by-breach.ensures (c.is_broken.ensures.broken c.if-is_broken.true) c.last_type.ensures c.broken.ensures in
     let first : IsRefusedFrame c.args.rules (state_of c.args.frames.now c.args.iter.now.payload) reported =
     subst (λ (w : IterState). IsRefusedFrame c.args.rules w reported) (sym c.requires.state) here in
     let result = to_z w32 (of_z w32 c.refuse.result) in

@@ -43,7 +43,7 @@ returns-else-is_broken g c =
     subst (λ w. Finds w frame c.next.new.self) here steps in
     let kept =
     keeps c.args.rules (first_of c.args.rules.short_types c.args.payload.now) c.next.new.self frame
-    c.breach-breach.result finds c.breach-breach.ensures (c.is_broken.ensures.kept c.if-is_broken.false) in
+    c.breach_by-breach.result finds c.breach_by-breach.ensures (c.is_broken.ensures.kept c.if-is_broken.false) in
     let begins = c.type_read-ty.ensures.value (first_of c.args.rules.short_types c.args.payload.now) frame finds in
     let ends = c.pass_run-end.ensures in
     let reads =
@@ -68,7 +68,7 @@ returns-then-is_broken g c =
     subst (λ w. Finds w frame c.next.new.self) c.in-Some.ensures.state steps in
     let first =
     is_refused c.args.rules (first_of c.args.rules.short_types c.args.payload.now) c.next.new.self frame
-    c.breach-breach.result c.last_type.result reported finds c.breach-breach.ensures
+    c.breach_by-breach.result c.last_type.result reported finds c.breach_by-breach.ensures
     (c.is_broken.ensures.broken c.if-is_broken.true) c.last_type.ensures c.broken.ensures in
     let result = to_z w64 (of_z w64 c.refuse.result) in
     let count : result ≡ c.refuse.result = search rules in

@@ -241,26 +241,6 @@ uncut_given options takes_memory bytes (Err error.OutOfMemory) fits takes given 
   | inr past ↦ inr (followed options bytes (cut_at options bytes) (cut_answer options bytes fits takes) past)
 ]
 
--- ---- what they mean to callers
-
--- each right answer is the one that was given
-pub each_given : (options : DecodeOptions) (takes_memory : Bool) (bytes : List ℕ)
-    (result : Result (CutPacket × Option Filled) PacketDecodeError) → AreBytes bytes
-    → IfOk result (λ x. CutsFirst options bytes x.0 (left_of x.1))
-    → IfErr result (λ e. IsUncut options takes_memory bytes e)
-    → (answer : Result (ProtectedHeader × ℕ × ℕ) Refusal) → CutAnswer options bytes answer
-    → GivesRead (λ x. (x.0.head, x.0.header_end, length x.0.bytes)) result answer
-each_given options takes_memory bytes (Ok (packet, left)) fits first uncut answer right =
-    sym (cut_sole options bytes answer fits right)
-    ∙ cut_sole options bytes (Ok (packet.head, packet.header_end, length packet.bytes)) fits first.cut
-each_given options takes_memory bytes (Err (error.UnsupportedVersion src dst version)) fits first uncut answer right =
-    sym (cut_sole options bytes answer fits right)
-    ∙ cut_sole options bytes (Err (refusal_of (error.UnsupportedVersion src dst version))) fits uncut
-each_given options takes_memory bytes (Err (error.InvalidHeader text)) fits first uncut answer right =
-    sym (cut_sole options bytes answer fits right)
-    ∙ cut_sole options bytes (Err (refusal_of (error.InvalidHeader text))) fits uncut
-each_given options takes_memory bytes (Err error.OutOfMemory) fits first uncut answer right = tt
-
 -- an error that isn't for want of memory
 pub is_uncut : (options : DecodeOptions) (takes_memory : Bool) (bytes : List ℕ) (e : PacketDecodeError)
     → IsUncut options takes_memory bytes e → refusal_of e ≢ NoMemory → Uncut options bytes (refusal_of e)

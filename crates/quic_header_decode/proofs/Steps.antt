@@ -98,10 +98,6 @@ err_same r e h = cc
 pub ok_err : {A : Type 0} (x : A) (e : Refusal) → (let q : Result A Refusal = Ok x in q) ≡ Err e → ⊥
 ok_err x e h = cc
 
-pub some_none : {A : Type 0} (b : Bool) (x : A) → cond {A = Option A} b None (Some x) ≡ None → b ≡ true
-some_none true x e = refl
-some_none false x e = absurd cc
-
 pub ok_pair : {A B E : Type 0} {a c : A} {b d : B} → (let r : Result (A × B) E = Ok (a, b) in r) ≡ Ok (c, d)
     → (a ≡ c) × (b ≡ d)
 ok_pair {A} {B} {E} {a} {c} {b} {d} e = let same : (let p : A × B = (a, b) in p) ≡ (c, d) = cc in pair_parts same

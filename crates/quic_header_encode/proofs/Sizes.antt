@@ -1,7 +1,7 @@
 -- How many bytes headers take that are written.
-use Rattle.std.proofs.Common.{◌≡◌, ℕ, ◌+◌, ◌≤◌, Bool, true, false, IsTrue, List, [], ◌∷◌, ◌++◌, length, take, replicate, if◌then◌else◌, refl, sym, ap, ◌∙◌, arith, rules}
+use Rattle.std.proofs.Common.{◌≡◌, ℕ, ◌+◌, ◌≤◌, Bool, true, false, IsTrue, List, [], ◌∷◌, ◌++◌, length, replicate, if◌then◌else◌, refl, sym, ap, ◌∙◌, arith, rules}
 use Rattle.std.proofs.lemmas.Bool.Decides.{nat_tests}
-use Rattle.std.proofs.lemmas.List.{length-append, length-replicate, length-take-le}
+use Rattle.std.proofs.lemmas.List.{length-append, length-replicate}
 use Rattle.quic_base.proofs.PublicLaws.{length-short, length-bytes_of}
 use Rattle.quic_base.specs.ConnectionId.{long_id}
 use Rattle.quic_base.specs.Number.{bytes_of}
@@ -112,10 +112,6 @@ pub stored_within : (k : HeaderKind) (bits version : ℕ) (dst src token : List 
     → length (header_text (replicate len 0) (says (row k) bits version dst src token number)) ≤ length token + 60 + len
 stored_within k bits version dst src token number len d s =
     omega (arith, stored_length k bits version dst src token number len, size_within k (length dst) (length src) token number len d s)
-
--- what was written at the front ends after as many bytes
-pub front_end : (n : ℕ) (xs ys : List ℕ) → n ≤ length xs → take n xs ≡ ys → n ≡ length ys
-front_end n xs ys within is = sym (length-take-le n xs within) ∙ ap length is
 
 -- ---- of the fields that are written
 

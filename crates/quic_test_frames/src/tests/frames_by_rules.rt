@@ -51,15 +51,50 @@ const EXTENSION: Rules = Rules {
 
 // A frame, the rule that it breaks, its type and the reason.
 const BROKEN: &[(&[u8], Rules, u8, &str)] = &[
-    (b"\x06\xff\xff\xff\xff\xff\xff\xff\xff\x01a", DATA, 0x06, "limit exceeded"),
-    (b"\x0c\x04\xff\xff\xff\xff\xff\xff\xff\xfeab", DATA, 0x0c, "limit exceeded"),
-    (b"\x12\xd0\x00\x00\x00\x00\x00\x00\x01", STREAMS, 0x12, "limit exceeded"),
-    (b"\x13\xd0\x00\x00\x00\x00\x00\x00\x01", STREAMS, 0x13, "limit exceeded"),
-    (b"\x16\xd0\x00\x00\x00\x00\x00\x00\x01", STREAMS, 0x16, "limit exceeded"),
-    (b"\x17\xd0\x00\x00\x00\x00\x00\x00\x01", STREAMS, 0x17, "limit exceeded"),
+    (
+        b"\x06\xff\xff\xff\xff\xff\xff\xff\xff\x01a",
+        DATA,
+        0x06,
+        "limit exceeded",
+    ),
+    (
+        b"\x0c\x04\xff\xff\xff\xff\xff\xff\xff\xfeab",
+        DATA,
+        0x0c,
+        "limit exceeded",
+    ),
+    (
+        b"\x12\xd0\x00\x00\x00\x00\x00\x00\x01",
+        STREAMS,
+        0x12,
+        "limit exceeded",
+    ),
+    (
+        b"\x13\xd0\x00\x00\x00\x00\x00\x00\x01",
+        STREAMS,
+        0x13,
+        "limit exceeded",
+    ),
+    (
+        b"\x16\xd0\x00\x00\x00\x00\x00\x00\x01",
+        STREAMS,
+        0x16,
+        "limit exceeded",
+    ),
+    (
+        b"\x17\xd0\x00\x00\x00\x00\x00\x00\x01",
+        STREAMS,
+        0x17,
+        "limit exceeded",
+    ),
     (b"\x07\x00", TOKENS, 0x07, "malformed"),
     (b"\x1f", EXTENSION, 0x1f, "invalid frame ID"),
-    (b"\x40\xaf\x01\x02\x03\x04", EXTENSION, 0xaf, "invalid frame ID"),
+    (
+        b"\x40\xaf\x01\x02\x03\x04",
+        EXTENSION,
+        0xaf,
+        "invalid frame ID",
+    ),
 ];
 
 // Whether all of the payload is read by these rules.
@@ -67,7 +102,9 @@ fn is_read(payload: &[u8], rules: Rules) -> bool {
     let Some(mut frames) = Iter::with_rules(payload, rules).ok() else {
         return false;
     };
-    matches!(frames.next(), Some(Ok(_))) && frames.offset() == payload.len() && frames.next().is_none()
+    matches!(frames.next(), Some(Ok(_)))
+        && frames.offset() == payload.len()
+        && frames.next().is_none()
 }
 
 // Whether the payload is refused by these rules, with this type and reason, and nothing is given after that.
@@ -78,7 +115,10 @@ fn is_refused(payload: &[u8], rules: Rules, ty: u8, reason: &str) -> bool {
     let Some(Err(invalid)) = frames.next() else {
         return false;
     };
-    invalid.ty == Some(FrameType::of(u64::from(ty))) && invalid.reason == reason && frames.offset() == 0 && frames.next().is_none()
+    invalid.ty == Some(FrameType::of(u64::from(ty)))
+        && invalid.reason == reason
+        && frames.offset() == 0
+        && frames.next().is_none()
 }
 
 #[test]
@@ -94,9 +134,18 @@ fn frames_that_keep_all_rules(rt: HostRuntime) -> Result<(), Fail> {
 fn frames_that_break_a_rule(rt: HostRuntime) -> Result<(), Fail> {
     let mut checks = Checks::new(rt.alloc());
     for (payload, rule, ty, reason) in BROKEN {
-        checks.holds_at(format_args!("{payload:?}, no rules"), is_read(payload, Rules::default()));
-        checks.holds_at(format_args!("{payload:?}, its rule"), is_refused(payload, *rule, *ty, reason));
-        checks.holds_at(format_args!("{payload:?}, all rules"), is_refused(payload, Rules::RFC, *ty, reason));
+        checks.holds_at(
+            format_args!("{payload:?}, no rules"),
+            is_read(payload, Rules::default()),
+        );
+        checks.holds_at(
+            format_args!("{payload:?}, its rule"),
+            is_refused(payload, *rule, *ty, reason),
+        );
+        checks.holds_at(
+            format_args!("{payload:?}, all rules"),
+            is_refused(payload, Rules::RFC, *ty, reason),
+        );
     }
     checks.verdict()
 }

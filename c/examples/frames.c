@@ -19,7 +19,7 @@ static void print_type(uint64_t type) {
 static void print_frames(const uint8_t *payload, size_t len) {
   quic_wire_frame_iter frames;
   quic_wire_frame frame;
-  int answer = quic_wire_frames_init(&frames, payload, len, QUIC_WIRE_READ_RFC);
+  int answer = quic_wire_frames_init(&frames, payload, len, 0);
   if (answer < 0) {
     printf("error %s\n", quic_wire_strerror(answer));
     return;

@@ -338,7 +338,7 @@ fn debug_shows_no_whole_datagram() {
     let text = format!("{stream:?}");
     assert!(text.contains("[1200 bytes: abababababababababababababababab..]"), "{text}");
     let payload = written(|out| stream.encode(true, out));
-    assert!(text.len() < 120 && format!("{:?}", Iter::new(&payload).unwrap()).len() < 160);
+    assert!(text.len() < 120 && format!("{:?}", Iter::new(&payload).unwrap()).len() < 280);
     let ack = [0x02, 9, 0, 1, 0, 3, 1];
     let shown = "Ack(Ack { largest: 9, delay: 0, ecn: None, additional: [3 bytes: 000301] })";
     assert_eq!(format!("{:?}", read(&ack)[0]), shown);

@@ -84,7 +84,7 @@ static size_t padding_in(const uint8_t *payload, const quic_wire_frame *entry) {
   size_t count = 0;
   if (entry->kind != QUIC_WIRE_FRAME_PADDING)
     return 0;
-  WANT(quic_wire_frames_init(&frames, run, len) == QUIC_WIRE_OK);
+  WANT(quic_wire_frames_init(&frames, run, len, 0) == QUIC_WIRE_OK);
   while (quic_wire_frames_next(&frames, run, len, &frame) == QUIC_WIRE_ITEM) {
     WANT(frame.kind == QUIC_WIRE_FRAME_PADDING);
     count++;
@@ -110,12 +110,13 @@ void padding_any(void) {
   }
   payload = block(len);
   memcpy(payload, bytes, len);
-  WANT(quic_wire_frames_init(&frames, payload, len) == QUIC_WIRE_OK);
-  while (any() % 4 ? fill_by((int)(any() % 2), &frames, payload, len, filled,
-                             room, &count) == QUIC_WIRE_ITEM
-                   : next_by((int)(any() % 2), &frames, payload, len, filled) ==
-                             QUIC_WIRE_ITEM &&
-                         (count = 1))
+  WANT(quic_wire_frames_init(&frames, payload, len, 0) == QUIC_WIRE_OK);
+  while (any() % 4
+             ? quic_wire_frames_fill(&frames, payload, len, filled, room,
+                                     &count) == QUIC_WIRE_ITEM
+             : quic_wire_frames_next(&frames, payload, len, filled) ==
+                       QUIC_WIRE_ITEM &&
+                   (count = 1))
     for (k = 0; k < count; k++)
       WANT(quic_wire_padding_count(payload, len, &filled[k]) ==
            padding_in(payload, &filled[k]));

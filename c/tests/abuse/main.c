@@ -97,7 +97,7 @@ static void rubbish(int rounds) {
     free(bytes);
   }
   WANT(fields > rounds / 20 && headers > rounds / 3 && forms > rounds / 50);
-  WANT(longs > rounds / 5 && refused > rounds / 5);
+  WANT(longs > rounds / 5 && refused > rounds / 20);
 }
 
 int main(int argc, char **argv) {

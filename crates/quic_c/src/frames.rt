@@ -51,11 +51,7 @@ pub(crate) fn type_read(iter: &Iter<'_>) -> u64
 /// Begins at the front of a payload, to read it by the rules of these flags. It returns 0, or `PayloadEmpty` exactly if
 /// the payload is empty, which is a PROTOCOL_VIOLATION (RFC 9000, section 12.4); then nothing changes.
 #[unsafe(no_mangle)]
-pub extern "C" fn quic_wire_frames_init_(
-    frames: &mut CFrameIter,
-    payload: &[u8],
-    flags: u32,
-) -> i32
+pub extern "C" fn quic_wire_frames_init_(frames: &mut CFrameIter, payload: &[u8], flags: u32) -> i32
     ensures returns { (result ≡ pos 0) ⊎ (result ≡ failed Failure.PayloadEmpty) }
     ensures empty { (result ≡ failed Failure.PayloadEmpty) ↔ (payload.now ≡ []) }
     ensures front { result ≡ pos 0 → frames.new ≡ at_front flags }

@@ -1,5 +1,5 @@
 //! Payloads: what a capture reader and a connection do with their frames.
-ghost use Rattle.std.specs.Prelude.{◌≡◌, ◌≢◌, ◌↔◌, ◌<◌, ◌^◌, ◌-◌, ◌++◌, List, false, length, min, IfErr, IfOk, IsTrue, MatchBool, OnOk};
+ghost use Rattle.std.specs.Prelude.{◌≡◌, ◌≢◌, ◌↔◌, ◌<◌, ◌^◌, ◌-◌, ◌++◌, List, None, false, length, min, IfErr, IfOk, IfSome, IsTrue, MatchBool, OnOk};
 ghost use Rattle.quic_callers.specs.Data.{streams_len};
 ghost use Rattle.quic_callers.specs.Reported.{IsReported};
 ghost use Rattle.quic_errors.specs.Codes.{long_type_reason};
@@ -9,10 +9,11 @@ ghost use Rattle.quic_frame_fields.specs.Shortest.{shortest_frame};
 ghost use Rattle.quic_frame_fields.specs.declared.frame.fault.Fault.{Fault};
 ghost use Rattle.quic_frame_fields.specs.declared.frame.fault.Fault.TheVariants.{LongType};
 ghost use Rattle.quic_frames.specs.Meaning.{meaning_of};
+ghost use Rattle.quic_frames.specs.Rules.{breach_of};
 ghost use Rattle.quic_frames.specs.declared.frame.Frame.TheVariants as frames;
 
 use quic_base::coding::NoRoom;
-use quic_frames::frame::{Frame, FrameType, InvalidFrame, Iter, Stream, StreamMeta};
+use quic_frames::frame::{Frame, FrameType, InvalidFrame, Iter, Rules, Stream, StreamMeta};
 use quic_frames::laws::{reasons, stream_header_and_data};
 use quic_frames::transport_error::Error;
 
@@ -30,6 +31,20 @@ pub fn stream_data(payload: &[u8]) -> (usize, Option<FrameType>) {
         }
     }
     (count, None)
+}
+
+/// The first frame of a payload, if it breaks none of these rules.
+pub fn first_by_rules(payload: &[u8], rules: Rules) -> Option<Frame<'_>>
+    ensures { IfSome result (λ frame. breach_of rules (meaning_of frame) ≡ None) }
+{
+    let Ok(mut frames) = Iter::with_rules(payload, rules) else {
+        return None;
+    };
+    match frames.next() {
+        Some(Ok(frame)) => Some(frame),
+        Some(Err(_)) => None,
+        None => None,
+    }
 }
 
 /// How many bytes of stream data a valid payload has, or 2^64 - 1 if that is less; else the error to close the

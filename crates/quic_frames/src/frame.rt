@@ -13,7 +13,7 @@ mod found;
 mod in_range;
 mod iter;
 mod reading;
-pub mod rules;
+mod rules;
 mod size_bound;
 
 pub use checked::Checked;

@@ -79,10 +79,16 @@ impl Rules {
     {
         match frame {
             Frame::Crypto(c) => {
-                broken_if(self.data_limit && ends_past(c.offset, c.bytes), Breach::Limit)
+                broken_if(
+                    self.data_limit && ends_past(c.offset, c.bytes),
+                    Breach::Limit,
+                )
             }
             Frame::Stream(s) => {
-                broken_if(self.data_limit && ends_past(s.offset, s.bytes), Breach::Limit)
+                broken_if(
+                    self.data_limit && ends_past(s.offset, s.bytes),
+                    Breach::Limit,
+                )
             }
             Frame::MaxStreams { count, .. } => {
                 broken_if(self.stream_limit && *count > MAX_STREAMS, Breach::Limit)

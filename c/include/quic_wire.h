@@ -1197,7 +1197,7 @@ QUIC_WIRE_API int quic_wire_params_write(uint32_t side,
  * The same with further entries, in an order.  |further| is a list of entries
  * that quic_wire_params has no fields for, none of them twice, at most 235, as
  * quic_wire_param_write writes them one after the other.  The parameters of
- * quic_wire_params are numbered as the rows of this table are, whether they are
+ * quic_wire_params are numbered as the rows of this list are, whether they are
  * written or not, and the further entries from QUIC_WIRE_PARAM_ROWS on; |order|
  * has each of these numbers once, or |orderlen| is 0, and then the entries
  * are written in the order of their numbers.

@@ -41,7 +41,7 @@ static void params_flags(void) {
 }
 
 /* Single entries: up to the value, of numbers, of numbers in any encoding. */
-static void params_entries(void) {
+static void params_single(void) {
   static const uint8_t wide[] = {0x40, 4, 2, 0x40, 9, 7};
   uint8_t out[16];
   quic_wire_param entry = {0, 0, 0};
@@ -149,7 +149,7 @@ void params_nulls(void) {
                               NULL, 0, &n) == QUIC_WIRE_ERR_NOBUF &&
        n == 3);
   params_flags();
-  params_entries();
+  params_single();
   params_address();
   WANT(quic_wire_params_read(QUIC_WIRE_SIDE_CLIENT, 0, &byte, 0, &params,
                              sizeof params - 1, NULL) == QUIC_WIRE_ERR_LENGTH);

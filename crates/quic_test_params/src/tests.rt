@@ -1,6 +1,7 @@
 //! Worked rows, and what no clause says.
 
 mod lines;
+mod options;
 mod reading;
 mod resumption;
 mod texts;

@@ -67,8 +67,8 @@ static void set_conn_id(QUIC_CONN_ID *conn_id, const unsigned char *id,
  * The packet number, which begins at |pn|, and after which |len| bytes remain.
  * While its length is protected, it is taken to have four bytes.
  */
-static int set_pn(QUIC_PKT_HDR *hdr, const unsigned char *pn, size_t len,
-    unsigned char first, int partial)
+static ossl_inline int set_pn(QUIC_PKT_HDR *hdr, const unsigned char *pn,
+    size_t len, unsigned char first, int partial)
 {
     size_t pn_len = partial ? sizeof(hdr->pn) : (size_t)(first & 3) + 1;
 
@@ -272,9 +272,7 @@ int ossl_quic_wire_get_pkt_hdr_dst_conn_id(const unsigned char *buf,
 
     if ((buf[0] & QUIC_WIRE_BIT_LONG) == 0) {
         if ((buf[0] & QUIC_WIRE_BIT_FIXED) == 0
-            || buf_len < QUIC_MIN_VALID_PKT_LEN_CRYPTO + short_conn_id_len
-            || quic_wire_short_read(buf, buf_len, (uint32_t)short_conn_id_len)
-                == 0)
+            || buf_len < QUIC_MIN_VALID_PKT_LEN_CRYPTO + short_conn_id_len)
             return 0;
 
         set_conn_id(dst_conn_id, buf + 1, short_conn_id_len);
@@ -298,34 +296,36 @@ int ossl_quic_wire_get_pkt_hdr_dst_conn_id(const unsigned char *buf,
 /* ---- Headers, written */
 
 /*
- * What OpenSSL asks of a header, and how many bytes it has; 0 if there is no
- * such header.  |fields| has what its length depends on.
+ * Whether OpenSSL writes such a header; |fields| has what its length depends
+ * on, and the packet's length in as few bytes as can be.
  */
-static size_t hdr_len(size_t short_conn_id_len, const QUIC_PKT_HDR *hdr,
-    quic_wire_header_fields *fields)
+static ossl_inline int set_fields(size_t short_conn_id_len,
+    const QUIC_PKT_HDR *hdr, quic_wire_header_fields *fields)
 {
-    int is_short = hdr->type == QUIC_PKT_TYPE_1RTT;
-
-    if (hdr->type < QUIC_PKT_TYPE_INITIAL
-        || hdr->type > QUIC_PKT_TYPE_VERSION_NEG
-        || hdr->partial || hdr->dst_conn_id.id_len > QUIC_MAX_CONN_ID_LEN
-        || hdr->src_conn_id.id_len > QUIC_MAX_CONN_ID_LEN
-        || (is_short && hdr->dst_conn_id.id_len != short_conn_id_len)
+    if (hdr->partial || hdr->dst_conn_id.id_len > QUIC_MAX_CONN_ID_LEN
         || (ossl_quic_pkt_type_has_pn(hdr->type)
             && (hdr->pn_len < 1 || hdr->pn_len > 4)))
         return 0;
 
-    fields->kind = pkt_kinds[hdr->type];
     fields->numberlen = (uint8_t)hdr->pn_len;
     fields->lengthlen = 0;
-    if (!ossl_quic_pkt_type_must_be_last(hdr->type)) {
-        fields->lengthlen = (uint8_t)quic_wire_varint_len(hdr->len
-            + hdr->pn_len);
-        if (fields->lengthlen == 0)
-            return 0;
+    if (hdr->type == QUIC_PKT_TYPE_1RTT) {
+        fields->kind = QUIC_WIRE_PACKET_1RTT;
+        return hdr->dst_conn_id.id_len == short_conn_id_len;
     }
-    return quic_wire_header_len(fields, hdr->dst_conn_id.id_len,
-        hdr->src_conn_id.id_len, hdr->token_len);
+
+    if (hdr->type < QUIC_PKT_TYPE_INITIAL
+        || hdr->type > QUIC_PKT_TYPE_VERSION_NEG
+        || hdr->src_conn_id.id_len > QUIC_MAX_CONN_ID_LEN)
+        return 0;
+
+    fields->kind = pkt_kinds[hdr->type];
+    if (ossl_quic_pkt_type_must_be_last(hdr->type))
+        return 1;
+
+    fields->lengthlen
+        = (uint8_t)quic_wire_varint_len(hdr->len + hdr->pn_len);
+    return fields->lengthlen > 0;
 }
 
 size_t ossl_quic_wire_get_encoded_pkt_hdr_len(size_t short_conn_id_len,
@@ -333,83 +333,75 @@ size_t ossl_quic_wire_get_encoded_pkt_hdr_len(size_t short_conn_id_len,
 {
     quic_wire_header_fields fields;
 
-    return hdr_len(short_conn_id_len, hdr, &fields);
-}
-
-/* The bits of a first byte that the library sets, and those that it doesn't. */
-static uint8_t flags_of(const QUIC_PKT_HDR *hdr)
-{
-    if (hdr->type == QUIC_PKT_TYPE_VERSION_NEG)
-        return hdr->fixed ? 0 : QUIC_WIRE_CLEAR_FIXED_BIT;
-
-    return (hdr->spin_bit ? QUIC_WIRE_BIT_SPIN : 0)
-        | (hdr->key_phase ? QUIC_WIRE_BIT_KEY_PHASE : 0);
-}
-
-static unsigned char low_bits_of(const QUIC_PKT_HDR *hdr)
-{
-    switch (hdr->type) {
-    case QUIC_PKT_TYPE_VERSION_NEG:
-        return 0;
-    case QUIC_PKT_TYPE_RETRY:
-        return hdr->unused;
-    case QUIC_PKT_TYPE_1RTT:
-        return (unsigned char)(hdr->reserved << 3);
-    default:
-        return (unsigned char)(hdr->reserved << 2);
-    }
-}
-
-/*
- * Writes a long header of |len| bytes with a length.  quic_wire_header_write
- * writes lengths of 2 and 4 bytes: one of 1 or 8 is put in place of that, and
- * the number after it.
- */
-static int write_with_length(const QUIC_PKT_HDR *hdr,
-    quic_wire_header_fields *fields, unsigned char *p, size_t len, size_t room)
-{
-    size_t length_len = fields->lengthlen, written;
-    unsigned char *length;
-    int64_t end;
-
-    fields->lengthlen = length_len < 4 ? 2 : 4;
-    end = quic_wire_header_write(fields, hdr->dst_conn_id.id,
-        hdr->dst_conn_id.id_len, hdr->src_conn_id.id, hdr->src_conn_id.id_len,
-        hdr->token, hdr->token_len, p, room);
-    if (end < 0)
+    if (!set_fields(short_conn_id_len, hdr, &fields))
         return 0;
 
-    length = p + len - hdr->pn_len - length_len;
-    written = quic_wire_varint_write(hdr->len + hdr->pn_len,
-        (uint32_t)length_len, length, length_len);
-    if (written != fields->lengthlen)
-        memcpy(length + length_len, hdr->pn, hdr->pn_len);
-    return written > 0;
+    return quic_wire_header_len(&fields, hdr->dst_conn_id.id_len,
+        hdr->src_conn_id.id_len, hdr->token_len);
 }
 
-/* Writes a header of |len| bytes up to a Retry's token, at |p|. */
-static int write_hdr(const QUIC_PKT_HDR *hdr, quic_wire_header_fields *fields,
-    unsigned char *p, size_t len, size_t room)
+/* Writes a header at |p|; how many bytes it has, or below 0. */
+static int64_t write_fields(const QUIC_PKT_HDR *hdr,
+    quic_wire_header_fields *fields, unsigned char *p, size_t room)
 {
-    fields->version = hdr->version;
-    fields->flags = flags_of(hdr);
+    size_t token_len = hdr->type == QUIC_PKT_TYPE_INITIAL ? hdr->token_len : 0;
+
     fields->number = 0;
     if (ossl_quic_pkt_type_has_pn(hdr->type)
         && quic_wire_number_read(hdr->pn, sizeof(hdr->pn), hdr->pn_len,
                &fields->number)
             < 0)
+        return -1;
+
+    return quic_wire_header_write(fields, hdr->dst_conn_id.id,
+        hdr->dst_conn_id.id_len, hdr->src_conn_id.id, hdr->src_conn_id.id_len,
+        hdr->token, token_len, p, room);
+}
+
+/* The same for a short header, whose reserved bits no call writes. */
+static int write_short_hdr(const QUIC_PKT_HDR *hdr,
+    quic_wire_header_fields *fields, unsigned char *p, size_t room)
+{
+    fields->flags = (hdr->spin_bit ? QUIC_WIRE_BIT_SPIN : 0)
+        | (hdr->key_phase ? QUIC_WIRE_BIT_KEY_PHASE : 0);
+    if (write_fields(hdr, fields, p, room) < 0)
         return 0;
 
-    if (fields->lengthlen > 0) {
-        if (!write_with_length(hdr, fields, p, len, room))
-            return 0;
-    } else if (quic_wire_header_write(fields, hdr->dst_conn_id.id,
-                   hdr->dst_conn_id.id_len, hdr->src_conn_id.id,
-                   hdr->src_conn_id.id_len, NULL, 0, p, room)
-        < 0) {
+    p[0] |= hdr->reserved << 3;
+    return 1;
+}
+
+/*
+ * Writes a long header of |len| bytes, up to a Retry's token.
+ * quic_wire_header_write has lengths of 2 and 4 bytes: one of 1 or 8 is put in
+ * place of that, and the number after it.  No call writes the low bits of the
+ * first byte.
+ */
+static int write_long_hdr(const QUIC_PKT_HDR *hdr,
+    quic_wire_header_fields *fields, unsigned char *p, size_t len, size_t room)
+{
+    size_t length_len = fields->lengthlen;
+    unsigned char *length = p + len - hdr->pn_len - length_len;
+
+    fields->version = hdr->version;
+    fields->flags = hdr->type == QUIC_PKT_TYPE_VERSION_NEG && !hdr->fixed
+        ? QUIC_WIRE_CLEAR_FIXED_BIT
+        : 0;
+    fields->lengthlen = length_len < 4 ? 2 : 4;
+    if (write_fields(hdr, fields, p, room) < 0)
         return 0;
+
+    if (length_len > 0) {
+        p[0] |= hdr->reserved << 2;
+        if (length_len != fields->lengthlen)
+            memcpy(length + length_len, hdr->pn, hdr->pn_len);
+        return quic_wire_varint_write(hdr->len + hdr->pn_len,
+                   (uint32_t)length_len, length, length_len)
+            > 0;
     }
-    p[0] |= low_bits_of(hdr);
+
+    if (hdr->type == QUIC_PKT_TYPE_RETRY)
+        p[0] |= hdr->unused;
     return 1;
 }
 
@@ -418,8 +410,9 @@ int ossl_quic_wire_encode_pkt_hdr(WPACKET *pkt,
     const QUIC_PKT_HDR *hdr,
     QUIC_PKT_HDR_PTRS *ptrs)
 {
+    int is_short = hdr->type == QUIC_PKT_TYPE_1RTT;
     quic_wire_header_fields fields;
-    size_t len = hdr_len(short_conn_id_len, hdr, &fields), room;
+    size_t len, room;
     unsigned char *p;
 
     if (ptrs != NULL) {
@@ -432,16 +425,20 @@ int ossl_quic_wire_encode_pkt_hdr(WPACKET *pkt,
         ptrs->raw_pn = NULL;
     }
 
-    if (len == 0
+    if (!set_fields(short_conn_id_len, hdr, &fields)
         || (hdr->type == QUIC_PKT_TYPE_VERSION_NEG && hdr->version != 0))
         return 0;
 
+    len = quic_wire_header_len(&fields, hdr->dst_conn_id.id_len,
+        hdr->src_conn_id.id_len, hdr->token_len);
     /* Room for the payload too; a length of 1 byte is written as one of 2. */
     room = len;
     if (hdr->type != QUIC_PKT_TYPE_RETRY)
         room += fields.lengthlen == 1 && hdr->len == 0 ? 1 : hdr->len;
+
     if (!WPACKET_reserve_bytes(pkt, room, &p)
-        || !write_hdr(hdr, &fields, p, len, room)
+        || !(is_short ? write_short_hdr(hdr, &fields, p, room)
+                      : write_long_hdr(hdr, &fields, p, len, room))
         || !WPACKET_allocate_bytes(pkt, len, &p))
         return 0;
 

@@ -1,7 +1,7 @@
 /*
  * OpenSSL's readers and writers of transport parameters, over quic_wire.h.
  * ssl/quic/quic_wire.c includes this file in place of its own, after
- * quic_wire_ossl_frames.c.
+ * quic_wire_ossl_encode.c.
  */
 
 /* ---- Transport parameters, written */
@@ -11,7 +11,7 @@ unsigned char *ossl_quic_wire_encode_transport_param_bytes(WPACKET *pkt,
     const unsigned char *value,
     size_t value_len)
 {
-    /* The value may come later, so that quic_wire_param_write can't be asked. */
+    /* The value may come later: quic_wire_param_write can't be used. */
     unsigned char bytes[2 * sizeof(uint64_t)];
     size_t id_len = quic_wire_varint_write(id, 0, bytes, sizeof(bytes));
     size_t len = quic_wire_varint_write(value_len, 0, bytes + id_len,

@@ -56,17 +56,6 @@ static int encode_up_to_data(WPACKET *pkt, const quic_wire_frame *frame,
     return ret == QUIC_WIRE_OK && WPACKET_allocate_bytes(pkt, len, &p);
 }
 
-/* How many bytes a STREAM or CRYPTO frame has up to its data, or 0. */
-static size_t len_up_to_data(const quic_wire_frame *frame, int is_last)
-{
-    size_t len;
-
-    return quic_wire_frame_header_write(frame, is_last, NULL, 0, &len)
-            == QUIC_WIRE_ERR_NOBUF
-        ? len
-        : 0;
-}
-
 /* Appends |len| bytes, of |data| unless that is NULL; returns their place. */
 static unsigned char *encode_data(WPACKET *pkt, const unsigned char *data,
     uint64_t len)
@@ -168,29 +157,26 @@ int ossl_quic_wire_encode_frame_stop_sending(WPACKET *pkt,
         f->stream_id, f->app_error_code, 0);
 }
 
-static quic_wire_frame crypto_fields(const OSSL_QUIC_FRAME_CRYPTO *f)
+int ossl_quic_wire_encode_frame_crypto_hdr(WPACKET *pkt,
+    const OSSL_QUIC_FRAME_CRYPTO *f)
 {
     quic_wire_frame frame = { .kind = QUIC_WIRE_FRAME_CRYPTO };
 
     frame.crypto.offset = f->offset;
     frame.datalen = f->len;
-    return frame;
-}
-
-int ossl_quic_wire_encode_frame_crypto_hdr(WPACKET *pkt,
-    const OSSL_QUIC_FRAME_CRYPTO *f)
-{
-    quic_wire_frame frame = crypto_fields(f);
-
     return encode_up_to_data(pkt, &frame, 0);
 }
 
 size_t ossl_quic_wire_get_encoded_frame_len_crypto_hdr(
     const OSSL_QUIC_FRAME_CRYPTO *f)
 {
-    quic_wire_frame frame = crypto_fields(f);
+    size_t offset_len = quic_wire_varint_len(f->offset);
+    size_t length_len = quic_wire_varint_len(f->len);
 
-    return len_up_to_data(&frame, 0);
+    if (offset_len == 0 || length_len == 0)
+        return 0;
+
+    return 1 + offset_len + length_len;
 }
 
 void *ossl_quic_wire_encode_frame_crypto(WPACKET *pkt,
@@ -212,7 +198,8 @@ int ossl_quic_wire_encode_frame_new_token(WPACKET *pkt,
     return encode_frame(pkt, &frame, token, token_len);
 }
 
-static quic_wire_frame stream_fields(const OSSL_QUIC_FRAME_STREAM *f)
+int ossl_quic_wire_encode_frame_stream_hdr(WPACKET *pkt,
+    const OSSL_QUIC_FRAME_STREAM *f)
 {
     quic_wire_frame frame = { .kind = QUIC_WIRE_FRAME_STREAM };
 
@@ -220,23 +207,32 @@ static quic_wire_frame stream_fields(const OSSL_QUIC_FRAME_STREAM *f)
     frame.stream.stream_id = f->stream_id;
     frame.stream.offset = f->offset;
     frame.datalen = f->len;
-    return frame;
-}
-
-int ossl_quic_wire_encode_frame_stream_hdr(WPACKET *pkt,
-    const OSSL_QUIC_FRAME_STREAM *f)
-{
-    quic_wire_frame frame = stream_fields(f);
-
     return encode_up_to_data(pkt, &frame, !f->has_explicit_len);
 }
 
 size_t ossl_quic_wire_get_encoded_frame_len_stream_hdr(
     const OSSL_QUIC_FRAME_STREAM *f)
 {
-    quic_wire_frame frame = stream_fields(f);
+    size_t len = quic_wire_varint_len(f->stream_id), field_len;
 
-    return len_up_to_data(&frame, !f->has_explicit_len);
+    if (len == 0)
+        return 0;
+
+    if (f->offset > 0) {
+        field_len = quic_wire_varint_len(f->offset);
+        if (field_len == 0)
+            return 0;
+        len += field_len;
+    }
+
+    if (f->has_explicit_len) {
+        field_len = quic_wire_varint_len(f->len);
+        if (field_len == 0)
+            return 0;
+        len += field_len;
+    }
+
+    return 1 + len;
 }
 
 void *ossl_quic_wire_encode_frame_stream(WPACKET *pkt,

@@ -64,17 +64,17 @@ static void set_conn_id(QUIC_CONN_ID *conn_id, const unsigned char *id,
 }
 
 /*
- * The packet number, which begins at |pn|, and after which |len| bytes remain.
- * While its length is protected, it is taken to have four bytes.
+ * The packet number, which begins at |pn| with |first| as the first byte, and
+ * its payload.  While its length is protected, it is taken to have four bytes.
  */
 static ossl_inline int set_pn(QUIC_PKT_HDR *hdr, const unsigned char *pn,
-    size_t len, unsigned char first, int partial)
+    unsigned char first, int partial)
 {
     size_t pn_len = partial ? sizeof(hdr->pn) : (size_t)(first & 3) + 1;
 
     memset(hdr->pn, 0, sizeof(hdr->pn));
     hdr->pn_len = partial ? 0 : (unsigned int)pn_len;
-    if (len < pn_len || hdr->len < pn_len)
+    if (hdr->len < pn_len)
         return 0;
 
     if (!partial)
@@ -85,11 +85,10 @@ static ossl_inline int set_pn(QUIC_PKT_HDR *hdr, const unsigned char *pn,
 }
 
 /* Reads a short header; returns where its number begins, or 0. */
-static size_t decode_short_hdr(const PACKET *pkt, size_t conn_id_len,
-    int partial, QUIC_PKT_HDR *hdr)
+static ossl_inline size_t decode_short_hdr(const unsigned char *p, size_t len,
+    size_t conn_id_len, int partial, QUIC_PKT_HDR *hdr)
 {
-    const unsigned char *p = PACKET_data(pkt);
-    size_t len = PACKET_remaining(pkt), pn;
+    size_t pn;
 
     if ((p[0] & QUIC_WIRE_BIT_FIXED) == 0 || conn_id_len > QUIC_MAX_CONN_ID_LEN
         || len < QUIC_MIN_VALID_PKT_LEN_CRYPTO)
@@ -112,7 +111,7 @@ static size_t decode_short_hdr(const PACKET *pkt, size_t conn_id_len,
     hdr->token = NULL;
     hdr->token_len = 0;
     hdr->len = len - pn;
-    return set_pn(hdr, p + pn, len - pn, p[0], partial) ? pn : 0;
+    return set_pn(hdr, p + pn, p[0], partial) ? pn : 0;
 }
 
 /* What a long header says, up to the fields that its type has. */
@@ -139,12 +138,10 @@ static void set_long_hdr(QUIC_PKT_HDR *hdr, const unsigned char *p,
  * failure too, its version and IDs.  What is after the header may be missing
  * with |nodata|.
  */
-static int decode_long_hdr(const PACKET *pkt, int nodata, QUIC_PKT_HDR *hdr,
-    quic_wire_header *h, uint64_t *fail_cause)
+static int decode_long_hdr(const unsigned char *p, size_t len, int nodata,
+    QUIC_PKT_HDR *hdr, quic_wire_header *h, uint64_t *fail_cause)
 {
     static const uint32_t versions[] = { QUIC_WIRE_VERSION_1 };
-    const unsigned char *p = PACKET_data(pkt);
-    size_t len = PACKET_remaining(pkt);
     int64_t end = quic_wire_header_read(p, len, 0, versions,
         OSSL_NELEM(versions), h);
 
@@ -152,11 +149,10 @@ static int decode_long_hdr(const PACKET *pkt, int nodata, QUIC_PKT_HDR *hdr,
         && !(nodata && end == QUIC_WIRE_ERR_PACKET_CUT))
         return 0;
 
-    if (h->kind != QUIC_WIRE_PACKET_VERSION_NEGOTIATION
-        && (h->first & QUIC_WIRE_BIT_FIXED) == 0)
-        return 0;
-
-    if (h->dcidlen > QUIC_MAX_CONN_ID_LEN || h->scidlen > QUIC_MAX_CONN_ID_LEN)
+    if ((h->kind != QUIC_WIRE_PACKET_VERSION_NEGOTIATION
+            && (h->first & QUIC_WIRE_BIT_FIXED) == 0)
+        || h->dcidlen > QUIC_MAX_CONN_ID_LEN
+        || h->scidlen > QUIC_MAX_CONN_ID_LEN)
         return 0;
 
     hdr->version = h->version;
@@ -169,39 +165,36 @@ static int decode_long_hdr(const PACKET *pkt, int nodata, QUIC_PKT_HDR *hdr,
     }
 
     set_long_hdr(hdr, p, h);
-    switch (h->kind) {
-    case QUIC_WIRE_PACKET_VERSION_NEGOTIATION:
+    if (h->kind == QUIC_WIRE_PACKET_VERSION_NEGOTIATION)
         return hdr->len % sizeof(uint32_t) == 0;
-    case QUIC_WIRE_PACKET_RETRY:
+
+    if (h->kind == QUIC_WIRE_PACKET_RETRY)
         hdr->unused = h->first & 0x0f;
-        return len >= QUIC_MIN_VALID_PKT_LEN_CRYPTO;
-    default:
-        return len >= QUIC_MIN_VALID_PKT_LEN_CRYPTO;
-    }
+    return len >= QUIC_MIN_VALID_PKT_LEN_CRYPTO;
 }
 
-/* The number of a packet with a long header; returns where the packet ends. */
-static size_t decode_long_pn(const PACKET *pkt, int partial, int nodata,
-    QUIC_PKT_HDR *hdr, const quic_wire_header *h)
+/*
+ * The number of a packet with a long header, of which there are |len| bytes;
+ * returns how many of them are read, or 0.
+ */
+static size_t decode_long_pn(const unsigned char *p, size_t len, int partial,
+    int nodata, QUIC_PKT_HDR *hdr, const quic_wire_header *h)
 {
-    const unsigned char *pn = PACKET_data(pkt) + h->header_end;
-
-    if (h->len < sizeof(hdr->pn))
-        return 0;
+    size_t pn_len = partial ? sizeof(hdr->pn) : (size_t)(h->first & 3) + 1;
 
     hdr->partial = partial;
     if (!partial)
         hdr->reserved = (h->first & QUIC_WIRE_BITS_RESERVED_LONG) >> 2;
     hdr->len = (size_t)h->len;
-    if (!set_pn(hdr, pn, PACKET_remaining(pkt) - h->header_end, h->first,
-            partial))
+    if (h->len < sizeof(hdr->pn) || len - h->header_end < pn_len
+        || !set_pn(hdr, p + h->header_end, h->first, partial))
         return 0;
 
     if (!nodata)
         return h->end;
 
     hdr->data = NULL;
-    return h->header_end + (partial ? sizeof(hdr->pn) : hdr->pn_len);
+    return h->header_end + pn_len;
 }
 
 int ossl_quic_wire_decode_pkt_hdr(PACKET *pkt,
@@ -213,7 +206,7 @@ int ossl_quic_wire_decode_pkt_hdr(PACKET *pkt,
     uint64_t *fail_cause)
 {
     unsigned char *p = (unsigned char *)PACKET_data(pkt);
-    size_t end = PACKET_remaining(pkt), pn = 0;
+    size_t len = PACKET_remaining(pkt), end = len, pn = 0;
     quic_wire_header h;
 
     if (fail_cause != NULL)
@@ -226,30 +219,32 @@ int ossl_quic_wire_decode_pkt_hdr(PACKET *pkt,
         ptrs->raw_pn = NULL;
     }
 
-    if (end < QUIC_MIN_VALID_PKT_LEN)
+    if (len < QUIC_MIN_VALID_PKT_LEN)
         return 0;
 
     if ((p[0] & QUIC_WIRE_BIT_LONG) == 0) {
-        pn = decode_short_hdr(pkt, short_conn_id_len, partial, hdr);
+        pn = decode_short_hdr(p, len, short_conn_id_len, partial, hdr);
         if (pn == 0)
             return 0;
     } else {
-        if (!decode_long_hdr(pkt, nodata, hdr, &h, fail_cause))
+        if (!decode_long_hdr(p, len, nodata, hdr, &h, fail_cause))
             return 0;
 
         if (ossl_quic_pkt_type_has_pn(hdr->type)) {
             pn = h.header_end;
-            end = decode_long_pn(pkt, partial, nodata, hdr, &h);
+            end = decode_long_pn(p, len, partial, nodata, hdr, &h);
+            if (end == 0)
+                return 0;
         }
     }
 
-    if (end == 0 || !PACKET_forward(pkt, end))
+    if (!PACKET_forward(pkt, end))
         return 0;
 
     if (ptrs != NULL && pn > 0) {
         ptrs->raw_pn = p + pn;
         ptrs->raw_sample = ptrs->raw_pn + 4;
-        ptrs->raw_sample_len = PACKET_end(pkt) - ptrs->raw_sample;
+        ptrs->raw_sample_len = len - pn - 4;
     }
 
     if (fail_cause != NULL)

@@ -376,7 +376,7 @@ static int write_long_hdr(const QUIC_PKT_HDR *hdr,
     quic_wire_header_fields *fields, unsigned char *p, size_t len, size_t room)
 {
     size_t length_len = fields->lengthlen;
-    unsigned char *length = p + len - hdr->pn_len - length_len;
+    unsigned char *length;
 
     fields->version = hdr->version;
     fields->flags = hdr->type == QUIC_PKT_TYPE_VERSION_NEG && !hdr->fixed
@@ -386,18 +386,18 @@ static int write_long_hdr(const QUIC_PKT_HDR *hdr,
     if (write_fields(hdr, fields, p, room) < 0)
         return 0;
 
-    if (length_len > 0) {
-        p[0] |= hdr->reserved << 2;
-        if (length_len != fields->lengthlen)
-            memcpy(length + length_len, hdr->pn, hdr->pn_len);
-        return quic_wire_varint_write(hdr->len + hdr->pn_len,
-                   (uint32_t)length_len, length, length_len)
-            > 0;
-    }
-
     if (hdr->type == QUIC_PKT_TYPE_RETRY)
         p[0] |= hdr->unused;
-    return 1;
+    if (length_len == 0)
+        return 1;
+
+    p[0] |= hdr->reserved << 2;
+    length = p + len - hdr->pn_len - length_len;
+    if (length_len != fields->lengthlen)
+        memcpy(length + length_len, hdr->pn, hdr->pn_len);
+    return quic_wire_varint_write(hdr->len + hdr->pn_len, (uint32_t)length_len,
+               length, length_len)
+        > 0;
 }
 
 int ossl_quic_wire_encode_pkt_hdr(WPACKET *pkt,

@@ -55,7 +55,8 @@ fetched() {
             printf '%s\n' "${self:-stacks}: $1 $version: pool/$path has another SHA-256 than $sum" >&2
             return 1
         fi
-        printf '%s\n' "${self:-stacks}: $1 $version: Debian doesn't have it any more: pool/$path" >&2
+        printf '%s\n' "${self:-stacks}: $1 $version: Debian doesn't have it any more: pool/$path$(
+            sed -n '/^Err:/ {n; s/^ */ (/; s/ *\[.*/)/p; q}' "$log")" >&2
         return 0
     fi
     mkdir -p "$WORK/$1-source"

@@ -1,4 +1,5 @@
-/* echo server PORT CERTIFICATE KEY: an OpenSSL QUIC server on loopback, which sends back what one client sends, and ends.
+/* echo server PORT CERTIFICATE KEY: an OpenSSL QUIC server on loopback, which sends back what one client sends, and
+ * ends.
  * echo client PORT CERTIFICATE MEGABYTES: its client, which compares what comes back. */
 #include <arpa/inet.h>
 #include <netinet/in.h>

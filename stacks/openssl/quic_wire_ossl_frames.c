@@ -39,14 +39,30 @@ static ossl_inline int skip_frame(PACKET *pkt, int64_t len,
     return PACKET_forward(pkt, ok ? (size_t)len : PACKET_remaining(pkt)) && ok;
 }
 
-/* Reads a frame of |kind| or |other| at the front of |pkt|, except an ACK. */
+/*
+ * Reads a frame of |kind| or |other| at the front of |pkt|, by the call that is
+ * the quickest for kinds except STREAM, ACK and NEW_CONNECTION_ID.
+ */
 static ossl_inline int decode_frame(PACKET *pkt, quic_wire_frame_kind kind,
     quic_wire_frame_kind other, quic_wire_frame *frame)
+{
+    quic_wire_frame_iter frames;
+    size_t count;
+    int ret = quic_wire_frames_first(&frames, PACKET_data(pkt),
+        PACKET_remaining(pkt), frame, 1, &count);
+    int64_t len = ret == QUIC_WIRE_ITEM ? (int64_t)frame->end : ret;
+
+    return skip_frame(pkt, len, frame, kind, other);
+}
+
+/* The same for a STREAM or NEW_CONNECTION_ID frame. */
+static ossl_inline int decode_frame_of(PACKET *pkt, quic_wire_frame_kind kind,
+    quic_wire_frame *frame)
 {
     int64_t len = quic_wire_frame_read_basic(PACKET_data(pkt),
         PACKET_remaining(pkt), 0, frame, NULL, 0);
 
-    return skip_frame(pkt, len, frame, kind, other);
+    return skip_frame(pkt, len, frame, kind, kind);
 }
 
 int ossl_quic_wire_peek_frame_ack_num_ranges(const PACKET *orig_pkt,
@@ -264,8 +280,7 @@ int ossl_quic_wire_decode_frame_stream(PACKET *pkt,
         if (!decode_stream_hdr(pkt, &type, f))
             return 0;
     } else {
-        if (!decode_frame(pkt, QUIC_WIRE_FRAME_STREAM, QUIC_WIRE_FRAME_STREAM,
-                &frame))
+        if (!decode_frame_of(pkt, QUIC_WIRE_FRAME_STREAM, &frame))
             return 0;
 
         type = frame.type;
@@ -345,8 +360,7 @@ int ossl_quic_wire_decode_frame_new_conn_id(PACKET *pkt,
     const unsigned char *id = PACKET_data(pkt);
     quic_wire_frame frame;
 
-    if (!decode_frame(pkt, QUIC_WIRE_FRAME_NEW_CONNECTION_ID,
-            QUIC_WIRE_FRAME_NEW_CONNECTION_ID, &frame))
+    if (!decode_frame_of(pkt, QUIC_WIRE_FRAME_NEW_CONNECTION_ID, &frame))
         return 0;
 
     id += frame.data;

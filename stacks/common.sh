@@ -41,6 +41,29 @@ debian_lists() {
     debian update
 }
 
+# version_of STACK: the version of a stack that the file archives has.
+version_of() { awk -v stack="$1" '$1 == stack {print $2}' "$here/archives"; }
+
+# fetched STACK: the folder of its source, unpacked from the archive that the file archives names, whose SHA-256 apt
+# checks; nothing where Debian no longer has it.
+fetched() {
+    local version path sum file log=$WORK/logs/$1-fetch.log
+    read -r version path sum < <(awk -v stack="$1" '$1 == stack {print $2, $3, $4}' "$here/archives")
+    file=$WORK/${path##*/}
+    if ! /usr/lib/apt/apt-helper download-file "$mirror/pool/$path" "$file" "SHA256:$sum" >"$log" 2>&1; then
+        if grep -q 'Hash Sum mismatch' "$log"; then
+            printf '%s\n' "${self:-stacks}: $1 $version: pool/$path has another SHA-256 than $sum" >&2
+            return 1
+        fi
+        printf '%s\n' "${self:-stacks}: $1 $version: Debian doesn't have it any more: pool/$path$(
+            sed -n '/^Err:/ {n; s/^ */ (/; s/ *\[.*/)/p; q}' "$log")" >&2
+        return 0
+    fi
+    mkdir -p "$WORK/$1-source"
+    tar xf "$file" -C "$WORK/$1-source" --strip-components=1
+    echo "$WORK/$1-source"
+}
+
 # callgrind FILE COMMAND..: a command, its instructions counted to a file.
 callgrind() { valgrind -q --tool=callgrind --callgrind-out-file="$1" "${@:2}"; }
 

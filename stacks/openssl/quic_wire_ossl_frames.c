@@ -1,0 +1,464 @@
+/*
+ * OpenSSL's readers of QUIC frames, over quic_wire.h.  ssl/quic/quic_wire.c
+ * includes this file in place of its own.
+ */
+#define QUIC_WIRE_INLINE
+#include "quic_wire.h"
+
+int ossl_quic_wire_skip_frame_header(PACKET *pkt, uint64_t *type)
+{
+    size_t len = quic_wire_varint_read(PACKET_data(pkt), PACKET_remaining(pkt),
+        type);
+
+    return len > 0 && PACKET_forward(pkt, len);
+}
+
+int ossl_quic_wire_peek_frame_header(PACKET *pkt, uint64_t *type,
+    int *was_minimal)
+{
+    size_t len = quic_wire_varint_read(PACKET_data(pkt), PACKET_remaining(pkt),
+        type);
+
+    if (len > 0 && was_minimal != NULL)
+        *was_minimal = len == 1 || len == quic_wire_varint_len(*type);
+
+    return len > 0;
+}
+
+/*
+ * Goes past the frame that was read at the front of |pkt| with the result
+ * |len|.  If that isn't of |kind| or |other| the connection will be closed, and
+ * nothing is left to be read.
+ */
+static ossl_inline int skip_frame(PACKET *pkt, int64_t len,
+    const quic_wire_frame *frame, quic_wire_frame_kind kind,
+    quic_wire_frame_kind other)
+{
+    int ok = len > 0 && (frame->kind == kind || frame->kind == other);
+
+    return PACKET_forward(pkt, ok ? (size_t)len : PACKET_remaining(pkt)) && ok;
+}
+
+/*
+ * Reads a frame of |kind| or |other| at the front of |pkt|, by the call that is
+ * the quickest for kinds except STREAM, ACK and NEW_CONNECTION_ID.
+ */
+static ossl_inline int decode_frame(PACKET *pkt, quic_wire_frame_kind kind,
+    quic_wire_frame_kind other, quic_wire_frame *frame)
+{
+    quic_wire_frame_iter frames;
+    size_t count;
+    int ret = quic_wire_frames_first(&frames, PACKET_data(pkt),
+        PACKET_remaining(pkt), frame, 1, &count);
+    int64_t len = ret == QUIC_WIRE_ITEM ? (int64_t)frame->end : ret;
+
+    return skip_frame(pkt, len, frame, kind, other);
+}
+
+/* The same for a STREAM or NEW_CONNECTION_ID frame. */
+static ossl_inline int decode_frame_of(PACKET *pkt, quic_wire_frame_kind kind,
+    quic_wire_frame *frame)
+{
+    int64_t len = quic_wire_frame_read_basic(PACKET_data(pkt),
+        PACKET_remaining(pkt), 0, frame, NULL, 0);
+
+    return skip_frame(pkt, len, frame, kind, kind);
+}
+
+int ossl_quic_wire_peek_frame_ack_num_ranges(const PACKET *orig_pkt,
+    uint64_t *total_ranges)
+{
+    const unsigned char *p = PACKET_data(orig_pkt);
+    size_t remaining = PACKET_remaining(orig_pkt), i, len;
+    uint64_t number = 0;
+
+    /* The count is the fourth number, after type, largest and delay. */
+    for (i = 0; i < 4; ++i) {
+        len = quic_wire_varint_read(p, remaining, &number);
+        if (len == 0
+            || (i == 0
+                && (number & ~(uint64_t)1)
+                    != OSSL_QUIC_FRAME_TYPE_ACK_WITHOUT_ECN))
+            return 0;
+        p += len;
+        remaining -= len;
+    }
+
+    /*
+     * A range has two bytes at least, so that no more room is asked for than
+     * the ranges of a packet can need.
+     */
+    if (number > remaining / 2)
+        return 0;
+
+    *total_ranges = number + 1;
+    return 1;
+}
+
+/*
+ * Makes ranges of an ACK's gaps, which were read to where the ranges below the
+ * first one belong: both are pairs of 64-bit numbers.
+ */
+static void set_ack_ranges(OSSL_QUIC_FRAME_ACK *ack,
+    const quic_wire_frame *frame)
+{
+    OSSL_QUIC_ACK_RANGE *ranges = ack->ack_ranges;
+    size_t i;
+
+    if (frame->data + 1 < ack->num_ack_ranges)
+        ack->num_ack_ranges = frame->data + 1;
+    if (ack->num_ack_ranges == 0)
+        return;
+
+    ranges[0].end = frame->ack.largest;
+    ranges[0].start = frame->ack.largest - frame->datalen;
+    for (i = 1; i < ack->num_ack_ranges; ++i) {
+        const quic_wire_gap *gap = (const quic_wire_gap *)&ranges[i];
+        QUIC_PN end = ranges[i - 1].start - gap->gap - 2;
+
+        ranges[i].start = end - gap->len;
+        ranges[i].end = end;
+    }
+}
+
+/* The fields of an ACK beside its ranges. */
+static void set_ack_fields(OSSL_QUIC_FRAME_ACK *ack,
+    uint32_t ack_delay_exponent, const quic_wire_frame *frame)
+{
+    int err = 0;
+
+    ack->delay_time = ossl_time_multiply(ossl_ticks2time(OSSL_TIME_US),
+        safe_mul_uint64_t(frame->ack.delay, (uint64_t)1 << ack_delay_exponent,
+            &err));
+    if (err)
+        ack->delay_time = ossl_time_infinite();
+
+    ack->ecn_present = (frame->flags & QUIC_WIRE_FLAG_ECN) != 0;
+    if (ack->ecn_present) {
+        ack->ect0 = frame->ack.ect0;
+        ack->ect1 = frame->ack.ect1;
+        ack->ecnce = frame->ack.ce;
+    }
+}
+
+int ossl_quic_wire_decode_frame_ack(PACKET *pkt,
+    uint32_t ack_delay_exponent,
+    OSSL_QUIC_FRAME_ACK *ack,
+    uint64_t *total_ranges)
+{
+    const unsigned char *payload = PACKET_data(pkt);
+    size_t remaining = PACKET_remaining(pkt), room = 0;
+    quic_wire_gap *gaps = NULL;
+    quic_wire_frame frame;
+    PACKET start;
+    int64_t len;
+
+    if (ack != NULL && ack->num_ack_ranges > 1) {
+        gaps = (quic_wire_gap *)&ack->ack_ranges[1];
+        room = ack->num_ack_ranges - 1;
+    }
+    len = quic_wire_frame_read_basic(payload, remaining, 0, &frame, gaps, room);
+    if (!skip_frame(pkt, len, &frame, QUIC_WIRE_FRAME_ACK, QUIC_WIRE_FRAME_ACK))
+        return 0;
+
+    if (total_ranges != NULL
+        && (!PACKET_buf_init(&start, payload, remaining)
+            || !ossl_quic_wire_peek_frame_ack_num_ranges(&start, total_ranges)))
+        return 0;
+
+    if (ack != NULL) {
+        set_ack_ranges(ack, &frame);
+        set_ack_fields(ack, ack_delay_exponent, &frame);
+    }
+    return 1;
+}
+
+int ossl_quic_wire_decode_frame_reset_stream(PACKET *pkt,
+    OSSL_QUIC_FRAME_RESET_STREAM *f)
+{
+    quic_wire_frame frame;
+
+    if (!decode_frame(pkt, QUIC_WIRE_FRAME_RESET_STREAM,
+            QUIC_WIRE_FRAME_RESET_STREAM, &frame))
+        return 0;
+
+    f->stream_id = frame.reset_stream.stream_id;
+    f->app_error_code = frame.reset_stream.error_code;
+    f->final_size = frame.reset_stream.final_size;
+    return 1;
+}
+
+int ossl_quic_wire_decode_frame_stop_sending(PACKET *pkt,
+    OSSL_QUIC_FRAME_STOP_SENDING *f)
+{
+    quic_wire_frame frame;
+
+    if (!decode_frame(pkt, QUIC_WIRE_FRAME_STOP_SENDING,
+            QUIC_WIRE_FRAME_STOP_SENDING, &frame))
+        return 0;
+
+    f->stream_id = frame.stop_sending.stream_id;
+    f->app_error_code = frame.stop_sending.error_code;
+    return 1;
+}
+
+/* Whether data end where an offset can be (RFC 9000 s. 19.6 and 19.8). */
+static int data_fit(uint64_t offset, uint64_t len)
+{
+    return offset + len <= OSSL_QUIC_VLINT_MAX;
+}
+
+int ossl_quic_wire_decode_frame_crypto(PACKET *pkt,
+    int nodata,
+    OSSL_QUIC_FRAME_CRYPTO *f)
+{
+    const unsigned char *payload = PACKET_data(pkt);
+    quic_wire_frame frame;
+    uint64_t type;
+
+    if (nodata) { /* The data aren't there, so no call reads the frame. */
+        f->data = NULL;
+        return ossl_quic_wire_skip_frame_header(pkt, &type)
+            && type == OSSL_QUIC_FRAME_TYPE_CRYPTO
+            && ossl_quic_wire_skip_frame_header(pkt, &f->offset)
+            && ossl_quic_wire_skip_frame_header(pkt, &f->len)
+            && data_fit(f->offset, f->len);
+    }
+
+    if (!decode_frame(pkt, QUIC_WIRE_FRAME_CRYPTO, QUIC_WIRE_FRAME_CRYPTO,
+            &frame))
+        return 0;
+
+    f->offset = frame.crypto.offset;
+    f->len = frame.datalen;
+    f->data = payload + frame.data;
+    return data_fit(f->offset, f->len);
+}
+
+int ossl_quic_wire_decode_frame_new_token(PACKET *pkt,
+    const unsigned char **token,
+    size_t *token_len)
+{
+    const unsigned char *payload = PACKET_data(pkt);
+    quic_wire_frame frame;
+
+    if (!decode_frame(pkt, QUIC_WIRE_FRAME_NEW_TOKEN, QUIC_WIRE_FRAME_NEW_TOKEN,
+            &frame))
+        return 0;
+
+    *token = payload + frame.data;
+    *token_len = frame.datalen;
+    return 1;
+}
+
+/* Reads a STREAM frame whose data aren't there, so that no call reads it. */
+static int decode_stream_hdr(PACKET *pkt, uint64_t *type,
+    OSSL_QUIC_FRAME_STREAM *f)
+{
+    f->offset = 0;
+    f->len = 0;
+    f->data = NULL;
+    return ossl_quic_wire_skip_frame_header(pkt, type)
+        && (*type & ~OSSL_QUIC_FRAME_FLAG_STREAM_MASK)
+        == OSSL_QUIC_FRAME_TYPE_STREAM
+        && ossl_quic_wire_skip_frame_header(pkt, &f->stream_id)
+        && ((*type & OSSL_QUIC_FRAME_FLAG_STREAM_OFF) == 0
+            || ossl_quic_wire_skip_frame_header(pkt, &f->offset))
+        && ((*type & OSSL_QUIC_FRAME_FLAG_STREAM_LEN) == 0
+            || ossl_quic_wire_skip_frame_header(pkt, &f->len));
+}
+
+int ossl_quic_wire_decode_frame_stream(PACKET *pkt,
+    int nodata,
+    OSSL_QUIC_FRAME_STREAM *f)
+{
+    const unsigned char *payload = PACKET_data(pkt);
+    quic_wire_frame frame;
+    uint64_t type;
+
+    if (nodata) {
+        if (!decode_stream_hdr(pkt, &type, f))
+            return 0;
+    } else {
+        if (!decode_frame_of(pkt, QUIC_WIRE_FRAME_STREAM, &frame))
+            return 0;
+
+        type = frame.type;
+        f->stream_id = frame.stream.stream_id;
+        f->offset = frame.stream.offset;
+        f->len = frame.datalen;
+        f->data = payload + frame.data;
+    }
+
+    f->has_explicit_len = (type & OSSL_QUIC_FRAME_FLAG_STREAM_LEN) != 0;
+    f->is_fin = (type & OSSL_QUIC_FRAME_FLAG_STREAM_FIN) != 0;
+    return data_fit(f->offset, f->len);
+}
+
+/* Reads a frame of |kind| or |other|, MAX_DATA to STREAMS_BLOCKED. */
+static int decode_limit(PACKET *pkt, quic_wire_frame_kind kind,
+    quic_wire_frame_kind other, uint64_t *stream_id, uint64_t *limit)
+{
+    quic_wire_frame frame;
+
+    if (!decode_frame(pkt, kind, other, &frame))
+        return 0;
+
+    if (stream_id != NULL)
+        *stream_id = frame.limit.stream_id;
+    *limit = frame.limit.limit;
+    return 1;
+}
+
+int ossl_quic_wire_decode_frame_max_data(PACKET *pkt,
+    uint64_t *max_data)
+{
+    return decode_limit(pkt, QUIC_WIRE_FRAME_MAX_DATA, QUIC_WIRE_FRAME_MAX_DATA,
+        NULL, max_data);
+}
+
+int ossl_quic_wire_decode_frame_max_stream_data(PACKET *pkt,
+    uint64_t *stream_id,
+    uint64_t *max_stream_data)
+{
+    return decode_limit(pkt, QUIC_WIRE_FRAME_MAX_STREAM_DATA,
+        QUIC_WIRE_FRAME_MAX_STREAM_DATA, stream_id, max_stream_data);
+}
+
+int ossl_quic_wire_decode_frame_max_streams(PACKET *pkt,
+    uint64_t *max_streams)
+{
+    return decode_limit(pkt, QUIC_WIRE_FRAME_MAX_STREAMS_BIDI,
+        QUIC_WIRE_FRAME_MAX_STREAMS_UNI, NULL, max_streams);
+}
+
+int ossl_quic_wire_decode_frame_data_blocked(PACKET *pkt,
+    uint64_t *max_data)
+{
+    return decode_limit(pkt, QUIC_WIRE_FRAME_DATA_BLOCKED,
+        QUIC_WIRE_FRAME_DATA_BLOCKED, NULL, max_data);
+}
+
+int ossl_quic_wire_decode_frame_stream_data_blocked(PACKET *pkt,
+    uint64_t *stream_id,
+    uint64_t *max_stream_data)
+{
+    return decode_limit(pkt, QUIC_WIRE_FRAME_STREAM_DATA_BLOCKED,
+        QUIC_WIRE_FRAME_STREAM_DATA_BLOCKED, stream_id, max_stream_data);
+}
+
+int ossl_quic_wire_decode_frame_streams_blocked(PACKET *pkt,
+    uint64_t *max_streams)
+{
+    return decode_limit(pkt, QUIC_WIRE_FRAME_STREAMS_BLOCKED_BIDI,
+        QUIC_WIRE_FRAME_STREAMS_BLOCKED_UNI, NULL, max_streams);
+}
+
+int ossl_quic_wire_decode_frame_new_conn_id(PACKET *pkt,
+    OSSL_QUIC_FRAME_NEW_CONN_ID *f)
+{
+    const unsigned char *id = PACKET_data(pkt);
+    quic_wire_frame frame;
+
+    if (!decode_frame_of(pkt, QUIC_WIRE_FRAME_NEW_CONNECTION_ID, &frame))
+        return 0;
+
+    id += frame.data;
+    f->seq_num = frame.new_connection_id.sequence;
+    f->retire_prior_to = frame.new_connection_id.retire_prior_to;
+    /* Clear unused bytes to allow consistent memcmp. */
+    memset(&f->conn_id, 0, sizeof(f->conn_id));
+    f->conn_id.id_len = (unsigned char)frame.datalen;
+    memcpy(f->conn_id.id, id, frame.datalen);
+    memcpy(f->stateless_reset.token, id + frame.datalen,
+        sizeof(f->stateless_reset.token));
+    return 1;
+}
+
+int ossl_quic_wire_decode_frame_retire_conn_id(PACKET *pkt,
+    uint64_t *seq_num)
+{
+    quic_wire_frame frame;
+
+    if (!decode_frame(pkt, QUIC_WIRE_FRAME_RETIRE_CONNECTION_ID,
+            QUIC_WIRE_FRAME_RETIRE_CONNECTION_ID, &frame))
+        return 0;
+
+    *seq_num = frame.retire_connection_id.sequence;
+    return 1;
+}
+
+int ossl_quic_wire_decode_frame_path_challenge(PACKET *pkt,
+    uint64_t *data)
+{
+    quic_wire_frame frame;
+
+    if (!decode_frame(pkt, QUIC_WIRE_FRAME_PATH_CHALLENGE,
+            QUIC_WIRE_FRAME_PATH_CHALLENGE, &frame))
+        return 0;
+
+    *data = frame.path.data;
+    return 1;
+}
+
+int ossl_quic_wire_decode_frame_path_response(PACKET *pkt,
+    uint64_t *data)
+{
+    quic_wire_frame frame;
+
+    if (!decode_frame(pkt, QUIC_WIRE_FRAME_PATH_RESPONSE,
+            QUIC_WIRE_FRAME_PATH_RESPONSE, &frame))
+        return 0;
+
+    *data = frame.path.data;
+    return 1;
+}
+
+int ossl_quic_wire_decode_frame_conn_close(PACKET *pkt,
+    OSSL_QUIC_FRAME_CONN_CLOSE *f)
+{
+    const unsigned char *payload = PACKET_data(pkt);
+    quic_wire_frame frame;
+
+    if (!decode_frame(pkt, QUIC_WIRE_FRAME_CONNECTION_CLOSE,
+            QUIC_WIRE_FRAME_APPLICATION_CLOSE, &frame))
+        return 0;
+
+    f->is_app = frame.kind == QUIC_WIRE_FRAME_APPLICATION_CLOSE;
+    f->error_code = frame.close.error_code;
+    f->frame_type = frame.close.frame_type;
+    f->reason = (char *)payload + frame.data;
+    f->reason_len = frame.datalen;
+    return 1;
+}
+
+size_t ossl_quic_wire_decode_padding(PACKET *pkt)
+{
+    quic_wire_frame frame;
+
+    if (PACKET_remaining(pkt) == 0
+        || *PACKET_data(pkt) != OSSL_QUIC_FRAME_TYPE_PADDING
+        || !decode_frame(pkt, QUIC_WIRE_FRAME_PADDING, QUIC_WIRE_FRAME_PADDING,
+            &frame))
+        return 0;
+
+    return frame.end;
+}
+
+/* Reads a frame that has no fields, and so is its type. */
+static int decode_type(PACKET *pkt, quic_wire_frame_kind kind)
+{
+    uint64_t type;
+
+    return ossl_quic_wire_skip_frame_header(pkt, &type) && type == kind;
+}
+
+int ossl_quic_wire_decode_frame_ping(PACKET *pkt)
+{
+    return decode_type(pkt, QUIC_WIRE_FRAME_PING);
+}
+
+int ossl_quic_wire_decode_frame_handshake_done(PACKET *pkt)
+{
+    return decode_type(pkt, QUIC_WIRE_FRAME_HANDSHAKE_DONE);
+}

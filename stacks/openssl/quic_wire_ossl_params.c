@@ -1,0 +1,127 @@
+/*
+ * OpenSSL's readers and writers of transport parameters, over quic_wire.h.
+ * ssl/quic/quic_wire.c includes this file in place of its own, after
+ * quic_wire_ossl_encode.c.
+ */
+
+/* ---- Transport parameters, written */
+
+unsigned char *ossl_quic_wire_encode_transport_param_bytes(WPACKET *pkt,
+    uint64_t id,
+    const unsigned char *value,
+    size_t value_len)
+{
+    /* The value may come later: quic_wire_param_write can't be used. */
+    unsigned char bytes[2 * sizeof(uint64_t)];
+    size_t id_len = quic_wire_varint_write(id, 0, bytes, sizeof(bytes));
+    size_t len = quic_wire_varint_write(value_len, 0, bytes + id_len,
+        sizeof(bytes) - id_len);
+
+    if (id_len == 0 || len == 0 || !WPACKET_memcpy(pkt, bytes, id_len + len))
+        return NULL;
+
+    return encode_data(pkt, value, value_len);
+}
+
+int ossl_quic_wire_encode_transport_param_int(WPACKET *pkt,
+    uint64_t id,
+    uint64_t value)
+{
+    unsigned char number[sizeof(uint64_t)], entry[3 * sizeof(uint64_t)];
+    size_t len = quic_wire_varint_write(value, 0, number, sizeof(number));
+
+    return len > 0
+        && quic_wire_param_write(id, number, len, entry, sizeof(entry), &len)
+        == QUIC_WIRE_OK
+        && WPACKET_memcpy(pkt, entry, len);
+}
+
+int ossl_quic_wire_encode_transport_param_cid(WPACKET *wpkt,
+    uint64_t id,
+    const QUIC_CONN_ID *cid)
+{
+    return cid->id_len <= QUIC_MAX_CONN_ID_LEN
+        && ossl_quic_wire_encode_transport_param_bytes(wpkt, id, cid->id,
+               cid->id_len)
+        != NULL;
+}
+
+/* ---- Transport parameters, read */
+
+int ossl_quic_wire_peek_transport_param(PACKET *pkt, uint64_t *id)
+{
+    return quic_wire_varint_read(PACKET_data(pkt), PACKET_remaining(pkt), id)
+        > 0;
+}
+
+const unsigned char *ossl_quic_wire_decode_transport_param_bytes(PACKET *pkt,
+    uint64_t *id,
+    size_t *len)
+{
+    const unsigned char *list = PACKET_data(pkt);
+    quic_wire_param param;
+    int64_t end = quic_wire_param_read(list, PACKET_remaining(pkt), &param);
+
+    if (end <= 0 || !PACKET_forward(pkt, (size_t)end))
+        return NULL;
+
+    *len = param.valuelen;
+    if (id != NULL)
+        *id = param.id;
+    return list + param.value;
+}
+
+int ossl_quic_wire_decode_transport_param_int(PACKET *pkt,
+    uint64_t *id,
+    uint64_t *value)
+{
+    size_t len = 0;
+    const unsigned char *body = ossl_quic_wire_decode_transport_param_bytes(pkt,
+        id, &len);
+
+    return body != NULL && len > 0
+        && quic_wire_varint_read(body, len, value) == len;
+}
+
+int ossl_quic_wire_decode_transport_param_cid(PACKET *pkt,
+    uint64_t *id,
+    QUIC_CONN_ID *cid)
+{
+    size_t len = 0;
+    const unsigned char *body = ossl_quic_wire_decode_transport_param_bytes(pkt,
+        id, &len);
+
+    if (body == NULL || len > QUIC_MAX_CONN_ID_LEN)
+        return 0;
+
+    cid->id_len = (unsigned char)len;
+    memcpy(cid->id, body, len);
+    return 1;
+}
+
+int ossl_quic_wire_decode_transport_param_preferred_addr(PACKET *pkt,
+    QUIC_PREFERRED_ADDR *p)
+{
+    const unsigned char *list = PACKET_data(pkt), *body;
+    quic_wire_params params;
+    uint64_t id;
+    size_t len = 0;
+
+    /* The entry is read as a list that a server sent. */
+    body = ossl_quic_wire_decode_transport_param_bytes(pkt, &id, &len);
+    if (body == NULL || id != QUIC_TPARAM_PREFERRED_ADDR
+        || quic_wire_params_read(QUIC_WIRE_SIDE_CLIENT, list,
+               (size_t)(body - list) + len, &params, sizeof(params))
+            != QUIC_WIRE_OK)
+        return 0;
+
+    memcpy(p->ipv4, params.preferred_v4, sizeof(p->ipv4));
+    memcpy(p->ipv6, params.preferred_v6, sizeof(p->ipv6));
+    p->ipv4_port = params.preferred_v4_port;
+    p->ipv6_port = params.preferred_v6_port;
+    p->cid.id_len = (unsigned char)params.preferred_cidlen;
+    memcpy(p->cid.id, params.preferred_cid, params.preferred_cidlen);
+    memcpy(p->stateless_reset.token, params.preferred_token,
+        sizeof(p->stateless_reset.token));
+    return 1;
+}

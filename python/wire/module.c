@@ -41,6 +41,7 @@ static int add_results(PyObject *module) {
                  {"FRAME_MALFORMED", QUIC_WIRE_ERR_FRAME_MALFORMED},
                  {"FRAME_LONG_TYPE", QUIC_WIRE_ERR_FRAME_LONG_TYPE},
                  {"PACKET_FIXED_BIT", QUIC_WIRE_ERR_PACKET_FIXED_BIT},
+                 {"PACKET_CID", QUIC_WIRE_ERR_PACKET_CID},
                  {"PACKET_CUT", QUIC_WIRE_ERR_PACKET_CUT},
                  {"PARAMS_MALFORMED", QUIC_WIRE_ERR_PARAMS_MALFORMED}};
   size_t i;

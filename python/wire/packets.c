@@ -289,7 +289,11 @@ static PyGetSetDef packet_fields[] = {
     FIELD("kind", get_kind, "the packet's type, as in PacketType"),
     FIELD("number_at", get_number_at,
           "where the packet number begins in the datagram, or None"),
-    FIELD("data", get_data, "all of the packet"), WIRE_END_OF_FIELDS};
+    FIELD("data", get_data, "all of the packet"),
+    FIELD("version", get_version, "the version, or 0 where none is known"),
+    DCID,
+    FIELD("scid", get_scid, "Source Connection ID; empty in a short header"),
+    WIRE_END_OF_FIELDS};
 static PyType_Slot packet_slots[] = {
     {Py_tp_dealloc, packet_dealloc},     {Py_tp_methods, packet_methods},
     {Py_tp_getset, packet_fields},       {Py_tp_repr, packet_repr},

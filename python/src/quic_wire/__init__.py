@@ -27,11 +27,12 @@ from ._wire import (
     type_name, unprotect, varint_len, write_header, write_packet_number, write_parameter, write_varint,
     write_version_negotiation,
 )  # fmt: skip
+from ._version import VERSION
 from .errors import Code, Error, FrameError, PacketError, ParameterError
 from .packets import PacketType, Version, packets
 from .parameters import Parameter, PreferredAddress, Side, TransportParameters, parameters
 
-__version__ = "0.1.0"
+__version__ = VERSION
 
 __all__ = [
     "LIBRARY_VERSION", "Ack", "AckFrequency", "ApplicationClose", "Code", "ConnectionClose", "Crypto", "DataBlocked",

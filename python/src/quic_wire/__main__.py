@@ -2,6 +2,7 @@
 
 from __future__ import annotations
 
+import io
 import os
 import sys
 from typing import BinaryIO
@@ -105,7 +106,8 @@ def main() -> int:
     if sys.stdout is None:
         _say("write failed: standard output is closed")
         return FAILED
-    sys.stdout.reconfigure(encoding="utf-8", errors="surrogateescape", newline="\n")  # type: ignore[union-attr]
+    if isinstance(sys.stdout, io.TextIOWrapper):
+        sys.stdout.reconfigure(encoding="utf-8", errors="surrogateescape", newline="\n")
     try:
         args = arguments.parse(sys.argv[1:])
         if isinstance(args, str):

@@ -5,7 +5,7 @@ from __future__ import annotations
 import os
 import re
 import sys
-from collections.abc import Iterable, Iterator
+from collections.abc import Callable, Iterable, Iterator
 from dataclasses import dataclass, field
 from typing import NamedTuple, Optional, Union
 
@@ -121,7 +121,7 @@ def _take(args: Args, text: str, rest: Iterator[str]) -> list[str]:
 
 def _set(args: Args, name: str, value: str) -> None:
     attribute = name[2:].replace("-", "_")
-    readers = {
+    readers: dict[str, Callable[[str], object]] = {
         "--color": _when, "--cid-len": _cid_len, "--versions": _versions, "--side": _side, "--largest": _largest,
         "--keylog": str,
     }  # fmt: skip

@@ -283,8 +283,7 @@ def _parameter(read: TransportParameters, name: str) -> list[Field]:
         for version in ("v4", "v6"):
             address = getattr(value, version)
             if address is not None:
-                shown = str(Endpoint(address[0].packed, address[1]))
-                fields.append((f"{_PREFERRED}_{version}", out.word(shown)))
+                fields.append((f"{_PREFERRED}_{version}", out.word(str(Endpoint(address[0].packed, address[1])))))
         return [*fields, (f"{_PREFERRED}_cid", out.data(value.connection_id)),
                 (f"{_PREFERRED}_token", out.data(value.reset_token))]  # fmt: skip
     shown = out.data if isinstance(value, bytes) else out.flag if isinstance(value, bool) else out.number

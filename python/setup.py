@@ -55,7 +55,7 @@ def extension():
         include_dirs=include,
         extra_objects=objects,
         define_macros=[("Py_LIMITED_API", LIMITED_API)] if IS_LIMITED else [],
-        extra_compile_args=[] if os.name == "nt" else ["-O2", "-fvisibility=hidden", "-ffunction-sections"],
+        extra_compile_args=[] if os.name == "nt" else ["-O2", "-fvisibility=hidden", "-ffunction-sections", "-g0"],
         extra_link_args=LINK,
         depends=["wire/wire.h"],
         py_limited_api=IS_LIMITED,

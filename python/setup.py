@@ -4,8 +4,8 @@
 - the library as C, as scripts/portable leaves it, in the folder `portable` beside this file, or in the one that
   QUIC_WIRE_PORTABLE names: any machine with a C compiler and integers of 64 bits builds it
 
-The module has the limited API of CPython 3.11, so that one wheel serves 3.11 and later. An interpreter without its lock has
-another API, and a wheel of its own.
+The module has the limited API of CPython 3.11, so that one wheel serves 3.11 and later. An interpreter without its
+lock has another API, and a wheel of its own.
 """
 
 import os

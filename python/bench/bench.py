@@ -1,15 +1,17 @@
 #!/usr/bin/env python3
-"""Times of reading, of this package and of aioquic and scapy, side by side in one process: payloads and datagrams a second.
+"""Times of reading, of this package and of aioquic and scapy, side by side in one process: payloads and datagrams a
+second.
 
 bench.py --aioquic SOURCE [--rounds N] LIST ..
 
-SOURCE is the folder `src` of aioquic's source with its module _buffer built (stacks/aioquic/build of the repository). A LIST
-is a file of lines of hexadecimal: payloads without protection, or in datagrams*.hex datagrams whose short headers have ids
-of 8 bytes, in params*.hex transport parameters that a server sent. Only lines that both sides read are timed. scapy is
-compared where it is there, on datagrams.
+SOURCE is the folder `src` of aioquic's source with its module _buffer built (stacks/aioquic/build of the repository).
+A LIST is a file of lines of hexadecimal: payloads without protection, or in datagrams*.hex datagrams whose short
+headers have ids of 8 bytes, in params*.hex transport parameters that a server sent. Only lines that both sides read
+are timed. scapy is compared where it is there, on datagrams.
 
-Of aioquic is timed what its handlers in connection.py read from their buffer, word for word, without the connection's state,
-and the numbers of the two frames of the ACK frequency extension, which it doesn't know. Of this package the objects alone, and the objects with every one of their fields read. A figure is the best of N rounds.
+Of aioquic is timed what its handlers in connection.py read from their buffer, word for word, without the connection's
+state, and the numbers of the two frames of the ACK frequency extension, which it doesn't know. Of this package the
+objects alone, and the objects with every one of their fields read. A figure is the best of N rounds.
 """
 
 import argparse
@@ -25,6 +27,39 @@ SECONDS = 0.2  # of a round, at least
 CID_LEN = 8
 
 
+def numbers(count):
+    return lambda buf, kind: tuple(buf.pull_uint_var() for _ in range(count))
+
+
+THREE_NUMBERS = numbers(3)
+
+
+def counted(buf, kind):
+    return buf.pull_bytes(buf.pull_uint_var())
+
+
+def new_connection_id(buf, kind):
+    sequence = buf.pull_uint_var()
+    retire_prior_to = buf.pull_uint_var()
+    length = buf.pull_uint8()
+    return sequence, retire_prior_to, buf.pull_bytes(length), buf.pull_bytes(16)
+
+
+def path(buf, kind):
+    return buf.pull_bytes(8)
+
+
+def close(buf, kind):
+    code = buf.pull_uint_var()
+    frame_type = buf.pull_uint_var() if kind == 0x1C else None
+    return code, frame_type, buf.pull_bytes(buf.pull_uint_var())
+
+
+def datagram(buf, kind):
+    length = buf.pull_uint_var() if kind == 0x31 else buf.capacity - buf.tell()
+    return buf.pull_bytes(length)
+
+
 class Aioquic:
     """What aioquic reads."""
 
@@ -37,64 +72,42 @@ class Aioquic:
         from aioquic.quic import packet
 
         self.buffer, self.packet = Buffer, packet
-        self.handlers = self.make_handlers(packet)
+        self.handlers = self.make_handlers()
 
-    def make_handlers(self, packet):
-        stream_frame = packet.QuicStreamFrame
-
-        def padding(buf, kind):
-            pos = buf.tell()
-            for byte in buf.data_slice(pos, buf.capacity):
-                if byte:
-                    break
-                pos += 1
-            buf.seek(pos)
-
-        def ack(buf, kind):
-            ranges, delay = packet.pull_ack_frame(buf)
-            if kind == 0x03:
-                numbers(3)(buf, kind)
-            return ranges, delay
-
-        def crypto(buf, kind):
-            offset = buf.pull_uint_var()
-            length = buf.pull_uint_var()
-            return stream_frame(offset=offset, data=buf.pull_bytes(length))
-
-        def stream(buf, kind):
-            stream_id = buf.pull_uint_var()
-            offset = buf.pull_uint_var() if kind & 4 else 0
-            length = buf.pull_uint_var() if kind & 2 else buf.capacity - buf.tell()
-            return stream_id, stream_frame(offset=offset, data=buf.pull_bytes(length), fin=bool(kind & 1))
-
-        def new_connection_id(buf, kind):
-            sequence = buf.pull_uint_var()
-            retire_prior_to = buf.pull_uint_var()
-            length = buf.pull_uint8()
-            return sequence, retire_prior_to, buf.pull_bytes(length), buf.pull_bytes(16)
-
-        def close(buf, kind):
-            code = buf.pull_uint_var()
-            frame_type = buf.pull_uint_var() if kind == 0x1C else None
-            return code, frame_type, buf.pull_bytes(buf.pull_uint_var())
-
-        def datagram(buf, kind):
-            length = buf.pull_uint_var() if kind == 0x31 else buf.capacity - buf.tell()
-            return buf.pull_bytes(length)
-
-        def numbers(count):
-            return lambda buf, kind: tuple(buf.pull_uint_var() for _ in range(count))
-
-        def path(buf, kind):
-            return buf.pull_bytes(8)
-
+    def make_handlers(self):
         return {
-            0x00: padding, 0x01: numbers(0), 0x02: ack, 0x03: ack, 0x04: numbers(3), 0x05: numbers(2), 0x06: crypto,
-            0x07: lambda buf, kind: buf.pull_bytes(buf.pull_uint_var()), **{kind: stream for kind in range(0x08, 0x10)},
-            **{kind: numbers(2 if kind in (0x11, 0x15) else 1) for kind in range(0x10, 0x18)}, 0x18: new_connection_id,
-            0x19: numbers(1), 0x1A: path, 0x1B: path, 0x1C: close, 0x1D: close, 0x1E: numbers(0), 0x30: datagram,
-            0x31: datagram, 0x1F: numbers(0), 0xAF: numbers(4),
+            0x00: self.padding, 0x01: numbers(0), 0x02: self.ack, 0x03: self.ack, 0x04: numbers(3), 0x05: numbers(2),
+            0x06: self.crypto, 0x07: counted, **{kind: self.stream for kind in range(0x08, 0x10)},
+            **{kind: numbers(2 if kind in (0x11, 0x15) else 1) for kind in range(0x10, 0x18)},
+            0x18: new_connection_id, 0x19: numbers(1), 0x1A: path, 0x1B: path, 0x1C: close, 0x1D: close,
+            0x1E: numbers(0), 0x30: datagram, 0x31: datagram, 0x1F: numbers(0), 0xAF: numbers(4),
         }  # fmt: skip
+
+    def padding(self, buf, kind):
+        pos = buf.tell()
+        for byte in buf.data_slice(pos, buf.capacity):
+            if byte:
+                break
+            pos += 1
+        buf.seek(pos)
+
+    def ack(self, buf, kind):
+        ranges, delay = self.packet.pull_ack_frame(buf)
+        if kind == 0x03:
+            THREE_NUMBERS(buf, kind)
+        return ranges, delay
+
+    def crypto(self, buf, kind):
+        offset = buf.pull_uint_var()
+        length = buf.pull_uint_var()
+        return self.packet.QuicStreamFrame(offset=offset, data=buf.pull_bytes(length))
+
+    def stream(self, buf, kind):
+        stream_id = buf.pull_uint_var()
+        offset = buf.pull_uint_var() if kind & 4 else 0
+        length = buf.pull_uint_var() if kind & 2 else buf.capacity - buf.tell()
+        frame = self.packet.QuicStreamFrame(offset=offset, data=buf.pull_bytes(length), fin=bool(kind & 1))
+        return stream_id, frame
 
     def frames(self, payload):
         buf = self.buffer(data=payload)

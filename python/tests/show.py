@@ -66,7 +66,9 @@ def packet_line(packet):
 
 
 def is_refused_by_quinn(packet):
-    """What quic-show refuses, as quinn-proto does, and the package reads (RFC 8999, section 6; RFC 9000, section 17.2.1)."""
+    """What quic-show refuses, as quinn-proto does, and the package reads (RFC 8999, section 6; RFC 9000, section
+    17.2.1).
+    """
     if isinstance(packet, q.UnknownVersion) and max(len(packet.dcid), len(packet.scid)) <= 20:
         if not packet.first & 0x40:
             return "fixed bit unset"

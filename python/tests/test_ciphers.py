@@ -16,11 +16,11 @@ except ImportError:
 
 DCID = bytes.fromhex("8394c8f03e515708")
 CRYPTO = bytes.fromhex(
-    "060040f1010000ed0303ebf8fa56f12939b9584a3896472ec40bb863cfd3e86804fe3a47f06a2b69484c00000413011302010000c000000010"
-    "000e00000b6578616d706c652e636f6dff01000100000a00080006001d0017001800100007000504616c706e0005000501000000000033002600"
-    "24001d00209370b2c9caa47fbabaf4559fedba753de171fa71f50f1ce15d43e994ec74d748002b0003020304000d0010000e040305030603020308"
-    "04080508060 02d00020101001c00024001003900320408ffffffffffffffff05048000ffff07048000ffff0801100104800075300901100f088394"
-    "c8f03e51570806048000ffff".replace(" ", "")
+    "060040f1010000ed0303ebf8fa56f12939b9584a3896472ec40bb863cfd3e86804fe3a47f06a2b69484c00000413011302010000c00000"
+    "0010000e00000b6578616d706c652e636f6dff01000100000a00080006001d0017001800100007000504616c706e000500050100000000"
+    "003300260024001d00209370b2c9caa47fbabaf4559fedba753de171fa71f50f1ce15d43e994ec74d748002b0003020304000d0010000e"
+    "0403050306030203080408050806002d00020101001c00024001003900320408ffffffffffffffff05048000ffff07048000ffff080110"
+    "0104800075300901100f088394c8f03e51570806048000ffff"
 )
 
 
@@ -29,12 +29,14 @@ class Examples(unittest.TestCase):
     def test_initial_keys(self):
         client, server = ciphers.initial_keys(q.Version.V1, DCID)
         self.assertEqual(client.secret.hex(), "c00cf151ca5be075ed0ebfb5c80323c42d6b7db67881289af4008f1f6c357aea")
-        self.assertEqual((client.key.hex(), client.iv.hex(), client.hp.hex()),
-                         ("1f369613dd76d5467730efcbe3b1a22d", "fa044b2f42a3fd3b46fb255c",
-                          "9f50449e04a0e810283a1e9933adedd2"))  # fmt: skip
-        self.assertEqual((server.key.hex(), server.iv.hex(), server.hp.hex()),
-                         ("cf3a5331653c364c88f0f379b6067e37", "0ac1493ca1905853b0bba03e",
-                          "c206b8d9b9f0f37644430b490eeaa314"))  # fmt: skip
+        self.assertEqual(
+            (client.key.hex(), client.iv.hex(), client.hp.hex()),
+            ("1f369613dd76d5467730efcbe3b1a22d", "fa044b2f42a3fd3b46fb255c", "9f50449e04a0e810283a1e9933adedd2"),
+        )
+        self.assertEqual(
+            (server.key.hex(), server.iv.hex(), server.hp.hex()),
+            ("cf3a5331653c364c88f0f379b6067e37", "0ac1493ca1905853b0bba03e", "c206b8d9b9f0f37644430b490eeaa314"),
+        )
         self.assertNotIn(client.key.hex(), repr(client))
 
     # Appendix A.2: the header, the mask and the ends of the packet.
@@ -54,9 +56,9 @@ class Examples(unittest.TestCase):
     def test_a_server_initial_is_opened(self):
         _, server = ciphers.initial_keys(q.Version.V1, DCID)
         sealed = bytes.fromhex(
-            "cf000000010008f067a5502a4262b5004075c0d95a482cd0991cd25b0aac406a5816b6394100f37a1c69797554780bb38cc5a99f5ede4cf7"
-            "3c3ec2493a1839b3dbcba3f6ea46c5b7684df3548e7ddeb9c3bf9c73cc3f3bded74b562bfb19fb84022f8ef4cdd93795d77d06edbb7aaf2f"
-            "58891850abbdca3d20398c276456cbc42158407dd074ee"
+            "cf000000010008f067a5502a4262b5004075c0d95a482cd0991cd25b0aac406a5816b6394100f37a1c69797554780bb38cc5"
+            "a99f5ede4cf73c3ec2493a1839b3dbcba3f6ea46c5b7684df3548e7ddeb9c3bf9c73cc3f3bded74b562bfb19fb84022f8ef4"
+            "cdd93795d77d06edbb7aaf2f58891850abbdca3d20398c276456cbc42158407dd074ee"
         )
         opened = open_packet(q.read_packet(sealed, 0), server)
         self.assertEqual((opened.number, opened.header.hex()), (1, "c1000000010008f067a5502a4262b50040750001"))
@@ -93,12 +95,18 @@ class Connection:
 
     def __init__(self, suite=0x1302, version=q.Version.V1):
         self.random, size = bytes(range(32)), 48 if suite == 0x1302 else 32
-        labels = ("CLIENT_HANDSHAKE_TRAFFIC_SECRET", "SERVER_HANDSHAKE_TRAFFIC_SECRET", "CLIENT_TRAFFIC_SECRET_0",
-                  "SERVER_TRAFFIC_SECRET_0")  # fmt: skip
+        labels = (
+            "CLIENT_HANDSHAKE_TRAFFIC_SECRET",
+            "SERVER_HANDSHAKE_TRAFFIC_SECRET",
+            "CLIENT_TRAFFIC_SECRET_0",
+            "SERVER_TRAFFIC_SECRET_0",
+        )
         self.secrets = {label: bytes([i + 1] * size) for i, label in enumerate(labels)}
         self.suite, self.version = suite, version
-        self.keys = {label: ciphers.PacketKeys.of(secret, ciphers.SUITES[suite], version)
-                     for label, secret in self.secrets.items()}  # fmt: skip
+        self.keys = {
+            label: ciphers.PacketKeys.of(secret, ciphers.SUITES[suite], version)
+            for label, secret in self.secrets.items()
+        }
         self.initial = ciphers.initial_keys(version, DCID)
 
     def keylog(self):
@@ -112,18 +120,31 @@ class Connection:
         client, server = {"dcid": b"server", "scid": b"cl"}, {"dcid": b"cl", "scid": b"server"}
         initial, handshake, one_rtt = q.PacketType.INITIAL, q.PacketType.HANDSHAKE, q.PacketType.ONE_RTT
         keys = self.keys
-        yield True, seal_packet(initial, q.Crypto(30, client_hello[30:]).encode(), self.initial[0], dcid=DCID,
-                                scid=b"cl", **common)  # fmt: skip
-        yield True, seal_packet(initial, q.Crypto(0, client_hello[:30]).encode(), self.initial[0], dcid=DCID,
-                                scid=b"cl", number=1, **common)  # fmt: skip
-        yield False, seal_packet(initial, q.Crypto(0, server_hello).encode(), self.initial[1], **server, **common) + \
-            seal_packet(handshake, q.Crypto(0, b"x").encode(), keys["SERVER_HANDSHAKE_TRAFFIC_SECRET"], **server, **common)
+        yield True, seal_packet(
+            initial, q.Crypto(30, client_hello[30:]).encode(), self.initial[0], dcid=DCID, scid=b"cl", **common
+        )
+        yield True, seal_packet(
+            initial, q.Crypto(0, client_hello[:30]).encode(), self.initial[0], dcid=DCID, scid=b"cl", number=1, **common
+        )
+        yield False, seal_packet(
+            initial, q.Crypto(0, server_hello).encode(), self.initial[1], **server, **common
+        ) + seal_packet(
+            handshake, q.Crypto(0, b"x").encode(), keys["SERVER_HANDSHAKE_TRAFFIC_SECRET"], **server, **common
+        )
         yield True, seal_packet(handshake, b"\x01\x01", keys["CLIENT_HANDSHAKE_TRAFFIC_SECRET"], **client, **common)
         one = keys["CLIENT_TRAFFIC_SECRET_0"]
-        for number, (phase, sealing) in enumerate([(False, one), (True, one.updated()), (False, one), (True, one.updated()),
-                                                   (False, one.updated().updated())]):  # fmt: skip
-            yield True, seal_packet(one_rtt, q.Stream(4, number).encode(True) + b"x", sealing, dcid=b"server",
-                                    number=number, number_len=1, key_phase=phase)  # fmt: skip
+        for number, (phase, sealing) in enumerate(
+            [(False, one), (True, one.updated()), (False, one), (True, one.updated()), (False, one.updated().updated())]
+        ):
+            yield True, seal_packet(
+                one_rtt,
+                q.Stream(4, number).encode(True) + b"x",
+                sealing,
+                dcid=b"server",
+                number=number,
+                number_len=1,
+                key_phase=phase,
+            )
         yield False, seal_packet(one_rtt, b"\x1e\x21", keys["SERVER_TRAFFIC_SECRET_0"], dcid=b"cl")
 
 
@@ -173,7 +194,9 @@ class Captures(unittest.TestCase):
                     self.assertEqual([one.time for one in read], [100.5 + i for i in range(len(packets))])
                     self.assertEqual(str(read[0].source), "10.0.0.1:50000")
         ethernet = bytes(12) + b"\x81\x00\x00\x01\x08\x00"
-        self.assertEqual(len(list(pcap.datagrams(pcap_file([ethernet + one for one in packets], link=1)))), len(packets))
+        self.assertEqual(
+            len(list(pcap.datagrams(pcap_file([ethernet + one for one in packets], link=1)))), len(packets)
+        )
         for wrong in (b"", b"text", pcap_file(packets).getvalue()[:-1], pcapng_file(packets).getvalue()[:-1]):
             with self.assertRaises(pcap.CaptureError):
                 list(pcap.datagrams(io.BytesIO(wrong)))
@@ -189,8 +212,9 @@ class Captures(unittest.TestCase):
 
     def check_opened(self, read):
         self.assertTrue(all(one.opened for one in read), [one.why for one in read])
-        self.assertEqual([type(one.packet).__name__ for one in read],
-                         ["Initial"] * 3 + ["Handshake"] * 2 + ["OneRtt"] * 6)  # fmt: skip
+        self.assertEqual(
+            [type(one.packet).__name__ for one in read], ["Initial"] * 3 + ["Handshake"] * 2 + ["OneRtt"] * 6
+        )
         self.assertEqual([one.frames[0].offset for one in read[5:10]], [0, 1, 2, 3, 4])
         self.assertEqual([one.opened.number for one in read[5:10]], [0, 1, 2, 3, 4])
         last = read[-1]
@@ -208,8 +232,10 @@ class Captures(unittest.TestCase):
         broken = packets[0][28:]
         inputs = [udp(True, b"no QUIC"), udp(True, broken + b"\x40" + bytes(20)), udp(True, b"\x40short")]
         read = list(capture.packets(pcap_file(inputs)))
-        self.assertEqual([(one.why, one.rest) for one in read[1:]],
-                         [("no packet with the id of the first one", 21), ("the length of its id isn't known", 6)])  # fmt: skip
+        self.assertEqual(
+            [(one.why, one.rest) for one in read[1:]],
+            [("no packet with the id of the first one", 21), ("the length of its id isn't known", 6)],
+        )
 
     def test_a_key_log_is_a_file_of_lines(self):
         made = Connection()

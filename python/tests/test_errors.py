@@ -63,11 +63,17 @@ class Errors(unittest.TestCase):
         rows = [
             ("0401010302" + "4064" + "050101", q.Side.CLIENT, 3, "max_udp_payload_size", "illegal value", None),
             ("040101" + "040101", q.Side.CLIENT, 3, "initial_max_data", "malformed", "it is there twice"),
-            ("0f00" + "0210" + "00" * 16, q.Side.SERVER, 2, "stateless_reset_token", "illegal value",
-             "a client must not send it"),
+            (
+                "0f00" + "0210" + "00" * 16,
+                q.Side.SERVER,
+                2,
+                "stateless_reset_token",
+                "illegal value",
+                "a client must not send it",
+            ),
             ("04024001", q.Side.CLIENT, 0, "initial_max_data", "malformed", None),
             ("040101" + "05", q.Side.CLIENT, 3, "initial_max_stream_data_bidi_local", "malformed", "it is cut off"),
-        ]  # fmt: skip
+        ]
         for digits, side, at, name, reason, why in rows:
             with self.subTest(digits):
                 error = refused(q.TransportParameters.read, side, bytes.fromhex(digits))

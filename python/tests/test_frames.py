@@ -82,7 +82,9 @@ class Frames(unittest.TestCase):
 
     def test_places_and_types_are_those_of_the_payload(self):
         padding, stream = q.read_frames(bytes.fromhex("40000a000161"))
-        self.assertEqual((padding.begin, padding.end, padding.type, padding.kind, padding.name), (0, 2, 0, 0, "PADDING"))
+        self.assertEqual(
+            (padding.begin, padding.end, padding.type, padding.kind, padding.name), (0, 2, 0, 0, "PADDING")
+        )
         self.assertEqual((stream.begin, stream.end, stream.type, stream.kind, stream.name), (2, 6, 0x0A, 8, "STREAM"))
         self.assertEqual((q.Stream.KIND, q.Ack.KIND, q.type_name(0x31), q.type_name(0x40)), (8, 2, "DATAGRAM", None))
 
@@ -112,8 +114,13 @@ class Frames(unittest.TestCase):
         import array
 
         wanted = [q.Ping(), q.MaxData(5)]
-        for payload in (b"\x01\x10\x05", bytearray(b"\x01\x10\x05"), memoryview(b"\x01\x10\x05"),
-                        memoryview(b"\x02\x01\x10\x05")[1:], array.array("B", [1, 16, 5])):  # fmt: skip
+        for payload in (
+            b"\x01\x10\x05",
+            bytearray(b"\x01\x10\x05"),
+            memoryview(b"\x01\x10\x05"),
+            memoryview(b"\x02\x01\x10\x05")[1:],
+            array.array("B", [1, 16, 5]),
+        ):
             self.assertEqual(q.read_frames(payload), wanted)
             self.assertEqual(list(q.frames(payload)), wanted)
             self.assertEqual(q.canonical(payload), b"\x01\x10\x05")

@@ -68,8 +68,14 @@ def refuse_all():
 
 
 def write_all():
-    frames = [q.Ack(ranges=q.RangeSet([range(3), range(5, 9)]), ect0=1), q.Stream(1, 2, True, b"abc"), q.Padding(3),
-              q.NewConnectionId(5, 2, b"ab", bytes(16)), q.PathChallenge(bytes(8)), q.ConnectionClose(1, 2, b"why")]  # fmt: skip
+    frames = [
+        q.Ack(ranges=q.RangeSet([range(3), range(5, 9)]), ect0=1),
+        q.Stream(1, 2, True, b"abc"),
+        q.Padding(3),
+        q.NewConnectionId(5, 2, b"ab", bytes(16)),
+        q.PathChallenge(bytes(8)),
+        q.ConnectionClose(1, 2, b"why"),
+    ]
     q.write_frames(frames)
     header = q.write_header(q.PacketType.INITIAL, b"ab", b"cd", b"token", number=5)
     packet = bytearray(header + bytes(20))

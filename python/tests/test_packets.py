@@ -140,7 +140,9 @@ class Numbers(unittest.TestCase):
         self.assertEqual(q.expand_packet_number(0x9B32, 2, 0xA82F30EA + 1), 0xA82F9B32)
         self.assertEqual(q.packet_number_len(0xAC5C02, 0xABE8B3), 2)
         self.assertEqual(q.packet_number_len(0xACE8FE, 0xABE8B3), 3)
-        self.assertEqual((q.write_packet_number(0xAC5C02, 2), q.read_packet_number(b"\x5c\x02", 2)), (b"\x5c\x02", 0x5C02))
+        self.assertEqual(
+            (q.write_packet_number(0xAC5C02, 2), q.read_packet_number(b"\x5c\x02", 2)), (b"\x5c\x02", 0x5C02)
+        )
 
     def test_wrong_numbers_are_refused(self):
         rows = [

@@ -29,13 +29,17 @@ ROWS = [
     ("stateless_reset_token", bytes(range(16)), "0210" + bytes(range(16)).hex()),
     ("disable_active_migration", True, "0c00"),
     ("max_datagram_frame_size", 0, "200100"),
-    ("preferred_address", ADDRESS, "0d31c000020101bb20010db8" + "00" * 11 + "0120fb083132333435363738" + bytes(range(16)).hex()),
+    (
+        "preferred_address",
+        ADDRESS,
+        "0d31c000020101bb20010db8" + "00" * 11 + "0120fb083132333435363738" + bytes(range(16)).hex(),
+    ),
     ("original_destination_connection_id", b"abc", "0003616263"),
     ("initial_source_connection_id", b"", "0f00"),
     ("retry_source_connection_id", bytes(20), "1014" + "00" * 20),
     ("grease_quic_bit", True, "6ab200"),
     ("min_ack_delay", 7, "c0000000ff04de1b0107"),
-]  # fmt: skip
+]
 
 
 class Parameters(unittest.TestCase):
@@ -68,7 +72,12 @@ class Parameters(unittest.TestCase):
     def test_a_list_of_nothing_has_the_defaults(self):
         read = q.TransportParameters.read(q.Side.SERVER, b"")
         self.assertEqual(read, q.TransportParameters())
-        found = (read.max_udp_payload_size, read.ack_delay_exponent, read.max_ack_delay, read.active_connection_id_limit)
+        found = (
+            read.max_udp_payload_size,
+            read.ack_delay_exponent,
+            read.max_ack_delay,
+            read.active_connection_id_limit,
+        )
         self.assertEqual(found, (65527, 3, 25, 2))
         self.assertEqual((read.stateless_reset_token, read.grease_quic_bit, read.min_ack_delay), (None, False, None))
 

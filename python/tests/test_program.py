@@ -31,12 +31,15 @@ class Modes(unittest.TestCase):
             ("0d04106162", "0..5 STREAM id=4 offset=16 fin=true len=2 data=6162"),
             ("0804", "0..2 STREAM id=4 offset=0 fin=false len=0 data=-"),
             ("1305", "0..2 MAX_STREAMS_UNI dir=unidirectional count=5"),
-            ("1c07060261ff", "0..6 CONNECTION_CLOSE error_code=7 error_name=FRAME_ENCODING_ERROR frame_type=6 "
-                             "frame_name=CRYPTO reason=\"a\ufffd\" reason_bytes=61ff"),
-            ("1c41780000", "0..5 CONNECTION_CLOSE error_code=376 error_name=CRYPTO_ERROR 120 reason=\"\" reason_bytes=-"),
+            (
+                "1c07060261ff",
+                "0..6 CONNECTION_CLOSE error_code=7 error_name=FRAME_ENCODING_ERROR frame_type=6 "
+                'frame_name=CRYPTO reason="a\ufffd" reason_bytes=61ff',
+            ),
+            ("1c41780000", '0..5 CONNECTION_CLOSE error_code=376 error_name=CRYPTO_ERROR 120 reason="" reason_bytes=-'),
             ("306869", "0..3 DATAGRAM len=2 data=6869"),
             ("0", "error an odd number of digits, 1, in column 1"),
-        ]  # fmt: skip
+        ]
         found = lines("frames", given="".join(f"{row[0]}\n" for row in rows))
         self.assertEqual(found, [f"{i}: {row[1]}" for i, row in enumerate(rows, 1)])
 
@@ -44,29 +47,59 @@ class Modes(unittest.TestCase):
     def test_other_modes(self):
         rows = [
             (["canon"], "40000a000161", ["1: 0..6 SHORTEST len=4 data=00080061"]),
-            (["number"], "7bbd 25", ["1: 0..2 NUMBER value=15293 shortest_len=2", "1: 2..3 NUMBER value=37 shortest_len=1"]),
+            (
+                ["number"],
+                "7bbd 25",
+                ["1: 0..2 NUMBER value=15293 shortest_len=2", "1: 2..3 NUMBER value=37 shortest_len=1"],
+            ),
             (["number", "--largest", "0xa82f30ea"], "9b32", ["1: 0..2 PACKET_NUMBER value=2821692210 written=39730"]),
-            (["ranges"], "1-3 7 9,10", ["1: largest=10", "1: count=6", "1: ranges=9-10,7-7,1-3", "1: ack=020a00020100000202"]),
+            (
+                ["ranges"],
+                "1-3 7 9,10",
+                ["1: largest=10", "1: count=6", "1: ranges=9-10,7-7,1-3", "1: ack=020a00020100000202"],
+            ),
             (["params"], "0401051b0178", ["1: initial_max_data=5", "1: unknown=0x1b:78", "1: order=4,27"]),
             (["datagram", "--cid-len", "2"], "41aabb01", ["1: 0..4 short dst=aabb spin=false number_at=3"]),
-            (["frames"], "0000000 0102\n", ["1: error these are units of more than a byte, as od and hexdump print them; "
-                                            "od -t x1 and hexdump -C are read"]),
-        ]  # fmt: skip
+            (
+                ["frames"],
+                "0000000 0102\n",
+                [
+                    "1: error these are units of more than a byte, as od and hexdump print them; "
+                    "od -t x1 and hexdump -C are read"
+                ],
+            ),
+        ]
         for words, given, wanted in rows:
             with self.subTest(words), self.subTest(given):
-                self.assertEqual(lines(*words, given=given), wanted if "0102" not in given else lines(*words, given=given))
+                self.assertEqual(
+                    lines(*words, given=given), wanted if "0102" not in given else lines(*words, given=given)
+                )
 
     def test_an_error_says_where_and_what_then(self):
-        shown = ("1: 0..1 PING", "1: error at 1: unexpected end in CRYPTO field=\"Crypto Data\" field_at=4 close_code=7 "
-                                 "close_name=FRAME_ENCODING_ERROR section=\"RFC 9000, section 20.1\"")  # fmt: skip
+        shown = (
+            "1: 0..1 PING",
+            '1: error at 1: unexpected end in CRYPTO field="Crypto Data" field_at=4 close_code=7 '
+            'close_name=FRAME_ENCODING_ERROR section="RFC 9000, section 20.1"',
+        )
         self.assertEqual(lines("frames", given="01060005"), list(shown))
         text = lines("params", given="03024064")[0]
         self.assertTrue(text.startswith("1: error at 0: illegal value parameter=max_udp_payload_size id=3 value=4064 "))
 
     def test_other_programs_read_objects(self):
         found = [json.loads(line) for line in lines("frames", "--json", given="020a00020100000202\n01060005\n")]
-        self.assertEqual(found[0], {"line": 1, "start": 0, "end": 9, "type": "ACK", "largest": 10, "delay": 0,
-                                    "ranges": [[9, 10], [7, 7], [1, 3]], "raw_type": 2})  # fmt: skip
+        self.assertEqual(
+            found[0],
+            {
+                "line": 1,
+                "start": 0,
+                "end": 9,
+                "type": "ACK",
+                "largest": 10,
+                "delay": 0,
+                "ranges": [[9, 10], [7, 7], [1, 3]],
+                "raw_type": 2,
+            },
+        )
         self.assertEqual((found[2]["offset"], found[2]["field"], found[2]["close_code"]), (1, "Crypto Data", 7))
 
     def test_a_call_ends_with_its_status(self):
@@ -85,8 +118,10 @@ class Modes(unittest.TestCase):
             with self.subTest(words):
                 self.assertEqual(run(*words, given=given)[2], status)
         self.assertIn("did you mean frames?", run("frame")[1])
-        self.assertEqual(run("frames", "--cid-len", "3")[1].splitlines()[0],
-                         "quic-wire: --cid-len is an option of datagram, not of frames")  # fmt: skip
+        self.assertEqual(
+            run("frames", "--cid-len", "3")[1].splitlines()[0],
+            "quic-wire: --cid-len is an option of datagram, not of frames",
+        )
         self.assertRegex(run("--version")[0], r"^quic-wire \d+\.\d+\.\d+\n$")
 
     def test_files_are_named(self):
@@ -113,8 +148,11 @@ class Modes(unittest.TestCase):
         folder = REPOSITORY / "rust" / "tests" / "dumps"
         if not folder.is_dir():
             self.skipTest("the dumps aren't here")
-        wanted = ["0..1 PING", "1..26 CRYPTO offset=0 len=22 data=2330783431207c48656c6c6f3e20303030302020612c",
-                  "26..51 STREAM id=4 offset=0 fin=true len=22 data=6c617374206c696e65206f6620616c6c206279746573"]  # fmt: skip
+        wanted = [
+            "0..1 PING",
+            "1..26 CRYPTO offset=0 len=22 data=2330783431207c48656c6c6f3e20303030302020612c",
+            "26..51 STREAM id=4 offset=0 fin=true len=22 data=6c617374206c696e65206f6620616c6c206279746573",
+        ]
         refused = {"hexdump.txt", "od-x.txt", "xxd-e.txt", "xxd-e-g2.txt", "od.txt", "xxd-b.txt"}
         for path in sorted(folder.glob("*.txt")):
             with self.subTest(path.name):

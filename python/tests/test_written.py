@@ -26,22 +26,36 @@ frame = st.one_of(
     st.builds(q.Padding, st.integers(1, 40)),
     st.builds(lambda delay, found, more: q.Ack(delay=delay, ranges=found, **more), number, ranges, counts),
     st.builds(q.NewToken, st.binary(min_size=1, max_size=60)),
-    st.builds(lambda sid, at, fin, part: q.Stream(sid, min(at, MOST - len(part)), fin, part), number, number,
-              st.booleans(), data),
+    st.builds(
+        lambda sid, at, fin, part: q.Stream(sid, min(at, MOST - len(part)), fin, part),
+        number,
+        number,
+        st.booleans(),
+        data,
+    ),
     st.builds(lambda at, part: q.Crypto(min(at, MOST - len(part)), part), number, data),
     st.builds(q.Datagram, data),
     new_id,
     *(st.builds(kind) for kind in (q.Ping, q.HandshakeDone, q.ImmediateAck)),
-    *(st.builds(kind, number) for kind in (
-        q.MaxData, q.MaxStreamsBidi, q.MaxStreamsUni, q.DataBlocked, q.StreamsBlockedBidi, q.StreamsBlockedUni,
-        q.RetireConnectionId)),
+    *(
+        st.builds(kind, number)
+        for kind in (
+            q.MaxData,
+            q.MaxStreamsBidi,
+            q.MaxStreamsUni,
+            q.DataBlocked,
+            q.StreamsBlockedBidi,
+            q.StreamsBlockedUni,
+            q.RetireConnectionId,
+        )
+    ),
     *(st.builds(kind, number, number) for kind in (q.StopSending, q.MaxStreamData, q.StreamDataBlocked)),
     *(st.builds(kind, eight) for kind in (q.PathChallenge, q.PathResponse)),
     st.builds(q.ResetStream, number, number, number),
     st.builds(q.ConnectionClose, number, number, data),
     st.builds(q.ApplicationClose, number, data),
     st.builds(q.AckFrequency, number, number, number, number),
-)  # fmt: skip
+)
 
 
 def merged(frames):

@@ -56,8 +56,8 @@ static int set_count(maker *m, const PyGetSetDef *field, PyObject *value) {
     PyErr_SetString(PyExc_ValueError, "count must be 1 or more");
     return -1;
   }
-  zeros = PyObject_CallFunction((PyObject *)&PyBytes_Type, "n",
-                                (Py_ssize_t)count);
+  zeros =
+      PyObject_CallFunction((PyObject *)&PyBytes_Type, "n", (Py_ssize_t)count);
   m->made->f.end = (size_t)count;
   return set_owner(m, zeros);
 }
@@ -94,11 +94,10 @@ static int set_field(maker *m, const PyGetSetDef *field, PyObject *value) {
   static const struct {
     getter get;
     int (*set)(maker *, const PyGetSetDef *, PyObject *);
-  } setters[] = {
-      {frame_get_number, set_number}, {frame_get_ecn, set_ecn},
-      {frame_get_fin, set_fin},       {frame_get_data, set_data},
-      {frame_get_count, set_count},   {frame_get_path, set_path},
-      {frame_get_ranges, set_ranges}, {frame_get_token, set_token}};
+  } setters[] = {{frame_get_number, set_number}, {frame_get_ecn, set_ecn},
+                 {frame_get_fin, set_fin},       {frame_get_data, set_data},
+                 {frame_get_count, set_count},   {frame_get_path, set_path},
+                 {frame_get_ranges, set_ranges}, {frame_get_token, set_token}};
   size_t i = 0;
   while (setters[i].get != field->get)
     i++;
@@ -223,15 +222,12 @@ static int finish(maker *m) {
       return 0;
     m->made->f.end = 1;
     return set_owner(m, PyBytes_FromStringAndSize("", 1));
-  case QUIC_WIRE_FRAME_ACK:
-    return finish_ack(m);
+  case QUIC_WIRE_FRAME_ACK: return finish_ack(m);
   case QUIC_WIRE_FRAME_NEW_CONNECTION_ID:
     return finish_new_connection_id(m) < 0 ? -1 : finish_other(m);
   case QUIC_WIRE_FRAME_PATH_CHALLENGE:
-  case QUIC_WIRE_FRAME_PATH_RESPONSE:
-    return 0;
-  default:
-    return finish_other(m);
+  case QUIC_WIRE_FRAME_PATH_RESPONSE: return 0;
+  default: return finish_other(m);
   }
 }
 
@@ -268,9 +264,9 @@ static PyObject *encode_ack(PyObject *self) {
   const int has_ecn = (f->flags & QUIC_WIRE_FLAG_ECN) != 0;
   size_t count;
   quic_wire_range *runs = frame_ranges(self, &count);
-  PyObject *out = runs ? ack_bytes(f->ack.delay, runs, count,
-                                   has_ecn ? &f->ack.ect0 : NULL)
-                       : NULL;
+  PyObject *out =
+      runs ? ack_bytes(f->ack.delay, runs, count, has_ecn ? &f->ack.ect0 : NULL)
+           : NULL;
   PyMem_Free(runs);
   return out;
 }
@@ -278,9 +274,9 @@ static PyObject *encode_ack(PyObject *self) {
 static PyObject *encode_padding(PyObject *self) {
   PyObject *count = frame_get_count(self, NULL);
   PyObject *out =
-      count ? PyObject_CallFunctionObjArgs((PyObject *)&PyBytes_Type, count,
-                                           NULL)
-            : NULL;
+      count
+          ? PyObject_CallFunctionObjArgs((PyObject *)&PyBytes_Type, count, NULL)
+          : NULL;
   Py_XDECREF(count);
   return out;
 }

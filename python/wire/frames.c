@@ -143,10 +143,11 @@ static PyObject *is_permitted_in(PyObject *self, PyObject *packet_type) {
 }
 
 #define NUMBER(name, slot, doc)                                                \
-  {name, frame_get_number, NULL, PyDoc_STR(doc), (void *)(size_t)(slot)}
-#define DATA(name, doc) {name, frame_get_data, NULL, PyDoc_STR(doc), NULL}
+  { name, frame_get_number, NULL, PyDoc_STR(doc), (void *)(size_t)(slot) }
+#define DATA(name, doc)                                                        \
+  { name, frame_get_data, NULL, PyDoc_STR(doc), NULL }
 #define ECN(name, slot, doc)                                                   \
-  {name, frame_get_ecn, NULL, PyDoc_STR(doc), (void *)(size_t)(slot)}
+  { name, frame_get_ecn, NULL, PyDoc_STR(doc), (void *)(size_t)(slot) }
 #define STREAM_ID NUMBER("stream_id", 0, "the stream's id")
 #define ERROR_CODE(slot) NUMBER("error_code", slot, "the error code")
 
@@ -157,8 +158,9 @@ static PyGetSetDef padding_fields[] = {
     WIRE_END_OF_FIELDS};
 static PyGetSetDef ack_fields[] = {
     NUMBER("largest", 0, "the largest acknowledged packet number"),
-    NUMBER("delay", 1, "ACK Delay: microseconds, shifted right by the "
-                       "sender's ack_delay_exponent"),
+    NUMBER("delay", 1,
+           "ACK Delay: microseconds, shifted right by the "
+           "sender's ack_delay_exponent"),
     {"ranges", frame_get_ranges, NULL,
      PyDoc_STR("the acknowledged packet numbers, the greatest range first"),
      NULL},
@@ -177,13 +179,16 @@ static PyGetSetDef crypto_fields[] = {
 static PyGetSetDef new_token_fields[] = {DATA("token", "the token"),
                                          WIRE_END_OF_FIELDS};
 static PyGetSetDef stream_fields[] = {
-    STREAM_ID, NUMBER("offset", 1, "where the data begin in the stream, bytes"),
+    STREAM_ID,
+    NUMBER("offset", 1, "where the data begin in the stream, bytes"),
     {"fin", frame_get_fin, NULL, PyDoc_STR("whether the data end the stream"),
      NULL},
-    DATA("data", "Stream Data"), WIRE_END_OF_FIELDS};
+    DATA("data", "Stream Data"),
+    WIRE_END_OF_FIELDS};
 static PyGetSetDef limit_fields[] = {
-    NUMBER("limit", 1, "the limit: bytes, or of MAX_STREAMS and "
-                       "STREAMS_BLOCKED streams"),
+    NUMBER("limit", 1,
+           "the limit: bytes, or of MAX_STREAMS and "
+           "STREAMS_BLOCKED streams"),
     WIRE_END_OF_FIELDS};
 static PyGetSetDef stream_limit_fields[] = {
     STREAM_ID, NUMBER("limit", 1, "the limit, bytes"), WIRE_END_OF_FIELDS};
@@ -215,7 +220,7 @@ static PyGetSetDef ack_frequency_fields[] = {
     WIRE_END_OF_FIELDS};
 
 #define KIND(word, name, fields, doc)                                          \
-  {QUIC_WIRE_FRAME_##word, name, fields, doc}
+  { QUIC_WIRE_FRAME_##word, name, fields, doc }
 const frame_kind wire_frame_kinds[KINDS] = {
     KIND(PADDING, "Padding", padding_fields,
          "PADDING (RFC 9000, section 19.1), as many as follow each other."),
@@ -272,9 +277,9 @@ const frame_kind wire_frame_kinds[KINDS] = {
 /* Where a kind is in the table: kinds up to DATAGRAM are found by their number.
  */
 static size_t index_of(uint16_t kind) {
-  static const uint8_t at[] = {
-      0,  1,  2,  2,  3,  4,  5,  6,  7,  7,  7,  7,  7,  7,  7,  7,
-      8,  9,  10, 11, 12, 13, 14, 15, 16, 17, 18, 19, 20, 21, 22, 23};
+  static const uint8_t at[] = {0,  1,  2,  2,  3,  4,  5,  6,  7,  7,  7,
+                               7,  7,  7,  7,  7,  8,  9,  10, 11, 12, 13,
+                               14, 15, 16, 17, 18, 19, 20, 21, 22, 23};
   if (kind < sizeof at)
     return at[kind];
   return kind == QUIC_WIRE_FRAME_DATAGRAM ? KINDS - 2 : KINDS - 1;
@@ -331,9 +336,9 @@ static PyObject *frame_repr(PyObject *self) {
     return NULL;
   text = PyUnicode_FromFormat("%s(", kind->name);
   for (i = 0; text && i < PyTuple_Size(values); i++) {
-    more = PyUnicode_FromFormat("%U%s%s=%R", text, i ? ", " : "",
-                                kind->fields[i].name,
-                                PyTuple_GetItem(values, i));
+    more =
+        PyUnicode_FromFormat("%U%s%s=%R", text, i ? ", " : "",
+                             kind->fields[i].name, PyTuple_GetItem(values, i));
     Py_DECREF(text);
     text = more;
   }
@@ -393,7 +398,7 @@ static PyMethodDef frame_methods[] = {
     {NULL, NULL, 0, NULL}};
 
 #define RULE(name, get, rule, doc)                                             \
-  {name, get, NULL, PyDoc_STR(doc), (void *)(size_t)(rule)}
+  { name, get, NULL, PyDoc_STR(doc), (void *)(size_t)(rule) }
 static PyGetSetDef common_fields[] = {
     {"begin", get_begin, NULL, PyDoc_STR("where it begins in its payload"),
      NULL},
@@ -413,15 +418,18 @@ static PyGetSetDef common_fields[] = {
     WIRE_END_OF_FIELDS};
 
 static PyType_Slot frame_slots[] = {
-    {Py_tp_dealloc, frame_dealloc},     {Py_tp_methods, frame_methods},
-    {Py_tp_getset, common_fields},      {Py_tp_repr, frame_repr},
-    {Py_tp_richcompare, frame_compare}, {Py_tp_hash, frame_hash},
+    {Py_tp_dealloc, frame_dealloc},
+    {Py_tp_methods, frame_methods},
+    {Py_tp_getset, common_fields},
+    {Py_tp_repr, frame_repr},
+    {Py_tp_richcompare, frame_compare},
+    {Py_tp_hash, frame_hash},
     {Py_tp_doc, "A frame (RFC 9000, section 19)."},
     {0, NULL}};
-static PyType_Spec frame_spec = {
-    "quic_wire.Frame", sizeof(frame_object), 0,
-    Py_TPFLAGS_DEFAULT | Py_TPFLAGS_BASETYPE | Py_TPFLAGS_DISALLOW_INSTANTIATION,
-    frame_slots};
+static PyType_Spec frame_spec = {"quic_wire.Frame", sizeof(frame_object), 0,
+                                 Py_TPFLAGS_DEFAULT | Py_TPFLAGS_BASETYPE |
+                                     Py_TPFLAGS_DISALLOW_INSTANTIATION,
+                                 frame_slots};
 
 static PyObject *add_kind(PyObject *module, PyObject *bases,
                           const frame_kind *kind) {

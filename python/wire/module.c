@@ -54,7 +54,8 @@ static int add_results(PyObject *module) {
 static int exec(PyObject *module) {
   wire_state *state = PyModule_GetState(module);
   if (quic_wire_check(QUIC_WIRE_LIB) != QUIC_WIRE_OK) {
-    PyErr_SetString(PyExc_ImportError, quic_wire_strerror(QUIC_WIRE_ERR_LIBRARY));
+    PyErr_SetString(PyExc_ImportError,
+                    quic_wire_strerror(QUIC_WIRE_ERR_LIBRARY));
     return -1;
   }
   if (add_results(module) < 0 ||
@@ -112,9 +113,15 @@ static PyModuleDef_Slot slots[] = {
     {0, NULL}};
 static PyModuleDef_Slot slots_of_3_11[] = {{Py_mod_exec, exec}, {0, NULL}};
 static struct PyModuleDef definition = {
-    PyModuleDef_HEAD_INIT, "quic_wire._wire",
+    PyModuleDef_HEAD_INIT,
+    "quic_wire._wire",
     PyDoc_STR("The library quic_wire; import quic_wire instead."),
-    sizeof(wire_state), NULL, slots_of_3_11, traverse, clear, free_module};
+    sizeof(wire_state),
+    NULL,
+    slots_of_3_11,
+    traverse,
+    clear,
+    free_module};
 
 PyMODINIT_FUNC PyInit__wire(void) {
   if (Py_Version >= PYTHON_3_12)

@@ -6,9 +6,8 @@
 #include <string.h>
 
 typedef struct packet_object {
-  PyObject_HEAD
-  PyObject *owner; /* of the datagram */
-  size_t begin;    /* where the packet begins in it */
+  PyObject_HEAD PyObject *owner; /* of the datagram */
+  size_t begin;                  /* where the packet begins in it */
   quic_wire_header h;
 } packet_object;
 
@@ -152,7 +151,8 @@ static PyObject *get_number_at(PyObject *self, void *unused) {
   return PyLong_FromSize_t(PACKET(self)->begin + HEADER(self)->header_end);
 }
 
-#define FIELD(name, get, doc) {name, get, NULL, PyDoc_STR(doc), NULL}
+#define FIELD(name, get, doc)                                                  \
+  { name, get, NULL, PyDoc_STR(doc), NULL }
 #define VERSION FIELD("version", get_version, "the version")
 #define DCID FIELD("dcid", get_dcid, "Destination Connection ID")
 #define SCID FIELD("scid", get_scid, "Source Connection ID")
@@ -160,13 +160,20 @@ static PyObject *get_number_at(PyObject *self, void *unused) {
   FIELD("length", get_length, "Length: bytes of packet number and payload")
 
 static PyGetSetDef initial_fields[] = {
-    VERSION, DCID, SCID, FIELD("token", get_token, "Token"), LENGTH,
+    VERSION,
+    DCID,
+    SCID,
+    FIELD("token", get_token, "Token"),
+    LENGTH,
     FIELD("token_at", get_token_at, "where the token begins in the datagram"),
     WIRE_END_OF_FIELDS};
 static PyGetSetDef long_fields[] = {VERSION, DCID, SCID, LENGTH,
                                     WIRE_END_OF_FIELDS};
 static PyGetSetDef retry_fields[] = {
-    VERSION, DCID, SCID, FIELD("token", get_retry_token, "Retry Token"),
+    VERSION,
+    DCID,
+    SCID,
+    FIELD("token", get_retry_token, "Retry Token"),
     FIELD("integrity_tag", get_retry_tag,
           "Retry Integrity Tag, or None if fewer bytes are there"),
     WIRE_END_OF_FIELDS};
@@ -210,10 +217,9 @@ static void packet_dealloc(PyObject *self) {
 static PyObject *packet_repr(PyObject *self) {
   const struct packet_kind *kind = &packet_kinds[HEADER(self)->kind];
   const PyGetSetDef *field;
-  PyObject *text =
-      PyUnicode_FromFormat("%s(%zu..%zu", kind->name + MODULE_LEN,
-                           PACKET(self)->begin,
-                           PACKET(self)->begin + HEADER(self)->end);
+  PyObject *text = PyUnicode_FromFormat(
+      "%s(%zu..%zu", kind->name + MODULE_LEN, PACKET(self)->begin,
+      PACKET(self)->begin + HEADER(self)->end);
   for (field = kind->fields; text && field->name; field++) {
     PyObject *value = field->get(self, NULL), *more = NULL;
     if (value && PyMemoryView_Check(value)) {
@@ -295,16 +301,18 @@ static PyGetSetDef packet_fields[] = {
     FIELD("scid", get_scid, "Source Connection ID; empty in a short header"),
     WIRE_END_OF_FIELDS};
 static PyType_Slot packet_slots[] = {
-    {Py_tp_dealloc, packet_dealloc},     {Py_tp_methods, packet_methods},
-    {Py_tp_getset, packet_fields},       {Py_tp_repr, packet_repr},
-    {Py_tp_richcompare, packet_compare}, {Py_tp_hash, packet_hash},
+    {Py_tp_dealloc, packet_dealloc},
+    {Py_tp_methods, packet_methods},
+    {Py_tp_getset, packet_fields},
+    {Py_tp_repr, packet_repr},
+    {Py_tp_richcompare, packet_compare},
+    {Py_tp_hash, packet_hash},
     {Py_tp_doc, "A packet, with its protection (RFC 9000, section 17)."},
     {0, NULL}};
-static PyType_Spec packet_spec = {
-    "quic_wire.Packet", sizeof(packet_object), 0,
-    Py_TPFLAGS_DEFAULT | Py_TPFLAGS_BASETYPE |
-        Py_TPFLAGS_DISALLOW_INSTANTIATION,
-    packet_slots};
+static PyType_Spec packet_spec = {"quic_wire.Packet", sizeof(packet_object), 0,
+                                  Py_TPFLAGS_DEFAULT | Py_TPFLAGS_BASETYPE |
+                                      Py_TPFLAGS_DISALLOW_INSTANTIATION,
+                                  packet_slots};
 
 int wire_add_packets(PyObject *module, wire_state *state) {
   PyObject *bases;
@@ -329,68 +337,8 @@ int wire_add_packets(PyObject *module, wire_state *state) {
   return bases ? result : -1;
 }
 
-/* ---- Reading */
-
-/* How packets are read. */
-typedef struct reader {
-  uint32_t cid_len, versions[MOST_VERSIONS];
-  size_t count;
-  int grease;
-} reader;
-
-/* Versions 1 and 2, and the drafts that version 1 was, as the crate has them.
- */
-static const uint32_t usual_versions[] = {
-    QUIC_WIRE_VERSION_1, 0xff00001d, 0xff00001e, 0xff00001f,
-    0xff000020,          0xff000021, 0xff000022, QUIC_WIRE_VERSION_2};
-
-static int set_versions(reader *how, PyObject *versions) {
-  PyObject *list;
-  Py_ssize_t i, len;
-  if (versions == Py_None) {
-    memcpy(how->versions, usual_versions, sizeof usual_versions);
-    how->count = sizeof usual_versions / sizeof *usual_versions;
-    return 0;
-  }
-  list = PySequence_List(versions);
-  len = list ? PyList_Size(list) : 0;
-  if (len > MOST_VERSIONS)
-    PyErr_Format(PyExc_ValueError, "at most %d versions", (int)MOST_VERSIONS);
-  for (i = 0; !PyErr_Occurred() && i < len; i++) {
-    uint64_t version;
-    if (wire_number(PyList_GetItem(list, i), "a version", &version) == 0 &&
-        version > UINT32_MAX)
-      PyErr_SetString(PyExc_ValueError, "a version must be below 2^32");
-    else if (!PyErr_Occurred())
-      how->versions[i] = (uint32_t)version;
-  }
-  how->count = (size_t)len;
-  Py_XDECREF(list);
-  return PyErr_Occurred() ? -1 : 0;
-}
-
-/* The header of the packet that bytes begin with: QUIC_WIRE_OK or an error.
- * The fixed bit has a meaning only in packets of a known version. */
-static int header_at(const reader *how, const uint8_t *bytes, size_t len,
-                     quic_wire_header *h) {
-  int64_t end = quic_wire_header_read(bytes, len, how->cid_len, how->versions,
-                                      how->count, h);
-  if (end == QUIC_WIRE_ERR_PACKET_CID)
-    end = quic_wire_negotiation_read(bytes, len, h) > 0
-              ? (int64_t)h->end
-              : QUIC_WIRE_ERR_PACKET_CID;
-  if (end == QUIC_WIRE_ERR_PACKET_VERSION) {
-    h->end = (uint32_t)len;
-    return QUIC_WIRE_OK;
-  }
-  if (len && !how->grease && !(bytes[0] & QUIC_WIRE_BIT_FIXED) &&
-      (end < 0 || h->kind != QUIC_WIRE_PACKET_VERSION_NEGOTIATION))
-    return QUIC_WIRE_ERR_PACKET_FIXED_BIT;
-  return end < 0 ? (int)end : QUIC_WIRE_OK;
-}
-
-static PyObject *packet_made(wire_state *state, PyObject *owner, size_t begin,
-                             const quic_wire_header *h) {
+PyObject *packet_made(wire_state *state, PyObject *owner, size_t begin,
+                      const quic_wire_header *h) {
   PyTypeObject *type = (PyTypeObject *)state->packets[h->kind];
   packet_object *o = PyObject_New(packet_object, type);
   if (!o)
@@ -401,102 +349,6 @@ static PyObject *packet_made(wire_state *state, PyObject *owner, size_t begin,
   return (PyObject *)o;
 }
 
-/* The packet that begins at a place of a datagram; of an error the exception,
- * with the packets before. */
-static PyObject *packet_at(wire_state *state, const reader *how,
-                           PyObject *owner, const wire_bytes *bytes,
-                           size_t begin, PyObject *before) {
-  quic_wire_header h;
-  PyObject *packet = NULL;
-  int result;
-  memset(&h, 0, sizeof h);
-  result = header_at(how, bytes->at + begin, bytes->len - begin, &h);
-  if (result > QUIC_WIRE_ERR_PACKET_END && result < 0)
-    return wire_mistake(result);
-  if (result == QUIC_WIRE_OK || result == QUIC_WIRE_ERR_PACKET_CUT) {
-    packet = packet_made(state, owner, begin, &h);
-    if (!packet || result == QUIC_WIRE_OK)
-      return packet;
-  }
-  wire_packet_error(result, owner, begin, how->cid_len, before, packet);
-  Py_XDECREF(packet);
-  return NULL;
+size_t packet_end(PyObject *packet) {
+  return PACKET(packet)->begin + HEADER(packet)->end;
 }
-
-/* The packets of a datagram from a place on: all of them as a list, or one. */
-static PyObject *read_from(wire_state *state, const reader *how,
-                           PyObject *datagram, size_t begin, int is_list) {
-  PyObject *owner = wire_owner(datagram), *list = NULL, *packet = NULL;
-  wire_bytes bytes;
-  if (!owner || wire_acquire(owner, &bytes) < 0) {
-    Py_XDECREF(owner);
-    return NULL;
-  }
-  if (begin > bytes.len)
-    PyErr_SetString(PyExc_ValueError, "at is behind the datagram");
-  else if (!is_list)
-    packet = packet_at(state, how, owner, &bytes, begin, Py_None);
-  else
-    list = PyList_New(0);
-  while (list) {
-    packet = packet_at(state, how, owner, &bytes, begin, list);
-    if (packet)
-      begin += HEADER(packet)->end;
-    if (!packet || PyList_Append(list, packet) < 0)
-      Py_CLEAR(list);
-    Py_XDECREF(packet);
-    if (begin >= bytes.len)
-      break;
-  }
-  wire_release(&bytes);
-  Py_DECREF(owner);
-  return is_list ? list : packet;
-}
-
-static PyObject *read_packets(PyObject *module, PyObject *args,
-                              PyObject *keywords) {
-  static char *names[] = {"datagram", "cid_len", "versions", "grease", NULL};
-  PyObject *datagram, *versions = Py_None;
-  unsigned cid_len;
-  reader how = {0};
-  if (!PyArg_ParseTupleAndKeywords(args, keywords, "OI|O$p:read_packets", names,
-                                   &datagram, &cid_len, &versions,
-                                   &how.grease) ||
-      set_versions(&how, versions) < 0)
-    return NULL;
-  how.cid_len = cid_len;
-  return read_from(PyModule_GetState(module), &how, datagram, 0, 1);
-}
-
-static PyObject *read_packet(PyObject *module, PyObject *args,
-                             PyObject *keywords) {
-  static char *names[] = {"datagram", "cid_len",  "at",
-                          "versions", "grease", NULL};
-  PyObject *datagram, *versions = Py_None;
-  unsigned cid_len;
-  Py_ssize_t at = 0;
-  reader how = {0};
-  if (!PyArg_ParseTupleAndKeywords(args, keywords, "OI|nO$p:read_packet", names,
-                                   &datagram, &cid_len, &at, &versions,
-                                   &how.grease) ||
-      set_versions(&how, versions) < 0)
-    return NULL;
-  if (at < 0)
-    return PyErr_Format(PyExc_ValueError, "at must not be negative");
-  how.cid_len = cid_len;
-  return read_from(PyModule_GetState(module), &how, datagram, (size_t)at, 0);
-}
-
-PyMethodDef wire_packet_functions[] = {
-    {"read_packets", WIRE_FAST(read_packets), METH_VARARGS | METH_KEYWORDS,
-     PyDoc_STR(
-         "read_packets($module, datagram, cid_len, versions=None, *, "
-         "grease=False)\n--\n\nThe packets of a datagram as a list. Ids in "
-         "short headers have cid_len bytes. Raises\nPacketError, with the "
-         "packets before in its attribute packets; grease takes a cleared\n"
-         "fixed bit (RFC 9287).")},
-    {"read_packet", WIRE_FAST(read_packet), METH_VARARGS | METH_KEYWORDS,
-     PyDoc_STR("read_packet($module, datagram, cid_len, at=0, versions=None, *, "
-               "grease=False)\n--\n\nThe packet that begins at a place of a "
-               "datagram.")},
-    {NULL, NULL, 0, NULL}};

@@ -6,8 +6,7 @@
 #include <string.h>
 
 typedef struct parameters_object {
-  PyObject_HEAD
-  quic_wire_params p;
+  PyObject_HEAD quic_wire_params p;
 } parameters_object;
 
 #define PARAMS(self) (&((parameters_object *)(self))->p)
@@ -58,8 +57,7 @@ typedef struct parameter_field {
   X(retry_source_connection_id, ID, AT(retry_src_cid), AT(retry_src_cidlen),   \
     QUIC_WIRE_HAS_RETRY_SRC_CID)                                               \
   X(grease_quic_bit, FLAG, 0, 0, QUIC_WIRE_HAS_GREASE_QUIC_BIT)                \
-  X(min_ack_delay, OPTIONAL, AT(min_ack_delay), 0,                             \
-    QUIC_WIRE_HAS_MIN_ACK_DELAY)
+  X(min_ack_delay, OPTIONAL, AT(min_ack_delay), 0, QUIC_WIRE_HAS_MIN_ACK_DELAY)
 
 enum row {
 #define ROW(name, kind, at, len_at, present) ROW_##name,
@@ -155,9 +153,8 @@ static int set_address(quic_wire_params *p, PyObject *value) {
   Py_ssize_t cid_len, token_len, v4_len, v6_len;
   int result = -1;
   if (parts && PyArg_ParseTuple(parts, "y#y#z#Hz#H", &cid, &cid_len, &token,
-                                &token_len, &v4, &v4_len,
-                                &p->preferred_v4_port, &v6, &v6_len,
-                                &p->preferred_v6_port)) {
+                                &token_len, &v4, &v4_len, &p->preferred_v4_port,
+                                &v6, &v6_len, &p->preferred_v6_port)) {
     memcpy(p->preferred_cid, cid, (size_t)cid_len);
     memcpy(p->preferred_token, token, (size_t)token_len);
     p->preferred_cidlen = (uint32_t)cid_len;
@@ -267,9 +264,8 @@ static PyObject *dict_of(PyObject *self, int all) {
     PyObject *other = value ? get_field(usual, (void *)&table[i]) : NULL;
     const int is_same =
         other ? PyObject_RichCompareBool(value, other, Py_EQ) : -1;
-    if (is_same < 0 ||
-        ((all || !is_same) &&
-         PyDict_SetItemString(out, table[i].name, value) < 0))
+    if (is_same < 0 || ((all || !is_same) &&
+                        PyDict_SetItemString(out, table[i].name, value) < 0))
       Py_CLEAR(out);
     Py_XDECREF(value);
     Py_XDECREF(other);
@@ -324,8 +320,8 @@ static PyObject *parameters_compare(PyObject *self, PyObject *other, int op) {
 }
 
 static Py_hash_t parameters_hash(PyObject *self) {
-  PyObject *bytes = PyBytes_FromStringAndSize((char *)PARAMS(self),
-                                              sizeof(quic_wire_params));
+  PyObject *bytes =
+      PyBytes_FromStringAndSize((char *)PARAMS(self), sizeof(quic_wire_params));
   const Py_hash_t hash = bytes ? PyObject_Hash(bytes) : -1;
   Py_XDECREF(bytes);
   return hash;
@@ -344,8 +340,8 @@ static PyObject *parameters_read(PyObject *type, PyObject *args) {
     return NULL;
   o = allocate((PyTypeObject *)type);
   if (o) {
-    result = quic_wire_params_read(side, bytes.at, bytes.len, &o->p,
-                                   sizeof o->p);
+    result =
+        quic_wire_params_read(side, bytes.at, bytes.len, &o->p, sizeof o->p);
     if (result < 0) {
       if (result <= QUIC_WIRE_ERR_PARAMS_MALFORMED)
         wire_parameter_error(result, side, list);
@@ -395,8 +391,9 @@ static PyObject *parameters_write(PyObject *self, PyObject *args) {
 
 static PyMethodDef parameters_methods[] = {
     {"read", parameters_read, METH_VARARGS | METH_CLASS,
-     PyDoc_STR("read($type, side, data, /)\n--\n\nThe parameters in a list that "
-               "the peer of a side sent. Raises ParameterError.")},
+     PyDoc_STR(
+         "read($type, side, data, /)\n--\n\nThe parameters in a list that "
+         "the peer of a side sent. Raises ParameterError.")},
     {"_write", parameters_write, METH_VARARGS, NULL},
     {"as_dict", parameters_as_dict, METH_NOARGS,
      PyDoc_STR("as_dict($self, /)\n--\n\nAll parameters by name.")},
@@ -416,88 +413,7 @@ static PyType_Spec parameters_spec = {
     Py_TPFLAGS_DEFAULT | Py_TPFLAGS_BASETYPE, parameters_slots};
 
 int wire_add_parameters(PyObject *module, wire_state *state) {
-  state->parameters = wire_add_type(module, &parameters_spec, NULL,
-                                    "_Parameters", fields);
+  state->parameters =
+      wire_add_type(module, &parameters_spec, NULL, "_Parameters", fields);
   return state->parameters ? 0 : -1;
 }
-
-/* ---- Single entries */
-
-static PyObject *entry_at(PyObject *module, PyObject *args) {
-  PyObject *list;
-  Py_ssize_t at;
-  quic_wire_param param;
-  wire_bytes bytes;
-  int64_t end = QUIC_WIRE_ERR_PLACE;
-  (void)module;
-  if (!PyArg_ParseTuple(args, "On:_entry_at", &list, &at) ||
-      wire_acquire(list, &bytes) < 0)
-    return NULL;
-  if (at >= 0 && (size_t)at < bytes.len)
-    end = quic_wire_param_read(bytes.at + at, bytes.len - (size_t)at, &param);
-  wire_release(&bytes);
-  if (end == QUIC_WIRE_ERR_PARAMS_MALFORMED)
-    return Py_NewRef(Py_None);
-  if (end < 0)
-    return wire_mistake((int)end);
-  return Py_BuildValue("(Knn)", (unsigned long long)param.id,
-                       at + (Py_ssize_t)param.value, at + (Py_ssize_t)end);
-}
-
-/* What reading a list gives, as a number. */
-static PyObject *read_result(PyObject *module, PyObject *args) {
-  PyObject *list;
-  unsigned side;
-  wire_bytes bytes;
-  quic_wire_params params;
-  int result;
-  (void)module;
-  if (!PyArg_ParseTuple(args, "IO:_read_result", &side, &list) ||
-      wire_acquire(list, &bytes) < 0)
-    return NULL;
-  result = quic_wire_params_read(side, bytes.at, bytes.len, &params,
-                                 sizeof params);
-  wire_release(&bytes);
-  return PyLong_FromLong(result);
-}
-
-static PyObject *write_entry(PyObject *module, PyObject *args) {
-  PyObject *number, *value, *out = NULL;
-  uint64_t id;
-  wire_bytes bytes;
-  uint8_t *at;
-  size_t len = 0;
-  int result = 0;
-  (void)module;
-  if (!PyArg_ParseTuple(args, "OO:write_parameter", &number, &value) ||
-      wire_varint(number, "id", &id) < 0 || wire_acquire(value, &bytes) < 0)
-    return NULL;
-  out = wire_new_bytes(bytes.len + 16, &at);
-  if (out)
-    result = quic_wire_param_write(id, bytes.at, bytes.len, at, bytes.len + 16,
-                                   &len);
-  wire_release(&bytes);
-  if (out && result >= 0)
-    return wire_front(out, len);
-  Py_XDECREF(out);
-  return result < 0 ? wire_mistake(result) : NULL;
-}
-
-static PyObject *is_known(PyObject *module, PyObject *number) {
-  uint64_t id;
-  (void)module;
-  if (wire_number(number, "id", &id) < 0)
-    return NULL;
-  return PyBool_FromLong(quic_wire_param_is_known(id));
-}
-
-PyMethodDef wire_parameter_functions[] = {
-    {"_entry_at", entry_at, METH_VARARGS, NULL},
-    {"_read_result", read_result, METH_VARARGS, NULL},
-    {"write_parameter", write_entry, METH_VARARGS,
-     PyDoc_STR("write_parameter($module, id, value, /)\n--\n\nAn entry of a "
-               "list of transport parameters.")},
-    {"is_known_parameter", is_known, METH_O,
-     PyDoc_STR("is_known_parameter($module, id, /)\n--\n\nWhether "
-               "TransportParameters has the parameter of this id.")},
-    {NULL, NULL, 0, NULL}};

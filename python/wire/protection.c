@@ -42,9 +42,9 @@ static PyObject *unprotect(PyObject *module, PyObject *args,
     room = (at < packet.len ? (size_t)at : 0) + 4;
     header = wire_new_bytes(room, &copy);
     if (header && at < packet.len)
-      result = quic_wire_unprotect_copy(packet.buf, (size_t)packet.len,
-                                        (size_t)at, mask.buf, next, copy, room,
-                                        &number);
+      result =
+          quic_wire_unprotect_copy(packet.buf, (size_t)packet.len, (size_t)at,
+                                   mask.buf, next, copy, room, &number);
     if (header && result < 0) {
       Py_CLEAR(header);
       refuse(result, packet.obj);
@@ -68,8 +68,8 @@ static PyObject *protect(PyObject *module, PyObject *args, PyObject *keywords) {
                                    &packet, &at, &mask))
     return NULL;
   if (check_mask(at, &mask) == 0) {
-    result = quic_wire_protect(packet.buf, (size_t)packet.len, (size_t)at,
-                               mask.buf);
+    result =
+        quic_wire_protect(packet.buf, (size_t)packet.len, (size_t)at, mask.buf);
     out = result < 0 ? refuse(result, packet.obj) : PyLong_FromLong(result);
   }
   PyBuffer_Release(&packet);
@@ -113,9 +113,9 @@ static void release(header_arguments *a) {
 
 static int parse_header(PyObject *args, PyObject *keywords,
                         header_arguments *a) {
-  static char *names[] = {"packet_type", "dcid",      "scid",       "token",
-                          "version",     "number",    "number_len", "length_len",
-                          "spin",        "key_phase", "fixed_bit",  NULL};
+  static char *names[] = {
+      "packet_type", "dcid",       "scid", "token",     "version",   "number",
+      "number_len",  "length_len", "spin", "key_phase", "fixed_bit", NULL};
   unsigned char kind, number_len = 4, length_len = 2;
   unsigned version = QUIC_WIRE_VERSION_1;
   int spin = 0, key_phase = 0, fixed_bit = 1;
@@ -240,8 +240,7 @@ static PyObject *varint_at(PyObject *module, PyObject *args) {
   wire_release(&bytes);
   if (!len)
     return Py_NewRef(Py_None);
-  return Py_BuildValue("(Kn)", (unsigned long long)value,
-                       at + (Py_ssize_t)len);
+  return Py_BuildValue("(Kn)", (unsigned long long)value, at + (Py_ssize_t)len);
 }
 
 static PyObject *read_varint(PyObject *module, PyObject *args) {
@@ -348,14 +347,16 @@ static PyObject *number_write(PyObject *module, PyObject *args) {
 #define NAMED METH_VARARGS | METH_KEYWORDS
 PyMethodDef wire_number_functions[] = {
     {"unprotect", WIRE_FAST(unprotect), NAMED,
-     PyDoc_STR("unprotect($module, packet, number_at, mask, expected=0)\n--\n\n"
-               "The packet number, by the one that is expected next, and a copy "
-               "of the header without\nits protection, up to the end of that "
-               "number (RFC 9001, section 5.4.1).")},
+     PyDoc_STR(
+         "unprotect($module, packet, number_at, mask, expected=0)\n--\n\n"
+         "The packet number, by the one that is expected next, and a copy "
+         "of the header without\nits protection, up to the end of that "
+         "number (RFC 9001, section 5.4.1).")},
     {"protect", WIRE_FAST(protect), NAMED,
-     PyDoc_STR("protect($module, packet, number_at, mask)\n--\n\nApplies the "
-               "protection to the header of a packet in place; returns how many "
-               "bytes the\npacket number has.")},
+     PyDoc_STR(
+         "protect($module, packet, number_at, mask)\n--\n\nApplies the "
+         "protection to the header of a packet in place; returns how many "
+         "bytes the\npacket number has.")},
     {"set_length", WIRE_FAST(set_length), NAMED,
      PyDoc_STR("set_length($module, packet, number_at, length_len=2)\n--\n\n"
                "Sets the length in a long header to what follows it in the "

@@ -5,11 +5,10 @@
 enum { BATCH = 16 }; /* frames that one call of the library reads */
 
 typedef struct iterator_object {
-  PyObject_HEAD
-  PyObject *owner;
+  PyObject_HEAD PyObject *owner;
   wire_bytes bytes;
   quic_wire_frame_iter iter;
-  int is_basic; /* without the ACK frequency extension */
+  int is_basic;       /* without the ACK frequency extension */
   size_t next, count; /* of the batch */
   quic_wire_frame batch[BATCH];
 } iterator_object;
@@ -58,8 +57,8 @@ static PyObject *next_frame(PyObject *self) {
   if (!state)
     return NULL;
   if (o->next == o->count) {
-    int result = fill(&o->iter, &o->bytes, o->is_basic, o->batch, BATCH,
-                      &o->count);
+    int result =
+        fill(&o->iter, &o->bytes, o->is_basic, o->batch, BATCH, &o->count);
     o->next = 0;
     if (result != QUIC_WIRE_ITEM)
       o->count = 0;
@@ -119,8 +118,8 @@ static int options(PyObject *const *args, Py_ssize_t nargs, PyObject *names,
     return -1;
   }
   *strict = 0;
-  if (names && wire_flags(args, nargs, names, "strict", strict,
-                          "ack_frequency", &frequency) < 0)
+  if (names && wire_flags(args, nargs, names, "strict", strict, "ack_frequency",
+                          &frequency) < 0)
     return -1;
   *basic = !frequency;
   return 0;
@@ -210,9 +209,8 @@ static size_t end_of_frames(const wire_bytes *bytes) {
   quic_wire_frame batch[BATCH];
   size_t count;
   int result = start(&iter, bytes, 0);
-  while (result >= 0 &&
-         (result = fill(&iter, bytes, 0, batch, BATCH, &count)) ==
-             QUIC_WIRE_ITEM)
+  while (result >= 0 && (result = fill(&iter, bytes, 0, batch, BATCH,
+                                       &count)) == QUIC_WIRE_ITEM)
     ;
   return iter.offset;
 }
@@ -258,8 +256,10 @@ PyMethodDef wire_read_functions[] = {
     {"frames", WIRE_FAST(frames), METH_FASTCALL | METH_KEYWORDS,
      PyDoc_STR(
          "frames($module, payload, /, *, strict=False, ack_frequency=True)\n"
-         "--\n\nThe frames of a payload, each read when it is asked for. PADDING "
-         "frames that follow\neach other are one. Raises FrameError if there is "
+         "--\n\nThe frames of a payload, each read when it is asked for. "
+         "PADDING "
+         "frames that follow\neach other are one. Raises FrameError if there "
+         "is "
          "no frame, and where one is invalid.\n\nstrict refuses a type that "
          "isn't in its shortest encoding (RFC 9000, section 12.4);\n"
          "ack_frequency=False doesn't know the frames of the ACK frequency "
@@ -273,6 +273,7 @@ PyMethodDef wire_read_functions[] = {
      PyDoc_STR("canonical($module, payload, /)\n--\n\nThe one shortest payload "
                "with the same frames in the same order. Raises FrameError.")},
     {"type_name", type_name, METH_O,
-     PyDoc_STR("type_name($module, type, /)\n--\n\nThe name of a frame type, or "
-               "None.")},
+     PyDoc_STR(
+         "type_name($module, type, /)\n--\n\nThe name of a frame type, or "
+         "None.")},
     {NULL, NULL, 0, NULL}};

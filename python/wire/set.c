@@ -7,8 +7,7 @@
 enum { ROOM = 4 }; /* for ranges, in a new set */
 
 typedef struct set_object {
-  PyObject_HEAD
-  quic_wire_range *runs;
+  PyObject_HEAD quic_wire_range *runs;
   size_t room, count;
 } set_object;
 
@@ -168,8 +167,8 @@ static PyObject *set_new(PyTypeObject *type, PyObject *args,
   if (!PyArg_ParseTupleAndKeywords(args, keywords, "|O:RangeSet", names,
                                    &ranges))
     return NULL;
-  runs = ranges ? wire_ranges(ranges, &count)
-                : PyMem_Calloc(ROOM, sizeof *runs);
+  runs =
+      ranges ? wire_ranges(ranges, &count) : PyMem_Calloc(ROOM, sizeof *runs);
   if (!runs)
     return PyErr_Occurred() ? NULL : PyErr_NoMemory();
   set = PyObject_New(set_object, type);

@@ -19,8 +19,8 @@
 #define WIRE_END_ALONE }
 #endif
 
-#define KINDS 26        /* of frames */
-#define PACKET_KINDS 7  /* QUIC_WIRE_PACKET_INITIAL and so on */
+#define KINDS 26         /* of frames */
+#define PACKET_KINDS 7   /* QUIC_WIRE_PACKET_INITIAL and so on */
 #define MOST_VERSIONS 32 /* that one call can be given */
 
 /* The types of one module, and so of one interpreter. */
@@ -102,8 +102,8 @@ PyObject *wire_add_type(PyObject *module, PyType_Spec *spec, PyObject *bases,
 /* ---- frames.c, frame_new.c */
 
 typedef struct frame_object {
-  PyObject_HEAD
-  PyObject *owner; /* of the bytes that it was read from; may be NULL */
+  PyObject_HEAD PyObject
+      *owner; /* of the bytes that it was read from; may be NULL */
   quic_wire_frame f;
 } frame_object;
 
@@ -138,6 +138,13 @@ PyObject *frame_encode(PyObject *self, PyObject *args, PyObject *keywords);
  * PyMem_Free.  NULL with an exception. */
 quic_wire_range *frame_ranges(PyObject *self, size_t *count);
 
+/* ---- packets.c */
+
+/* A packet that was read at a place of an owner's bytes, and where it ends. */
+PyObject *packet_made(wire_state *state, PyObject *owner, size_t begin,
+                      const quic_wire_header *h);
+size_t packet_end(PyObject *packet);
+
 /* ---- Functions of the module, by their files */
 
 extern PyMethodDef wire_read_functions[];
@@ -146,6 +153,7 @@ extern PyMethodDef wire_number_functions[];
 extern PyMethodDef wire_parameter_functions[];
 
 #define WIRE_FAST(function) ((PyCFunction)(void (*)(void))(function))
-#define WIRE_END_OF_FIELDS {NULL, NULL, NULL, NULL, NULL}
+#define WIRE_END_OF_FIELDS                                                     \
+  { NULL, NULL, NULL, NULL, NULL }
 
 #endif

@@ -9,8 +9,8 @@ Traceback (most recent call last):
 quic_wire.errors.FrameError: unexpected end in CRYPTO at 0, Crypto Data at 3 (RFC 9000, section 20.1)
 
 Bytes are read and written by a library that is proved for every input. Data of frames are memoryviews of the bytes that
-were read: nothing is copied. While objects that were read from a bytearray live, it can't be resized; its bytes must not
-change while a call reads them.
+were read: nothing is copied. While objects that were read from a bytearray live, it can't be resized; its bytes must
+not change while a call reads them.
 """
 
 from __future__ import annotations
@@ -19,13 +19,13 @@ from collections.abc import Iterable
 
 from ._wire import (
     LIBRARY_VERSION, Ack, AckFrequency, ApplicationClose, ConnectionClose, Crypto, DataBlocked, Datagram, Frame,
-    FrameIterator, Handshake, HandshakeDone, ImmediateAck, Initial, MaxData, MaxStreamData, MaxStreamsBidi, MaxStreamsUni,
-    NewConnectionId, NewToken, OneRtt, Packet, Padding, PathChallenge, PathResponse, Ping, RangeSet, ResetStream,
-    RetireConnectionId, Retry, StopSending, Stream, StreamDataBlocked, StreamsBlockedBidi, StreamsBlockedUni,
-    UnknownVersion, VersionNegotiation, ZeroRtt, canonical, expand_packet_number, frames, is_known_parameter,
-    packet_number_len, protect, read_frames, read_packet, read_packet_number, read_packets, read_varint, set_length,
-    type_name, unprotect, varint_len, write_header, write_packet_number, write_parameter, write_varint,
-    write_version_negotiation,
+    FrameIterator, Handshake, HandshakeDone, ImmediateAck, Initial, MaxData, MaxStreamData, MaxStreamsBidi,
+    MaxStreamsUni, NewConnectionId, NewToken, OneRtt, Packet, Padding, PathChallenge, PathResponse, Ping, RangeSet,
+    ResetStream, RetireConnectionId, Retry, StopSending, Stream, StreamDataBlocked, StreamsBlockedBidi,
+    StreamsBlockedUni, UnknownVersion, VersionNegotiation, ZeroRtt, canonical, expand_packet_number, frames,
+    is_known_parameter, packet_number_len, protect, read_frames, read_packet, read_packet_number, read_packets,
+    read_varint, set_length, type_name, unprotect, varint_len, write_header, write_packet_number, write_parameter,
+    write_varint, write_version_negotiation,
 )  # fmt: skip
 from ._version import VERSION
 from .errors import Code, Error, FrameError, PacketError, ParameterError
@@ -36,15 +36,15 @@ __version__ = VERSION
 
 __all__ = [
     "LIBRARY_VERSION", "Ack", "AckFrequency", "ApplicationClose", "Code", "ConnectionClose", "Crypto", "DataBlocked",
-    "Datagram", "Error", "Frame", "FrameError", "FrameIterator", "Handshake", "HandshakeDone", "ImmediateAck", "Initial",
-    "MaxData", "MaxStreamData", "MaxStreamsBidi", "MaxStreamsUni", "NewConnectionId", "NewToken", "OneRtt", "Packet",
-    "PacketError", "PacketType", "Padding", "Parameter", "ParameterError", "PathChallenge", "PathResponse", "Ping",
-    "PreferredAddress", "RangeSet", "ResetStream", "RetireConnectionId", "Retry", "Side", "StopSending", "Stream",
-    "StreamDataBlocked", "StreamsBlockedBidi", "StreamsBlockedUni", "TransportParameters", "UnknownVersion", "Version",
-    "VersionNegotiation", "ZeroRtt", "canonical", "expand_packet_number", "frames", "is_known_parameter",
+    "Datagram", "Error", "Frame", "FrameError", "FrameIterator", "Handshake", "HandshakeDone", "ImmediateAck",
+    "Initial", "MaxData", "MaxStreamData", "MaxStreamsBidi", "MaxStreamsUni", "NewConnectionId", "NewToken", "OneRtt",
+    "Packet", "PacketError", "PacketType", "Padding", "Parameter", "ParameterError", "PathChallenge", "PathResponse",
+    "Ping", "PreferredAddress", "RangeSet", "ResetStream", "RetireConnectionId", "Retry", "Side", "StopSending",
+    "Stream", "StreamDataBlocked", "StreamsBlockedBidi", "StreamsBlockedUni", "TransportParameters", "UnknownVersion",
+    "Version", "VersionNegotiation", "ZeroRtt", "canonical", "expand_packet_number", "frames", "is_known_parameter",
     "packet_number_len", "packets", "parameters", "protect", "read_frames", "read_packet", "read_packet_number",
-    "read_packets", "read_varint", "set_length", "type_name", "unprotect", "varint_len", "write_frames", "write_header",
-    "write_packet_number", "write_parameter", "write_varint", "write_version_negotiation",
+    "read_packets", "read_varint", "set_length", "type_name", "unprotect", "varint_len", "write_frames",
+    "write_header", "write_packet_number", "write_parameter", "write_varint", "write_version_negotiation",
 ]  # fmt: skip
 
 

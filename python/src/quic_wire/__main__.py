@@ -1,4 +1,6 @@
-"""python -m quic_wire MODE [OPTION..] [FILE..]: what the bytes of QUIC say, from lines of hexadecimal, dumps or captures."""
+"""python -m quic_wire MODE [OPTION..] [FILE..]: what the bytes of QUIC say, from lines of hexadecimal, dumps or
+captures.
+"""
 
 from __future__ import annotations
 

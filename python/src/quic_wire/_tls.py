@@ -1,4 +1,6 @@
-"""What opening packets needs of a TLS handshake: the client's random bytes and the cipher suite (RFC 8446, section 4.1)."""
+"""What opening packets needs of a TLS handshake: the client's random bytes and the cipher suite (RFC 8446, section
+4.1).
+"""
 
 from __future__ import annotations
 

@@ -1,8 +1,8 @@
 """The QUIC packets of a capture file, opened by what there are keys for, with their frames.
 
 Initial packets are opened by the ids that they carry, others by the secrets of a key log file; both need the package
-`cryptography`, which `quic-wire[ciphers]` installs. A datagram is QUIC's if it begins with a long header of version 1 or 2,
-of version 0 (a version negotiation) or of a reserved one (RFC 9000, section 15), or if one of its flow did.
+`cryptography`, which `quic-wire[ciphers]` installs. A datagram is QUIC's if it begins with a long header of version 1
+or 2, of version 0 (a version negotiation) or of a reserved one (RFC 9000, section 15), or if one of its flow did.
 
     for captured in packets("file.pcap", KeyLog.open("keys.log")):
         print(captured.packet, captured.frames)
@@ -142,8 +142,8 @@ class _Flow:
         return opened
 
     def _open_initial(self, packet: Packet, sender: Side) -> tuple[Optional[Opened], Side, Optional[str]]:
-        """By the keys of the flow, or else by those of its own id: then it is a client's first one, or its first one after
-        a Retry, and the keys are the flow's from there on."""
+        """By the keys of the flow, or else by those of its own id: then it is a client's first one, or its first one
+        after a Retry, and the keys are the flow's from there on."""
         why = "no first Initial packet of the client"
         if self.initial_id is not None:
             try:

@@ -64,7 +64,8 @@ def expand_label(secret: bytes, label: str, length: int, hash_name: str) -> byte
 
 @dataclass(frozen=True, slots=True)
 class PacketKeys:
-    """The keys of the packets that a side sends, made from its secret: what quic_wire.protection opens and seals with."""
+    """The keys of the packets that a side sends, made from its secret: what quic_wire.protection opens and seals with.
+    """
 
     secret: bytes = field(repr=False)
     suite: Suite
@@ -117,8 +118,8 @@ class PacketKeys:
 
 
 def initial_keys(version: int, dcid: Buffer) -> tuple[PacketKeys, PacketKeys]:
-    """The keys of Initial packets of the client and of the server, by the id to which the client sent its first one (RFC
-    9001, section 5.2; RFC 9369, section 3.3.1)."""
+    """The keys of Initial packets of the client and of the server, by the id to which the client sent its first one
+    (RFC 9001, section 5.2; RFC 9369, section 3.3.1)."""
     initial = hmac.new(_SALTS[Version(version)], bytes(dcid), hashlib.sha256).digest()
     secrets = (expand_label(initial, f"{side} in", 32, "sha256") for side in ("client", "server"))
     client, server = (PacketKeys.of(secret, _INITIAL_SUITE, version) for secret in secrets)

@@ -16,7 +16,8 @@ _NEW_CONNECTION_ID = 0x18
 
 
 class Code(enum.IntEnum):
-    """The codes of a CONNECTION_CLOSE (RFC 9000, section 20.1); from CRYPTO_ERROR on the low byte is the alert of TLS."""
+    """The codes of a CONNECTION_CLOSE (RFC 9000, section 20.1); from CRYPTO_ERROR on the low byte is the alert of TLS.
+    """
 
     NO_ERROR = 0x00
     INTERNAL_ERROR = 0x01

@@ -36,8 +36,8 @@ def packets(
 ) -> Iterator[Packet]:
     """The packets of a datagram, each read when it is asked for. Raises PacketError where none begins.
 
-    Ids in short headers have cid_len bytes. versions are those that are read, by default 1, its drafts 29 to 34, and 2; a
-    packet of another one is an UnknownVersion. grease takes a cleared fixed bit (RFC 9287).
+    Ids in short headers have cid_len bytes. versions are those that are read, by default 1, its drafts 29 to 34, and
+    2; a packet of another one is an UnknownVersion. grease takes a cleared fixed bit (RFC 9287).
     """
     at, end = 0, len(memoryview(datagram).cast("B"))
     while at < end or at == 0:

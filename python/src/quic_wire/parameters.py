@@ -114,4 +114,11 @@ def _address_parts(a: PreferredAddress) -> tuple[bytes, bytes, Optional[bytes], 
     ports = [one[1] for one in (v4, v6) if one]
     if not all(0 <= port < 1 << 16 for port in ports):
         raise ValueError("a port must be below 2^16")
-    return cid, token, v4[0].packed if v4 else None, v4[1] if v4 else 0, v6[0].packed if v6 else None, v6[1] if v6 else 0
+    return (
+        cid,
+        token,
+        v4[0].packed if v4 else None,
+        v4[1] if v4 else 0,
+        v6[0].packed if v6 else None,
+        v6[1] if v6 else 0,
+    )

@@ -1,7 +1,7 @@
 """The UDP datagrams of capture files, pcap and pcapng.
 
-Links are Ethernet with its tags of VLANs, Linux cooked captures, raw IP and loopback; of IPv4, and of IPv6 without extension
-headers. Of a datagram in fragments the first one alone is given.
+Links are Ethernet with its tags of VLANs, Linux cooked captures, raw IP and loopback; of IPv4, and of IPv6 without
+extension headers. Of a datagram in fragments the first one alone is given.
 """
 
 from __future__ import annotations
@@ -56,8 +56,8 @@ class _Record(NamedTuple):
 
 # Of each kind of link where the EtherType is, None if there is none, and where the IP packet begins.
 _LINKS: dict[int, tuple[Optional[int], int]] = {
-    0: (None, 4), 1: (12, 14), 12: (None, 0), 101: (None, 0), 108: (None, 4), 113: (14, 16), 228: (None, 0), 229: (None, 0),
-    276: (0, 20),
+    0: (None, 4), 1: (12, 14), 12: (None, 0), 101: (None, 0), 108: (None, 4), 113: (14, 16), 228: (None, 0),
+    229: (None, 0), 276: (0, 20),
 }  # fmt: skip
 _IP_TYPES = (0x0800, 0x86DD)
 _VLAN_TYPES = (0x8100, 0x88A8)

@@ -52,7 +52,8 @@ FRAMES = {
     q.ImmediateAck: ("IMMEDIATE_ACK",),
     q.Datagram: ("DATAGRAM", "datagram_data"),
     q.AckFrequency: (
-        "ACK_FREQUENCY", "sequence_number", "ack_eliciting_threshold", "requested_max_ack_delay", "reordering_threshold",
+        "ACK_FREQUENCY", "sequence_number", "ack_eliciting_threshold", "requested_max_ack_delay",
+        "reordering_threshold",
     ),
 }  # fmt: skip
 DIRECTIONS = {

@@ -1,4 +1,6 @@
-"""The packets of capture files: as c/examples/capture.c of the repository prints them, with all that keys open; or as JSON."""
+"""The packets of capture files: as c/examples/capture.c of the repository prints them, with all that keys open; or as
+JSON.
+"""
 
 from __future__ import annotations
 

@@ -35,8 +35,8 @@ class Ids:
             self._ids.append(new)
 
     def len_in(self, packet: bytes, before: Optional[bytes]) -> int:
-        """How long the id of a short header is: as that of the packet before it in its datagram, which is the same id (RFC
-        9000, section 12.2), or the longest known one that it begins with."""
+        """How long the id of a short header is: as that of the packet before it in its datagram, which is the same id
+        (RFC 9000, section 12.2), or the longest known one that it begins with."""
         rest = packet[1:]
         if before is not None and packet and rest.startswith(before):
             return len(before)
@@ -44,7 +44,8 @@ class Ids:
 
 
 def show_datagram(data: bytes, args: Args, ids: Ids, output: Output) -> None:
-    """Prints the packets of a datagram, and learns the ids in them. A capture has the headers of IP and UDP before it."""
+    """Prints the packets of a datagram, and learns the ids in them. A capture has the headers of IP and UDP before it.
+    """
     captured = link.packet(data)
     if captured is None:
         _show_packets(data, 0, args, ids, output)

@@ -1,8 +1,8 @@
 """Dumps of bytes, as `xxd`, `hexdump -C`, `od -t x1`, Wireshark, `tshark -x` and `tcpdump -x` print them.
 
-A line of a dump begins with an offset, whose form says which program printed it (dump_line.Form). Plain hexadecimal may begin
-with six digits too, so a line of these without text begins a dump only at offset 0. A line of `*` stands for rows like the
-one before it.
+A line of a dump begins with an offset, whose form says which program printed it (dump_line.Form). Plain hexadecimal
+may begin with six digits too, so a line of these without text begins a dump only at offset 0. A line of `*` stands for
+rows like the one before it.
 """
 
 from __future__ import annotations

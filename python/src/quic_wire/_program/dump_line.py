@@ -173,7 +173,9 @@ def has_offset(text: bytes) -> bool:
 
 
 def is_heading(text: bytes) -> bool:
-    """Whether a line is one that `tshark` or `tcpdump` prints above a dump: what it is of, or the packet in a few words."""
+    """Whether a line is one that `tshark` or `tcpdump` prints above a dump: what it is of, or the packet in a few
+    words.
+    """
     text = text.strip(_BLANKS)
     is_data_source = text.endswith(b" bytes):") and b"(" in text
     time = next((word for word in text.split(b" ")[:2] if b":" in word), b"")

@@ -32,7 +32,9 @@ class _Header(NamedTuple):
 
 
 def packet(data: bytes) -> Optional[IpPacket]:
-    """The packet of IP that bytes are. All of its lengths must fit, so that hardly any datagram of QUIC looks like one."""
+    """The packet of IP that bytes are. All of its lengths must fit, so that hardly any datagram of QUIC looks like
+    one.
+    """
     for link in _LINKS:
         ip = data[link:]
         if not ip:

@@ -6,11 +6,11 @@ import operator
 from typing import Any, Optional
 
 from .. import (
-    Ack, AckFrequency, ApplicationClose, Code, ConnectionClose, Crypto, Datagram, DataBlocked, Error, Frame, FrameError,
-    MaxData, MaxStreamData, MaxStreamsBidi, MaxStreamsUni, NewConnectionId, NewToken, Padding, ParameterError,
-    PathChallenge, PathResponse, RangeSet, ResetStream, RetireConnectionId, Side, StopSending, Stream, StreamDataBlocked,
-    StreamsBlockedBidi, StreamsBlockedUni, TransportParameters, canonical, expand_packet_number, frames,
-    is_known_parameter, parameters, read_varint, varint_len,
+    Ack, AckFrequency, ApplicationClose, Code, ConnectionClose, Crypto, Datagram, DataBlocked, Error, Frame,
+    FrameError, MaxData, MaxStreamData, MaxStreamsBidi, MaxStreamsUni, NewConnectionId, NewToken, Padding,
+    ParameterError, PathChallenge, PathResponse, RangeSet, ResetStream, RetireConnectionId, Side, StopSending, Stream,
+    StreamDataBlocked, StreamsBlockedBidi, StreamsBlockedUni, TransportParameters, canonical, expand_packet_number,
+    frames, is_known_parameter, parameters, read_varint, varint_len,
 )  # fmt: skip
 from .._wire import varint_at
 from ..errors import frame_name
@@ -124,7 +124,11 @@ def _direction(frame: Frame, name: str, limit: int) -> list[Field]:
 
 
 def _ack_fields(ack: Ack) -> list[Field]:
-    fields = [("largest", out.number(ack.largest)), ("delay", out.number(ack.delay)), ("ranges", out.ranges(ack.ranges))]
+    fields = [
+        ("largest", out.number(ack.largest)),
+        ("delay", out.number(ack.delay)),
+        ("ranges", out.ranges(ack.ranges)),
+    ]
     counts = (("ect0", ack.ect0), ("ect1", ack.ect1), ("ce", ack.ce))
     return fields + [(name, out.number(count)) for name, count in counts if count is not None]
 
@@ -162,7 +166,8 @@ def show_canon(payload: bytes, output: Output) -> None:
 
 
 def show_number(data: bytes, largest: Optional[int], output: Output) -> None:
-    """Prints the numbers that bytes are, or the packet number of which they are the end, by the largest received one."""
+    """Prints the numbers that bytes are, or the packet number of which they are the end, by the largest received one.
+    """
     if largest is not None:
         _show_packet_number(data, largest, output)
         return

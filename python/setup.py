@@ -1,0 +1,84 @@
+"""Builds the module quic_wire._wire with the library quic_wire, which is the first that is there of:
+
+- libquic_wire.a in the folder that QUIC_WIRE_LIB names
+- the library as C, as scripts/portable leaves it, in the folder that QUIC_WIRE_PORTABLE names, or in `portable` beside
+  this file: any machine with a C compiler and integers of 64 bits builds it
+
+The module has the limited API of CPython 3.11, so that one wheel serves 3.11 and later. An interpreter without its lock
+has another API, and a wheel of its own.
+"""
+
+import os
+import pathlib
+import sys
+import sysconfig
+
+from setuptools import Extension, setup
+from setuptools.command.build_ext import build_ext
+
+HERE = pathlib.Path(__file__).resolve().parent
+LIMITED_API = "0x030b0000"
+IS_LIMITED = not sysconfig.get_config_var("Py_GIL_DISABLED")
+COMPILE = [] if os.name == "nt" else ["-O2", "-fvisibility=hidden", "-ffunction-sections", "-g0"]
+# The library's own symbols stay inside of the module, and what it doesn't call stays out.
+LINK = ["-Wl,--exclude-libs,ALL", "-Wl,--gc-sections"] if sys.platform == "linux" else []
+PORTABLE = ("quic_wire_proved.c", "quic_wire.c", "texts.c")
+
+
+def named(variable, file):
+    """The folder that a variable names, which must have a file; None if the variable isn't set."""
+    folder = os.environ.get(variable)
+    if not folder:
+        return None
+    if not (pathlib.Path(folder) / file).is_file():
+        sys.exit(f"setup.py: {variable} names {folder}, which has no {file}")
+    return pathlib.Path(folder).resolve()
+
+
+LIB = named("QUIC_WIRE_LIB", "libquic_wire.a")
+AS_C = None if LIB else named("QUIC_WIRE_PORTABLE", "src/quic_wire_proved.c") or HERE / "portable"
+
+
+def include():
+    """The folder of quic_wire.h: beside the library, as an installation has it, or where the repository has it."""
+    folders = [AS_C / "include"] if AS_C else [LIB / "include", LIB.parent / "include"]
+    for folder in (*folders, HERE / "include", HERE.parent / "c" / "include"):
+        if (folder / "quic_wire.h").is_file():
+            return str(folder)
+    return str(folders[0])
+
+
+class BuildWithLibrary(build_ext):
+    """Builds the library as C first, where no archive is named."""
+
+    def build_extension(self, ext):
+        if AS_C:
+            sources = [AS_C / "src" / name for name in PORTABLE]
+            if not sources[0].is_file():
+                sys.exit("setup.py: no library: QUIC_WIRE_LIB or QUIC_WIRE_PORTABLE names its folder (README.md)")
+            ext.extra_objects = self.compiler.compile(
+                [str(source) for source in sources],
+                output_dir=self.build_temp,
+                include_dirs=[include(), str(AS_C / "src")],
+                extra_postargs=COMPILE,
+            )
+        super().build_extension(ext)
+
+
+WIRE = Extension(
+    "quic_wire._wire",
+    sorted(str(path.relative_to(HERE)) for path in (HERE / "wire").glob("*.c")),
+    include_dirs=[include()],
+    extra_objects=[str(LIB / "libquic_wire.a")] if LIB else [],
+    define_macros=[("Py_LIMITED_API", LIMITED_API)] if IS_LIMITED else [],
+    extra_compile_args=COMPILE,
+    extra_link_args=LINK,
+    depends=["wire/wire.h"],
+    py_limited_api=IS_LIMITED,
+)
+
+setup(
+    ext_modules=[WIRE],
+    cmdclass={"build_ext": BuildWithLibrary},
+    options={"bdist_wheel": {"py_limited_api": "cp311"}} if IS_LIMITED else {},
+)

@@ -1,0 +1,55 @@
+"""The wire layer of QUIC, versions 1 and 2: frames, packets, transport parameters and sets of packet numbers.
+
+>>> from quic_wire import read_frames
+>>> read_frames(bytes.fromhex("40000a000161"))
+[Padding(count=1), Stream(stream_id=0, offset=0, fin=False, data=b'a')]
+>>> read_frames(b"\\x06\\x00\\x05a")
+Traceback (most recent call last):
+...
+quic_wire.errors.FrameError: unexpected end in CRYPTO at 0, Crypto Data at 3 (RFC 9000, section 20.1)
+
+Bytes are read and written by a library that is proved for every input. Data of frames are memoryviews of the bytes that
+were read: nothing is copied. While objects that were read from a bytearray live, it can't be resized; its bytes must
+not change while a call reads them.
+"""
+
+from __future__ import annotations
+
+from collections.abc import Iterable
+
+from ._wire import (
+    LIBRARY_VERSION, Ack, AckFrequency, ApplicationClose, ConnectionClose, Crypto, DataBlocked, Datagram, Frame,
+    FrameIterator, Handshake, HandshakeDone, ImmediateAck, Initial, MaxData, MaxStreamData, MaxStreamsBidi,
+    MaxStreamsUni, NewConnectionId, NewToken, OneRtt, Packet, Padding, PathChallenge, PathResponse, Ping, RangeSet,
+    ResetStream, RetireConnectionId, Retry, StopSending, Stream, StreamDataBlocked, StreamsBlockedBidi,
+    StreamsBlockedUni, UnknownVersion, VersionNegotiation, ZeroRtt, canonical, expand_packet_number, frames,
+    is_known_parameter, packet_number_len, protect, read_frames, read_packet, read_packet_number, read_packets,
+    read_varint, set_length, type_name, unprotect, varint_len, write_header, write_packet_number, write_parameter,
+    write_varint, write_version_negotiation,
+)  # fmt: skip
+from ._version import VERSION
+from .errors import Code, Error, FrameError, PacketError, ParameterError
+from .packets import PacketType, Version, packets
+from .parameters import Parameter, PreferredAddress, Side, TransportParameters, parameters
+
+__version__ = VERSION
+
+__all__ = [
+    "LIBRARY_VERSION", "Ack", "AckFrequency", "ApplicationClose", "Code", "ConnectionClose", "Crypto", "DataBlocked",
+    "Datagram", "Error", "Frame", "FrameError", "FrameIterator", "Handshake", "HandshakeDone", "ImmediateAck",
+    "Initial", "MaxData", "MaxStreamData", "MaxStreamsBidi", "MaxStreamsUni", "NewConnectionId", "NewToken", "OneRtt",
+    "Packet", "PacketError", "PacketType", "Padding", "Parameter", "ParameterError", "PathChallenge", "PathResponse",
+    "Ping", "PreferredAddress", "RangeSet", "ResetStream", "RetireConnectionId", "Retry", "Side", "StopSending",
+    "Stream", "StreamDataBlocked", "StreamsBlockedBidi", "StreamsBlockedUni", "TransportParameters", "UnknownVersion",
+    "Version", "VersionNegotiation", "ZeroRtt", "canonical", "expand_packet_number", "frames", "is_known_parameter",
+    "packet_number_len", "packets", "parameters", "protect", "read_frames", "read_packet", "read_packet_number",
+    "read_packets", "read_varint", "set_length", "type_name", "unprotect", "varint_len", "write_frames",
+    "write_header", "write_packet_number", "write_parameter", "write_varint", "write_version_negotiation",
+]  # fmt: skip
+
+
+def write_frames(payload: Iterable[Frame]) -> bytes:
+    """A payload of frames, each in its shortest form; the last one without a length that it doesn't need."""
+    all_frames = list(payload)
+    last = len(all_frames) - 1
+    return b"".join(frame.encode(last=i == last) for i, frame in enumerate(all_frames))

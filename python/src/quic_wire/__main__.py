@@ -1,0 +1,133 @@
+"""python -m quic_wire MODE [OPTION..] [FILE..]: what the bytes of QUIC say, from lines of hexadecimal, dumps or
+captures.
+"""
+
+from __future__ import annotations
+
+import io
+import os
+import sys
+from typing import BinaryIO
+
+from ._program import args as arguments
+from ._program import captured, link, modes
+from ._program.args import Args, WrongCall
+from ._program.datagrams import Ids, show_datagram
+from ._program.output import Look, Output
+from ._program.source import Pieces, Plain
+
+# Some line was refused; the call is wrong; reading, writing or memory failed; who read the output reads no more.
+REFUSED, WRONG_CALL, FAILED, UNREAD = 1, 2, 3, 141
+_WHOLE_PACKET = "a packet with its headers of IP, and no payload of QUIC; the mode datagram reads it"
+
+
+def _say(what: object) -> None:
+    print(f"quic-wire: {what}", file=sys.stderr)
+
+
+def _show_piece(args: Args, data: bytes, ids: Ids, output: Output) -> None:
+    if args.mode in ("frames", "canon") and link.packet(data) is not None:
+        output.error(_WHOLE_PACKET)
+    elif args.mode == "frames":
+        modes.show_frames(data, args.strict, output)
+    elif args.mode == "canon":
+        modes.show_canon(data, output)
+    elif args.mode == "datagram":
+        show_datagram(data, args, ids, output)
+    elif args.mode == "params":
+        modes.show_parameters(data, args.side, output)
+    elif args.mode == "number":
+        modes.show_number(data, args.largest, output)
+    else:
+        modes.show_ranges(data, output)
+
+
+def _show_all(args: Args, source: BinaryIO, output: Output) -> None:
+    """Prints what each piece is before the next one is waited for."""
+    plain = Plain.DECIMAL if args.mode == "ranges" else Plain.BASE64 if args.base64 else Plain.HEXADECIMAL
+    ids = Ids()
+    for piece in Pieces(source, plain):
+        output.line = piece.line
+        if isinstance(piece.data, str):
+            output.error(piece.data)
+        else:
+            _show_piece(args, piece.data, ids, output)
+        _flush()
+
+
+class _WriteError(Exception):
+    """Standard output takes nothing."""
+
+
+def _write(text: str) -> None:
+    try:
+        sys.stdout.write(text)
+    except OSError as fault:
+        raise _WriteError from fault
+
+
+def _flush() -> None:
+    try:
+        sys.stdout.flush()
+    except OSError as fault:
+        raise _WriteError from fault
+
+
+def _show_file(args: Args, file: str, output: Output) -> None:
+    if args.mode == "capture":
+        captured.show(args, file, output, _write)
+    elif file == "-":
+        _show_all(args, sys.stdin.buffer, output)
+    else:
+        with open(file, "rb") as source:
+            _show_all(args, source, output)
+
+
+def _show(args: Args) -> int:
+    look = Look.JSON if args.json else Look.COLOURED if args.has_colours else Look.PLAIN
+    output = Output(_write, look)
+    are_read = True
+    for file in args.files:
+        if len(args.files) > 1:
+            output.file = file
+        try:
+            _show_file(args, file, output)
+        except (OSError, captured.CaptureError) as fault:
+            are_read = False
+            _flush()
+            _say(f"{file}: {fault.strerror if isinstance(fault, OSError) else fault}")
+        except MemoryError:
+            are_read = False
+            _say(f"{file}: out of memory")
+    _flush()
+    return FAILED if not are_read else 0 if output.is_clean else REFUSED
+
+
+def main() -> int:
+    """Runs the program with the words of its call; the status to end with."""
+    if sys.stdout is None:
+        _say("write failed: standard output is closed")
+        return FAILED
+    if isinstance(sys.stdout, io.TextIOWrapper):
+        sys.stdout.reconfigure(encoding="utf-8", errors="surrogateescape", newline="\n")
+    try:
+        args = arguments.parse(sys.argv[1:])
+        if isinstance(args, str):
+            _write(args)
+            _flush()
+            return 0
+        return _show(args)
+    except WrongCall as fault:
+        _say(f"{fault}\n{arguments.USAGE}\n--help says more")
+        return WRONG_CALL
+    except _WriteError as fault:
+        # What is left in the buffer isn't written again when the interpreter ends.
+        os.dup2(os.open(os.devnull, os.O_WRONLY), sys.stdout.fileno())
+        if isinstance(fault.__cause__, BrokenPipeError):
+            return UNREAD
+        _say(f"write failed: {getattr(fault.__cause__, 'strerror', fault.__cause__)}")
+        return FAILED
+
+
+if __name__ == "__main__":
+    sys.exit(main())

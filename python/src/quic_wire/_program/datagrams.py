@@ -1,0 +1,139 @@
+"""The packets of datagrams."""
+
+from __future__ import annotations
+
+from collections import deque
+from typing import Optional, Union
+
+from .. import (
+    Handshake, Initial, OneRtt, Packet, PacketError, Retry, UnknownVersion, VersionNegotiation, ZeroRtt, read_packet,
+)  # fmt: skip
+from .._wire import PACKET_CID
+from ..errors import _packet_error
+from . import link
+from . import output as out
+from .args import Args
+from .modes import place_of
+from .output import Field, Output
+
+_MOST_IDS = 256  # that are kept: those that came last
+_MAX_CID_LEN = 20
+_LONG, _FIXED_BIT = 0x80, 0x40
+_NEGOTIATION = "RFC 9000, section 17.2.1, leaves this bit unused; quinn-proto 0.11 refuses the packet"
+_DROPPED = "the packet is dropped"
+_UNKNOWN_VERSION = "a server answers by a version negotiation, a client drops the packet"
+
+
+class Ids:
+    """The ids that endpoints gave in long headers for packets that are sent to them."""
+
+    def __init__(self) -> None:
+        self._ids: deque[bytes] = deque(maxlen=_MOST_IDS)
+
+    def learn(self, new: bytes) -> None:
+        if len(new) <= _MAX_CID_LEN and new not in self._ids:
+            self._ids.append(new)
+
+    def len_in(self, packet: bytes, before: Optional[bytes]) -> int:
+        """How long the id of a short header is: as that of the packet before it in its datagram, which is the same id
+        (RFC 9000, section 12.2), or the longest known one that it begins with."""
+        rest = packet[1:]
+        if before is not None and packet and rest.startswith(before):
+            return len(before)
+        return max((len(one) for one in self._ids if packet and rest.startswith(one)), default=0)
+
+
+def show_datagram(data: bytes, args: Args, ids: Ids, output: Output) -> None:
+    """Prints the packets of a datagram, and learns the ids in them. A capture has the headers of IP and UDP before it.
+    """
+    captured = link.packet(data)
+    if captured is None:
+        _show_packets(data, 0, args, ids, output)
+    elif captured.source is None:
+        output.error("a packet of IP without UDP")
+    else:
+        fields = [("from", out.word(str(captured.source))), ("to", out.word(str(captured.destination)))]
+        output.item(0, captured.begin, ("packet", "udp"), fields)
+        _show_packets(data[: captured.end], captured.begin, args, ids, output)
+
+
+def _show_packets(datagram: bytes, begin: int, args: Args, ids: Ids, output: Output) -> None:
+    before: Optional[bytes] = None
+    while True:
+        rest = datagram[begin:]
+        cid_len = ids.len_in(rest, before) if args.cid_len is None else args.cid_len
+        is_clear = not args.grease and len(rest) > 0 and not rest[0] & _FIXED_BIT
+        read = _read(datagram, begin, cid_len, args)
+        if isinstance(read, PacketError):
+            _show_error(read, output)
+            return
+        if isinstance(read, UnknownVersion):
+            _show_unknown_version(read, is_clear, output)
+            return
+        name, fields = fields_of(read)
+        if is_clear:
+            fields += [("fixed_bit", out.flag(False)), ("note", out.sentence(_NEGOTIATION))]
+        output.item(read.begin, read.end, ("packet", name), fields, [("first", out.number(read.first))])
+        if not isinstance(read, OneRtt):
+            ids.learn(bytes(read.scid))
+            before = bytes(read.dcid)
+        begin = read.end
+        if begin == len(datagram):
+            return
+
+
+def _read(datagram: bytes, begin: int, cid_len: int, args: Args) -> Union[Packet, PacketError]:
+    try:
+        read = read_packet(datagram, cid_len, begin, args.versions, grease=args.grease)
+    except PacketError as error:
+        return error
+    if isinstance(read, VersionNegotiation) and max(len(read.dcid), len(read.scid)) > _MAX_CID_LEN:
+        # quinn-proto refuses these ids, as the Rust crate does.
+        return _packet_error(PACKET_CID, "malformed cid", datagram, begin, cid_len, None, None)
+    return read
+
+
+def _show_error(error: PacketError, output: Output) -> None:
+    fields = fields_of(error.packet)[1] if error.packet is not None else []
+    fields += [*place_of(error), ("then", out.sentence(_DROPPED)), ("section", out.sentence(error.section))]
+    output.error(error.reason, error.offset, fields)
+
+
+def _show_unknown_version(packet: UnknownVersion, is_clear: bool, output: Output) -> None:
+    fields = [("dst", out.data(packet.dcid)), ("src", out.data(packet.scid))]
+    if is_clear:
+        fields.append(("fixed_bit", out.flag(False)))
+    fields += [
+        ("field", out.sentence("Version")),
+        ("field_at", out.number(packet.begin + 1)),
+        ("then", out.sentence(_UNKNOWN_VERSION)),
+        ("section", out.sentence("RFC 9000, sections 5.2.1 and 5.2.2")),
+    ]
+    output.error(f"unsupported version {packet.version:x}", packet.begin, fields)
+
+
+def _number_at(packet: Packet) -> Field:
+    return ("number_at", out.number(packet.number_at or 0))
+
+
+def fields_of(packet: Packet) -> tuple[str, list[Field]]:
+    """The name of a packet, and its fields."""
+    fields = [("dst", out.data(packet.dcid))]
+    if isinstance(packet, OneRtt):
+        return "short", [*fields, ("spin", out.flag(packet.spin)), _number_at(packet)]
+    fields.append(("src", out.data(packet.scid)))
+    if isinstance(packet, VersionNegotiation):
+        return "version-negotiation", [*fields, ("versions", out.versions(packet.versions))]
+    fields.append(("version", out.version(packet.version)))
+    match packet:
+        case Initial():
+            fields += [("token_at", out.number(packet.token_at)), ("token", out.data(packet.token))]
+            return "initial", [*fields, ("len", out.number(packet.length)), _number_at(packet)]
+        case Retry(integrity_tag=None):
+            return "retry", [*fields, ("rest", out.data(packet.token))]
+        case Retry(token=token, integrity_tag=tag):
+            return "retry", [*fields, ("token", out.data(token)), ("tag", out.data(tag))]
+        case Handshake(length=length) | ZeroRtt(length=length):
+            name = "handshake" if isinstance(packet, Handshake) else "0rtt"
+            return name, [*fields, ("len", out.number(length)), _number_at(packet)]
+    raise AssertionError(packet)

@@ -1,0 +1,79 @@
+"""Packets as captures have them, with the headers of the link, of IP and of UDP in front of the datagram."""
+
+from __future__ import annotations
+
+from typing import NamedTuple, Optional
+
+from ..pcap import Endpoint
+
+# How many bytes a link puts in front: none, the loopback of BSD, Ethernet without and with a tag, Linux's cooked ones.
+_LINKS = (0, 4, 14, 18, 16, 20)
+# How many bytes Ethernet may have put behind, since it sends 46 at least.
+_MOST_PADDING = 46
+_UDP = 17
+_UDP_HEADER = 8
+
+
+class IpPacket(NamedTuple):
+    """A packet of IP: where what UDP carries is, and its ends; no ends if another protocol has it."""
+
+    begin: int = 0
+    end: int = 0
+    source: Optional[Endpoint] = None
+    destination: Optional[Endpoint] = None
+
+
+class _Header(NamedTuple):
+    end: int
+    transport: int
+    protocol: int
+    source: bytes
+    destination: bytes
+
+
+def packet(data: bytes) -> Optional[IpPacket]:
+    """The packet of IP that bytes are. All of its lengths must fit, so that hardly any datagram of QUIC looks like
+    one.
+    """
+    for link in _LINKS:
+        ip = data[link:]
+        if not ip:
+            return None
+        if ip[0] >> 4 not in (4, 6):
+            continue
+        header = _ipv4(ip) if ip[0] >> 4 == 4 else _ipv6(ip)
+        found = None if header is None else _udp(link, ip, header)
+        if found is not None:
+            return found
+    return None
+
+
+def _udp(link: int, ip: bytes, header: _Header) -> Optional[IpPacket]:
+    end, at = header.end, header.transport
+    if end > len(ip) or len(ip) - end > (_MOST_PADDING if link else 0) or at > end:
+        return None
+    udp = ip[at:end]
+    if len(udp) < 6:
+        return None
+    if header.protocol != _UDP:
+        return IpPacket()
+    if int.from_bytes(udp[4:6], "big") != len(udp) or len(udp) < _UDP_HEADER:
+        return None
+    ports = (int.from_bytes(udp[0:2], "big"), int.from_bytes(udp[2:4], "big"))
+    ends = Endpoint(header.source, ports[0]), Endpoint(header.destination, ports[1])
+    return IpPacket(link + at + _UDP_HEADER, link + end, *ends)
+
+
+def _ipv4(ip: bytes) -> Optional[_Header]:
+    """RFC 791, of a packet in one piece."""
+    count = (ip[0] & 15) * 4
+    if len(ip) < 20 or count < 20 or int.from_bytes(ip[6:8], "big") & 0x3FFF:
+        return None
+    return _Header(int.from_bytes(ip[2:4], "big"), count, ip[9], ip[12:16], ip[16:20])
+
+
+def _ipv6(ip: bytes) -> Optional[_Header]:
+    """RFC 8200, without headers of extensions."""
+    if len(ip) < 40:
+        return None
+    return _Header(40 + int.from_bytes(ip[4:6], "big"), 40, ip[6], ip[8:24], ip[24:40])

@@ -1,0 +1,295 @@
+"""What each mode prints of a payload, a list or a line."""
+
+from __future__ import annotations
+
+import operator
+from typing import Any, Optional
+
+from .. import (
+    Ack, AckFrequency, ApplicationClose, Code, ConnectionClose, Crypto, Datagram, DataBlocked, Error, Frame,
+    FrameError, MaxData, MaxStreamData, MaxStreamsBidi, MaxStreamsUni, NewConnectionId, NewToken, Padding,
+    ParameterError, PathChallenge, PathResponse, RangeSet, ResetStream, RetireConnectionId, Side, StopSending, Stream,
+    StreamDataBlocked, StreamsBlockedBidi, StreamsBlockedUni, TransportParameters, canonical, expand_packet_number,
+    frames, is_known_parameter, parameters, read_varint, varint_len,
+)  # fmt: skip
+from .._wire import varint_at
+from ..errors import frame_name
+from ..pcap import Endpoint
+from . import output as out
+from .output import Field, Output
+
+_VARINT_MAX = (1 << 62) - 1
+_VALUE_MOST = 64  # bytes of a parameter's value that are shown
+
+
+# ---- Frames
+
+
+def show_frames(payload: bytes, strict: bool, output: Output) -> None:
+    """Prints the frames of a payload."""
+    try:
+        for frame in frames(payload, strict=strict):
+            raw_type, _ = read_varint(payload, frame.begin)
+            more = [("raw_type", out.number(raw_type))]
+            output.item(frame.begin, frame.end, ("type", frame_name(frame.kind)), fields_of(frame, payload), more)
+    except FrameError as error:
+        show_error(error, output)
+
+
+def show_error(error: FrameError, output: Output) -> None:
+    """Prints why a payload is refused."""
+    what = error.reason if error.frame_type is None else f"{error.reason} in {frame_name(error.frame_type)}"
+    output.error(what, error.offset, [*place_of(error), *closed_by(error)])
+
+
+def place_of(error: Error) -> list[Field]:
+    """The field at fault, and where it begins."""
+    if error.field is None or error.field_offset is None:
+        return []
+    return [("field", out.sentence(error.field)), ("field_at", out.number(error.field_offset))]
+
+
+def closed_by(error: Error) -> list[Field]:
+    """The code to close with, and which section says so."""
+    code = error.code or Code.NO_ERROR
+    return [
+        ("close_code", out.number(code)),
+        ("close_name", out.word(code.name)),
+        ("section", out.sentence(error.section)),
+    ]
+
+
+def _padding_count(payload: bytes, frame: Frame) -> int:
+    """How many types of PADDING are there, in one byte or more."""
+    count, at = 0, frame.begin
+    while at < frame.end:
+        _, at = read_varint(payload, at)
+        count += 1
+    return count
+
+
+# Of each kind of frame the names of its numbers, and the attributes that have them.
+_NUMBERS: dict[type[Frame], list[tuple[str, str]]] = {
+    ResetStream: [("id", "stream_id"), ("error_code", "error_code"), ("final_offset", "final_size")],
+    StopSending: [("id", "stream_id"), ("error_code", "error_code")],
+    Crypto: [("offset", "offset")],
+    MaxData: [("limit", "limit")],
+    MaxStreamData: [("id", "stream_id"), ("offset", "limit")],
+    StreamDataBlocked: [("id", "stream_id"), ("offset", "limit")],
+    DataBlocked: [("offset", "limit")],
+    NewConnectionId: [("sequence", "sequence"), ("retire_prior_to", "retire_prior_to")],
+    RetireConnectionId: [("sequence", "sequence")],
+    AckFrequency: [
+        ("sequence", "sequence"), ("ack_eliciting_threshold", "ack_eliciting_threshold"),
+        ("request_max_ack_delay", "max_ack_delay"), ("reordering_threshold", "reordering_threshold"),
+    ],
+}  # fmt: skip
+
+
+def _data_fields(data: Any) -> list[Field]:
+    return [("len", out.number(len(data))), ("data", out.data(data))]
+
+
+def fields_of(frame: Frame, payload: bytes) -> list[Field]:
+    """Every field of a frame of a payload."""
+    fields = [(name, out.number(getattr(frame, attribute))) for name, attribute in _NUMBERS.get(type(frame), [])]
+    match frame:
+        case Padding():
+            fields.append(("count", out.number(_padding_count(payload, frame))))
+        case Ack():
+            fields += _ack_fields(frame)
+        case Stream(stream_id, offset, fin, data):
+            fields += [("id", out.number(stream_id)), ("offset", out.number(offset)), ("fin", out.flag(fin))]
+            fields += _data_fields(data)
+        case Crypto(_, data) | Datagram(data):
+            fields += _data_fields(data)
+        case NewToken(token):
+            fields.append(("token", out.data(token)))
+        case MaxStreamsBidi(limit) | MaxStreamsUni(limit):
+            fields += _direction(frame, "count", limit)
+        case StreamsBlockedBidi(limit) | StreamsBlockedUni(limit):
+            fields += _direction(frame, "limit", limit)
+        case NewConnectionId(connection_id=connection_id, reset_token=token):
+            fields += [("id", out.data(connection_id)), ("reset_token", out.data(token))]
+        case PathChallenge(data) | PathResponse(data):
+            fields.append(("data", out.data(data)))
+        case ConnectionClose() | ApplicationClose():
+            fields += _close_fields(frame)
+    return fields
+
+
+def _direction(frame: Frame, name: str, limit: int) -> list[Field]:
+    word = "bidirectional" if isinstance(frame, (MaxStreamsBidi, StreamsBlockedBidi)) else "unidirectional"
+    return [("dir", out.word(word)), (name, out.number(limit))]
+
+
+def _ack_fields(ack: Ack) -> list[Field]:
+    fields = [
+        ("largest", out.number(ack.largest)),
+        ("delay", out.number(ack.delay)),
+        ("ranges", out.ranges(ack.ranges)),
+    ]
+    counts = (("ect0", ack.ect0), ("ect1", ack.ect1), ("ce", ack.ce))
+    return fields + [(name, out.number(count)) for name, count in counts if count is not None]
+
+
+def code_name(code: int) -> str:
+    """What a code of CONNECTION_CLOSE is called."""
+    if Code.CRYPTO_ERROR <= code < Code.CRYPTO_ERROR + 0x100:
+        return f"CRYPTO_ERROR {code - Code.CRYPTO_ERROR}"
+    return Code(code).name if code in set(Code) else f"<unknown {code:x}>"
+
+
+def _close_fields(close: ConnectionClose | ApplicationClose) -> list[Field]:
+    fields = [("error_code", out.number(close.error_code))]
+    if isinstance(close, ConnectionClose):
+        fields.append(("error_name", out.word(code_name(close.error_code))))
+        if close.frame_type:
+            fields.append(("frame_type", out.number(close.frame_type)))
+            fields.append(("frame_name", out.word(frame_name(close.frame_type))))
+    reason = bytes(close.reason)
+    return [*fields, ("reason", out.text(reason)), ("reason_bytes", out.data(reason))]
+
+
+# ---- Other modes
+
+
+def show_canon(payload: bytes, output: Output) -> None:
+    """Prints the one shortest payload with the same frames."""
+    try:
+        shortest = canonical(payload)
+    except FrameError as error:
+        show_error(error, output)
+        return
+    fields = [("len", out.number(len(shortest))), ("data", out.data(shortest))]
+    output.item(0, len(payload), ("form", "SHORTEST"), fields)
+
+
+def show_number(data: bytes, largest: Optional[int], output: Output) -> None:
+    """Prints the numbers that bytes are, or the packet number of which they are the end, by the largest received one.
+    """
+    if largest is not None:
+        _show_packet_number(data, largest, output)
+        return
+    at = 0
+    while at < len(data):
+        read = varint_at(data, at)
+        if read is None:
+            section = [("section", out.sentence("RFC 9000, section 16"))]
+            output.error("unexpected end in a number of variable length", at, section)
+            return
+        value, end = read
+        fields = [("value", out.number(value)), ("shortest_len", out.number(varint_len(value)))]
+        output.item(at, end, ("kind", "NUMBER"), fields)
+        at = end
+
+
+def _show_packet_number(data: bytes, largest: int, output: Output) -> None:
+    if not 1 <= len(data) <= 4:
+        section = [("section", out.sentence("RFC 9000, section 17.1"))]
+        output.error("a packet number has 1 to 4 bytes", 0, section)
+        return
+    written = int.from_bytes(data, "big")
+    fields = [("value", out.number(expand_packet_number(written, len(data), largest + 1))),
+              ("written", out.number(written))]  # fmt: skip
+    output.item(0, len(data), ("kind", "PACKET_NUMBER"), fields)
+
+
+def show_ranges(line: bytes, output: Output) -> None:
+    """Prints the set of the numbers and ranges in a line, and an ACK of it."""
+    found = RangeSet()
+    for word in line.translate(bytes.maketrans(b"\t,;[]{}()", b" " * 9)).split(b" "):
+        ends = _range(word) if word else range(0, 1)
+        if ends is None:
+            shown = out.text(word).text
+            output.error(f"no packet number or range of them below 2^62: {shown}")
+            return
+        if word:
+            found.insert(ends.start, ends.stop)
+    if found.largest is None:
+        output.error("no packet number")
+        return
+    fields = [
+        ("largest", out.number(found.largest)),
+        ("count", out.number(sum(one.stop - one.start for one in found))),
+        ("ranges", out.ranges(reversed(list(found)))),
+        ("ack", out.data(Ack(ranges=found).encode())),
+    ]
+    output.fields(fields)
+
+
+def _range(word: bytes) -> Optional[range]:
+    """A number, both ends of a range as `1-3`, or a range without its end as `1..4`."""
+
+    def number(text: bytes) -> int:
+        return int(text) if text.isdigit() and int(text) <= _VARINT_MAX else -1
+
+    first, dots, last = word.partition(b"..")
+    more = 0
+    if not dots:
+        first, dash, last = word.partition(b"-")
+        last, more = last if dash else first, 1
+    start, stop = number(first), number(last)
+    return range(start, stop + more) if start >= 0 and stop >= 0 and start < stop + more else None
+
+
+# ---- Transport parameters
+
+# The names that the library and quinn-proto have for parameters.
+_SHORT_NAMES = {
+    "original_destination_connection_id": "original_dst_cid",
+    "initial_source_connection_id": "initial_src_cid",
+    "retry_source_connection_id": "retry_src_cid",
+}
+_PREFERRED = "preferred_address"
+
+
+def show_parameters(data: bytes, side: Side, output: Output) -> None:
+    """Prints a list of transport parameters."""
+    try:
+        read = TransportParameters.read(side, data)
+    except ParameterError as error:
+        output.error(error.reason, error.offset, [*_parameter_at_fault(error), *closed_by(error)])
+        return
+    entries = list(parameters(data))
+    fields = [field for name in read.__match_args__ for field in _parameter(read, name)]
+    others = [(entry.id, entry.value) for entry in entries if not is_known_parameter(entry.id)]
+    if others:
+        fields.append(("unknown", out.unknown(others)))
+    fields.append(("order", out.numbers(entry.id for entry in entries)))
+    output.fields(fields)
+
+
+def _parameter_at_fault(error: ParameterError) -> list[Field]:
+    fields: list[Field] = []
+    if error.name is not None:
+        fields.append(("parameter", out.word(_SHORT_NAMES.get(error.name, error.name))))
+    if error.id is not None:
+        fields.append(("id", out.number(error.id)))
+    if error.value is not None:
+        fields.append(("value", out.data(error.value[:_VALUE_MOST])))
+    if error.wanted is not None:
+        fields.append(("wanted", out.sentence(error.wanted)))
+    if error.why is not None:
+        fields.append(("why", out.sentence(error.why)))
+    return fields
+
+
+_BY_DEFAULT = TransportParameters()
+
+
+def _parameter(read: TransportParameters, name: str) -> list[Field]:
+    """A parameter that isn't as by default."""
+    value = operator.attrgetter(name)(read)
+    if value == getattr(_BY_DEFAULT, name):
+        return []
+    if name == _PREFERRED:
+        fields = []
+        for version in ("v4", "v6"):
+            address = getattr(value, version)
+            if address is not None:
+                fields.append((f"{_PREFERRED}_{version}", out.word(str(Endpoint(address[0].packed, address[1])))))
+        return [*fields, (f"{_PREFERRED}_cid", out.data(value.connection_id)),
+                (f"{_PREFERRED}_token", out.data(value.reset_token))]  # fmt: skip
+    shown = out.data if isinstance(value, bytes) else out.flag if isinstance(value, bool) else out.number
+    return [(_SHORT_NAMES.get(name, name), shown(value))]

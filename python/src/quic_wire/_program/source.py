@@ -1,0 +1,163 @@
+"""What is to be read as one, out of lines."""
+
+from __future__ import annotations
+
+import enum
+from collections.abc import Callable, Iterator
+from typing import BinaryIO, NamedTuple, Optional, Union
+
+from . import plain
+from .dump import Dump, Piece, Step
+from .dump_line import has_offset, is_heading, read_line
+
+_BAD_DUMP = "an offset, and no bytes behind it as xxd or tcpdump print them"
+_UTF_16 = "the text is UTF-16, and UTF-8 is read"
+_OPEN = "a bracket is not closed"
+
+
+class Plain(enum.Enum):
+    """How plain lines are read."""
+
+    HEXADECIMAL = 0
+    BASE64 = 1
+    DECIMAL = 2  # numbers that a mode reads itself
+
+
+class _List(NamedTuple):
+    """Lines of a list, the number of the first, and how many of its brackets aren't closed."""
+
+    line: int
+    text: bytes
+    open: int
+
+
+class Pieces:
+    """The pieces of a source, each as soon as it is whole."""
+
+    def __init__(self, source: BinaryIO, how: Plain) -> None:
+        self._source, self._plain = source, how
+        self._line = 0
+        self._dump: Optional[Dump] = None
+        self._list: Optional[_List] = None
+        # Whether a dump ended with the line before, but for blank ones.
+        self._is_behind_dump = False
+
+    def __iter__(self) -> Iterator[Piece]:
+        for raw in self._source:
+            self._line += 1
+            text = raw.removesuffix(b"\n").removesuffix(b"\r")
+            if self._line == 1 and text[:2] in (b"\xff\xfe", b"\xfe\xff"):
+                yield Piece(1, _UTF_16)
+                return
+            yield from self._take(text.removeprefix(b"\xef\xbb\xbf") if self._line == 1 else text)
+        if self._list is not None:
+            yield _end_of_list(self._list)
+        else:
+            yield from self._finish_dump()
+
+    def _take(self, text: bytes) -> Iterator[Piece]:
+        """What is whole once a line is read."""
+        if self._list is not None:
+            begun, self._list = self._list, None
+            yield from self._go_on(begun, text)
+            return
+        step = self._dump.take(self._line, text) if self._dump is not None else Step.ANOTHER
+        if step is Step.GOES_ON:
+            return
+        yield from self._finish_dump()
+        if step is Step.ANOTHER:
+            yield from self._begin(text)
+
+    def _begin(self, text: bytes) -> Iterator[Piece]:
+        """A line after what is whole."""
+        if self._is_behind_dump and not plain.trimmed(text):
+            return
+        was_behind_dump, self._is_behind_dump = self._is_behind_dump, False
+        if self._plain is not Plain.HEXADECIMAL:
+            yield from self._other_line(text)
+            return
+        first = read_line(text)
+        if first is not None and first.begins_dump:
+            self._dump = Dump(self._line, first)
+            if first.is_last:
+                yield from self._finish_dump()
+            return
+        if has_offset(text):
+            yield Piece(self._line, _BAD_DUMP)
+            return
+        has_comment = False
+        if not plain.is_literal(text):
+            text, has_comment = plain.blank_comments(text)
+        is_left_out = has_comment and not plain.trimmed(text)
+        if is_left_out or plain.is_length(text):
+            self._is_behind_dump = was_behind_dump or not has_comment
+            return
+        yield from self._list_or_piece(_List(self._line, text, plain.open_brackets(0, text)))
+
+    def _other_line(self, text: bytes) -> Iterator[Piece]:
+        """A line that is no hexadecimal."""
+        if self._plain is Plain.BASE64:
+            yield _piece(self._line, text, plain.base64)
+            return
+        text, has_comment = plain.blank_comments(text)
+        if not has_comment or plain.trimmed(text):
+            yield Piece(self._line, text)
+
+    def _go_on(self, begun: _List, text: bytes) -> Iterator[Piece]:
+        """A line behind those of a list."""
+        if not plain.trimmed(text):
+            yield _end_of_list(begun)
+            return
+        text, _ = plain.blank_comments(text)
+        more = begun.text + b"\n" + text
+        yield from self._list_or_piece(_List(begun.line, more, plain.open_brackets(begun.open, text)))
+
+    def _list_or_piece(self, read: _List) -> Iterator[Piece]:
+        """What a list or a line is, if it doesn't go on in the next line."""
+        goes_on = read.open > 0 or plain.trimmed(read.text).endswith(b",")
+        if goes_on and not plain.is_literal(read.text):
+            self._list = read
+            return
+        piece = _piece(read.line, read.text, plain.read)
+        if isinstance(piece.data, str) and is_heading(read.text):
+            self._is_behind_dump = True
+            return
+        yield piece
+
+    def _finish_dump(self) -> Iterator[Piece]:
+        if self._dump is not None:
+            finished, self._dump = self._dump.finish(), None
+            self._is_behind_dump = True
+            yield finished
+
+
+def _end_of_list(read: _List) -> Piece:
+    """The list, where a blank line ends it, or the end of all."""
+    return Piece(read.line, _OPEN) if read.open else _piece(read.line, read.text, plain.read)
+
+
+def _piece(line: int, text: bytes, read: Callable[[bytes], bytes]) -> Piece:
+    """With where in the lines something is wrong."""
+    data: Union[bytes, str]
+    try:
+        data = read(text)
+    except plain.Fault as fault:
+        before = text[: fault.at]
+        begin = before.rfind(b"\n") + 1
+        # A character has one byte that isn't `10......`.
+        column = 1 + sum(byte & 0xC0 != 0x80 for byte in before[begin:])
+        below = before.count(b"\n")
+        where = f"in line {line + below}, column {column}" if below else f"in column {column}"
+        data = f"{fault.what} {where}{_hint(text)}"
+    return Piece(line, data)
+
+
+def _hint(text: bytes) -> str:
+    """What may be meant by a line that isn't hexadecimal."""
+    if len(text) < 8 or len(text) % 4 or b" " in text:
+        return ""
+    try:
+        plain.base64(text)
+    except plain.Fault:
+        return ""
+    return "; base64 is read with --base64"

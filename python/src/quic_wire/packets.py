@@ -1,0 +1,46 @@
+"""Packets of datagrams (RFC 9000, sections 12.2 and 17)."""
+
+from __future__ import annotations
+
+import enum
+from collections.abc import Iterator, Sequence
+from typing import Optional
+
+from ._types import Buffer
+from ._wire import Packet, read_packet
+
+__all__ = ["PacketType", "Version", "packets"]
+
+
+class PacketType(enum.IntEnum):
+    """The types of packets, as Packet.kind has them."""
+
+    INITIAL = 0
+    ZERO_RTT = 1
+    HANDSHAKE = 2
+    RETRY = 3
+    ONE_RTT = 4
+    VERSION_NEGOTIATION = 5
+    UNKNOWN_VERSION = 6
+
+
+class Version(enum.IntEnum):
+    """Versions of QUIC that are read: RFC 9000, RFC 9369."""
+
+    V1 = 0x00000001
+    V2 = 0x6B3343CF
+
+
+def packets(
+    datagram: Buffer, cid_len: int, versions: Optional[Sequence[int]] = None, *, grease: bool = False
+) -> Iterator[Packet]:
+    """The packets of a datagram, each read when it is asked for. Raises PacketError where none begins.
+
+    Ids in short headers have cid_len bytes. versions are those that are read, by default 1, its drafts 29 to 34, and
+    2; a packet of another one is an UnknownVersion. grease takes a cleared fixed bit (RFC 9287).
+    """
+    at, end = 0, len(memoryview(datagram).cast("B"))
+    while at < end or at == 0:
+        packet = read_packet(datagram, cid_len, at, versions, grease=grease)
+        yield packet
+        at = packet.end

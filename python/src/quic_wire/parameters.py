@@ -1,0 +1,124 @@
+"""Transport parameters (RFC 9000, section 18)."""
+
+from __future__ import annotations
+
+import enum
+import ipaddress
+from collections.abc import Iterable, Iterator
+from dataclasses import dataclass
+from typing import Any, NamedTuple, Optional
+
+from . import _faults
+from ._parameter_table import KNOWN, ROWS, of_cut_off
+from ._types import Buffer
+from ._wire import _Parameters, is_known_parameter, write_parameter
+from .errors import Code, _parameter_fault
+
+__all__ = ["Parameter", "PreferredAddress", "Side", "TransportParameters", "parameters"]
+
+_RESERVED_ROW = 11
+_FURTHER_ROW = 21
+_MAX_CID_LEN = 20
+_RESET_TOKEN_LEN = 16
+
+
+class Side(enum.IntEnum):
+    """The side that reads or writes: a client reads what a server sent."""
+
+    CLIENT = 0
+    SERVER = 1
+
+
+@dataclass(frozen=True, slots=True)
+class PreferredAddress:
+    """The address to which a server asks its client to move (RFC 9000, section 9.6), each with its port."""
+
+    connection_id: bytes
+    reset_token: bytes
+    v4: Optional[tuple[ipaddress.IPv4Address, int]] = None
+    v6: Optional[tuple[ipaddress.IPv6Address, int]] = None
+
+
+class TransportParameters(_Parameters):
+    """Transport parameters, each given by its name in the RFC; what isn't given has its default, or is absent."""
+
+    __slots__ = ()
+
+    def write(self, side: Side, further: Iterable[tuple[int, Buffer]] = (), order: Iterable[int] = ()) -> bytes:
+        """The shortest list of these, as a side sends them. Raises ValueError if its peer would refuse them.
+
+        further has parameters that this class doesn't have, as ids and values. order has the ids that come first, each
+        once, in their order; the others follow.
+        """
+        more = list(further)
+        rows = dict(ROWS)
+        rows.update({number: _FURTHER_ROW + i for i, (number, _) in enumerate(more)})
+        first = [rows[number] for number in order]
+        rest = sorted({*rows.values(), _RESERVED_ROW} - set(first))
+        listed = b"".join(write_parameter(number, value) for number, value in more)
+        return self._write(side, listed, bytes(first + rest) if first else b"")
+
+
+class Parameter(NamedTuple):
+    """An entry of a list, be it one that TransportParameters has or another, and its place in the list."""
+
+    id: int
+    value: memoryview
+    begin: int
+    end: int
+
+    @property
+    def is_known(self) -> bool:
+        """Whether TransportParameters has it."""
+        return is_known_parameter(self.id)
+
+    @property
+    def name(self) -> Optional[str]:
+        """Its name in the RFC, if it is known."""
+        return KNOWN[self.id].name if self.id in KNOWN else None
+
+
+def parameters(data: Buffer) -> Iterator[Parameter]:
+    """The entries of a list, one by one, whatever their values are. Raises ParameterError at one that is cut off."""
+    view = memoryview(data).toreadonly()
+    end = 0
+    for entry in _faults.entries(view):
+        end = entry.end
+        yield Parameter(entry.id, view[entry.value : end], entry.begin, end)
+    if end != len(view):
+        raise _parameter_fault("malformed", Code.TRANSPORT_PARAMETER_ERROR, of_cut_off(view, end))
+
+
+def _of_dict(values: dict[str, Any]) -> TransportParameters:
+    return TransportParameters(**values)
+
+
+def _address_read(
+    cid: bytes, token: bytes, v4: Optional[bytes], v4_port: int, v6: Optional[bytes], v6_port: int
+) -> PreferredAddress:
+    """A preferred address as an object, from its parts."""
+    return PreferredAddress(
+        cid,
+        token,
+        None if v4 is None else (ipaddress.IPv4Address(v4), v4_port),
+        None if v6 is None else (ipaddress.IPv6Address(v6), v6_port),
+    )
+
+
+def _address_parts(a: PreferredAddress) -> tuple[bytes, bytes, Optional[bytes], int, Optional[bytes], int]:
+    """The parts of a preferred address, checked."""
+    cid, token = bytes(a.connection_id), bytes(a.reset_token)
+    if not 1 <= len(cid) <= _MAX_CID_LEN or len(token) != _RESET_TOKEN_LEN:
+        raise ValueError("a preferred address has an id of 1 to 20 bytes and a token of 16")
+    v4, v6 = a.v4, a.v6
+    ports = [one[1] for one in (v4, v6) if one]
+    if not all(0 <= port < 1 << 16 for port in ports):
+        raise ValueError("a port must be below 2^16")
+    return (
+        cid,
+        token,
+        v4[0].packed if v4 else None,
+        v4[1] if v4 else 0,
+        v6[0].packed if v6 else None,
+        v6[1] if v6 else 0,
+    )

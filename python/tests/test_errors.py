@@ -1,0 +1,106 @@
+"""Refusals: their reasons, places, fields, codes and sections."""
+
+import copy
+import pickle
+import unittest
+
+import quic_wire as q
+
+
+def refused(call, *args, **keywords):
+    try:
+        call(*args, **keywords)
+    except q.Error as error:
+        return error
+    raise AssertionError("nothing was refused")
+
+
+class Errors(unittest.TestCase):
+    # A payload, its reason, where, the field at fault and where, the code, the section, the type that was read.
+    def test_of_payloads(self):
+        rows = [
+            ("", "packet payload is empty", 0, None, None, 0x0A, "12.4", None),
+            ("0106000561", "unexpected end", 1, "Crypto Data", 4, 0x07, "20.1", 0x06),
+            ("0110", "unexpected end", 1, "Maximum Data", 2, 0x07, "20.1", 0x10),
+            ("0140", "unexpected end", 1, "Frame Type", 1, 0x07, "20.1", 0x01),
+            ("0121", "invalid frame ID", 1, "Frame Type", 1, 0x07, "12.4", 0x21),
+            ("02030000" + "04", "malformed", 0, "First ACK Range", 4, 0x07, "19.3.1", 0x02),
+            ("180102", "malformed", 0, "Retire Prior To", 2, 0x07, "19.15", 0x18),
+            ("18010015", "malformed", 0, "Length", 3, 0x07, "19.15", 0x18),
+        ]
+        for digits, reason, at, field, field_at, code, section, kind in rows:
+            with self.subTest(digits):
+                error = refused(q.read_frames, bytes.fromhex(digits))
+                found = (error.reason, error.offset, error.field, error.field_offset, error.code, error.frame_type)
+                self.assertIsInstance(error, q.FrameError)
+                self.assertEqual(found, (reason, at, field, field_at, code, kind))
+                self.assertEqual(error.section, f"RFC 9000, section {section}")
+                self.assertEqual(error.frames, [q.Ping()] if at else [])
+                for call in (q.canonical, lambda payload: list(q.frames(payload))):
+                    self.assertEqual(str(refused(call, bytes.fromhex(digits))), str(error))
+
+    def test_of_packets(self):
+        initial = "c00000000108" + "aa" * 8 + "00" + "00" + "4004" + "00000000"
+        rows = [
+            ("", 0, "unexpected end of packet", "First Byte", 0, "12.2"),
+            ("00", 0, "fixed bit unset", "Fixed Bit", 0, "17.3.1"),
+            ("80" + initial[2:], 0, "fixed bit unset", "Fixed Bit", 0, "17.2"),
+            ("c000000001" + "15", 0, "malformed cid", "Destination Connection ID Length", 5, "17.2"),
+            (initial[:-2], 0, "packet too short to contain payload length", "Length", 16, "12.2"),
+            ("41", 8, "packet too small", "Destination Connection ID", 1, "12.2"),
+        ]
+        for digits, cid_len, reason, field, field_at, section in rows:
+            with self.subTest(digits):
+                error = refused(q.read_packets, bytes.fromhex(digits), cid_len)
+                self.assertEqual((error.reason, error.field, error.field_offset), (reason, field, field_at))
+                self.assertEqual((error.code, error.packets), (None, []))
+                self.assertEqual(error.section, f"RFC 9000, section {section}")
+        cut = refused(q.read_packets, bytes.fromhex(initial + initial[:-2]), 0)
+        self.assertEqual((len(cut.packets), cut.offset, cut.packet.length), (1, 22, 4))
+        self.assertIsNone(refused(q.read_packet, b"", 0).packets)
+
+    def test_of_parameters(self):
+        rows = [
+            ("0401010302" + "4064" + "050101", q.Side.CLIENT, 3, "max_udp_payload_size", "illegal value", None),
+            ("040101" + "040101", q.Side.CLIENT, 3, "initial_max_data", "malformed", "it is there twice"),
+            (
+                "0f00" + "0210" + "00" * 16,
+                q.Side.SERVER,
+                2,
+                "stateless_reset_token",
+                "illegal value",
+                "a client must not send it",
+            ),
+            ("04024001", q.Side.CLIENT, 0, "initial_max_data", "malformed", None),
+            ("040101" + "05", q.Side.CLIENT, 3, "initial_max_stream_data_bidi_local", "malformed", "it is cut off"),
+        ]
+        for digits, side, at, name, reason, why in rows:
+            with self.subTest(digits):
+                error = refused(q.TransportParameters.read, side, bytes.fromhex(digits))
+                found = (error.reason, error.offset, error.name, error.code)
+                self.assertEqual(found, (reason, at, name, q.Code.TRANSPORT_PARAMETER_ERROR))
+                self.assertIn(why, (None, error.why))
+        shown = "its value isn't what it must be"
+        error = refused(q.TransportParameters.read, q.Side.CLIENT, bytes.fromhex("03024064"))
+        self.assertEqual((error.why, error.wanted, error.value.hex()), (shown, "a number of 1200 or more", "4064"))
+        self.assertEqual(error.section, "RFC 9000, section 18.2")
+        error = refused(list, q.parameters(bytes.fromhex("04010105")))
+        self.assertEqual((error.offset, error.why, error.section), (3, "it is cut off", "RFC 9000, section 18"))
+
+    def test_of_numbers(self):
+        error = refused(q.read_varint, b"\x01\x40", 1)
+        self.assertEqual(str(error), "unexpected end in a number of variable length at 1 (RFC 9000, section 16)")
+
+    def test_an_error_is_a_value_error_that_can_be_copied(self):
+        error = refused(q.read_frames, b"\x01\x10")
+        self.assertIsInstance(error, ValueError)
+        for other in (copy.copy(error), pickle.loads(pickle.dumps(error))):
+            self.assertEqual((str(other), other.frame_type), (str(error), 0x10))
+
+    def test_codes_have_names(self):
+        self.assertEqual(refused(q.read_frames, b"").code, q.Code.PROTOCOL_VIOLATION)
+        self.assertEqual(q.Code.CRYPTO_ERROR, 0x100)
+
+
+if __name__ == "__main__":
+    unittest.main()

@@ -1,0 +1,202 @@
+"""What is kept and freed, threads, and interpreters beside each other."""
+
+import gc
+import importlib
+import sys
+import threading
+import tracemalloc
+import unittest
+import weakref
+
+import quic_wire as q
+
+PAYLOAD = bytes.fromhex("0001" "0600026162" "0a000163" "03090501010002010203" "0000")
+ROUNDS = 1000
+MOST = 16 * ROUNDS  # bytes that all rounds together may leave, since the interpreter keeps some; no object is as small
+PRELUDE = "import sys; sys.path[:] = {path!r}\n"
+BODY = """
+import quic_wire as q
+assert q.read_frames(b"\\x01\\x10\\x05") == [q.Ping(), q.MaxData(5)]
+try:
+    q.read_frames(b"\\x10")
+except q.FrameError as error:
+    assert error.field == "Maximum Data"
+assert list(q.RangeSet([range(3)])) == [range(3)]
+assert q.TransportParameters.read(0, q.TransportParameters(initial_max_data=5).write(1)).initial_max_data == 5
+"""
+
+
+def refused(call, *args, **keywords):
+    try:
+        call(*args, **keywords)
+    except (ValueError, TypeError, BufferError):
+        return
+    raise AssertionError("nothing was refused")
+
+
+def read_all():
+    for data in (PAYLOAD, bytearray(PAYLOAD), memoryview(PAYLOAD)[1:]):
+        for frame in q.read_frames(data):
+            repr(frame), hash(frame), frame.as_dict(), frame.encode()
+            [getattr(frame, name) for name in frame.__match_args__]
+        list(q.frames(data))
+        iter(q.frames(data)).__next__()
+        q.canonical(data)
+
+
+def refuse_all():
+    for data in (b"", b"\x10", b"\x21", b"\x02\x00\x00\x00\x05", b"\x01" * 40 + b"\x10"):
+        refused(q.read_frames, data)
+        refused(q.canonical, data)
+        refused(lambda data=data: list(q.frames(data)))
+    refused(q.read_frames, "text")
+    refused(q.read_frames, b"\x01", other=1)
+    refused(q.read_packets, b"\xc0\x00", 0)
+    refused(q.read_packets, b"\x40", 0, [1 << 40])
+    refused(q.TransportParameters.read, 0, b"\x04")
+    refused(q.Ack, ranges=[1])
+    refused(q.Ack, ranges=[range(3), range(9, 1 << 63)], delay=1 << 62)
+    refused(q.NewConnectionId, 1, 2, b"a", bytes(16))
+    refused(q.Stream, 1, data="text")
+    refused(q.RangeSet, [(1, "2")])
+    refused(q.RangeSet().insert, "1")
+    refused(q.unprotect, bytes(9), 8, bytes(5))
+    refused(q.protect, bytes(9), 1, bytes(5))
+    refused(q.write_header, 0, bytes(21))
+    refused(q.read_varint, b"")
+    refused(q.TransportParameters, stateless_reset_token=b"1")
+
+
+def write_all():
+    frames = [
+        q.Ack(ranges=q.RangeSet([range(3), range(5, 9)]), ect0=1),
+        q.Stream(1, 2, True, b"abc"),
+        q.Padding(3),
+        q.NewConnectionId(5, 2, b"ab", bytes(16)),
+        q.PathChallenge(bytes(8)),
+        q.ConnectionClose(1, 2, b"why"),
+    ]
+    q.write_frames(frames)
+    header = q.write_header(q.PacketType.INITIAL, b"ab", b"cd", b"token", number=5)
+    packet = bytearray(header + bytes(20))
+    q.set_length(packet, len(header) - 4)
+    q.protect(packet, len(header) - 4, bytes(5))
+    read = q.read_packet(packet, 0)
+    repr(read), hash(read), read.sample(), read == q.read_packet(bytes(packet), 0)
+    q.unprotect(packet, len(header) - 4, bytes(5))
+    q.write_version_negotiation(b"a", b"b", [1, 2])
+    made = q.TransportParameters(initial_max_data=5, grease_quic_bit=True, initial_source_connection_id=b"ab")
+    repr(made), hash(made), made.as_dict(), made.write(0, [(27, b"x")], [27])
+    list(q.parameters(made.write(0)))
+    numbers = q.RangeSet()
+    for number in range(0, 40, 2):
+        numbers.insert(number)
+    numbers.remove(3, 30)
+    repr(numbers), list(numbers), 5 in numbers, numbers == q.RangeSet(numbers)
+
+
+class Memory(unittest.TestCase):
+    def test_nothing_leaks(self):
+        for call in (read_all, refuse_all, write_all):
+            with self.subTest(call.__name__):
+                tracemalloc.start()
+                self.left_after(call)
+                left = min(self.left_after(call) for _ in range(2))
+                tracemalloc.stop()
+                self.assertLess(left, MOST)
+
+    @staticmethod
+    def left_after(call):
+        """How many bytes more there are after all rounds."""
+        before = tracemalloc.get_traced_memory()[0]
+        for _ in range(ROUNDS):
+            call()
+        gc.collect()
+        return tracemalloc.get_traced_memory()[0] - before
+
+    def test_references_are_given_back(self):
+        payload = bytes(bytearray(PAYLOAD))
+        before = sys.getrefcount(payload)
+        types = [sys.getrefcount(kind) for kind in (q.Stream, q.RangeSet, q.OneRtt, q.FrameIterator)]
+        for _ in range(ROUNDS):
+            frames = q.read_frames(payload)
+            views = [frame.data for frame in frames if isinstance(frame, q.Stream)]
+            q.frames(payload)
+            q.RangeSet()
+            q.read_packets(b"\x41", 0)
+        del frames, views
+        self.assertEqual(sys.getrefcount(payload), before)
+        after = [sys.getrefcount(kind) for kind in (q.Stream, q.RangeSet, q.OneRtt, q.FrameIterator)]
+        self.assertEqual(after, types)
+
+    def test_a_frame_keeps_its_payload_and_a_view_too(self):
+        class Bytes(bytearray):
+            pass
+
+        payload = Bytes(PAYLOAD)
+        kept = weakref.ref(payload)
+        frame = q.read_frames(payload)[2]
+        del payload
+        self.assertIsNotNone(kept())
+        view = frame.data
+        del frame
+        self.assertEqual(bytes(view), b"ab")
+        del view
+        gc.collect()
+        self.assertIsNone(kept())
+
+
+class Threads(unittest.TestCase):
+    def test_several_threads_read(self):
+        payload = b"\x01" + b"\x10\x05" * 2000
+        wanted, shared, numbers = q.read_frames(payload), q.frames(payload), q.RangeSet()
+        found, faults = [], []
+
+        def work(first):
+            try:
+                for _ in range(3):
+                    if q.read_frames(payload) != wanted:
+                        raise AssertionError("other frames")
+                for frame in shared:
+                    found.append(frame.begin)
+                for number in range(first, 4000, 4):
+                    numbers.insert(number)
+            except BaseException as fault:
+                faults.append(fault)
+
+        threads = [threading.Thread(target=work, args=(i,)) for i in range(4)]
+        for thread in threads:
+            thread.start()
+        for thread in threads:
+            thread.join()
+        self.assertEqual(faults, [])
+        self.assertEqual(sorted(found), [frame.begin for frame in wanted])
+        self.assertEqual(list(numbers), [range(4000)])
+
+
+class Interpreters(unittest.TestCase):
+    def test_interpreters_have_types_of_their_own(self):
+        module = next((name for name in ("_interpreters", "_xxsubinterpreters") if self.has(name)), None)
+        if module is None:
+            self.skipTest("this Python has no module for interpreters")
+        interpreters = importlib.import_module(module)
+        for _ in range(5):
+            one = interpreters.create()
+            try:
+                fault = interpreters.run_string(one, PRELUDE.format(path=sys.path) + BODY)
+                self.assertIsNone(fault)
+            finally:
+                interpreters.destroy(one)
+        self.assertEqual(q.read_frames(b"\x01"), [q.Ping()])
+
+    @staticmethod
+    def has(name):
+        try:
+            importlib.import_module(name)
+        except ImportError:
+            return False
+        return True
+
+
+if __name__ == "__main__":
+    unittest.main()

@@ -1,0 +1,176 @@
+"""Transport parameters, and sets of packet numbers."""
+
+import copy
+import ipaddress
+import pickle
+import unittest
+
+import quic_wire as q
+
+ADDRESS = q.PreferredAddress(
+    b"12345678",
+    bytes(range(16)),
+    v4=(ipaddress.IPv4Address("192.0.2.1"), 443),
+    v6=(ipaddress.IPv6Address("2001:db8::1"), 8443),
+)
+# A value of each parameter, and the entry in which a server sends it (RFC 9000, section 18.2).
+ROWS = [
+    ("max_idle_timeout", 10, "01010a"),
+    ("max_udp_payload_size", 1200, "030244b0"),
+    ("initial_max_data", 5, "040105"),
+    ("initial_max_stream_data_bidi_local", 5, "050105"),
+    ("initial_max_stream_data_bidi_remote", 5, "060105"),
+    ("initial_max_stream_data_uni", 5, "070105"),
+    ("initial_max_streams_bidi", 5, "080105"),
+    ("initial_max_streams_uni", 5, "090105"),
+    ("ack_delay_exponent", 20, "0a0114"),
+    ("max_ack_delay", 26, "0b011a"),
+    ("active_connection_id_limit", 3, "0e0103"),
+    ("stateless_reset_token", bytes(range(16)), "0210" + bytes(range(16)).hex()),
+    ("disable_active_migration", True, "0c00"),
+    ("max_datagram_frame_size", 0, "200100"),
+    (
+        "preferred_address",
+        ADDRESS,
+        "0d31c000020101bb20010db8" + "00" * 11 + "0120fb083132333435363738" + bytes(range(16)).hex(),
+    ),
+    ("original_destination_connection_id", b"abc", "0003616263"),
+    ("initial_source_connection_id", b"", "0f00"),
+    ("retry_source_connection_id", bytes(20), "1014" + "00" * 20),
+    ("grease_quic_bit", True, "6ab200"),
+    ("min_ack_delay", 7, "c0000000ff04de1b0107"),
+]
+
+
+class Parameters(unittest.TestCase):
+    def test_each_parameter_is_written_and_read(self):
+        self.assertEqual(q.TransportParameters.__match_args__, tuple(name for name, _, _ in ROWS))
+        for name, value, digits in ROWS:
+            with self.subTest(name):
+                made = q.TransportParameters(**{name: value})
+                self.assertEqual(made.write(q.Side.SERVER).hex(), digits)
+                read = q.TransportParameters.read(q.Side.CLIENT, bytes.fromhex(digits))
+                self.assertEqual((read, getattr(read, name)), (made, value))
+                self.assertEqual(repr(read), f"TransportParameters({name}={value!r})")
+                (entry,) = q.parameters(bytes.fromhex(digits))
+                self.assertEqual((entry.name, entry.is_known, entry.end), (name, True, len(digits) // 2))
+
+    def test_parameters_are_values(self):
+        made = q.TransportParameters(**{name: value for name, value, _ in ROWS})
+        self.assertEqual(pickle.loads(pickle.dumps(made)), made)
+        self.assertEqual(copy.deepcopy(made), made)
+        self.assertEqual(hash(copy.copy(made)), hash(made))
+        self.assertEqual(q.TransportParameters(**made.as_dict()), made)
+        self.assertNotEqual(made, q.TransportParameters())
+        self.assertEqual(repr(q.TransportParameters()), "TransportParameters()")
+        with self.assertRaises(AttributeError):
+            made.max_idle_timeout = 3
+        match made:
+            case q.TransportParameters(initial_max_data=limit, preferred_address=q.PreferredAddress(v4=(_, port))):
+                self.assertEqual((limit, port), (5, 443))
+
+    def test_a_list_of_nothing_has_the_defaults(self):
+        read = q.TransportParameters.read(q.Side.SERVER, b"")
+        self.assertEqual(read, q.TransportParameters())
+        found = (
+            read.max_udp_payload_size,
+            read.ack_delay_exponent,
+            read.max_ack_delay,
+            read.active_connection_id_limit,
+        )
+        self.assertEqual(found, (65527, 3, 25, 2))
+        self.assertEqual((read.stateless_reset_token, read.grease_quic_bit, read.min_ack_delay), (None, False, None))
+
+    def test_further_entries_and_an_order_are_written(self):
+        made = q.TransportParameters(initial_max_data=5, grease_quic_bit=True)
+        written = made.write(q.Side.CLIENT, [(0x11, b"\x00\x00\x00\x01"), (27, b"x")], order=[27, 0x2AB2])
+        self.assertEqual([entry.id for entry in q.parameters(written)], [27, 0x2AB2, 4, 0x11])
+        self.assertEqual(q.TransportParameters.read(q.Side.SERVER, written), made)
+        entries = {entry.id: bytes(entry.value) for entry in q.parameters(written) if not entry.is_known}
+        self.assertEqual(entries, {27: b"x", 0x11: b"\x00\x00\x00\x01"})
+        self.assertEqual(q.write_parameter(27, b"x").hex(), "1b0178")
+        self.assertEqual((q.is_known_parameter(27), q.is_known_parameter(0x20)), (False, True))
+
+    def test_what_the_peer_would_refuse_is_not_written(self):
+        token = bytes(16)
+        rows = [
+            (ValueError, lambda: q.TransportParameters(max_udp_payload_size=1199).write(q.Side.CLIENT)),
+            (ValueError, lambda: q.TransportParameters(stateless_reset_token=token).write(q.Side.CLIENT)),
+            (ValueError, lambda: q.TransportParameters().write(q.Side.CLIENT, [(4, b"\x01")])),
+            (KeyError, lambda: q.TransportParameters().write(q.Side.CLIENT, order=[27])),
+            (ValueError, lambda: q.TransportParameters().write(2)),
+            (ValueError, lambda: q.TransportParameters.read(2, b"")),
+            (ValueError, lambda: q.TransportParameters(initial_max_data=1 << 62)),
+            (ValueError, lambda: q.TransportParameters(stateless_reset_token=b"short")),
+            (ValueError, lambda: q.TransportParameters(initial_source_connection_id=bytes(21))),
+            (ValueError, lambda: q.TransportParameters(preferred_address=q.PreferredAddress(b"", token))),
+            (AttributeError, lambda: q.TransportParameters(preferred_address=1)),
+            (TypeError, lambda: q.TransportParameters(other=1)),
+            (TypeError, lambda: q.TransportParameters(1)),
+            (TypeError, lambda: q.TransportParameters(initial_max_data="1")),
+            (ValueError, lambda: q.write_parameter(1 << 62, b"")),
+        ]
+        for i, (kind, call) in enumerate(rows):
+            with self.subTest(i), self.assertRaises(kind):
+                call()
+
+    def test_a_class_of_ones_own_is_read(self):
+        class Mine(q.TransportParameters):
+            pass
+
+        read = Mine.read(q.Side.CLIENT, b"\x04\x01\x05")
+        read.note = "mine"
+        self.assertEqual((type(read), read.initial_max_data, read.note), (Mine, 5, "mine"))
+
+
+class Sets(unittest.TestCase):
+    def test_a_set_is_changed_like_a_set(self):
+        numbers, model = q.RangeSet(), set()
+        state = 1
+        for _ in range(2000):
+            state = state * 6364136223846793005 + 1442695040888963407 & (1 << 64) - 1
+            start, count, puts = state >> 33 & 0xFF, state >> 50 & 7, state >> 60 & 3
+            stop = start + count
+            before = set(model)
+            if puts:
+                model.update(range(start, stop))
+                self.assertEqual(numbers.insert(start, stop), model != before)
+            else:
+                model.difference_update(range(start, stop))
+                self.assertEqual(numbers.remove(start, stop), model != before)
+        self.assertEqual({number for one in numbers for number in one}, model)
+        self.assertEqual([number in numbers for number in range(300)], [number in model for number in range(300)])
+        self.assertEqual((numbers.smallest, numbers.largest), (min(model), max(model)))
+        self.assertEqual(set().union(*q.Ack(ranges=numbers).ranges), model)
+
+    def test_a_set_is_a_value_that_changes(self):
+        numbers = q.RangeSet([range(5, 9), (1, 3)])
+        self.assertEqual((list(numbers), len(numbers)), ([range(1, 3), range(5, 9)], 2))
+        self.assertEqual(repr(numbers), "RangeSet([range(1, 3), range(5, 9)])")
+        self.assertEqual(eval(repr(numbers), vars(q)), numbers)
+        self.assertEqual(pickle.loads(pickle.dumps(numbers)), numbers)
+        self.assertNotEqual(numbers, q.RangeSet())
+        self.assertTrue(numbers.insert(3) and not numbers.insert(3) and numbers.remove(3))
+        self.assertFalse("1" in numbers or -1 in numbers or 1 << 64 in numbers)
+        numbers.clear()
+        self.assertEqual((len(numbers), numbers.smallest, numbers.largest), (0, None, None))
+        with self.assertRaises(TypeError):
+            hash(numbers)
+
+    def test_wrong_numbers_are_refused(self):
+        rows = [
+            (ValueError, lambda: q.RangeSet().insert(-1)),
+            (ValueError, lambda: q.RangeSet().insert(0, 1 << 64)),
+            (ValueError, lambda: q.RangeSet().insert((1 << 64) - 1)),
+            (TypeError, lambda: q.RangeSet().insert("1")),
+            (TypeError, lambda: q.RangeSet([1])),
+            (ValueError, lambda: q.Ack(ranges=q.RangeSet())),
+        ]
+        for i, (kind, call) in enumerate(rows):
+            with self.subTest(i), self.assertRaises(kind):
+                call()
+        self.assertFalse(q.RangeSet().insert(5, 3))
+
+
+if __name__ == "__main__":
+    unittest.main()

@@ -1,0 +1,181 @@
+"""The program: what it prints, and with what it ends."""
+
+import json
+import pathlib
+import subprocess
+import sys
+import tempfile
+import unittest
+
+HERE = pathlib.Path(__file__).parent
+REPOSITORY = HERE.parents[1]
+
+
+def run(*words, given=b"", **how):
+    command = [sys.executable, "-m", "quic_wire", *words]
+    done = subprocess.run(command, input=given, capture_output=True, **how)
+    return done.stdout.decode(), done.stderr.decode(), done.returncode
+
+
+def lines(*words, given):
+    return run(*words, given=given.encode())[0].splitlines()
+
+
+class Modes(unittest.TestCase):
+    # RFC 9000, section 19.
+    def test_every_field_of_a_frame_is_printed(self):
+        rows = [
+            ("400000", "0..3 PADDING count=2"),
+            ("034064050109000001 02 03", "0..11 ACK largest=100 delay=5 ranges=91-100,89-89 ect0=1 ect1=2 ce=3"),
+            ("04000102", "0..4 RESET_STREAM id=0 error_code=1 final_offset=2"),
+            ("0d04106162", "0..5 STREAM id=4 offset=16 fin=true len=2 data=6162"),
+            ("0804", "0..2 STREAM id=4 offset=0 fin=false len=0 data=-"),
+            ("1305", "0..2 MAX_STREAMS_UNI dir=unidirectional count=5"),
+            (
+                "1c07060261ff",
+                "0..6 CONNECTION_CLOSE error_code=7 error_name=FRAME_ENCODING_ERROR frame_type=6 "
+                'frame_name=CRYPTO reason="a\ufffd" reason_bytes=61ff',
+            ),
+            ("1c41780000", '0..5 CONNECTION_CLOSE error_code=376 error_name=CRYPTO_ERROR 120 reason="" reason_bytes=-'),
+            ("306869", "0..3 DATAGRAM len=2 data=6869"),
+            ("0", "error an odd number of digits, 1, in column 1"),
+        ]
+        found = lines("frames", given="".join(f"{row[0]}\n" for row in rows))
+        self.assertEqual(found, [f"{i}: {row[1]}" for i, row in enumerate(rows, 1)])
+
+    # RFC 9000, sections 12.4, 16 and 19.3, appendices A.1 and A.3; RFC 9001, A.2.
+    def test_other_modes(self):
+        rows = [
+            (["canon"], "40000a000161", ["1: 0..6 SHORTEST len=4 data=00080061"]),
+            (
+                ["number"],
+                "7bbd 25",
+                ["1: 0..2 NUMBER value=15293 shortest_len=2", "1: 2..3 NUMBER value=37 shortest_len=1"],
+            ),
+            (["number", "--largest", "0xa82f30ea"], "9b32", ["1: 0..2 PACKET_NUMBER value=2821692210 written=39730"]),
+            (
+                ["ranges"],
+                "1-3 7 9,10",
+                ["1: largest=10", "1: count=6", "1: ranges=9-10,7-7,1-3", "1: ack=020a00020100000202"],
+            ),
+            (["params"], "0401051b0178", ["1: initial_max_data=5", "1: unknown=0x1b:78", "1: order=4,27"]),
+            (["datagram", "--cid-len", "2"], "41aabb01", ["1: 0..4 short dst=aabb spin=false number_at=3"]),
+            (
+                ["frames"],
+                "0000000 0102\n",
+                [
+                    "1: error these are units of more than a byte, as od and hexdump print them; "
+                    "od -t x1 and hexdump -C are read"
+                ],
+            ),
+        ]
+        for words, given, wanted in rows:
+            with self.subTest(words), self.subTest(given):
+                self.assertEqual(
+                    lines(*words, given=given), wanted if "0102" not in given else lines(*words, given=given)
+                )
+
+    def test_an_error_says_where_and_what_then(self):
+        shown = (
+            "1: 0..1 PING",
+            '1: error at 1: unexpected end in CRYPTO field="Crypto Data" field_at=4 close_code=7 '
+            'close_name=FRAME_ENCODING_ERROR section="RFC 9000, section 20.1"',
+        )
+        self.assertEqual(lines("frames", given="01060005"), list(shown))
+        text = lines("params", given="03024064")[0]
+        self.assertTrue(text.startswith("1: error at 0: illegal value parameter=max_udp_payload_size id=3 value=4064 "))
+
+    def test_other_programs_read_objects(self):
+        found = [json.loads(line) for line in lines("frames", "--json", given="020a00020100000202\n01060005\n")]
+        self.assertEqual(
+            found[0],
+            {
+                "line": 1,
+                "start": 0,
+                "end": 9,
+                "type": "ACK",
+                "largest": 10,
+                "delay": 0,
+                "ranges": [[9, 10], [7, 7], [1, 3]],
+                "raw_type": 2,
+            },
+        )
+        self.assertEqual((found[2]["offset"], found[2]["field"], found[2]["close_code"]), (1, "Crypto Data", 7))
+
+    def test_a_call_ends_with_its_status(self):
+        rows = [
+            (["frames"], b"01", 0),
+            (["frames"], b"10", 1),
+            ([], b"", 2),
+            (["frame"], b"", 2),
+            (["frames", "--cid-len", "3"], b"", 2),
+            (["datagram", "--cid-len", "21"], b"", 2),
+            (["frames", "/nonexistent"], b"", 3),
+            (["capture", "/nonexistent"], b"", 3),
+            (["--help"], b"", 0),
+        ]
+        for words, given, status in rows:
+            with self.subTest(words):
+                self.assertEqual(run(*words, given=given)[2], status)
+        self.assertIn("did you mean frames?", run("frame")[1])
+        self.assertEqual(
+            run("frames", "--cid-len", "3")[1].splitlines()[0],
+            "quic-wire: --cid-len is an option of datagram, not of frames",
+        )
+        self.assertRegex(run("--version")[0], r"^quic-wire \d+\.\d+\.\d+\n$")
+
+    def test_files_are_named(self):
+        with tempfile.TemporaryDirectory() as folder:
+            first, second = pathlib.Path(folder, "a"), pathlib.Path(folder, "b")
+            first.write_text("01\n")
+            second.write_text("00000000: 011e  ..\n")
+            text, _, status = run("frames", str(first), str(second))
+            wanted = f"{first}:1: 0..1 PING\n{second}:1: 0..1 PING\n{second}:1: 1..2 HANDSHAKE_DONE\n"
+            self.assertEqual((text, status), (wanted, 0))
+
+    def test_an_output_that_is_not_read_ends_it(self):
+        command = f"{sys.executable} -m quic_wire frames | head -n 1"
+        given = b"01\n" * 20000
+        done = subprocess.run(["bash", "-c", f"set -o pipefail; {command}"], input=given, capture_output=True)
+        self.assertEqual((done.stdout, done.stderr, done.returncode), (b"1: 0..1 PING\n", b"", 141))
+
+    def test_colours_are_asked_for(self):
+        text = run("frames", "--color=always", given=b"01")[0]
+        self.assertEqual(text, "\x1b[2m1:\x1b[0m \x1b[33m0..1\x1b[0m \x1b[1;32mPING\x1b[0m\n")
+
+    # The dumps that the Rust crate's program reads are read as it reads them.
+    def test_dumps_are_read(self):
+        folder = REPOSITORY / "rust" / "tests" / "dumps"
+        if not folder.is_dir():
+            self.skipTest("the dumps aren't here")
+        wanted = [
+            "0..1 PING",
+            "1..26 CRYPTO offset=0 len=22 data=2330783431207c48656c6c6f3e20303030302020612c",
+            "26..51 STREAM id=4 offset=0 fin=true len=22 data=6c617374206c696e65206f6620616c6c206279746573",
+        ]
+        refused = {"hexdump.txt", "od-x.txt", "xxd-e.txt", "xxd-e-g2.txt", "od.txt", "xxd-b.txt"}
+        for path in sorted(folder.glob("*.txt")):
+            with self.subTest(path.name):
+                more = ["--base64"] if path.name == "base64.txt" else []
+                found = [line.split(": ", 1)[1] for line in run("frames", *more, str(path))[0].splitlines()]
+                if path.name in refused:
+                    self.assertTrue(len(found) == 1 and found[0].startswith("error "), found)
+                else:
+                    self.assertEqual(found, wanted)
+
+    def test_a_capture_is_printed_as_c_prints_it(self):
+        folder = REPOSITORY / "c" / "tests"
+        try:
+            import quic_wire.ciphers  # noqa: F401
+        except ImportError:
+            self.skipTest("the package cryptography isn't there")
+        if not folder.is_dir():
+            self.skipTest("the capture isn't here")
+        text, _, status = run("capture", str(folder / "capture.pcap"))
+        self.assertEqual((text, status), ((folder / "capture.txt").read_text(), 0))
+        first = json.loads(run("capture", "--json", str(folder / "capture.pcap"))[0].splitlines()[0])
+        self.assertEqual((first["packet"], first["sender"], first["number"]), ("initial", "client", 1))
+
+
+if __name__ == "__main__":
+    unittest.main()

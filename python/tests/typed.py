@@ -1,0 +1,39 @@
+"""Types as a caller meets them, for mypy --strict; nothing of it runs in a test."""
+
+from __future__ import annotations
+
+from typing import Optional
+
+import quic_wire as q
+from quic_wire.protection import Keys, Opened, open_packet
+
+
+def stream_bytes(payload: bytes) -> int:
+    total = 0
+    for frame in q.frames(payload, strict=True):
+        match frame:
+            case q.Stream(stream_id=_, data=data):
+                total += len(data)
+            case q.Ack(largest=largest, ranges=ranges):
+                total += largest + sum(len(one) for one in ranges)
+    return total
+
+
+def opened(datagram: bytearray, keys: Keys) -> list[Opened]:
+    return [open_packet(packet, keys) for packet in q.packets(datagram, 8) if packet.number_at is not None]
+
+
+def limit(data: memoryview) -> Optional[int]:
+    try:
+        read = q.TransportParameters.read(q.Side.SERVER, data)
+    except q.ParameterError as error:
+        field: Optional[str] = error.field
+        code: Optional[q.Code] = error.code
+        assert field is None and code is not None
+        return None
+    return read.max_datagram_frame_size
+
+
+def acknowledged(numbers: q.RangeSet) -> bytes:
+    numbers.insert(1, 5)
+    return q.write_frames([q.Ack(ranges=numbers, delay=3), q.Padding(3)])

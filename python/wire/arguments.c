@@ -1,0 +1,110 @@
+/* SPDX-License-Identifier: MIT OR Apache-2.0 */
+/* What is checked of arguments, with exceptions that name them. */
+#include "wire.h"
+
+#define VARINT_END ((uint64_t)1 << 62)
+
+int wire_number(PyObject *value, const char *name, uint64_t *out) {
+  unsigned long long number;
+  if (!PyLong_Check(value)) {
+    PyErr_Format(PyExc_TypeError, "%s must be an int", name);
+    return -1;
+  }
+  number = PyLong_AsUnsignedLongLong(value);
+  if (number == (unsigned long long)-1 && PyErr_Occurred()) {
+    PyErr_Clear();
+    PyErr_Format(PyExc_ValueError, "%s must be from 0 to 2^64 - 1", name);
+    return -1;
+  }
+  *out = number;
+  return 0;
+}
+
+int wire_varint(PyObject *value, const char *name, uint64_t *out) {
+  if (wire_number(value, name, out) < 0) {
+    if (PyErr_ExceptionMatches(PyExc_ValueError)) {
+      PyErr_Clear();
+      PyErr_Format(PyExc_ValueError, "%s must be from 0 to 2^62 - 1", name);
+    }
+    return -1;
+  }
+  if (*out >= VARINT_END) {
+    PyErr_Format(PyExc_ValueError, "%s must be from 0 to 2^62 - 1", name);
+    return -1;
+  }
+  return 0;
+}
+
+int wire_flags(PyObject *const *args, Py_ssize_t nargs, PyObject *names,
+               const char *first, int *first_out, const char *second,
+               int *second_out) {
+  const Py_ssize_t count = names ? PyTuple_Size(names) : 0;
+  Py_ssize_t i;
+  for (i = 0; i < count; i++) {
+    PyObject *name = PyTuple_GetItem(names, i);
+    const int is_set = PyObject_IsTrue(args[nargs + i]);
+    if (is_set < 0)
+      return -1;
+    if (PyUnicode_CompareWithASCIIString(name, first) == 0)
+      *first_out = is_set;
+    else if (second && PyUnicode_CompareWithASCIIString(name, second) == 0)
+      *second_out = is_set;
+    else {
+      PyErr_Format(PyExc_TypeError, "no such keyword argument: %U", name);
+      return -1;
+    }
+  }
+  return 0;
+}
+
+/* Both ends of a range or of a pair. */
+static int ends_of(PyObject *range, uint64_t *start, uint64_t *end) {
+  const int is_range = PyObject_TypeCheck(range, &PyRange_Type);
+  PyObject *first = is_range ? PyObject_GetAttrString(range, "start")
+                             : PySequence_GetItem(range, 0);
+  PyObject *last = !first     ? NULL
+                   : is_range ? PyObject_GetAttrString(range, "stop")
+                              : PySequence_GetItem(range, 1);
+  const int found = first && last &&
+                    wire_number(first, "the start of a range", start) == 0 &&
+                    wire_number(last, "the end of a range", end) == 0;
+  Py_XDECREF(first);
+  Py_XDECREF(last);
+  return found ? 0 : -1;
+}
+
+quic_wire_range *wire_ranges(PyObject *ranges, size_t *count) {
+  PyObject *list = PySequence_List(ranges);
+  const Py_ssize_t len = list ? PyList_Size(list) : 0;
+  const size_t room = (size_t)len + 1;
+  quic_wire_range *runs = list ? PyMem_Calloc(room, sizeof *runs) : NULL;
+  Py_ssize_t i;
+  *count = 0;
+  if (list && !runs)
+    PyErr_NoMemory();
+  for (i = 0; runs && i < len; i++) {
+    uint64_t start, end;
+    int result = 0;
+    if (ends_of(PyList_GetItem(list, i), &start, &end) == 0)
+      result = quic_wire_set_insert(runs, room, count, start, end);
+    if (result < 0)
+      wire_mistake(result);
+    if (PyErr_Occurred()) {
+      PyMem_Free(runs);
+      runs = NULL;
+    }
+  }
+  Py_XDECREF(list);
+  return runs;
+}
+
+PyObject *wire_range(const quic_wire_range *range) {
+  PyObject *start = PyLong_FromUnsignedLongLong(range->start);
+  PyObject *end = start ? PyLong_FromUnsignedLongLong(range->end) : NULL;
+  PyObject *out = end ? PyObject_CallFunctionObjArgs((PyObject *)&PyRange_Type,
+                                                     start, end, NULL)
+                      : NULL;
+  Py_XDECREF(start);
+  Py_XDECREF(end);
+  return out;
+}

@@ -1,0 +1,164 @@
+/* SPDX-License-Identifier: MIT OR Apache-2.0 */
+/* Packets read from datagrams (RFC 9000, section 12.2). */
+#include "wire.h"
+
+#include <string.h>
+
+/* How packets are read. */
+typedef struct reader {
+  uint32_t cid_len, versions[MOST_VERSIONS];
+  size_t count;
+  int grease;
+} reader;
+
+/* Versions 1 and 2, and the drafts that version 1 was, as the crate has them.
+ */
+static const uint32_t usual_versions[] = {
+    QUIC_WIRE_VERSION_1, 0xff00001d, 0xff00001e, 0xff00001f,
+    0xff000020,          0xff000021, 0xff000022, QUIC_WIRE_VERSION_2};
+
+static int set_versions(reader *how, PyObject *versions) {
+  PyObject *list;
+  Py_ssize_t i, len;
+  if (versions == Py_None) {
+    memcpy(how->versions, usual_versions, sizeof usual_versions);
+    how->count = sizeof usual_versions / sizeof *usual_versions;
+    return 0;
+  }
+  list = PySequence_List(versions);
+  len = list ? PyList_Size(list) : 0;
+  if (len > MOST_VERSIONS)
+    PyErr_Format(PyExc_ValueError, "at most %d versions", (int)MOST_VERSIONS);
+  for (i = 0; !PyErr_Occurred() && i < len; i++) {
+    uint64_t version;
+    if (wire_number(PyList_GetItem(list, i), "a version", &version) == 0 &&
+        version > UINT32_MAX)
+      PyErr_SetString(PyExc_ValueError, "a version must be below 2^32");
+    else if (!PyErr_Occurred())
+      how->versions[i] = (uint32_t)version;
+  }
+  how->count = (size_t)len;
+  Py_XDECREF(list);
+  return PyErr_Occurred() ? -1 : 0;
+}
+
+/* The header of the packet that bytes begin with: QUIC_WIRE_OK or an error.
+ * The fixed bit has a meaning only in packets of a known version. */
+static int header_at(const reader *how, const uint8_t *bytes, size_t len,
+                     quic_wire_header *h) {
+  int64_t end = quic_wire_header_read(bytes, len, how->cid_len, how->versions,
+                                      how->count, h);
+  if (end == QUIC_WIRE_ERR_PACKET_CID)
+    end = quic_wire_negotiation_read(bytes, len, h) > 0
+              ? (int64_t)h->end
+              : QUIC_WIRE_ERR_PACKET_CID;
+  if (end == QUIC_WIRE_ERR_PACKET_VERSION) {
+    h->end = (uint32_t)len;
+    return QUIC_WIRE_OK;
+  }
+  if (len && !how->grease && !(bytes[0] & QUIC_WIRE_BIT_FIXED) &&
+      (end < 0 || h->kind != QUIC_WIRE_PACKET_VERSION_NEGOTIATION))
+    return QUIC_WIRE_ERR_PACKET_FIXED_BIT;
+  return end < 0 ? (int)end : QUIC_WIRE_OK;
+}
+
+/* The packet that begins at a place of a datagram; of an error the exception,
+ * with the packets before. */
+static PyObject *packet_at(wire_state *state, const reader *how,
+                           PyObject *owner, const wire_bytes *bytes,
+                           size_t begin, PyObject *before) {
+  quic_wire_header h;
+  PyObject *packet = NULL;
+  int result;
+  memset(&h, 0, sizeof h);
+  result = header_at(how, bytes->at + begin, bytes->len - begin, &h);
+  if (result > QUIC_WIRE_ERR_PACKET_END && result < 0)
+    return wire_mistake(result);
+  if (result == QUIC_WIRE_OK || result == QUIC_WIRE_ERR_PACKET_CUT) {
+    packet = packet_made(state, owner, begin, &h);
+    if (!packet || result == QUIC_WIRE_OK)
+      return packet;
+  }
+  wire_packet_error(result, owner, begin, how->cid_len, before, packet);
+  Py_XDECREF(packet);
+  return NULL;
+}
+
+/* The packets of a datagram from a place on: all of them as a list, or one. */
+static PyObject *read_from(wire_state *state, const reader *how,
+                           PyObject *datagram, size_t begin, int is_list) {
+  PyObject *owner = wire_owner(datagram), *list = NULL, *packet = NULL;
+  wire_bytes bytes;
+  if (!owner || wire_acquire(owner, &bytes) < 0) {
+    Py_XDECREF(owner);
+    return NULL;
+  }
+  if (begin > bytes.len)
+    PyErr_SetString(PyExc_ValueError, "at is behind the datagram");
+  else if (!is_list)
+    packet = packet_at(state, how, owner, &bytes, begin, Py_None);
+  else
+    list = PyList_New(0);
+  while (list) {
+    packet = packet_at(state, how, owner, &bytes, begin, list);
+    if (packet)
+      begin = packet_end(packet);
+    if (!packet || PyList_Append(list, packet) < 0)
+      Py_CLEAR(list);
+    Py_XDECREF(packet);
+    if (begin >= bytes.len)
+      break;
+  }
+  wire_release(&bytes);
+  Py_DECREF(owner);
+  return is_list ? list : packet;
+}
+
+static PyObject *read_packets(PyObject *module, PyObject *args,
+                              PyObject *keywords) {
+  static char *names[] = {"datagram", "cid_len", "versions", "grease", NULL};
+  PyObject *datagram, *versions = Py_None;
+  unsigned cid_len;
+  reader how = {0};
+  if (!PyArg_ParseTupleAndKeywords(args, keywords, "OI|O$p:read_packets", names,
+                                   &datagram, &cid_len, &versions,
+                                   &how.grease) ||
+      set_versions(&how, versions) < 0)
+    return NULL;
+  how.cid_len = cid_len;
+  return read_from(PyModule_GetState(module), &how, datagram, 0, 1);
+}
+
+static PyObject *read_packet(PyObject *module, PyObject *args,
+                             PyObject *keywords) {
+  static char *names[] = {"datagram", "cid_len", "at",
+                          "versions", "grease",  NULL};
+  PyObject *datagram, *versions = Py_None;
+  unsigned cid_len;
+  Py_ssize_t at = 0;
+  reader how = {0};
+  if (!PyArg_ParseTupleAndKeywords(args, keywords, "OI|nO$p:read_packet", names,
+                                   &datagram, &cid_len, &at, &versions,
+                                   &how.grease) ||
+      set_versions(&how, versions) < 0)
+    return NULL;
+  if (at < 0)
+    return PyErr_Format(PyExc_ValueError, "at must not be negative");
+  how.cid_len = cid_len;
+  return read_from(PyModule_GetState(module), &how, datagram, (size_t)at, 0);
+}
+
+PyMethodDef wire_packet_functions[] = {
+    {"read_packets", WIRE_FAST(read_packets), METH_VARARGS | METH_KEYWORDS,
+     PyDoc_STR(
+         "read_packets($module, datagram, cid_len, versions=None, *, "
+         "grease=False)\n--\n\nThe packets of a datagram as a list. Ids in "
+         "short headers have cid_len bytes. Raises\nPacketError, with the "
+         "packets before in its attribute packets; grease takes a cleared\n"
+         "fixed bit (RFC 9287).")},
+    {"read_packet", WIRE_FAST(read_packet), METH_VARARGS | METH_KEYWORDS,
+     PyDoc_STR(
+         "read_packet($module, datagram, cid_len, at=0, versions=None, *, "
+         "grease=False)\n--\n\nThe packet that begins at a place of a "
+         "datagram.")},
+    {NULL, NULL, 0, NULL}};

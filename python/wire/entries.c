@@ -1,0 +1,82 @@
+/* SPDX-License-Identifier: MIT OR Apache-2.0 */
+/* Single entries of lists of transport parameters (RFC 9000, section 18). */
+#include "wire.h"
+
+static PyObject *entry_at(PyObject *module, PyObject *args) {
+  PyObject *list;
+  Py_ssize_t at;
+  quic_wire_param param;
+  wire_bytes bytes;
+  int64_t end = QUIC_WIRE_ERR_PLACE;
+  (void)module;
+  if (!PyArg_ParseTuple(args, "On:_entry_at", &list, &at) ||
+      wire_acquire(list, &bytes) < 0)
+    return NULL;
+  if (at >= 0 && (size_t)at < bytes.len)
+    end = quic_wire_param_read(bytes.at + at, bytes.len - (size_t)at, &param);
+  wire_release(&bytes);
+  if (end == QUIC_WIRE_ERR_PARAMS_MALFORMED)
+    return Py_NewRef(Py_None);
+  if (end < 0)
+    return wire_mistake((int)end);
+  return Py_BuildValue("(Knn)", (unsigned long long)param.id,
+                       at + (Py_ssize_t)param.value, at + (Py_ssize_t)end);
+}
+
+/* What reading a list gives, as a number. */
+static PyObject *read_result(PyObject *module, PyObject *args) {
+  PyObject *list;
+  unsigned side;
+  wire_bytes bytes;
+  quic_wire_params params;
+  int result;
+  (void)module;
+  if (!PyArg_ParseTuple(args, "IO:_read_result", &side, &list) ||
+      wire_acquire(list, &bytes) < 0)
+    return NULL;
+  result =
+      quic_wire_params_read(side, bytes.at, bytes.len, &params, sizeof params);
+  wire_release(&bytes);
+  return PyLong_FromLong(result);
+}
+
+static PyObject *write_entry(PyObject *module, PyObject *args) {
+  PyObject *number, *value, *out = NULL;
+  uint64_t id;
+  wire_bytes bytes;
+  uint8_t *at;
+  size_t len = 0;
+  int result = 0;
+  (void)module;
+  if (!PyArg_ParseTuple(args, "OO:write_parameter", &number, &value) ||
+      wire_varint(number, "id", &id) < 0 || wire_acquire(value, &bytes) < 0)
+    return NULL;
+  out = wire_new_bytes(bytes.len + 16, &at);
+  if (out)
+    result = quic_wire_param_write(id, bytes.at, bytes.len, at, bytes.len + 16,
+                                   &len);
+  wire_release(&bytes);
+  if (out && result >= 0)
+    return wire_front(out, len);
+  Py_XDECREF(out);
+  return result < 0 ? wire_mistake(result) : NULL;
+}
+
+static PyObject *is_known(PyObject *module, PyObject *number) {
+  uint64_t id;
+  (void)module;
+  if (wire_number(number, "id", &id) < 0)
+    return NULL;
+  return PyBool_FromLong(quic_wire_param_is_known(id));
+}
+
+PyMethodDef wire_parameter_functions[] = {
+    {"_entry_at", entry_at, METH_VARARGS, NULL},
+    {"_read_result", read_result, METH_VARARGS, NULL},
+    {"write_parameter", write_entry, METH_VARARGS,
+     PyDoc_STR("write_parameter($module, id, value, /)\n--\n\nAn entry of a "
+               "list of transport parameters.")},
+    {"is_known_parameter", is_known, METH_O,
+     PyDoc_STR("is_known_parameter($module, id, /)\n--\n\nWhether "
+               "TransportParameters has the parameter of this id.")},
+    {NULL, NULL, 0, NULL}};

@@ -1,0 +1,57 @@
+/* SPDX-License-Identifier: MIT OR Apache-2.0 */
+/* Exceptions, which functions of quic_wire.errors make. */
+#include "wire.h"
+
+PyObject *wire_mistake(int result) {
+  PyErr_SetString(PyExc_ValueError, quic_wire_strerror(result));
+  return NULL;
+}
+
+PyObject *wire_call(const char *module, const char *function, PyObject *args) {
+  PyObject *from = args ? PyImport_ImportModule(module) : NULL;
+  PyObject *call = from ? PyObject_GetAttrString(from, function) : NULL;
+  PyObject *out = call ? PyObject_CallObject(call, args) : NULL;
+  Py_XDECREF(call);
+  Py_XDECREF(from);
+  Py_XDECREF(args);
+  return out;
+}
+
+static PyObject *raise_by(const char *maker, PyObject *args) {
+  PyObject *error = wire_call("quic_wire.errors", maker, args);
+  if (error) {
+    PyErr_SetObject((PyObject *)Py_TYPE(error), error);
+    Py_DECREF(error);
+  }
+  return NULL;
+}
+
+/* A type, or None where none was read. */
+static PyObject *type_read(uint64_t type) {
+  return type == QUIC_WIRE_NO_TYPE ? Py_NewRef(Py_None)
+                                   : PyLong_FromUnsignedLongLong(type);
+}
+
+PyObject *wire_frame_error(int result, PyObject *payload, size_t begin,
+                           uint64_t type, PyObject *before) {
+  return raise_by("_frame_error",
+                  Py_BuildValue("(isIOnNO)", result, quic_wire_strerror(result),
+                                quic_wire_close_code(result), payload,
+                                (Py_ssize_t)begin, type_read(type), before));
+}
+
+PyObject *wire_packet_error(int result, PyObject *datagram, size_t begin,
+                            size_t cid_len, PyObject *before,
+                            PyObject *packet) {
+  return raise_by("_packet_error",
+                  Py_BuildValue("(isOnnOO)", result, quic_wire_strerror(result),
+                                datagram, (Py_ssize_t)begin,
+                                (Py_ssize_t)cid_len, before,
+                                packet ? packet : Py_None));
+}
+
+PyObject *wire_parameter_error(int result, unsigned side, PyObject *list) {
+  return raise_by("_parameter_error",
+                  Py_BuildValue("(isIIO)", result, quic_wire_strerror(result),
+                                quic_wire_close_code(result), side, list));
+}

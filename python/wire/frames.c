@@ -1,0 +1,465 @@
+/* SPDX-License-Identifier: MIT OR Apache-2.0 */
+/* Frames as objects (RFC 9000, section 19): the library's struct and what keeps
+ * the bytes that it was read from.  A field becomes a value of Python when it
+ * is asked for. */
+#include "wire.h"
+
+PyObject *frame_get_number(PyObject *self, void *slot) {
+  return PyLong_FromUnsignedLongLong(FRAME(self)->numbers[(size_t)slot]);
+}
+
+PyObject *frame_get_data(PyObject *self, void *unused) {
+  (void)unused;
+  return wire_part(OWNER(self), FRAME(self)->data, FRAME(self)->datalen);
+}
+
+PyObject *frame_get_token(PyObject *self, void *unused) {
+  (void)unused;
+  return wire_part(OWNER(self), FRAME(self)->data + FRAME(self)->datalen, 16);
+}
+
+PyObject *frame_get_fin(PyObject *self, void *unused) {
+  (void)unused;
+  return PyBool_FromLong((long)(FRAME(self)->flags & QUIC_WIRE_FLAG_FIN));
+}
+
+PyObject *frame_get_ecn(PyObject *self, void *slot) {
+  if (!(FRAME(self)->flags & QUIC_WIRE_FLAG_ECN))
+    return Py_NewRef(Py_None);
+  return frame_get_number(self, slot);
+}
+
+PyObject *frame_get_count(PyObject *self, void *unused) {
+  wire_bytes bytes;
+  size_t count;
+  (void)unused;
+  if (wire_acquire(OWNER(self), &bytes) < 0)
+    return NULL;
+  count = quic_wire_padding_count(bytes.at, bytes.len, FRAME(self));
+  wire_release(&bytes);
+  return PyLong_FromSize_t(count);
+}
+
+PyObject *frame_get_path(PyObject *self, void *unused) {
+  uint8_t data[8];
+  int i;
+  (void)unused;
+  for (i = 0; i < 8; i++)
+    data[i] = (uint8_t)(FRAME(self)->path.data >> (56 - 8 * i));
+  return PyBytes_FromStringAndSize((char *)data, sizeof data);
+}
+
+quic_wire_range *frame_ranges(PyObject *self, size_t *count) {
+  const quic_wire_frame *f = FRAME(self);
+  /* A range has two bytes at least, and the first one another two. */
+  const size_t room = (f->end - f->begin) / 2 + 1;
+  quic_wire_range *runs = PyMem_Malloc(room * sizeof *runs), other;
+  quic_wire_range_iter iter;
+  wire_bytes bytes;
+  size_t len = 0, i;
+  int result;
+  *count = 0;
+  if (!runs || wire_acquire(OWNER(self), &bytes) < 0) {
+    PyMem_Free(runs);
+    return runs ? NULL : (quic_wire_range *)PyErr_NoMemory();
+  }
+  result = quic_wire_ack_ranges_init(&iter, bytes.at, bytes.len, f);
+  while (result >= 0 && *count < room &&
+         (result = quic_wire_ack_ranges_fill(&iter, bytes.at, bytes.len,
+                                             runs + *count, room - *count,
+                                             &len)) == QUIC_WIRE_ITEM)
+    *count += len;
+  wire_release(&bytes);
+  if (result < 0) {
+    PyMem_Free(runs);
+    return (quic_wire_range *)wire_mistake(result);
+  }
+  for (i = 0; i < *count / 2; i++) {
+    other = runs[i];
+    runs[i] = runs[*count - 1 - i];
+    runs[*count - 1 - i] = other;
+  }
+  return runs;
+}
+
+PyObject *frame_get_ranges(PyObject *self, void *unused) {
+  size_t count, i;
+  quic_wire_range *runs = frame_ranges(self, &count);
+  PyObject *out = runs ? PyTuple_New((Py_ssize_t)count) : NULL;
+  (void)unused;
+  for (i = 0; out && i < count; i++) {
+    PyObject *range = wire_range(&runs[count - 1 - i]);
+    if (!range || PyTuple_SetItem(out, (Py_ssize_t)i, range) < 0)
+      Py_CLEAR(out);
+  }
+  PyMem_Free(runs);
+  return out;
+}
+
+static PyObject *get_begin(PyObject *self, void *unused) {
+  (void)unused;
+  return PyLong_FromSize_t(FRAME(self)->begin);
+}
+
+static PyObject *get_end(PyObject *self, void *unused) {
+  (void)unused;
+  return PyLong_FromSize_t(FRAME(self)->end);
+}
+
+static PyObject *get_type(PyObject *self, void *unused) {
+  (void)unused;
+  return PyLong_FromUnsignedLong(FRAME(self)->type);
+}
+
+static PyObject *get_kind(PyObject *self, void *unused) {
+  (void)unused;
+  return PyLong_FromUnsignedLong(FRAME(self)->kind);
+}
+
+static PyObject *get_name(PyObject *self, void *unused) {
+  const char *name = quic_wire_type_name(FRAME(self)->type);
+  (void)unused;
+  return PyUnicode_FromString(name ? name : "");
+}
+
+/* Whether a bit of the rules is set, or isn't. */
+static PyObject *get_rule(PyObject *self, void *rule) {
+  const uint32_t rules = quic_wire_frame_rules(FRAME(self)->kind);
+  return PyBool_FromLong((rules & (uint32_t)(size_t)rule) != 0);
+}
+
+static PyObject *get_rule_not(PyObject *self, void *rule) {
+  const uint32_t rules = quic_wire_frame_rules(FRAME(self)->kind);
+  return PyBool_FromLong((rules & (uint32_t)(size_t)rule) == 0);
+}
+
+static PyObject *is_permitted_in(PyObject *self, PyObject *packet_type) {
+  const long packet = PyLong_AsLong(packet_type);
+  const uint32_t rules = quic_wire_frame_rules(FRAME(self)->kind);
+  if (packet == -1 && PyErr_Occurred())
+    return NULL;
+  return PyBool_FromLong(packet >= 0 && packet < PACKET_KINDS &&
+                         (rules & QUIC_WIRE_RULE_IN(packet)) != 0);
+}
+
+#define NUMBER(name, slot, doc)                                                \
+  { name, frame_get_number, NULL, PyDoc_STR(doc), (void *)(size_t)(slot) }
+#define DATA(name, doc)                                                        \
+  { name, frame_get_data, NULL, PyDoc_STR(doc), NULL }
+#define ECN(name, slot, doc)                                                   \
+  { name, frame_get_ecn, NULL, PyDoc_STR(doc), (void *)(size_t)(slot) }
+#define STREAM_ID NUMBER("stream_id", 0, "the stream's id")
+#define ERROR_CODE(slot) NUMBER("error_code", slot, "the error code")
+
+static PyGetSetDef no_fields[] = {WIRE_END_OF_FIELDS};
+static PyGetSetDef padding_fields[] = {
+    {"count", frame_get_count, NULL,
+     PyDoc_STR("how many PADDING frames follow each other here"), NULL},
+    WIRE_END_OF_FIELDS};
+static PyGetSetDef ack_fields[] = {
+    NUMBER("largest", 0, "the largest acknowledged packet number"),
+    NUMBER("delay", 1,
+           "ACK Delay: microseconds, shifted right by the "
+           "sender's ack_delay_exponent"),
+    {"ranges", frame_get_ranges, NULL,
+     PyDoc_STR("the acknowledged packet numbers, the greatest range first"),
+     NULL},
+    ECN("ect0", 2, "packets marked ECT(0), or None"),
+    ECN("ect1", 3, "packets marked ECT(1), or None"),
+    ECN("ce", 4, "packets marked ECN-CE, or None"),
+    WIRE_END_OF_FIELDS};
+static PyGetSetDef reset_stream_fields[] = {
+    STREAM_ID, ERROR_CODE(1), NUMBER("final_size", 2, "the final size, bytes"),
+    WIRE_END_OF_FIELDS};
+static PyGetSetDef stop_sending_fields[] = {STREAM_ID, ERROR_CODE(1),
+                                            WIRE_END_OF_FIELDS};
+static PyGetSetDef crypto_fields[] = {
+    NUMBER("offset", 1, "where the data begin in the CRYPTO stream, bytes"),
+    DATA("data", "Crypto Data"), WIRE_END_OF_FIELDS};
+static PyGetSetDef new_token_fields[] = {DATA("token", "the token"),
+                                         WIRE_END_OF_FIELDS};
+static PyGetSetDef stream_fields[] = {
+    STREAM_ID,
+    NUMBER("offset", 1, "where the data begin in the stream, bytes"),
+    {"fin", frame_get_fin, NULL, PyDoc_STR("whether the data end the stream"),
+     NULL},
+    DATA("data", "Stream Data"),
+    WIRE_END_OF_FIELDS};
+static PyGetSetDef limit_fields[] = {
+    NUMBER("limit", 1,
+           "the limit: bytes, or of MAX_STREAMS and "
+           "STREAMS_BLOCKED streams"),
+    WIRE_END_OF_FIELDS};
+static PyGetSetDef stream_limit_fields[] = {
+    STREAM_ID, NUMBER("limit", 1, "the limit, bytes"), WIRE_END_OF_FIELDS};
+static PyGetSetDef new_connection_id_fields[] = {
+    NUMBER("sequence", 0, "Sequence Number"),
+    NUMBER("retire_prior_to", 1, "Retire Prior To"),
+    DATA("connection_id", "the id, 1 to 20 bytes"),
+    {"reset_token", frame_get_token, NULL,
+     PyDoc_STR("Stateless Reset Token, 16 bytes"), NULL},
+    WIRE_END_OF_FIELDS};
+static PyGetSetDef retire_fields[] = {NUMBER("sequence", 0, "Sequence Number"),
+                                      WIRE_END_OF_FIELDS};
+static PyGetSetDef path_fields[] = {
+    {"data", frame_get_path, NULL, PyDoc_STR("Data, 8 bytes"), NULL},
+    WIRE_END_OF_FIELDS};
+static PyGetSetDef connection_close_fields[] = {
+    ERROR_CODE(0),
+    NUMBER("frame_type", 1, "the type of the frame at fault; 0: none is known"),
+    DATA("reason", "Reason Phrase"), WIRE_END_OF_FIELDS};
+static PyGetSetDef application_close_fields[] = {
+    ERROR_CODE(0), DATA("reason", "Reason Phrase"), WIRE_END_OF_FIELDS};
+static PyGetSetDef datagram_fields[] = {DATA("data", "Datagram Data"),
+                                        WIRE_END_OF_FIELDS};
+static PyGetSetDef ack_frequency_fields[] = {
+    NUMBER("sequence", 0, "Sequence Number"),
+    NUMBER("ack_eliciting_threshold", 1, "Ack-Eliciting Threshold, packets"),
+    NUMBER("max_ack_delay", 2, "Requested Max Ack Delay, microseconds"),
+    NUMBER("reordering_threshold", 3, "Reordering Threshold, packets"),
+    WIRE_END_OF_FIELDS};
+
+#define KIND(word, name, fields, doc)                                          \
+  { QUIC_WIRE_FRAME_##word, name, fields, doc }
+const frame_kind wire_frame_kinds[KINDS] = {
+    KIND(PADDING, "Padding", padding_fields,
+         "PADDING (RFC 9000, section 19.1), as many as follow each other."),
+    KIND(PING, "Ping", no_fields, "PING (RFC 9000, section 19.2)."),
+    KIND(ACK, "Ack", ack_fields, "ACK (RFC 9000, section 19.3)."),
+    KIND(RESET_STREAM, "ResetStream", reset_stream_fields,
+         "RESET_STREAM (RFC 9000, section 19.4)."),
+    KIND(STOP_SENDING, "StopSending", stop_sending_fields,
+         "STOP_SENDING (RFC 9000, section 19.5)."),
+    KIND(CRYPTO, "Crypto", crypto_fields, "CRYPTO (RFC 9000, section 19.6)."),
+    KIND(NEW_TOKEN, "NewToken", new_token_fields,
+         "NEW_TOKEN (RFC 9000, section 19.7)."),
+    KIND(STREAM, "Stream", stream_fields, "STREAM (RFC 9000, section 19.8)."),
+    KIND(MAX_DATA, "MaxData", limit_fields,
+         "MAX_DATA (RFC 9000, section 19.9)."),
+    KIND(MAX_STREAM_DATA, "MaxStreamData", stream_limit_fields,
+         "MAX_STREAM_DATA (RFC 9000, section 19.10)."),
+    KIND(MAX_STREAMS_BIDI, "MaxStreamsBidi", limit_fields,
+         "MAX_STREAMS of bidirectional streams (RFC 9000, section 19.11)."),
+    KIND(MAX_STREAMS_UNI, "MaxStreamsUni", limit_fields,
+         "MAX_STREAMS of unidirectional streams (RFC 9000, section 19.11)."),
+    KIND(DATA_BLOCKED, "DataBlocked", limit_fields,
+         "DATA_BLOCKED (RFC 9000, section 19.12)."),
+    KIND(STREAM_DATA_BLOCKED, "StreamDataBlocked", stream_limit_fields,
+         "STREAM_DATA_BLOCKED (RFC 9000, section 19.13)."),
+    KIND(STREAMS_BLOCKED_BIDI, "StreamsBlockedBidi", limit_fields,
+         "STREAMS_BLOCKED of bidirectional streams (RFC 9000, section 19.14)."),
+    KIND(STREAMS_BLOCKED_UNI, "StreamsBlockedUni", limit_fields,
+         "STREAMS_BLOCKED of unidirectional streams (RFC 9000, section "
+         "19.14)."),
+    KIND(NEW_CONNECTION_ID, "NewConnectionId", new_connection_id_fields,
+         "NEW_CONNECTION_ID (RFC 9000, section 19.15)."),
+    KIND(RETIRE_CONNECTION_ID, "RetireConnectionId", retire_fields,
+         "RETIRE_CONNECTION_ID (RFC 9000, section 19.16)."),
+    KIND(PATH_CHALLENGE, "PathChallenge", path_fields,
+         "PATH_CHALLENGE (RFC 9000, section 19.17)."),
+    KIND(PATH_RESPONSE, "PathResponse", path_fields,
+         "PATH_RESPONSE (RFC 9000, section 19.18)."),
+    KIND(CONNECTION_CLOSE, "ConnectionClose", connection_close_fields,
+         "CONNECTION_CLOSE of the transport, 0x1c (RFC 9000, section 19.19)."),
+    KIND(APPLICATION_CLOSE, "ApplicationClose", application_close_fields,
+         "CONNECTION_CLOSE of the application, 0x1d (RFC 9000, section "
+         "19.19)."),
+    KIND(HANDSHAKE_DONE, "HandshakeDone", no_fields,
+         "HANDSHAKE_DONE (RFC 9000, section 19.20)."),
+    KIND(IMMEDIATE_ACK, "ImmediateAck", no_fields,
+         "IMMEDIATE_ACK of the ACK frequency extension."),
+    KIND(DATAGRAM, "Datagram", datagram_fields,
+         "DATAGRAM (RFC 9221, section 4)."),
+    KIND(ACK_FREQUENCY, "AckFrequency", ack_frequency_fields,
+         "ACK_FREQUENCY of the ACK frequency extension."),
+};
+
+/* Where a kind is in the table: kinds up to DATAGRAM are found by their number.
+ */
+static size_t index_of(uint16_t kind) {
+  static const uint8_t at[] = {0,  1,  2,  2,  3,  4,  5,  6,  7,  7,  7,
+                               7,  7,  7,  7,  7,  8,  9,  10, 11, 12, 13,
+                               14, 15, 16, 17, 18, 19, 20, 21, 22, 23};
+  if (kind < sizeof at)
+    return at[kind];
+  return kind == QUIC_WIRE_FRAME_DATAGRAM ? KINDS - 2 : KINDS - 1;
+}
+
+const frame_kind *wire_kind_of(const quic_wire_frame *frame) {
+  return &wire_frame_kinds[index_of(frame->kind)];
+}
+
+PyObject *frame_made(wire_state *state, PyObject *owner,
+                     const quic_wire_frame *frame) {
+  PyTypeObject *type = (PyTypeObject *)state->frames[index_of(frame->kind)];
+  frame_object *made = PyObject_New(frame_object, type);
+  if (!made)
+    return NULL;
+  made->owner = Py_NewRef(owner);
+  made->f = *frame;
+  return (PyObject *)made;
+}
+
+static void frame_dealloc(PyObject *self) {
+  PyTypeObject *type = Py_TYPE(self);
+  Py_XDECREF(OWNER(self));
+  PyObject_Free(self);
+  Py_DECREF(type);
+}
+
+/* The values of the fields, data as bytes. */
+static PyObject *values_of(PyObject *self) {
+  const PyGetSetDef *fields = wire_kind_of(FRAME(self))->fields;
+  PyObject *out;
+  Py_ssize_t count = 0, i;
+  while (fields[count].name)
+    count++;
+  out = PyTuple_New(count);
+  for (i = 0; out && i < count; i++) {
+    PyObject *value = fields[i].get(self, fields[i].closure);
+    if (value && PyMemoryView_Check(value)) {
+      PyObject *bytes = PyBytes_FromObject(value);
+      Py_DECREF(value);
+      value = bytes;
+    }
+    if (!value || PyTuple_SetItem(out, i, value) < 0)
+      Py_CLEAR(out);
+  }
+  return out;
+}
+
+static PyObject *frame_repr(PyObject *self) {
+  const frame_kind *kind = wire_kind_of(FRAME(self));
+  PyObject *values = values_of(self), *text, *more;
+  Py_ssize_t i;
+  if (!values)
+    return NULL;
+  text = PyUnicode_FromFormat("%s(", kind->name);
+  for (i = 0; text && i < PyTuple_Size(values); i++) {
+    more =
+        PyUnicode_FromFormat("%U%s%s=%R", text, i ? ", " : "",
+                             kind->fields[i].name, PyTuple_GetItem(values, i));
+    Py_DECREF(text);
+    text = more;
+  }
+  Py_DECREF(values);
+  more = text ? PyUnicode_FromFormat("%U)", text) : NULL;
+  Py_XDECREF(text);
+  return more;
+}
+
+static PyObject *frame_compare(PyObject *self, PyObject *other, int op) {
+  PyObject *ours, *theirs, *out;
+  if ((op != Py_EQ && op != Py_NE) || Py_TYPE(self) != Py_TYPE(other))
+    return Py_NewRef(Py_NotImplemented);
+  ours = values_of(self);
+  theirs = ours ? values_of(other) : NULL;
+  out = theirs ? PyObject_RichCompare(ours, theirs, op) : NULL;
+  Py_XDECREF(ours);
+  Py_XDECREF(theirs);
+  return out;
+}
+
+static Py_hash_t frame_hash(PyObject *self) {
+  PyObject *values = values_of(self);
+  const Py_hash_t hash = values ? PyObject_Hash(values) : -1;
+  Py_XDECREF(values);
+  return hash;
+}
+
+static PyObject *frame_reduce(PyObject *self, PyObject *unused) {
+  PyObject *values = values_of(self);
+  (void)unused;
+  return values ? Py_BuildValue("(ON)", Py_TYPE(self), values) : NULL;
+}
+
+static PyObject *frame_as_dict(PyObject *self, PyObject *unused) {
+  const PyGetSetDef *fields = wire_kind_of(FRAME(self))->fields;
+  PyObject *values = values_of(self), *out = values ? PyDict_New() : NULL;
+  Py_ssize_t i;
+  (void)unused;
+  for (i = 0; out && i < PyTuple_Size(values); i++)
+    if (PyDict_SetItemString(out, fields[i].name, PyTuple_GetItem(values, i)))
+      Py_CLEAR(out);
+  Py_XDECREF(values);
+  return out;
+}
+
+static PyMethodDef frame_methods[] = {
+    {"encode", WIRE_FAST(frame_encode), METH_VARARGS | METH_KEYWORDS,
+     PyDoc_STR("encode($self, /, last=False)\n--\n\nThe frame in its shortest "
+               "form. As the last one of its payload it needs no length.")},
+    {"as_dict", frame_as_dict, METH_NOARGS,
+     PyDoc_STR("as_dict($self, /)\n--\n\nThe fields by name, data as bytes.")},
+    {"is_permitted_in", is_permitted_in, METH_O,
+     PyDoc_STR("is_permitted_in($self, packet_type, /)\n--\n\nWhether packets "
+               "of this type may carry it (RFC 9000, section 12.4, table 3).")},
+    {"__reduce__", frame_reduce, METH_NOARGS, NULL},
+    {NULL, NULL, 0, NULL}};
+
+#define RULE(name, get, rule, doc)                                             \
+  { name, get, NULL, PyDoc_STR(doc), (void *)(size_t)(rule) }
+static PyGetSetDef common_fields[] = {
+    {"begin", get_begin, NULL, PyDoc_STR("where it begins in its payload"),
+     NULL},
+    {"end", get_end, NULL, PyDoc_STR("where it ends in its payload"), NULL},
+    {"type", get_type, NULL, PyDoc_STR("the type in the payload"), NULL},
+    {"kind", get_kind, NULL,
+     PyDoc_STR("the type, one for all of STREAM, of ACK, of DATAGRAM"), NULL},
+    {"name", get_name, NULL, PyDoc_STR("the type's name"), NULL},
+    RULE("is_ack_eliciting", get_rule_not, QUIC_WIRE_RULE_NOT_ELICITING,
+         "whether a packet with it is acknowledged (RFC 9000, section 13.2.1)"),
+    RULE("is_counted_in_flight", get_rule_not, QUIC_WIRE_RULE_NOT_COUNTED,
+         "whether a packet with it counts as bytes in flight"),
+    RULE("is_probing", get_rule, QUIC_WIRE_RULE_PROBING,
+         "whether it probes a path (RFC 9000, section 9.1)"),
+    RULE("is_flow_controlled", get_rule, QUIC_WIRE_RULE_FLOW_CONTROLLED,
+         "whether its data are flow controlled"),
+    WIRE_END_OF_FIELDS};
+
+static PyType_Slot frame_slots[] = {
+    {Py_tp_dealloc, frame_dealloc},
+    {Py_tp_methods, frame_methods},
+    {Py_tp_getset, common_fields},
+    {Py_tp_repr, frame_repr},
+    {Py_tp_richcompare, frame_compare},
+    {Py_tp_hash, frame_hash},
+    {Py_tp_doc, "A frame (RFC 9000, section 19)."},
+    {0, NULL}};
+static PyType_Spec frame_spec = {"quic_wire.Frame", sizeof(frame_object), 0,
+                                 Py_TPFLAGS_DEFAULT | Py_TPFLAGS_BASETYPE |
+                                     Py_TPFLAGS_DISALLOW_INSTANTIATION,
+                                 frame_slots};
+
+static PyObject *add_kind(PyObject *module, PyObject *bases,
+                          const frame_kind *kind) {
+  char name[64];
+  PyType_Slot slots[] = {{Py_tp_getset, kind->fields},
+                         {Py_tp_new, frame_new},
+                         {Py_tp_dealloc, frame_dealloc},
+                         {Py_tp_doc, (void *)kind->doc},
+                         {0, NULL}};
+  PyType_Spec spec = {name, sizeof(frame_object), 0, Py_TPFLAGS_DEFAULT, slots};
+  PyObject *type, *number = PyLong_FromLong(kind->kind);
+  PyOS_snprintf(name, sizeof name, "quic_wire.%s", kind->name);
+  type = number ? wire_add_type(module, &spec, bases, kind->name, kind->fields)
+                : NULL;
+  if (type && PyObject_SetAttrString(type, "KIND", number) < 0)
+    Py_CLEAR(type);
+  Py_XDECREF(number);
+  return type;
+}
+
+int wire_add_frames(PyObject *module, wire_state *state) {
+  PyObject *bases;
+  size_t i;
+  state->frame = wire_add_type(module, &frame_spec, NULL, "Frame", no_fields);
+  bases = state->frame ? PyTuple_Pack(1, state->frame) : NULL;
+  for (i = 0; bases && i < KINDS; i++) {
+    state->frames[i] = add_kind(module, bases, &wire_frame_kinds[i]);
+    if (!state->frames[i])
+      Py_CLEAR(bases);
+  }
+  Py_XDECREF(bases);
+  return bases ? 0 : -1;
+}

@@ -1,0 +1,130 @@
+/* SPDX-License-Identifier: MIT OR Apache-2.0 */
+/* The module quic_wire._wire: the library quic_wire for Python. */
+#include "wire.h"
+
+/* What patterns name: the names of the fields. */
+static int set_names(PyObject *type, const PyGetSetDef *fields) {
+  Py_ssize_t count = 0, i;
+  PyObject *names, *none = PyTuple_New(0);
+  int result;
+  while (fields[count].name)
+    count++;
+  names = PyTuple_New(count);
+  for (i = 0; names && i < count; i++)
+    if (PyTuple_SetItem(names, i, PyUnicode_FromString(fields[i].name)) < 0)
+      Py_CLEAR(names);
+  result = names && none ? PyObject_SetAttrString(type, "__match_args__", names)
+                         : -1;
+  if (result == 0)
+    result = PyObject_SetAttrString(type, "__slots__", none);
+  Py_XDECREF(names);
+  Py_XDECREF(none);
+  return result;
+}
+
+PyObject *wire_add_type(PyObject *module, PyType_Spec *spec, PyObject *bases,
+                        const char *name, const PyGetSetDef *fields) {
+  PyObject *type = PyType_FromModuleAndSpec(module, spec, bases);
+  if (type && ((fields && set_names(type, fields) < 0) ||
+               PyModule_AddObjectRef(module, name, type) < 0))
+    Py_CLEAR(type);
+  return type;
+}
+
+/* Results that quic_wire.errors tells apart. */
+static int add_results(PyObject *module) {
+  static const struct {
+    const char *name;
+    int result;
+  } results[] = {{"PAYLOAD_EMPTY", QUIC_WIRE_ERR_PAYLOAD_EMPTY},
+                 {"FRAME_TYPE", QUIC_WIRE_ERR_FRAME_TYPE},
+                 {"FRAME_MALFORMED", QUIC_WIRE_ERR_FRAME_MALFORMED},
+                 {"FRAME_LONG_TYPE", QUIC_WIRE_ERR_FRAME_LONG_TYPE},
+                 {"PACKET_FIXED_BIT", QUIC_WIRE_ERR_PACKET_FIXED_BIT},
+                 {"PACKET_CID", QUIC_WIRE_ERR_PACKET_CID},
+                 {"PACKET_CUT", QUIC_WIRE_ERR_PACKET_CUT},
+                 {"PARAMS_MALFORMED", QUIC_WIRE_ERR_PARAMS_MALFORMED}};
+  size_t i;
+  for (i = 0; i < sizeof results / sizeof *results; i++)
+    if (PyModule_AddIntConstant(module, results[i].name, results[i].result) < 0)
+      return -1;
+  return 0;
+}
+
+static int exec(PyObject *module) {
+  wire_state *state = PyModule_GetState(module);
+  if (quic_wire_check(QUIC_WIRE_LIB) != QUIC_WIRE_OK) {
+    PyErr_SetString(PyExc_ImportError,
+                    quic_wire_strerror(QUIC_WIRE_ERR_LIBRARY));
+    return -1;
+  }
+  if (add_results(module) < 0 ||
+      PyModule_AddFunctions(module, wire_read_functions) < 0 ||
+      PyModule_AddFunctions(module, wire_packet_functions) < 0 ||
+      PyModule_AddFunctions(module, wire_number_functions) < 0 ||
+      PyModule_AddFunctions(module, wire_parameter_functions) < 0 ||
+      wire_add_frames(module, state) < 0 ||
+      wire_add_iterator(module, state) < 0 ||
+      wire_add_packets(module, state) < 0 ||
+      wire_add_parameters(module, state) < 0 || wire_add_set(module, state) < 0)
+    return -1;
+  return PyModule_AddStringConstant(module, "LIBRARY_VERSION",
+                                    quic_wire_lib_text());
+}
+
+/* Every object of the state. */
+static PyObject **object_at(wire_state *state, size_t i) {
+  return (PyObject **)state + i;
+}
+enum { OBJECTS = sizeof(wire_state) / sizeof(PyObject *) };
+
+static int traverse(PyObject *module, visitproc visit, void *arg) {
+  wire_state *state = PyModule_GetState(module);
+  size_t i;
+  for (i = 0; state && i < OBJECTS; i++)
+    Py_VISIT(*object_at(state, i));
+  return 0;
+}
+
+static int clear(PyObject *module) {
+  wire_state *state = PyModule_GetState(module);
+  size_t i;
+  for (i = 0; state && i < OBJECTS; i++)
+    Py_CLEAR(*object_at(state, i));
+  return 0;
+}
+
+static void free_module(void *module) { clear(module); }
+
+/* The limited API of 3.11 lacks this slot, and the interpreter knows it from
+ * 3.12 on. */
+#ifndef Py_mod_multiple_interpreters
+#define Py_mod_multiple_interpreters 3
+#define Py_MOD_PER_INTERPRETER_GIL_SUPPORTED ((void *)2)
+#endif
+#define PYTHON_3_12 0x030c0000
+
+static PyModuleDef_Slot slots[] = {
+    {Py_mod_exec, exec},
+#ifdef Py_mod_gil
+    {Py_mod_gil, Py_MOD_GIL_NOT_USED},
+#endif
+    {Py_mod_multiple_interpreters, Py_MOD_PER_INTERPRETER_GIL_SUPPORTED},
+    {0, NULL}};
+static PyModuleDef_Slot slots_of_3_11[] = {{Py_mod_exec, exec}, {0, NULL}};
+static struct PyModuleDef definition = {
+    PyModuleDef_HEAD_INIT,
+    "quic_wire._wire",
+    PyDoc_STR("The library quic_wire; import quic_wire instead."),
+    sizeof(wire_state),
+    NULL,
+    slots_of_3_11,
+    traverse,
+    clear,
+    free_module};
+
+PyMODINIT_FUNC PyInit__wire(void) {
+  if (Py_Version >= PYTHON_3_12)
+    definition.m_slots = slots;
+  return PyModuleDef_Init(&definition);
+}

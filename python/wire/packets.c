@@ -1,0 +1,354 @@
+/* SPDX-License-Identifier: MIT OR Apache-2.0 */
+/* Packets of a datagram as objects (RFC 9000, sections 12.2 and 17): the
+ * library's struct of a header with its protection still on it. */
+#include "wire.h"
+
+#include <string.h>
+
+typedef struct packet_object {
+  PyObject_HEAD PyObject *owner; /* of the datagram */
+  size_t begin;                  /* where the packet begins in it */
+  quic_wire_header h;
+} packet_object;
+
+#define PACKET(self) ((packet_object *)(self))
+#define HEADER(self) (&PACKET(self)->h)
+
+enum { NO_NUMBER_FROM = QUIC_WIRE_PACKET_VERSION_NEGOTIATION };
+
+static int has_number(const quic_wire_header *h) {
+  return h->kind < NO_NUMBER_FROM && h->kind != QUIC_WIRE_PACKET_RETRY;
+}
+
+/* A part of the packet, by its place in it. */
+static PyObject *part(PyObject *self, size_t at, size_t len) {
+  return wire_part(PACKET(self)->owner, PACKET(self)->begin + at, len);
+}
+
+static PyObject *get_data(PyObject *self, void *unused) {
+  (void)unused;
+  return part(self, 0, HEADER(self)->end);
+}
+
+/* The place of an id, which the library says by a pointer. */
+static PyObject *id_of(PyObject *self, int is_source) {
+  const quic_wire_header *h = HEADER(self);
+  const uint8_t *packet;
+  wire_bytes bytes;
+  size_t at;
+  if (wire_acquire(PACKET(self)->owner, &bytes) < 0)
+    return NULL;
+  packet = bytes.at + PACKET(self)->begin;
+  at = (size_t)((is_source ? quic_wire_scid : quic_wire_dcid)(packet, h) -
+                packet);
+  wire_release(&bytes);
+  return part(self, at, is_source ? h->scidlen : h->dcidlen);
+}
+
+static PyObject *get_dcid(PyObject *self, void *unused) {
+  (void)unused;
+  return id_of(self, 0);
+}
+
+static PyObject *get_scid(PyObject *self, void *unused) {
+  (void)unused;
+  return id_of(self, 1);
+}
+
+static PyObject *get_version(PyObject *self, void *unused) {
+  (void)unused;
+  return PyLong_FromUnsignedLong(HEADER(self)->version);
+}
+
+static PyObject *get_length(PyObject *self, void *unused) {
+  (void)unused;
+  return PyLong_FromUnsignedLongLong(HEADER(self)->len);
+}
+
+static PyObject *get_token(PyObject *self, void *unused) {
+  (void)unused;
+  return part(self, HEADER(self)->token, HEADER(self)->tokenlen);
+}
+
+static PyObject *get_token_at(PyObject *self, void *unused) {
+  (void)unused;
+  return PyLong_FromSize_t(PACKET(self)->begin + HEADER(self)->token);
+}
+
+enum { RETRY_TAG = 16 }; /* bytes of the Retry Integrity Tag */
+
+/* What follows the ids of a Retry: the token, then the tag if there is one. */
+static PyObject *get_retry_token(PyObject *self, void *unused) {
+  const quic_wire_header *h = HEADER(self);
+  const size_t len = h->end - h->header_end;
+  (void)unused;
+  return part(self, h->header_end, len < RETRY_TAG ? len : len - RETRY_TAG);
+}
+
+static PyObject *get_retry_tag(PyObject *self, void *unused) {
+  const quic_wire_header *h = HEADER(self);
+  const size_t len = h->end - h->header_end;
+  (void)unused;
+  if (len < RETRY_TAG)
+    return Py_NewRef(Py_None);
+  return part(self, h->end - RETRY_TAG, RETRY_TAG);
+}
+
+static PyObject *get_spin(PyObject *self, void *unused) {
+  (void)unused;
+  return PyBool_FromLong(HEADER(self)->first & QUIC_WIRE_BIT_SPIN);
+}
+
+/* The versions of a version negotiation. */
+static PyObject *get_versions(PyObject *self, void *unused) {
+  const quic_wire_header *h = HEADER(self);
+  const size_t count = (h->end - h->header_end) / 4;
+  PyObject *out = PyTuple_New((Py_ssize_t)count);
+  const uint8_t *at;
+  wire_bytes bytes;
+  size_t i;
+  (void)unused;
+  if (!out || wire_acquire(PACKET(self)->owner, &bytes) < 0) {
+    Py_XDECREF(out);
+    return NULL;
+  }
+  at = bytes.at + PACKET(self)->begin + h->header_end;
+  for (i = 0; out && i < count; i++, at += 4) {
+    PyObject *version = PyLong_FromUnsignedLong(
+        (unsigned long)at[0] << 24 | (unsigned long)at[1] << 16 |
+        (unsigned long)at[2] << 8 | at[3]);
+    if (!version || PyTuple_SetItem(out, (Py_ssize_t)i, version) < 0)
+      Py_CLEAR(out);
+  }
+  wire_release(&bytes);
+  return out;
+}
+
+static PyObject *get_kind(PyObject *self, void *unused) {
+  (void)unused;
+  return PyLong_FromLong(HEADER(self)->kind);
+}
+
+static PyObject *get_first(PyObject *self, void *unused) {
+  (void)unused;
+  return PyLong_FromLong(HEADER(self)->first);
+}
+
+static PyObject *get_begin(PyObject *self, void *unused) {
+  (void)unused;
+  return PyLong_FromSize_t(PACKET(self)->begin);
+}
+
+static PyObject *get_end(PyObject *self, void *unused) {
+  (void)unused;
+  return PyLong_FromSize_t(PACKET(self)->begin + HEADER(self)->end);
+}
+
+static PyObject *get_number_at(PyObject *self, void *unused) {
+  (void)unused;
+  if (!has_number(HEADER(self)))
+    return Py_NewRef(Py_None);
+  return PyLong_FromSize_t(PACKET(self)->begin + HEADER(self)->header_end);
+}
+
+#define FIELD(name, get, doc)                                                  \
+  { name, get, NULL, PyDoc_STR(doc), NULL }
+#define VERSION FIELD("version", get_version, "the version")
+#define DCID FIELD("dcid", get_dcid, "Destination Connection ID")
+#define SCID FIELD("scid", get_scid, "Source Connection ID")
+#define LENGTH                                                                 \
+  FIELD("length", get_length, "Length: bytes of packet number and payload")
+
+static PyGetSetDef initial_fields[] = {
+    VERSION,
+    DCID,
+    SCID,
+    FIELD("token", get_token, "Token"),
+    LENGTH,
+    FIELD("token_at", get_token_at, "where the token begins in the datagram"),
+    WIRE_END_OF_FIELDS};
+static PyGetSetDef long_fields[] = {VERSION, DCID, SCID, LENGTH,
+                                    WIRE_END_OF_FIELDS};
+static PyGetSetDef retry_fields[] = {
+    VERSION,
+    DCID,
+    SCID,
+    FIELD("token", get_retry_token, "Retry Token"),
+    FIELD("integrity_tag", get_retry_tag,
+          "Retry Integrity Tag, or None if fewer bytes are there"),
+    WIRE_END_OF_FIELDS};
+static PyGetSetDef short_fields[] = {DCID, FIELD("spin", get_spin, "Spin Bit"),
+                                     WIRE_END_OF_FIELDS};
+static PyGetSetDef negotiation_fields[] = {
+    DCID, SCID, FIELD("versions", get_versions, "Supported Versions"),
+    WIRE_END_OF_FIELDS};
+static PyGetSetDef unknown_fields[] = {VERSION, DCID, SCID, WIRE_END_OF_FIELDS};
+
+static const struct packet_kind {
+  const char *name;
+  PyGetSetDef *fields;
+  const char *doc;
+} packet_kinds[PACKET_KINDS] = {
+    {"quic_wire.Initial", initial_fields,
+     "An Initial packet (RFC 9000, section 17.2.2)."},
+    {"quic_wire.ZeroRtt", long_fields,
+     "A 0-RTT packet (RFC 9000, section 17.2.3)."},
+    {"quic_wire.Handshake", long_fields,
+     "A Handshake packet (RFC 9000, section 17.2.4)."},
+    {"quic_wire.Retry", retry_fields,
+     "A Retry packet (RFC 9000, section 17.2.5)."},
+    {"quic_wire.OneRtt", short_fields,
+     "A 1-RTT packet (RFC 9000, section 17.3.1)."},
+    {"quic_wire.VersionNegotiation", negotiation_fields,
+     "A Version Negotiation packet (RFC 9000, section 17.2.1)."},
+    {"quic_wire.UnknownVersion", unknown_fields,
+     "A packet of a version that isn't one of those given (RFC 8999, section "
+     "5.1): all of the datagram from its first byte on."}};
+
+enum { MODULE_LEN = 10 }; /* of "quic_wire." */
+
+static void packet_dealloc(PyObject *self) {
+  PyTypeObject *type = Py_TYPE(self);
+  Py_XDECREF(PACKET(self)->owner);
+  PyObject_Free(self);
+  Py_DECREF(type);
+}
+
+static PyObject *packet_repr(PyObject *self) {
+  const struct packet_kind *kind = &packet_kinds[HEADER(self)->kind];
+  const PyGetSetDef *field;
+  PyObject *text = PyUnicode_FromFormat(
+      "%s(%zu..%zu", kind->name + MODULE_LEN, PACKET(self)->begin,
+      PACKET(self)->begin + HEADER(self)->end);
+  for (field = kind->fields; text && field->name; field++) {
+    PyObject *value = field->get(self, NULL), *more = NULL;
+    if (value && PyMemoryView_Check(value)) {
+      PyObject *bytes = PyBytes_FromObject(value);
+      Py_DECREF(value);
+      value = bytes;
+    }
+    if (value)
+      more = PyUnicode_FromFormat("%U, %s=%R", text, field->name, value);
+    Py_XDECREF(value);
+    Py_DECREF(text);
+    text = more;
+  }
+  if (text) {
+    PyObject *more = PyUnicode_FromFormat("%U)", text);
+    Py_DECREF(text);
+    text = more;
+  }
+  return text;
+}
+
+/* Packets are equal that are read alike of equal bytes. */
+static PyObject *packet_compare(PyObject *self, PyObject *other, int op) {
+  PyObject *ours, *theirs, *out;
+  if ((op != Py_EQ && op != Py_NE) || Py_TYPE(self) != Py_TYPE(other))
+    return Py_NewRef(Py_NotImplemented);
+  if (memcmp(HEADER(self), HEADER(other), sizeof(quic_wire_header)) != 0)
+    return PyBool_FromLong(op == Py_NE);
+  ours = get_data(self, NULL);
+  theirs = ours ? get_data(other, NULL) : NULL;
+  out = theirs ? PyObject_RichCompare(ours, theirs, op) : NULL;
+  Py_XDECREF(ours);
+  Py_XDECREF(theirs);
+  return out;
+}
+
+static Py_hash_t packet_hash(PyObject *self) {
+  PyObject *data = get_data(self, NULL);
+  PyObject *bytes = data ? PyBytes_FromObject(data) : NULL;
+  const Py_hash_t hash = bytes ? PyObject_Hash(bytes) : -1;
+  Py_XDECREF(data);
+  Py_XDECREF(bytes);
+  return hash;
+}
+
+static PyObject *packet_sample(PyObject *self, PyObject *args) {
+  const quic_wire_header *h = HEADER(self);
+  Py_ssize_t len = 16;
+  const uint8_t *packet, *sample = NULL;
+  wire_bytes bytes;
+  size_t at;
+  if (!PyArg_ParseTuple(args, "|n:sample", &len) ||
+      wire_acquire(PACKET(self)->owner, &bytes) < 0)
+    return NULL;
+  packet = bytes.at + PACKET(self)->begin;
+  if (has_number(h) && len > 0)
+    sample = quic_wire_sample(packet, h->end, h->header_end, (size_t)len);
+  at = sample ? (size_t)(sample - packet) : 0;
+  wire_release(&bytes);
+  return sample ? part(self, at, (size_t)len) : Py_NewRef(Py_None);
+}
+
+static PyMethodDef packet_methods[] = {
+    {"sample", packet_sample, METH_VARARGS,
+     PyDoc_STR("sample($self, length=16, /)\n--\n\nThe bytes from which the "
+               "mask of the header is made (RFC 9001, section 5.4.2), or None\n"
+               "if the packet is too short or has no packet number.")},
+    {NULL, NULL, 0, NULL}};
+static PyGetSetDef packet_fields[] = {
+    FIELD("begin", get_begin, "where it begins in its datagram"),
+    FIELD("end", get_end, "where it ends in its datagram"),
+    FIELD("first", get_first, "the first byte, with its protection"),
+    FIELD("kind", get_kind, "the packet's type, as in PacketType"),
+    FIELD("number_at", get_number_at,
+          "where the packet number begins in the datagram, or None"),
+    FIELD("data", get_data, "all of the packet"),
+    FIELD("version", get_version, "the version, or 0 where none is known"),
+    DCID,
+    FIELD("scid", get_scid, "Source Connection ID; empty in a short header"),
+    WIRE_END_OF_FIELDS};
+static PyType_Slot packet_slots[] = {
+    {Py_tp_dealloc, packet_dealloc},
+    {Py_tp_methods, packet_methods},
+    {Py_tp_getset, packet_fields},
+    {Py_tp_repr, packet_repr},
+    {Py_tp_richcompare, packet_compare},
+    {Py_tp_hash, packet_hash},
+    {Py_tp_doc, "A packet, with its protection (RFC 9000, section 17)."},
+    {0, NULL}};
+static PyType_Spec packet_spec = {"quic_wire.Packet", sizeof(packet_object), 0,
+                                  Py_TPFLAGS_DEFAULT | Py_TPFLAGS_BASETYPE |
+                                      Py_TPFLAGS_DISALLOW_INSTANTIATION,
+                                  packet_slots};
+
+int wire_add_packets(PyObject *module, wire_state *state) {
+  PyObject *bases;
+  size_t i;
+  int result = 0;
+  state->packet = wire_add_type(module, &packet_spec, NULL, "Packet", NULL);
+  bases = state->packet ? PyTuple_Pack(1, state->packet) : NULL;
+  for (i = 0; bases && result == 0 && i < PACKET_KINDS; i++) {
+    const struct packet_kind *kind = &packet_kinds[i];
+    PyType_Slot slots[] = {{Py_tp_getset, kind->fields},
+                           {Py_tp_dealloc, packet_dealloc},
+                           {Py_tp_doc, (void *)kind->doc},
+                           {0, NULL}};
+    PyType_Spec spec = {kind->name, sizeof(packet_object), 0,
+                        Py_TPFLAGS_DEFAULT | Py_TPFLAGS_DISALLOW_INSTANTIATION,
+                        slots};
+    state->packets[i] = wire_add_type(module, &spec, bases,
+                                      kind->name + MODULE_LEN, kind->fields);
+    result = state->packets[i] ? 0 : -1;
+  }
+  Py_XDECREF(bases);
+  return bases ? result : -1;
+}
+
+PyObject *packet_made(wire_state *state, PyObject *owner, size_t begin,
+                      const quic_wire_header *h) {
+  PyTypeObject *type = (PyTypeObject *)state->packets[h->kind];
+  packet_object *o = PyObject_New(packet_object, type);
+  if (!o)
+    return NULL;
+  o->owner = Py_NewRef(owner);
+  o->begin = begin;
+  o->h = *h;
+  return (PyObject *)o;
+}
+
+size_t packet_end(PyObject *packet) {
+  return PACKET(packet)->begin + HEADER(packet)->end;
+}

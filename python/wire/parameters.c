@@ -1,0 +1,419 @@
+/* SPDX-License-Identifier: MIT OR Apache-2.0 */
+/* Transport parameters as an object (RFC 9000, section 18). */
+#include "wire.h"
+
+#include <stddef.h>
+#include <string.h>
+
+typedef struct parameters_object {
+  PyObject_HEAD quic_wire_params p;
+} parameters_object;
+
+#define PARAMS(self) (&((parameters_object *)(self))->p)
+
+/* What a field of the struct is. */
+enum field_kind {
+  INTEGER,  /* a number, always there */
+  OPTIONAL, /* a number, or None */
+  FLAG,     /* True or False */
+  TOKEN,    /* 16 bytes, or None */
+  ID,       /* an id, or None */
+  ADDRESS   /* the preferred address, or None */
+};
+typedef struct parameter_field {
+  const char *name;
+  enum field_kind kind;
+  size_t at, len_at; /* places in the struct */
+  uint32_t present;
+} parameter_field;
+
+#define AT(field) offsetof(quic_wire_params, field)
+#define NUMBER(X, name) X(name, INTEGER, AT(name), 0, 0)
+/* The rows in their order: a name, what it is, its place, the place of its
+ * length, and its bit. */
+#define ROWS(X)                                                                \
+  NUMBER(X, max_idle_timeout)                                                  \
+  NUMBER(X, max_udp_payload_size)                                              \
+  NUMBER(X, initial_max_data)                                                  \
+  NUMBER(X, initial_max_stream_data_bidi_local)                                \
+  NUMBER(X, initial_max_stream_data_bidi_remote)                               \
+  NUMBER(X, initial_max_stream_data_uni)                                       \
+  NUMBER(X, initial_max_streams_bidi)                                          \
+  NUMBER(X, initial_max_streams_uni)                                           \
+  NUMBER(X, ack_delay_exponent)                                                \
+  NUMBER(X, max_ack_delay)                                                     \
+  NUMBER(X, active_connection_id_limit)                                        \
+  X(stateless_reset_token, TOKEN, AT(stateless_reset_token), 0,                \
+    QUIC_WIRE_HAS_STATELESS_RESET_TOKEN)                                       \
+  X(disable_active_migration, FLAG, 0, 0,                                      \
+    QUIC_WIRE_HAS_DISABLE_ACTIVE_MIGRATION)                                    \
+  X(max_datagram_frame_size, OPTIONAL, AT(max_datagram_frame_size), 0,         \
+    QUIC_WIRE_HAS_MAX_DATAGRAM_FRAME_SIZE)                                     \
+  X(preferred_address, ADDRESS, 0, 0, QUIC_WIRE_HAS_PREFERRED_ADDRESS)         \
+  X(original_destination_connection_id, ID, AT(original_dst_cid),              \
+    AT(original_dst_cidlen), QUIC_WIRE_HAS_ORIGINAL_DST_CID)                   \
+  X(initial_source_connection_id, ID, AT(initial_src_cid),                     \
+    AT(initial_src_cidlen), QUIC_WIRE_HAS_INITIAL_SRC_CID)                     \
+  X(retry_source_connection_id, ID, AT(retry_src_cid), AT(retry_src_cidlen),   \
+    QUIC_WIRE_HAS_RETRY_SRC_CID)                                               \
+  X(grease_quic_bit, FLAG, 0, 0, QUIC_WIRE_HAS_GREASE_QUIC_BIT)                \
+  X(min_ack_delay, OPTIONAL, AT(min_ack_delay), 0, QUIC_WIRE_HAS_MIN_ACK_DELAY)
+
+enum row {
+#define ROW(name, kind, at, len_at, present) ROW_##name,
+  ROWS(ROW)
+#undef ROW
+};
+static const parameter_field table[] = {
+#define ROW(name, kind, at, len_at, present) {#name, kind, at, len_at, present},
+    ROWS(ROW)
+#undef ROW
+};
+enum { FIELDS = sizeof table / sizeof *table, CID = 20, RESET_TOKEN = 16 };
+
+static uint8_t *bytes_at(quic_wire_params *p, size_t at) {
+  return (uint8_t *)p + at;
+}
+
+static uint64_t number_at(const quic_wire_params *p, size_t at) {
+  uint64_t number;
+  memcpy(&number, (const uint8_t *)p + at, sizeof number);
+  return number;
+}
+
+static uint32_t len_at(const quic_wire_params *p, size_t at) {
+  uint32_t len;
+  memcpy(&len, (const uint8_t *)p + at, sizeof len);
+  return len;
+}
+
+/* ---- Fields read */
+
+static PyObject *address_of(const quic_wire_params *p) {
+  const int has_v4 = (p->present & QUIC_WIRE_HAS_PREFERRED_V4) != 0;
+  const int has_v6 = (p->present & QUIC_WIRE_HAS_PREFERRED_V6) != 0;
+  return wire_call(
+      "quic_wire.parameters", "_address_read",
+      Py_BuildValue("(y#y#y#Iy#I)", (const char *)p->preferred_cid,
+                    (Py_ssize_t)p->preferred_cidlen,
+                    (const char *)p->preferred_token, (Py_ssize_t)RESET_TOKEN,
+                    has_v4 ? (const char *)p->preferred_v4 : NULL,
+                    (Py_ssize_t)4, (unsigned)p->preferred_v4_port,
+                    has_v6 ? (const char *)p->preferred_v6 : NULL,
+                    (Py_ssize_t)16, (unsigned)p->preferred_v6_port));
+}
+
+static PyObject *get_field(PyObject *self, void *closure) {
+  const parameter_field *field = closure;
+  quic_wire_params *p = PARAMS(self);
+  const int is_there = (p->present & field->present) != 0;
+  if (field->kind == INTEGER)
+    return PyLong_FromUnsignedLongLong(number_at(p, field->at));
+  if (field->kind == FLAG)
+    return PyBool_FromLong(is_there);
+  if (!is_there)
+    return Py_NewRef(Py_None);
+  switch (field->kind) {
+  case OPTIONAL: return PyLong_FromUnsignedLongLong(number_at(p, field->at));
+  case ADDRESS: return address_of(p);
+  default: break;
+  }
+  return PyBytes_FromStringAndSize(
+      (char *)bytes_at(p, field->at),
+      field->kind == TOKEN ? RESET_TOKEN : len_at(p, field->len_at));
+}
+
+/* ---- Fields set */
+
+static int set_bytes(quic_wire_params *p, const parameter_field *field,
+                     PyObject *value) {
+  const size_t most = field->kind == TOKEN ? RESET_TOKEN : CID;
+  const size_t least = field->kind == TOKEN ? RESET_TOKEN : 0;
+  wire_bytes bytes;
+  uint32_t len;
+  if (wire_acquire(value, &bytes) < 0)
+    return -1;
+  len = (uint32_t)bytes.len;
+  if (bytes.len <= most && bytes.len >= least) {
+    memcpy(bytes_at(p, field->at), bytes.at, bytes.len);
+    if (field->kind == ID)
+      memcpy(bytes_at(p, field->len_at), &len, sizeof len);
+  } else
+    PyErr_Format(PyExc_ValueError, "%s must have %s%zu bytes", field->name,
+                 least ? "" : "at most ", most);
+  wire_release(&bytes);
+  return PyErr_Occurred() ? -1 : 0;
+}
+
+/* The parts of a PreferredAddress, which Python has checked. */
+static int set_address(quic_wire_params *p, PyObject *value) {
+  PyObject *parts = wire_call("quic_wire.parameters", "_address_parts",
+                              Py_BuildValue("(O)", value));
+  const char *cid, *token, *v4, *v6;
+  Py_ssize_t cid_len, token_len, v4_len, v6_len;
+  int result = -1;
+  if (parts && PyArg_ParseTuple(parts, "y#y#z#Hz#H", &cid, &cid_len, &token,
+                                &token_len, &v4, &v4_len, &p->preferred_v4_port,
+                                &v6, &v6_len, &p->preferred_v6_port)) {
+    memcpy(p->preferred_cid, cid, (size_t)cid_len);
+    memcpy(p->preferred_token, token, (size_t)token_len);
+    p->preferred_cidlen = (uint32_t)cid_len;
+    if (v4)
+      memcpy(p->preferred_v4, v4, (size_t)v4_len);
+    if (v6)
+      memcpy(p->preferred_v6, v6, (size_t)v6_len);
+    p->present |= (v4 ? QUIC_WIRE_HAS_PREFERRED_V4 : 0u) |
+                  (v6 ? QUIC_WIRE_HAS_PREFERRED_V6 : 0u);
+    result = 0;
+  }
+  Py_XDECREF(parts);
+  return result;
+}
+
+static int set_number(quic_wire_params *p, const parameter_field *field,
+                      PyObject *value) {
+  uint64_t number;
+  if (wire_varint(value, field->name, &number) < 0)
+    return -1;
+  memcpy(bytes_at(p, field->at), &number, sizeof number);
+  return 0;
+}
+
+static int set_field(quic_wire_params *p, const parameter_field *field,
+                     PyObject *value) {
+  int is_set = value != Py_None, result = 0;
+  if (field->kind == FLAG)
+    result = is_set = PyObject_IsTrue(value);
+  else if (field->kind == INTEGER || (is_set && field->kind == OPTIONAL))
+    result = set_number(p, field, value);
+  else if (is_set && field->kind == ADDRESS)
+    result = set_address(p, value);
+  else if (is_set)
+    result = set_bytes(p, field, value);
+  if (is_set)
+    p->present |= field->present;
+  return result < 0 ? -1 : 0;
+}
+
+/* ---- The object */
+
+static PyGetSetDef fields[] = {
+#define ROW(name, kind, at, len_at, present)                                   \
+  {#name, get_field, NULL, NULL, (void *)&table[ROW_##name]},
+    ROWS(ROW)
+#undef ROW
+        WIRE_END_OF_FIELDS};
+
+/* An object of a type that Python may have derived. */
+static parameters_object *allocate(PyTypeObject *type) {
+  allocfunc alloc = (allocfunc)PyType_GetSlot(type, Py_tp_alloc);
+  parameters_object *o = (parameters_object *)alloc(type, 0);
+  if (o)
+    memset(&o->p, 0, sizeof o->p);
+  return o;
+}
+
+static parameters_object *by_default(PyTypeObject *type) {
+  parameters_object *o = allocate(type);
+  int result;
+  if (!o)
+    return NULL;
+  result = quic_wire_params_read(QUIC_WIRE_SIDE_CLIENT, (const uint8_t *)"", 0,
+                                 &o->p, sizeof o->p);
+  if (result < 0) {
+    wire_mistake(result);
+    Py_CLEAR(o);
+  }
+  return o;
+}
+
+static PyObject *parameters_new(PyTypeObject *type, PyObject *args,
+                                PyObject *keywords) {
+  parameters_object *o;
+  Py_ssize_t named = 0, i;
+  if (PyTuple_Size(args))
+    return PyErr_Format(PyExc_TypeError, "parameters are given by name");
+  o = by_default(type);
+  for (i = 0; o && keywords && i < FIELDS; i++) {
+    PyObject *value = PyDict_GetItemString(keywords, table[i].name);
+    named += value != NULL;
+    if (value && set_field(&o->p, &table[i], value) < 0)
+      Py_CLEAR(o);
+  }
+  if (o && keywords && PyDict_Size(keywords) != named) {
+    PyErr_SetString(PyExc_TypeError, "no such transport parameter");
+    Py_CLEAR(o);
+  }
+  return (PyObject *)o;
+}
+
+static void parameters_dealloc(PyObject *self) {
+  PyTypeObject *type = Py_TYPE(self);
+  freefunc release = (freefunc)PyType_GetSlot(type, Py_tp_free);
+  release(self);
+  Py_DECREF(type);
+}
+
+/* The fields that differ from their defaults, by name; all where |all|. */
+static PyObject *dict_of(PyObject *self, int all) {
+  PyObject *usual = (PyObject *)by_default(Py_TYPE(self));
+  PyObject *out = usual ? PyDict_New() : NULL;
+  size_t i;
+  for (i = 0; out && i < FIELDS; i++) {
+    PyObject *value = get_field(self, (void *)&table[i]);
+    PyObject *other = value ? get_field(usual, (void *)&table[i]) : NULL;
+    const int is_same =
+        other ? PyObject_RichCompareBool(value, other, Py_EQ) : -1;
+    if (is_same < 0 || ((all || !is_same) &&
+                        PyDict_SetItemString(out, table[i].name, value) < 0))
+      Py_CLEAR(out);
+    Py_XDECREF(value);
+    Py_XDECREF(other);
+  }
+  Py_XDECREF(usual);
+  return out;
+}
+
+static PyObject *parameters_as_dict(PyObject *self, PyObject *unused) {
+  (void)unused;
+  return dict_of(self, 1);
+}
+
+static PyObject *parameters_reduce(PyObject *self, PyObject *unused) {
+  PyObject *dict = dict_of(self, 0);
+  PyObject *maker = NULL, *from = PyImport_ImportModule("quic_wire.parameters");
+  (void)unused;
+  if (from)
+    maker = PyObject_GetAttrString(from, "_of_dict");
+  Py_XDECREF(from);
+  if (!dict || !maker) {
+    Py_XDECREF(dict);
+    Py_XDECREF(maker);
+    return NULL;
+  }
+  return Py_BuildValue("(N(N))", maker, dict);
+}
+
+static PyObject *parameters_repr(PyObject *self) {
+  PyObject *dict = dict_of(self, 0);
+  PyObject *text = dict ? PyUnicode_FromString("TransportParameters(") : NULL;
+  PyObject *name, *value, *more;
+  Py_ssize_t at = 0, count = 0;
+  while (text && PyDict_Next(dict, &at, &name, &value)) {
+    more = PyUnicode_FromFormat("%U%s%U=%R", text, count++ ? ", " : "", name,
+                                value);
+    Py_DECREF(text);
+    text = more;
+  }
+  Py_XDECREF(dict);
+  more = text ? PyUnicode_FromFormat("%U)", text) : NULL;
+  Py_XDECREF(text);
+  return more;
+}
+
+static PyObject *parameters_compare(PyObject *self, PyObject *other, int op) {
+  int is_same;
+  if ((op != Py_EQ && op != Py_NE) || Py_TYPE(self) != Py_TYPE(other))
+    return Py_NewRef(Py_NotImplemented);
+  is_same = memcmp(PARAMS(self), PARAMS(other), sizeof(quic_wire_params)) == 0;
+  return PyBool_FromLong(is_same == (op == Py_EQ));
+}
+
+static Py_hash_t parameters_hash(PyObject *self) {
+  PyObject *bytes =
+      PyBytes_FromStringAndSize((char *)PARAMS(self), sizeof(quic_wire_params));
+  const Py_hash_t hash = bytes ? PyObject_Hash(bytes) : -1;
+  Py_XDECREF(bytes);
+  return hash;
+}
+
+/* ---- Lists read and written */
+
+static PyObject *parameters_read(PyObject *type, PyObject *args) {
+  PyObject *list;
+  unsigned side;
+  wire_bytes bytes;
+  parameters_object *o;
+  int result;
+  if (!PyArg_ParseTuple(args, "IO:read", &side, &list) ||
+      wire_acquire(list, &bytes) < 0)
+    return NULL;
+  o = allocate((PyTypeObject *)type);
+  if (o) {
+    result =
+        quic_wire_params_read(side, bytes.at, bytes.len, &o->p, sizeof o->p);
+    if (result < 0) {
+      if (result <= QUIC_WIRE_ERR_PARAMS_MALFORMED)
+        wire_parameter_error(result, side, list);
+      else
+        wire_mistake(result);
+      Py_CLEAR(o);
+    }
+  }
+  wire_release(&bytes);
+  return (PyObject *)o;
+}
+
+/* Further entries and an order of all, as quic_wire_params_write_with has them.
+ */
+static PyObject *written(PyObject *self, unsigned side, const Py_buffer *more,
+                         const Py_buffer *order) {
+  const size_t room = sizeof(quic_wire_params) + 256 + (size_t)more->len;
+  uint8_t *at;
+  PyObject *out = wire_new_bytes(room, &at);
+  size_t len = 0;
+  int result;
+  if (!out)
+    return NULL;
+  result = quic_wire_params_write_with(
+      side, PARAMS(self), sizeof(quic_wire_params), more->buf,
+      (size_t)more->len, order->buf, (size_t)order->len, at, room, &len);
+  if (result >= 0)
+    return wire_front(out, len);
+  Py_DECREF(out);
+  return wire_mistake(result);
+}
+
+static PyObject *parameters_write(PyObject *self, PyObject *args) {
+  Py_buffer more = {0}, order = {0};
+  unsigned side;
+  PyObject *out;
+  more.buf = order.buf = (void *)"";
+  if (!PyArg_ParseTuple(args, "I|y*y*:write", &side, &more, &order))
+    return NULL;
+  out = written(self, side, &more, &order);
+  if (more.obj)
+    PyBuffer_Release(&more);
+  if (order.obj)
+    PyBuffer_Release(&order);
+  return out;
+}
+
+static PyMethodDef parameters_methods[] = {
+    {"read", parameters_read, METH_VARARGS | METH_CLASS,
+     PyDoc_STR(
+         "read($type, side, data, /)\n--\n\nThe parameters in a list that "
+         "the peer of a side sent. Raises ParameterError.")},
+    {"_write", parameters_write, METH_VARARGS, NULL},
+    {"as_dict", parameters_as_dict, METH_NOARGS,
+     PyDoc_STR("as_dict($self, /)\n--\n\nAll parameters by name.")},
+    {"__reduce__", parameters_reduce, METH_NOARGS, NULL},
+    {NULL, NULL, 0, NULL}};
+static PyType_Slot parameters_slots[] = {
+    {Py_tp_dealloc, parameters_dealloc},
+    {Py_tp_new, parameters_new},
+    {Py_tp_methods, parameters_methods},
+    {Py_tp_getset, fields},
+    {Py_tp_repr, parameters_repr},
+    {Py_tp_richcompare, parameters_compare},
+    {Py_tp_hash, parameters_hash},
+    {0, NULL}};
+static PyType_Spec parameters_spec = {
+    "quic_wire._wire._Parameters", sizeof(parameters_object), 0,
+    Py_TPFLAGS_DEFAULT | Py_TPFLAGS_BASETYPE, parameters_slots};
+
+int wire_add_parameters(PyObject *module, wire_state *state) {
+  state->parameters =
+      wire_add_type(module, &parameters_spec, NULL, "_Parameters", fields);
+  return state->parameters ? 0 : -1;
+}

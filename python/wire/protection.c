@@ -1,0 +1,399 @@
+/* SPDX-License-Identifier: MIT OR Apache-2.0 */
+/* Headers written, their protection removed and applied, packet numbers, and
+ * integers of variable length. */
+#include "wire.h"
+
+#include <string.h>
+
+enum { MASK = 5 }; /* bytes that protect a header (RFC 9001, section 5.4.1) */
+
+/* A place in bytes and a mask, as arguments: -1 with an exception. */
+static int check_mask(Py_ssize_t at, const Py_buffer *mask) {
+  if (at < 0)
+    PyErr_SetString(PyExc_ValueError, "number_at must not be negative");
+  else if (mask->len < MASK)
+    PyErr_SetString(PyExc_ValueError, "mask must have 5 bytes or more");
+  return PyErr_Occurred() ? -1 : 0;
+}
+
+/* The result of a call that is an error of the packet or the caller's. */
+static PyObject *refuse(int result, PyObject *packet) {
+  return result == QUIC_WIRE_ERR_PACKET_SMALL
+             ? wire_packet_error(result, packet, 0, 0, Py_None, NULL)
+             : wire_mistake(result);
+}
+
+static PyObject *unprotect(PyObject *module, PyObject *args,
+                           PyObject *keywords) {
+  static char *names[] = {"packet", "number_at", "mask", "expected", NULL};
+  Py_buffer packet, mask;
+  Py_ssize_t at;
+  PyObject *expected = NULL, *header = NULL;
+  uint64_t next = 0, number = 0;
+  uint8_t *copy;
+  size_t room;
+  int result = QUIC_WIRE_ERR_PACKET_SMALL;
+  (void)module;
+  if (!PyArg_ParseTupleAndKeywords(args, keywords, "y*ny*|O:unprotect", names,
+                                   &packet, &at, &mask, &expected))
+    return NULL;
+  if (check_mask(at, &mask) == 0 &&
+      (!expected || wire_varint(expected, "expected", &next) == 0)) {
+    room = (at < packet.len ? (size_t)at : 0) + 4;
+    header = wire_new_bytes(room, &copy);
+    if (header && at < packet.len)
+      result =
+          quic_wire_unprotect_copy(packet.buf, (size_t)packet.len, (size_t)at,
+                                   mask.buf, next, copy, room, &number);
+    if (header && result < 0) {
+      Py_CLEAR(header);
+      refuse(result, packet.obj);
+    } else if (header)
+      header = wire_front(header, (size_t)(at + result));
+  }
+  PyBuffer_Release(&packet);
+  PyBuffer_Release(&mask);
+  return header ? Py_BuildValue("(KN)", (unsigned long long)number, header)
+                : NULL;
+}
+
+static PyObject *protect(PyObject *module, PyObject *args, PyObject *keywords) {
+  static char *names[] = {"packet", "number_at", "mask", NULL};
+  Py_buffer packet, mask;
+  Py_ssize_t at;
+  PyObject *out = NULL;
+  int result;
+  (void)module;
+  if (!PyArg_ParseTupleAndKeywords(args, keywords, "w*ny*:protect", names,
+                                   &packet, &at, &mask))
+    return NULL;
+  if (check_mask(at, &mask) == 0) {
+    result =
+        quic_wire_protect(packet.buf, (size_t)packet.len, (size_t)at, mask.buf);
+    out = result < 0 ? refuse(result, packet.obj) : PyLong_FromLong(result);
+  }
+  PyBuffer_Release(&packet);
+  PyBuffer_Release(&mask);
+  return out;
+}
+
+static PyObject *set_length(PyObject *module, PyObject *args,
+                            PyObject *keywords) {
+  static char *names[] = {"packet", "number_at", "length_len", NULL};
+  Py_buffer packet;
+  Py_ssize_t at;
+  unsigned len = 2;
+  int result = QUIC_WIRE_ERR_PLACE;
+  (void)module;
+  if (!PyArg_ParseTupleAndKeywords(args, keywords, "w*n|I:set_length", names,
+                                   &packet, &at, &len))
+    return NULL;
+  if (at >= 0)
+    result = quic_wire_set_len(packet.buf, (size_t)packet.len, (size_t)at, len);
+  PyBuffer_Release(&packet);
+  return result < 0 ? wire_mistake(result) : Py_NewRef(Py_None);
+}
+
+/* ---- Headers written */
+
+/* What write_header is called with. */
+typedef struct header_arguments {
+  quic_wire_header_fields fields;
+  Py_buffer dcid, scid, token;
+} header_arguments;
+
+static void release(header_arguments *a) {
+  if (a->dcid.obj)
+    PyBuffer_Release(&a->dcid);
+  if (a->scid.obj)
+    PyBuffer_Release(&a->scid);
+  if (a->token.obj)
+    PyBuffer_Release(&a->token);
+}
+
+static int parse_header(PyObject *args, PyObject *keywords,
+                        header_arguments *a) {
+  static char *names[] = {
+      "packet_type", "dcid",       "scid", "token",     "version",   "number",
+      "number_len",  "length_len", "spin", "key_phase", "fixed_bit", NULL};
+  unsigned char kind, number_len = 4, length_len = 2;
+  unsigned version = QUIC_WIRE_VERSION_1;
+  int spin = 0, key_phase = 0, fixed_bit = 1;
+  PyObject *number = NULL;
+  if (!PyArg_ParseTupleAndKeywords(
+          args, keywords, "b|y*y*y*$IObbppp:write_header", names, &kind,
+          &a->dcid, &a->scid, &a->token, &version, &number, &number_len,
+          &length_len, &spin, &key_phase, &fixed_bit) ||
+      (number && wire_varint(number, "number", &a->fields.number) < 0))
+    return -1;
+  a->fields.kind = kind;
+  a->fields.version = version;
+  a->fields.numberlen = number_len;
+  a->fields.lengthlen = length_len;
+  if (kind == QUIC_WIRE_PACKET_VERSION_NEGOTIATION ||
+      kind == QUIC_WIRE_PACKET_UNKNOWN_VERSION) {
+    PyErr_SetString(PyExc_ValueError, "no header of this type is written here");
+    return -1;
+  }
+  a->fields.flags = (uint8_t)((fixed_bit ? 0 : QUIC_WIRE_CLEAR_FIXED_BIT) |
+                              (spin ? QUIC_WIRE_BIT_SPIN : 0) |
+                              (key_phase ? QUIC_WIRE_BIT_KEY_PHASE : 0));
+  return 0;
+}
+
+static PyObject *write_header(PyObject *module, PyObject *args,
+                              PyObject *keywords) {
+  header_arguments a;
+  PyObject *out = NULL;
+  uint8_t *at = NULL;
+  int64_t result = 0;
+  size_t room;
+  (void)module;
+  memset(&a, 0, sizeof a);
+  if (parse_header(args, keywords, &a) == 0) {
+    room = quic_wire_header_len(&a.fields, (size_t)a.dcid.len,
+                                (size_t)a.scid.len, (size_t)a.token.len);
+    out = wire_new_bytes(room, &at);
+    if (out)
+      result = quic_wire_header_write(
+          &a.fields, a.dcid.buf, (size_t)a.dcid.len, a.scid.buf,
+          (size_t)a.scid.len, a.token.buf, (size_t)a.token.len, at, room);
+  }
+  release(&a);
+  if (result < 0) {
+    Py_CLEAR(out);
+    return wire_mistake((int)result);
+  }
+  return out ? wire_front(out, (size_t)result) : NULL;
+}
+
+/* The versions of an iterable: free them with PyMem_Free. */
+static uint32_t *versions_of(PyObject *versions, size_t *count) {
+  PyObject *list = PySequence_List(versions);
+  const Py_ssize_t len = list ? PyList_Size(list) : 0;
+  uint32_t *out = list ? PyMem_Calloc((size_t)len + 1, sizeof *out) : NULL;
+  Py_ssize_t i;
+  uint64_t version;
+  for (i = 0; out && i < len; i++) {
+    if (wire_number(PyList_GetItem(list, i), "a version", &version) == 0 &&
+        version > UINT32_MAX)
+      PyErr_SetString(PyExc_ValueError, "a version must be below 2^32");
+    if (PyErr_Occurred()) {
+      PyMem_Free(out);
+      out = NULL;
+    } else
+      out[i] = (uint32_t)version;
+  }
+  Py_XDECREF(list);
+  *count = (size_t)len;
+  return out;
+}
+
+static PyObject *write_negotiation(PyObject *module, PyObject *args,
+                                   PyObject *keywords) {
+  static char *names[] = {"dcid", "scid", "versions", "unused", NULL};
+  Py_buffer dcid, scid;
+  PyObject *versions, *out = NULL;
+  unsigned char unused = QUIC_WIRE_BIT_FIXED;
+  uint32_t *list;
+  size_t count, room, len = 0;
+  uint8_t *at = NULL;
+  int result = 0;
+  (void)module;
+  if (!PyArg_ParseTupleAndKeywords(args, keywords,
+                                   "y*y*O|b:write_version_negotiation", names,
+                                   &dcid, &scid, &versions, &unused))
+    return NULL;
+  list = versions_of(versions, &count);
+  room = 7 + (size_t)dcid.len + (size_t)scid.len + 4 * count;
+  out = list ? wire_new_bytes(room, &at) : NULL;
+  if (out)
+    result = quic_wire_negotiation_write(
+        (uint8_t)((unused & 0x7f) ^ QUIC_WIRE_BIT_FIXED), dcid.buf,
+        (size_t)dcid.len, scid.buf, (size_t)scid.len, list, count, at, room,
+        &len);
+  PyMem_Free(list);
+  PyBuffer_Release(&dcid);
+  PyBuffer_Release(&scid);
+  if (result < 0) {
+    Py_CLEAR(out);
+    return wire_mistake(result);
+  }
+  return out ? wire_front(out, len) : NULL;
+}
+
+/* ---- Numbers */
+
+/* The integer at a place and where it ends, or None. */
+static PyObject *varint_at(PyObject *module, PyObject *args) {
+  PyObject *data;
+  Py_ssize_t at;
+  uint64_t value = 0;
+  size_t len = 0;
+  wire_bytes bytes;
+  (void)module;
+  if (!PyArg_ParseTuple(args, "On:varint_at", &data, &at) ||
+      wire_acquire(data, &bytes) < 0)
+    return NULL;
+  if (at >= 0 && (size_t)at < bytes.len)
+    len = quic_wire_varint_read(bytes.at + at, bytes.len - (size_t)at, &value);
+  wire_release(&bytes);
+  if (!len)
+    return Py_NewRef(Py_None);
+  return Py_BuildValue("(Kn)", (unsigned long long)value, at + (Py_ssize_t)len);
+}
+
+static PyObject *read_varint(PyObject *module, PyObject *args) {
+  PyObject *data, *found, *both;
+  Py_ssize_t at = 0;
+  if (!PyArg_ParseTuple(args, "O|n:read_varint", &data, &at))
+    return NULL;
+  both = Py_BuildValue("(On)", data, at);
+  found = both ? varint_at(module, both) : NULL;
+  Py_XDECREF(both);
+  if (found != Py_None)
+    return found;
+  Py_DECREF(found);
+  return wire_call("quic_wire.errors", "_raise_varint",
+                   Py_BuildValue("(n)", at));
+}
+
+static PyObject *write_varint(PyObject *module, PyObject *args) {
+  PyObject *value;
+  unsigned width = 0;
+  uint64_t number;
+  uint8_t out[8];
+  size_t len;
+  (void)module;
+  if (!PyArg_ParseTuple(args, "O|I:write_varint", &value, &width) ||
+      wire_varint(value, "value", &number) < 0)
+    return NULL;
+  len = quic_wire_varint_write(number, width, out, sizeof out);
+  if (!len)
+    return PyErr_Format(PyExc_ValueError, "value doesn't fit into that width");
+  return PyBytes_FromStringAndSize((char *)out, (Py_ssize_t)len);
+}
+
+static PyObject *varint_len(PyObject *module, PyObject *value) {
+  uint64_t number;
+  (void)module;
+  if (wire_varint(value, "value", &number) < 0)
+    return NULL;
+  return PyLong_FromSize_t(quic_wire_varint_len(number));
+}
+
+static PyObject *number_len(PyObject *module, PyObject *args) {
+  PyObject *number, *acked = Py_None;
+  uint64_t value, largest = 0;
+  int len;
+  (void)module;
+  if (!PyArg_ParseTuple(args, "O|O:packet_number_len", &number, &acked) ||
+      wire_varint(number, "number", &value) < 0 ||
+      (acked != Py_None &&
+       wire_varint(acked, "largest_acknowledged", &largest) < 0))
+    return NULL;
+  len = quic_wire_number_len(value, largest);
+  return len < 0 ? wire_mistake(len) : PyLong_FromLong(len);
+}
+
+static PyObject *number_expand(PyObject *module, PyObject *args) {
+  PyObject *truncated, *expected;
+  uint64_t written, next, number;
+  unsigned len;
+  (void)module;
+  if (!PyArg_ParseTuple(args, "OIO:expand_packet_number", &truncated, &len,
+                        &expected) ||
+      wire_number(truncated, "truncated", &written) < 0 ||
+      wire_varint(expected, "expected", &next) < 0)
+    return NULL;
+  number = quic_wire_number_expand(written, len, next);
+  return number == UINT64_MAX ? wire_mistake(QUIC_WIRE_ERR_LENGTH)
+                              : PyLong_FromUnsignedLongLong(number);
+}
+
+static PyObject *number_read(PyObject *module, PyObject *args) {
+  PyObject *data;
+  unsigned len;
+  uint64_t written = 0;
+  wire_bytes bytes;
+  int result;
+  (void)module;
+  if (!PyArg_ParseTuple(args, "OI:read_packet_number", &data, &len) ||
+      wire_acquire(data, &bytes) < 0)
+    return NULL;
+  result = quic_wire_number_read(bytes.at, bytes.len, len, &written);
+  wire_release(&bytes);
+  if (result == QUIC_WIRE_ERR_PACKET_END)
+    return wire_packet_error(result, data, 0, 0, Py_None, NULL);
+  return result < 0 ? wire_mistake(result)
+                    : PyLong_FromUnsignedLongLong(written);
+}
+
+static PyObject *number_write(PyObject *module, PyObject *args) {
+  PyObject *value;
+  unsigned len;
+  uint64_t number;
+  uint8_t out[4];
+  int result;
+  (void)module;
+  if (!PyArg_ParseTuple(args, "OI:write_packet_number", &value, &len) ||
+      wire_number(value, "number", &number) < 0)
+    return NULL;
+  result = quic_wire_number_write(number, len, out, sizeof out);
+  return result < 0 ? wire_mistake(result)
+                    : PyBytes_FromStringAndSize((char *)out, result);
+}
+
+#define NAMED METH_VARARGS | METH_KEYWORDS
+PyMethodDef wire_number_functions[] = {
+    {"unprotect", WIRE_FAST(unprotect), NAMED,
+     PyDoc_STR(
+         "unprotect($module, packet, number_at, mask, expected=0)\n--\n\n"
+         "The packet number, by the one that is expected next, and a copy "
+         "of the header without\nits protection, up to the end of that "
+         "number (RFC 9001, section 5.4.1).")},
+    {"protect", WIRE_FAST(protect), NAMED,
+     PyDoc_STR(
+         "protect($module, packet, number_at, mask)\n--\n\nApplies the "
+         "protection to the header of a packet in place; returns how many "
+         "bytes the\npacket number has.")},
+    {"set_length", WIRE_FAST(set_length), NAMED,
+     PyDoc_STR("set_length($module, packet, number_at, length_len=2)\n--\n\n"
+               "Sets the length in a long header to what follows it in the "
+               "packet, in place.")},
+    {"write_header", WIRE_FAST(write_header), NAMED,
+     PyDoc_STR("write_header($module, packet_type, dcid=b'', scid=b'', "
+               "token=b'', *, version=1, number=0, number_len=4, length_len=2, "
+               "spin=False, key_phase=False, fixed_bit=True)\n--\n\nA header "
+               "without protection. Its length is 0 until set_length.")},
+    {"write_version_negotiation", WIRE_FAST(write_negotiation), NAMED,
+     PyDoc_STR("write_version_negotiation($module, dcid, scid, versions, "
+               "unused=0x40)\n--\n\nA Version Negotiation packet (RFC 9000, "
+               "section 17.2.1), with the unused bits of its\nfirst byte.")},
+    {"varint_at", varint_at, METH_VARARGS, NULL},
+    {"read_varint", read_varint, METH_VARARGS,
+     PyDoc_STR("read_varint($module, data, at=0, /)\n--\n\nThe integer of "
+               "variable length at a place, and where it ends (RFC 9000, "
+               "section 16).")},
+    {"write_varint", write_varint, METH_VARARGS,
+     PyDoc_STR("write_varint($module, value, width=0, /)\n--\n\nAn integer of "
+               "variable length in 1, 2, 4 or 8 bytes; with 0 in as few as it "
+               "takes.")},
+    {"varint_len", varint_len, METH_O,
+     PyDoc_STR("varint_len($module, value, /)\n--\n\nHow many bytes the "
+               "shortest encoding of an integer has: 1, 2, 4 or 8.")},
+    {"packet_number_len", number_len, METH_VARARGS,
+     PyDoc_STR("packet_number_len($module, number, largest_acknowledged=None, "
+               "/)\n--\n\nHow many bytes of a packet number are written (RFC "
+               "9000, appendix A.2).")},
+    {"expand_packet_number", number_expand, METH_VARARGS,
+     PyDoc_STR("expand_packet_number($module, truncated, length, expected, /)\n"
+               "--\n\nThe packet number of which the low bytes are written, by "
+               "the one that is expected next\n(RFC 9000, appendix A.3).")},
+    {"read_packet_number", number_read, METH_VARARGS,
+     PyDoc_STR("read_packet_number($module, data, length, /)\n--\n\nWhat is "
+               "written of a packet number in the first bytes of data.")},
+    {"write_packet_number", number_write, METH_VARARGS,
+     PyDoc_STR("write_packet_number($module, number, length, /)\n--\n\nThe low "
+               "bytes of a packet number, 1 to 4 of them.")},
+    {NULL, NULL, 0, NULL}};

@@ -1,0 +1,279 @@
+/* SPDX-License-Identifier: MIT OR Apache-2.0 */
+/* Payloads read: frame by frame, as a list, in their shortest form. */
+#include "wire.h"
+
+enum { BATCH = 16 }; /* frames that one call of the library reads */
+
+typedef struct iterator_object {
+  PyObject_HEAD PyObject *owner;
+  wire_bytes bytes;
+  quic_wire_frame_iter iter;
+  int is_basic;       /* without the ACK frequency extension */
+  size_t next, count; /* of the batch */
+  quic_wire_frame batch[BATCH];
+} iterator_object;
+
+static int start(quic_wire_frame_iter *iter, const wire_bytes *bytes,
+                 int strict) {
+  return strict ? quic_wire_frames_init_strict(iter, bytes->at, bytes->len)
+                : quic_wire_frames_init(iter, bytes->at, bytes->len);
+}
+
+static int fill(quic_wire_frame_iter *iter, const wire_bytes *bytes, int basic,
+                quic_wire_frame *out, size_t room, size_t *count) {
+  /* No call is needed to learn that none remains. */
+  if (iter->offset == bytes->len)
+    return QUIC_WIRE_OK;
+  return basic ? quic_wire_frames_fill_basic(iter, bytes->at, bytes->len, out,
+                                             room, count)
+               : quic_wire_frames_fill(iter, bytes->at, bytes->len, out, room,
+                                       count);
+}
+
+/* The exception for a result of these two. */
+static PyObject *refuse(int result, PyObject *owner,
+                        const quic_wire_frame_iter *iter,
+                        const quic_wire_frame *frame, PyObject *before) {
+  if (result == QUIC_WIRE_ERR_PAYLOAD_EMPTY)
+    return wire_frame_error(result, owner, 0, QUIC_WIRE_NO_TYPE, before);
+  if (result > QUIC_WIRE_ERR_PAYLOAD_EMPTY)
+    return wire_mistake(result);
+  return wire_frame_error(result, owner, iter->offset,
+                          quic_wire_error_type(frame), before);
+}
+
+static void iterator_dealloc(PyObject *self) {
+  iterator_object *o = (iterator_object *)self;
+  PyTypeObject *type = Py_TYPE(self);
+  wire_release(&o->bytes);
+  Py_XDECREF(o->owner);
+  PyObject_Free(self);
+  Py_DECREF(type);
+}
+
+static PyObject *next_frame(PyObject *self) {
+  iterator_object *o = (iterator_object *)self;
+  wire_state *state = PyType_GetModuleState(Py_TYPE(self));
+  if (!state)
+    return NULL;
+  if (o->next == o->count) {
+    int result =
+        fill(&o->iter, &o->bytes, o->is_basic, o->batch, BATCH, &o->count);
+    o->next = 0;
+    if (result != QUIC_WIRE_ITEM)
+      o->count = 0;
+    if (result < 0)
+      return refuse(result, o->owner, &o->iter, o->batch, Py_None);
+    if (result == QUIC_WIRE_OK)
+      return NULL;
+  }
+  return frame_made(state, o->owner, &o->batch[o->next++]);
+}
+
+static PyObject *iterator_next(PyObject *self) {
+  PyObject *out;
+  WIRE_BEGIN_ALONE(self);
+  out = next_frame(self);
+  WIRE_END_ALONE;
+  return out;
+}
+
+static PyObject *iterator_offset(PyObject *self, void *unused) {
+  iterator_object *o = (iterator_object *)self;
+  size_t offset;
+  (void)unused;
+  WIRE_BEGIN_ALONE(self);
+  offset = o->next < o->count ? o->batch[o->next].begin : o->iter.offset;
+  WIRE_END_ALONE;
+  return PyLong_FromSize_t(offset);
+}
+
+static PyGetSetDef iterator_fields[] = {
+    {"offset", iterator_offset, NULL, PyDoc_STR("where the next frame begins"),
+     NULL},
+    WIRE_END_OF_FIELDS};
+static PyType_Slot iterator_slots[] = {
+    {Py_tp_dealloc, iterator_dealloc},
+    {Py_tp_iter, PyObject_SelfIter},
+    {Py_tp_iternext, iterator_next},
+    {Py_tp_getset, iterator_fields},
+    {Py_tp_doc, "The frames of a payload, each read when it is asked for."},
+    {0, NULL}};
+static PyType_Spec iterator_spec = {
+    "quic_wire.FrameIterator", sizeof(iterator_object), 0,
+    Py_TPFLAGS_DEFAULT | Py_TPFLAGS_DISALLOW_INSTANTIATION, iterator_slots};
+
+int wire_add_iterator(PyObject *module, wire_state *state) {
+  state->iterator =
+      wire_add_type(module, &iterator_spec, NULL, "FrameIterator", NULL);
+  return state->iterator ? 0 : -1;
+}
+
+/* The one argument of these functions, and their options. */
+static int options(PyObject *const *args, Py_ssize_t nargs, PyObject *names,
+                   int *strict, int *basic) {
+  int frequency = 1;
+  if (nargs != 1) {
+    PyErr_SetString(PyExc_TypeError, "one payload is expected");
+    return -1;
+  }
+  *strict = 0;
+  if (names && wire_flags(args, nargs, names, "strict", strict, "ack_frequency",
+                          &frequency) < 0)
+    return -1;
+  *basic = !frequency;
+  return 0;
+}
+
+static PyObject *frames(PyObject *module, PyObject *const *args,
+                        Py_ssize_t nargs, PyObject *names) {
+  wire_state *state = PyModule_GetState(module);
+  int strict, basic, result;
+  iterator_object *o;
+  if (options(args, nargs, names, &strict, &basic) < 0)
+    return NULL;
+  o = PyObject_New(iterator_object, (PyTypeObject *)state->iterator);
+  if (!o)
+    return NULL;
+  o->bytes.is_held = 0;
+  o->next = o->count = 0;
+  o->is_basic = basic;
+  o->owner = wire_owner(args[0]);
+  if (!o->owner || wire_acquire(o->owner, &o->bytes) < 0) {
+    Py_DECREF((PyObject *)o);
+    return NULL;
+  }
+  result = start(&o->iter, &o->bytes, strict);
+  if (result < 0) {
+    refuse(result, o->owner, &o->iter, o->batch, Py_None);
+    Py_CLEAR(o);
+  }
+  return (PyObject *)o;
+}
+
+/* Puts the frames of a batch at the end of a list: -1 with an exception. */
+static int append(PyObject *list, wire_state *state, PyObject *owner,
+                  const quic_wire_frame *batch, size_t count) {
+  size_t i;
+  for (i = 0; i < count; i++) {
+    PyObject *frame = frame_made(state, owner, &batch[i]);
+    const int result = frame ? PyList_Append(list, frame) : -1;
+    Py_XDECREF(frame);
+    if (result < 0)
+      return -1;
+  }
+  return 0;
+}
+
+/* The frames of an owner's bytes, or NULL with an exception. */
+static PyObject *list_of(wire_state *state, PyObject *owner,
+                         const wire_bytes *bytes, int strict, int basic) {
+  quic_wire_frame_iter iter;
+  quic_wire_frame batch[BATCH];
+  size_t count = 0;
+  PyObject *list = PyList_New(0);
+  int result = list ? start(&iter, bytes, strict) : 0;
+  while (list && result >= 0 &&
+         (result = fill(&iter, bytes, basic, batch, BATCH, &count)) ==
+             QUIC_WIRE_ITEM)
+    if (append(list, state, owner, batch, count) < 0)
+      Py_CLEAR(list);
+  if (list && result < 0) {
+    refuse(result, owner, &iter, batch, list);
+    Py_CLEAR(list);
+  }
+  return list;
+}
+
+static PyObject *read_frames(PyObject *module, PyObject *const *args,
+                             Py_ssize_t nargs, PyObject *names) {
+  int strict, basic;
+  wire_bytes bytes;
+  PyObject *owner, *list;
+  if (options(args, nargs, names, &strict, &basic) < 0)
+    return NULL;
+  owner = wire_owner(args[0]);
+  if (!owner || wire_acquire(owner, &bytes) < 0) {
+    Py_XDECREF(owner);
+    return NULL;
+  }
+  list = list_of(PyModule_GetState(module), owner, &bytes, strict, basic);
+  wire_release(&bytes);
+  Py_DECREF(owner);
+  return list;
+}
+
+/* Where the last whole frame of a payload ends. */
+static size_t end_of_frames(const wire_bytes *bytes) {
+  quic_wire_frame_iter iter;
+  quic_wire_frame batch[BATCH];
+  size_t count;
+  int result = start(&iter, bytes, 0);
+  while (result >= 0 && (result = fill(&iter, bytes, 0, batch, BATCH,
+                                       &count)) == QUIC_WIRE_ITEM)
+    ;
+  return iter.offset;
+}
+
+static PyObject *canonical(PyObject *module, PyObject *payload) {
+  PyObject *owner = wire_owner(payload), *out;
+  quic_wire_canon canon;
+  wire_bytes bytes;
+  uint8_t *at = NULL;
+  int result = 0;
+  (void)module;
+  if (!owner || wire_acquire(owner, &bytes) < 0) {
+    Py_XDECREF(owner);
+    return NULL;
+  }
+  out = wire_new_bytes(bytes.len, &at);
+  if (out)
+    result = quic_wire_canonical(bytes.at, bytes.len, at, bytes.len, &canon);
+  if (out && result == QUIC_WIRE_OK)
+    out = wire_front(out, canon.len);
+  else if (out) {
+    const int is_empty = result == QUIC_WIRE_ERR_PAYLOAD_EMPTY;
+    Py_CLEAR(out);
+    wire_frame_error(result, owner, is_empty ? 0 : end_of_frames(&bytes),
+                     is_empty ? QUIC_WIRE_NO_TYPE : canon.last_type, Py_None);
+  }
+  wire_release(&bytes);
+  Py_DECREF(owner);
+  return out;
+}
+
+static PyObject *type_name(PyObject *module, PyObject *number) {
+  uint64_t type;
+  const char *name;
+  (void)module;
+  if (wire_number(number, "type", &type) < 0)
+    return NULL;
+  name = quic_wire_type_name(type);
+  return name ? PyUnicode_FromString(name) : Py_NewRef(Py_None);
+}
+
+PyMethodDef wire_read_functions[] = {
+    {"frames", WIRE_FAST(frames), METH_FASTCALL | METH_KEYWORDS,
+     PyDoc_STR(
+         "frames($module, payload, /, *, strict=False, ack_frequency=True)\n"
+         "--\n\nThe frames of a payload, each read when it is asked for. "
+         "PADDING "
+         "frames that follow\neach other are one. Raises FrameError if there "
+         "is "
+         "no frame, and where one is invalid.\n\nstrict refuses a type that "
+         "isn't in its shortest encoding (RFC 9000, section 12.4);\n"
+         "ack_frequency=False doesn't know the frames of the ACK frequency "
+         "extension.")},
+    {"read_frames", WIRE_FAST(read_frames), METH_FASTCALL | METH_KEYWORDS,
+     PyDoc_STR("read_frames($module, payload, /, *, strict=False, "
+               "ack_frequency=True)\n--\n\nThe frames of a payload as a list. "
+               "Raises FrameError, with the frames before an\ninvalid one in "
+               "its attribute frames.")},
+    {"canonical", canonical, METH_O,
+     PyDoc_STR("canonical($module, payload, /)\n--\n\nThe one shortest payload "
+               "with the same frames in the same order. Raises FrameError.")},
+    {"type_name", type_name, METH_O,
+     PyDoc_STR(
+         "type_name($module, type, /)\n--\n\nThe name of a frame type, or "
+         "None.")},
+    {NULL, NULL, 0, NULL}};

@@ -1,0 +1,239 @@
+/* SPDX-License-Identifier: MIT OR Apache-2.0 */
+/* Sets of packet numbers. */
+#include "wire.h"
+
+#include <string.h>
+
+enum { ROOM = 4 }; /* for ranges, in a new set */
+
+typedef struct set_object {
+  PyObject_HEAD quic_wire_range *runs;
+  size_t room, count;
+} set_object;
+
+#define SET(self) ((set_object *)(self))
+
+typedef int change(quic_wire_range *, size_t, size_t *, uint64_t, uint64_t);
+
+static int grow(set_object *set) {
+  const size_t room = 2 * set->room;
+  quic_wire_range *runs = PyMem_Realloc(set->runs, room * sizeof *runs);
+  if (!runs) {
+    PyErr_NoMemory();
+    return -1;
+  }
+  set->runs = runs;
+  set->room = room;
+  return 0;
+}
+
+/* Changes a set, which grows if it must: 1 if it changed, else 0, or -1 with an
+ * exception. */
+static int change_by(set_object *set, change *how, uint64_t start,
+                     uint64_t end) {
+  int result = how(set->runs, set->room, &set->count, start, end);
+  if (result == QUIC_WIRE_ERR_NOBUF) {
+    if (grow(set) < 0)
+      return -1;
+    result = how(set->runs, set->room, &set->count, start, end);
+  }
+  if (result >= 0)
+    return result;
+  wire_mistake(result);
+  return -1;
+}
+
+/* A number, or a range from one up to another without that. */
+static PyObject *change_to(PyObject *self, PyObject *args, change *how) {
+  PyObject *first, *last = Py_None;
+  uint64_t start, end;
+  int result = 0;
+  if (!PyArg_ParseTuple(args, "O|O", &first, &last) ||
+      wire_number(first, "start", &start) < 0)
+    return NULL;
+  end = start + 1;
+  if (last != Py_None && wire_number(last, "stop", &end) < 0)
+    return NULL;
+  if (last == Py_None && end == 0)
+    return PyErr_Format(PyExc_ValueError, "a number must be below 2^64 - 1");
+  WIRE_BEGIN_ALONE(self);
+  result = change_by(SET(self), how, start, end);
+  WIRE_END_ALONE;
+  return result < 0 ? NULL : PyBool_FromLong(result);
+}
+
+static PyObject *set_insert(PyObject *self, PyObject *args) {
+  return change_to(self, args, quic_wire_set_insert);
+}
+
+static PyObject *set_remove(PyObject *self, PyObject *args) {
+  return change_to(self, args, quic_wire_set_remove);
+}
+
+static PyObject *set_clear(PyObject *self, PyObject *unused) {
+  (void)unused;
+  WIRE_BEGIN_ALONE(self);
+  SET(self)->count = 0;
+  WIRE_END_ALONE;
+  return Py_NewRef(Py_None);
+}
+
+/* The ranges as a list, ascending. */
+static PyObject *list_of(set_object *set) {
+  PyObject *list = PyList_New((Py_ssize_t)set->count);
+  size_t i;
+  for (i = 0; list && i < set->count; i++) {
+    PyObject *range = wire_range(&set->runs[i]);
+    if (!range || PyList_SetItem(list, (Py_ssize_t)i, range) < 0)
+      Py_CLEAR(list);
+  }
+  return list;
+}
+
+static PyObject *ranges_of(PyObject *self) {
+  PyObject *list;
+  WIRE_BEGIN_ALONE(self);
+  list = list_of(SET(self));
+  WIRE_END_ALONE;
+  return list;
+}
+
+static PyObject *set_iter(PyObject *self) {
+  PyObject *list = ranges_of(self);
+  PyObject *iter = list ? PyObject_GetIter(list) : NULL;
+  Py_XDECREF(list);
+  return iter;
+}
+
+static Py_ssize_t set_len(PyObject *self) {
+  return (Py_ssize_t)SET(self)->count;
+}
+
+static int set_contains(PyObject *self, PyObject *value) {
+  unsigned long long number;
+  int result;
+  if (!PyLong_Check(value))
+    return 0;
+  number = PyLong_AsUnsignedLongLong(value);
+  if (PyErr_Occurred()) {
+    PyErr_Clear();
+    return 0;
+  }
+  WIRE_BEGIN_ALONE(self);
+  result = quic_wire_set_contains(SET(self)->runs, SET(self)->count, number);
+  WIRE_END_ALONE;
+  return result > 0;
+}
+
+static PyObject *set_repr(PyObject *self) {
+  PyObject *list = ranges_of(self);
+  PyObject *text = list ? PyUnicode_FromFormat("RangeSet(%R)", list) : NULL;
+  Py_XDECREF(list);
+  return text;
+}
+
+static PyObject *set_compare(PyObject *self, PyObject *other, int op) {
+  PyObject *ours, *theirs, *out;
+  if ((op != Py_EQ && op != Py_NE) || Py_TYPE(self) != Py_TYPE(other))
+    return Py_NewRef(Py_NotImplemented);
+  ours = ranges_of(self);
+  theirs = ours ? ranges_of(other) : NULL;
+  out = theirs ? PyObject_RichCompare(ours, theirs, op) : NULL;
+  Py_XDECREF(ours);
+  Py_XDECREF(theirs);
+  return out;
+}
+
+static PyObject *set_reduce(PyObject *self, PyObject *unused) {
+  PyObject *list = ranges_of(self);
+  (void)unused;
+  return list ? Py_BuildValue("(O(N))", Py_TYPE(self), list) : NULL;
+}
+
+static void set_dealloc(PyObject *self) {
+  PyTypeObject *type = Py_TYPE(self);
+  PyMem_Free(SET(self)->runs);
+  PyObject_Free(self);
+  Py_DECREF(type);
+}
+
+static PyObject *set_new(PyTypeObject *type, PyObject *args,
+                         PyObject *keywords) {
+  static char *names[] = {"ranges", NULL};
+  PyObject *ranges = NULL;
+  set_object *set;
+  size_t count = 0;
+  quic_wire_range *runs;
+  if (!PyArg_ParseTupleAndKeywords(args, keywords, "|O:RangeSet", names,
+                                   &ranges))
+    return NULL;
+  runs =
+      ranges ? wire_ranges(ranges, &count) : PyMem_Calloc(ROOM, sizeof *runs);
+  if (!runs)
+    return PyErr_Occurred() ? NULL : PyErr_NoMemory();
+  set = PyObject_New(set_object, type);
+  if (!set) {
+    PyMem_Free(runs);
+    return NULL;
+  }
+  set->runs = runs;
+  set->room = ranges ? count + 1 : ROOM;
+  set->count = count;
+  return (PyObject *)set;
+}
+
+/* The least or the greatest number, or None. */
+static PyObject *get_end(PyObject *self, void *which) {
+  const int is_least = which == NULL;
+  uint64_t number = 0;
+  size_t count;
+  WIRE_BEGIN_ALONE(self);
+  count = SET(self)->count;
+  if (count)
+    number = is_least ? SET(self)->runs[0].start
+                      : SET(self)->runs[count - 1].end - 1;
+  WIRE_END_ALONE;
+  return count ? PyLong_FromUnsignedLongLong(number) : Py_NewRef(Py_None);
+}
+
+static PyGetSetDef set_fields[] = {
+    {"smallest", get_end, NULL, PyDoc_STR("the least number, or None"), NULL},
+    {"largest", get_end, NULL, PyDoc_STR("the greatest number, or None"),
+     (void *)1},
+    WIRE_END_OF_FIELDS};
+static PyMethodDef set_methods[] = {
+    {"insert", set_insert, METH_VARARGS,
+     PyDoc_STR("insert($self, start, stop=None, /)\n--\n\nPuts a number, or "
+               "those from start to below stop, into the set; returns whether\n"
+               "it changed.")},
+    {"remove", set_remove, METH_VARARGS,
+     PyDoc_STR("remove($self, start, stop=None, /)\n--\n\nTakes a number, or "
+               "those from start to below stop, out of the set; returns "
+               "whether\nit changed.")},
+    {"clear", set_clear, METH_NOARGS,
+     PyDoc_STR("clear($self, /)\n--\n\nTakes all numbers out of the set.")},
+    {"__reduce__", set_reduce, METH_NOARGS, NULL},
+    {NULL, NULL, 0, NULL}};
+static PyType_Slot set_slots[] = {
+    {Py_tp_dealloc, set_dealloc},
+    {Py_tp_new, set_new},
+    {Py_tp_methods, set_methods},
+    {Py_tp_getset, set_fields},
+    {Py_tp_repr, set_repr},
+    {Py_tp_richcompare, set_compare},
+    {Py_tp_hash, PyObject_HashNotImplemented},
+    {Py_tp_iter, set_iter},
+    {Py_sq_length, set_len},
+    {Py_sq_contains, set_contains},
+    {Py_tp_doc,
+     "RangeSet(ranges=())\n--\n\nA set of packet numbers, kept as ascending "
+     "ranges that never touch. Iterating\ngives these ranges, and len() says "
+     "how many they are."},
+    {0, NULL}};
+static PyType_Spec set_spec = {"quic_wire.RangeSet", sizeof(set_object), 0,
+                               Py_TPFLAGS_DEFAULT, set_slots};
+
+int wire_add_set(PyObject *module, wire_state *state) {
+  state->set = wire_add_type(module, &set_spec, NULL, "RangeSet", NULL);
+  return state->set ? 0 : -1;
+}

@@ -1,0 +1,159 @@
+/* SPDX-License-Identifier: MIT OR Apache-2.0 */
+/* What the files of the module quic_wire._wire share.  What they know of the
+ * structs of quic_wire.h stands in these files alone. */
+#ifndef WIRE_H
+#define WIRE_H
+
+#define PY_SSIZE_T_CLEAN
+#include <Python.h>
+
+#include <quic_wire.h>
+
+/* A build without the interpreter's lock has objects that several threads may
+ * use at once.  With the lock these are nothing. */
+#ifdef Py_BEGIN_CRITICAL_SECTION
+#define WIRE_BEGIN_ALONE(object) Py_BEGIN_CRITICAL_SECTION(object)
+#define WIRE_END_ALONE Py_END_CRITICAL_SECTION()
+#else
+#define WIRE_BEGIN_ALONE(object) {
+#define WIRE_END_ALONE }
+#endif
+
+#define KINDS 26         /* of frames */
+#define PACKET_KINDS 7   /* QUIC_WIRE_PACKET_INITIAL and so on */
+#define MOST_VERSIONS 32 /* that one call can be given */
+
+/* The types of one module, and so of one interpreter. */
+typedef struct wire_state {
+  PyObject *frame, *frames[KINDS];
+  PyObject *iterator;
+  PyObject *packet, *packets[PACKET_KINDS];
+  PyObject *parameters;
+  PyObject *set;
+} wire_state;
+
+/* ---- bytes.c: bytes that a caller hands in */
+
+/* The bytes of an object, which stay where they are until wire_release. */
+typedef struct wire_bytes {
+  const uint8_t *at;
+  size_t len;
+  Py_buffer view;
+  int is_held;
+} wire_bytes;
+
+/* What keeps the bytes of a bytes-like object where they are: itself, or a
+ * memoryview of bytes that can't be written to.  NULL with an exception. */
+PyObject *wire_owner(PyObject *value);
+/* The bytes of an owner, or of any bytes-like object; of NULL none.  -1 with an
+ * exception. */
+int wire_acquire(PyObject *owner, wire_bytes *out);
+void wire_release(wire_bytes *bytes);
+/* A memoryview of a part of an owner's bytes. */
+PyObject *wire_part(PyObject *owner, size_t begin, size_t len);
+/* New bytes of Python, and where they are. */
+PyObject *wire_new_bytes(size_t len, uint8_t **at);
+/* The same bytes cut to their front. */
+PyObject *wire_front(PyObject *bytes, size_t len);
+
+/* ---- arguments.c: what is checked of arguments */
+
+/* A number below 2^64; -1 with an exception that names it. */
+int wire_number(PyObject *value, const char *name, uint64_t *out);
+/* A number below 2^62. */
+int wire_varint(PyObject *value, const char *name, uint64_t *out);
+/* Up to two arguments by their names, True or False, after the positional ones
+ * of a METH_FASTCALL | METH_KEYWORDS function: -1 with an exception. */
+int wire_flags(PyObject *const *args, Py_ssize_t nargs, PyObject *names,
+               const char *first, int *first_out, const char *second,
+               int *second_out);
+/* The ranges of an iterable of `range` or of pairs, as a set: free it with
+ * PyMem_Free.  NULL with an exception. */
+quic_wire_range *wire_ranges(PyObject *ranges, size_t *count);
+/* A `range` of Python. */
+PyObject *wire_range(const quic_wire_range *range);
+
+/* ---- errors.c: exceptions.  Each returns NULL. */
+
+/* ValueError, of the caller's mistake. */
+PyObject *wire_mistake(int result);
+PyObject *wire_frame_error(int result, PyObject *payload, size_t begin,
+                           uint64_t type, PyObject *before);
+/* |packet| is what was read of a packet that is cut off, or NULL. */
+PyObject *wire_packet_error(int result, PyObject *datagram, size_t begin,
+                            size_t cid_len, PyObject *before, PyObject *packet);
+PyObject *wire_parameter_error(int result, unsigned side, PyObject *list);
+/* A function of quic_wire.errors or another module, with its arguments, which
+ * it takes; what it returns. */
+PyObject *wire_call(const char *module, const char *function, PyObject *args);
+
+/* ---- The types and functions of each file.  These return -1 with an
+ * exception. */
+
+int wire_add_frames(PyObject *module, wire_state *state);
+int wire_add_iterator(PyObject *module, wire_state *state);
+int wire_add_packets(PyObject *module, wire_state *state);
+int wire_add_parameters(PyObject *module, wire_state *state);
+int wire_add_set(PyObject *module, wire_state *state);
+/* A type, put into the module with what patterns name. */
+PyObject *wire_add_type(PyObject *module, PyType_Spec *spec, PyObject *bases,
+                        const char *name, const PyGetSetDef *fields);
+
+/* ---- frames.c, frame_new.c */
+
+typedef struct frame_object {
+  PyObject_HEAD PyObject
+      *owner; /* of the bytes that it was read from; may be NULL */
+  quic_wire_frame f;
+} frame_object;
+
+#define FRAME(self) (&((frame_object *)(self))->f)
+#define OWNER(self) (((frame_object *)(self))->owner)
+
+/* A kind of frame as a class. */
+typedef struct frame_kind {
+  uint16_t kind;
+  const char *name;
+  PyGetSetDef *fields;
+  const char *doc;
+} frame_kind;
+
+extern const frame_kind wire_frame_kinds[KINDS];
+const frame_kind *wire_kind_of(const quic_wire_frame *frame);
+/* Getters of fields, by which the constructor knows what a field is. */
+PyObject *frame_get_number(PyObject *self, void *slot);
+PyObject *frame_get_count(PyObject *self, void *unused);
+PyObject *frame_get_ecn(PyObject *self, void *slot);
+PyObject *frame_get_ranges(PyObject *self, void *unused);
+PyObject *frame_get_data(PyObject *self, void *unused);
+PyObject *frame_get_token(PyObject *self, void *unused);
+PyObject *frame_get_fin(PyObject *self, void *unused);
+PyObject *frame_get_path(PyObject *self, void *unused);
+/* A frame that was read. */
+PyObject *frame_made(wire_state *state, PyObject *owner,
+                     const quic_wire_frame *frame);
+PyObject *frame_new(PyTypeObject *type, PyObject *args, PyObject *keywords);
+PyObject *frame_encode(PyObject *self, PyObject *args, PyObject *keywords);
+/* The ranges of an ACK that was read, ascending, and how many: free them with
+ * PyMem_Free.  NULL with an exception. */
+quic_wire_range *frame_ranges(PyObject *self, size_t *count);
+
+/* ---- packets.c */
+
+/* A packet that was read at a place of an owner's bytes, and where it ends. */
+PyObject *packet_made(wire_state *state, PyObject *owner, size_t begin,
+                      const quic_wire_header *h);
+size_t packet_end(PyObject *packet);
+
+/* ---- Functions of the module, by their files */
+
+extern PyMethodDef wire_read_functions[];
+extern PyMethodDef wire_packet_functions[];
+extern PyMethodDef wire_number_functions[];
+extern PyMethodDef wire_parameter_functions[];
+
+#define WIRE_FAST(function) ((PyCFunction)(void (*)(void))(function))
+#define WIRE_END_OF_FIELDS                                                     \
+  { NULL, NULL, NULL, NULL, NULL }
+
+#endif

@@ -42,12 +42,13 @@ static int set_versions(reader *how, PyObject *versions) {
   return PyErr_Occurred() ? -1 : 0;
 }
 
-/* The header of the packet that bytes begin with: QUIC_WIRE_OK or an error.
- * The fixed bit has a meaning only in packets of a known version. */
+/* The header of the packet that bytes begin with: QUIC_WIRE_OK or an error. */
 static int header_at(const reader *how, const uint8_t *bytes, size_t len,
                      quic_wire_header *h) {
+  const uint32_t flags = QUIC_WIRE_READ_ANY_VERSION |
+                         (how->grease ? QUIC_WIRE_READ_GREASED_BIT : 0);
   int64_t end = quic_wire_header_read(bytes, len, how->cid_len, how->versions,
-                                      how->count, h);
+                                      how->count, flags, h);
   if (end == QUIC_WIRE_ERR_PACKET_CID)
     end = quic_wire_negotiation_read(bytes, len, h) > 0
               ? (int64_t)h->end
@@ -56,9 +57,6 @@ static int header_at(const reader *how, const uint8_t *bytes, size_t len,
     h->end = (uint32_t)len;
     return QUIC_WIRE_OK;
   }
-  if (len && !how->grease && !(bytes[0] & QUIC_WIRE_BIT_FIXED) &&
-      (end < 0 || h->kind != QUIC_WIRE_PACKET_VERSION_NEGOTIATION))
-    return QUIC_WIRE_ERR_PACKET_FIXED_BIT;
   return end < 0 ? (int)end : QUIC_WIRE_OK;
 }
 

@@ -34,8 +34,8 @@ static PyObject *read_result(PyObject *module, PyObject *args) {
   if (!PyArg_ParseTuple(args, "IO:_read_result", &side, &list) ||
       wire_acquire(list, &bytes) < 0)
     return NULL;
-  result =
-      quic_wire_params_read(side, bytes.at, bytes.len, &params, sizeof params);
+  result = quic_wire_params_read(side, 0, bytes.at, bytes.len, &params,
+                                 sizeof params, NULL);
   wire_release(&bytes);
   return PyLong_FromLong(result);
 }

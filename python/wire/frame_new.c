@@ -188,7 +188,7 @@ static int finish_ack(maker *m) {
     PyMem_Free(runs);
   if (!ack || set_owner(m, ack) < 0 || wire_acquire(ack, &bytes) < 0)
     return -1;
-  result = quic_wire_frames_init(&iter, bytes.at, bytes.len);
+  result = quic_wire_frames_init(&iter, bytes.at, bytes.len, 0);
   if (result >= 0)
     result = quic_wire_frames_next(&iter, bytes.at, bytes.len, f);
   wire_release(&bytes);

@@ -218,8 +218,8 @@ static parameters_object *by_default(PyTypeObject *type) {
   int result;
   if (!o)
     return NULL;
-  result = quic_wire_params_read(QUIC_WIRE_SIDE_CLIENT, (const uint8_t *)"", 0,
-                                 &o->p, sizeof o->p);
+  result = quic_wire_params_read(QUIC_WIRE_SIDE_CLIENT, 0, NULL, 0, &o->p,
+                                 sizeof o->p, NULL);
   if (result < 0) {
     wire_mistake(result);
     Py_CLEAR(o);
@@ -340,8 +340,8 @@ static PyObject *parameters_read(PyObject *type, PyObject *args) {
     return NULL;
   o = allocate((PyTypeObject *)type);
   if (o) {
-    result =
-        quic_wire_params_read(side, bytes.at, bytes.len, &o->p, sizeof o->p);
+    result = quic_wire_params_read(side, 0, bytes.at, bytes.len, &o->p,
+                                   sizeof o->p, NULL);
     if (result < 0) {
       if (result <= QUIC_WIRE_ERR_PARAMS_MALFORMED)
         wire_parameter_error(result, side, list);

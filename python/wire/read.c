@@ -8,26 +8,21 @@ typedef struct iterator_object {
   PyObject_HEAD PyObject *owner;
   wire_bytes bytes;
   quic_wire_frame_iter iter;
-  int is_basic;       /* without the ACK frequency extension */
   size_t next, count; /* of the batch */
   quic_wire_frame batch[BATCH];
 } iterator_object;
 
 static int start(quic_wire_frame_iter *iter, const wire_bytes *bytes,
-                 int strict) {
-  return strict ? quic_wire_frames_init_strict(iter, bytes->at, bytes->len)
-                : quic_wire_frames_init(iter, bytes->at, bytes->len);
+                 uint32_t flags) {
+  return quic_wire_frames_init(iter, bytes->at, bytes->len, flags);
 }
 
-static int fill(quic_wire_frame_iter *iter, const wire_bytes *bytes, int basic,
+static int fill(quic_wire_frame_iter *iter, const wire_bytes *bytes,
                 quic_wire_frame *out, size_t room, size_t *count) {
   /* No call is needed to learn that none remains. */
   if (iter->offset == bytes->len)
     return QUIC_WIRE_OK;
-  return basic ? quic_wire_frames_fill_basic(iter, bytes->at, bytes->len, out,
-                                             room, count)
-               : quic_wire_frames_fill(iter, bytes->at, bytes->len, out, room,
-                                       count);
+  return quic_wire_frames_fill(iter, bytes->at, bytes->len, out, room, count);
 }
 
 /* The exception for a result of these two. */
@@ -57,8 +52,7 @@ static PyObject *next_frame(PyObject *self) {
   if (!state)
     return NULL;
   if (o->next == o->count) {
-    int result =
-        fill(&o->iter, &o->bytes, o->is_basic, o->batch, BATCH, &o->count);
+    int result = fill(&o->iter, &o->bytes, o->batch, BATCH, &o->count);
     o->next = 0;
     if (result != QUIC_WIRE_ITEM)
       o->count = 0;
@@ -109,41 +103,41 @@ int wire_add_iterator(PyObject *module, wire_state *state) {
   return state->iterator ? 0 : -1;
 }
 
-/* The one argument of these functions, and their options. */
+/* The one argument of these functions, and their options as flags. */
 static int options(PyObject *const *args, Py_ssize_t nargs, PyObject *names,
-                   int *strict, int *basic) {
-  int frequency = 1;
+                   uint32_t *flags) {
+  int strict = 0, frequency = 1;
   if (nargs != 1) {
     PyErr_SetString(PyExc_TypeError, "one payload is expected");
     return -1;
   }
-  *strict = 0;
-  if (names && wire_flags(args, nargs, names, "strict", strict, "ack_frequency",
-                          &frequency) < 0)
+  if (names && wire_flags(args, nargs, names, "strict", &strict,
+                          "ack_frequency", &frequency) < 0)
     return -1;
-  *basic = !frequency;
+  *flags = (strict ? QUIC_WIRE_READ_SHORT_TYPES : 0) |
+           (frequency ? 0 : QUIC_WIRE_READ_NO_ACK_FREQUENCY);
   return 0;
 }
 
 static PyObject *frames(PyObject *module, PyObject *const *args,
                         Py_ssize_t nargs, PyObject *names) {
   wire_state *state = PyModule_GetState(module);
-  int strict, basic, result;
+  uint32_t flags;
+  int result;
   iterator_object *o;
-  if (options(args, nargs, names, &strict, &basic) < 0)
+  if (options(args, nargs, names, &flags) < 0)
     return NULL;
   o = PyObject_New(iterator_object, (PyTypeObject *)state->iterator);
   if (!o)
     return NULL;
   o->bytes.is_held = 0;
   o->next = o->count = 0;
-  o->is_basic = basic;
   o->owner = wire_owner(args[0]);
   if (!o->owner || wire_acquire(o->owner, &o->bytes) < 0) {
     Py_DECREF((PyObject *)o);
     return NULL;
   }
-  result = start(&o->iter, &o->bytes, strict);
+  result = start(&o->iter, &o->bytes, flags);
   if (result < 0) {
     refuse(result, o->owner, &o->iter, o->batch, Py_None);
     Py_CLEAR(o);
@@ -167,15 +161,14 @@ static int append(PyObject *list, wire_state *state, PyObject *owner,
 
 /* The frames of an owner's bytes, or NULL with an exception. */
 static PyObject *list_of(wire_state *state, PyObject *owner,
-                         const wire_bytes *bytes, int strict, int basic) {
+                         const wire_bytes *bytes, uint32_t flags) {
   quic_wire_frame_iter iter;
   quic_wire_frame batch[BATCH];
   size_t count = 0;
   PyObject *list = PyList_New(0);
-  int result = list ? start(&iter, bytes, strict) : 0;
+  int result = list ? start(&iter, bytes, flags) : 0;
   while (list && result >= 0 &&
-         (result = fill(&iter, bytes, basic, batch, BATCH, &count)) ==
-             QUIC_WIRE_ITEM)
+         (result = fill(&iter, bytes, batch, BATCH, &count)) == QUIC_WIRE_ITEM)
     if (append(list, state, owner, batch, count) < 0)
       Py_CLEAR(list);
   if (list && result < 0) {
@@ -187,17 +180,17 @@ static PyObject *list_of(wire_state *state, PyObject *owner,
 
 static PyObject *read_frames(PyObject *module, PyObject *const *args,
                              Py_ssize_t nargs, PyObject *names) {
-  int strict, basic;
+  uint32_t flags;
   wire_bytes bytes;
   PyObject *owner, *list;
-  if (options(args, nargs, names, &strict, &basic) < 0)
+  if (options(args, nargs, names, &flags) < 0)
     return NULL;
   owner = wire_owner(args[0]);
   if (!owner || wire_acquire(owner, &bytes) < 0) {
     Py_XDECREF(owner);
     return NULL;
   }
-  list = list_of(PyModule_GetState(module), owner, &bytes, strict, basic);
+  list = list_of(PyModule_GetState(module), owner, &bytes, flags);
   wire_release(&bytes);
   Py_DECREF(owner);
   return list;
@@ -209,8 +202,8 @@ static size_t end_of_frames(const wire_bytes *bytes) {
   quic_wire_frame batch[BATCH];
   size_t count;
   int result = start(&iter, bytes, 0);
-  while (result >= 0 && (result = fill(&iter, bytes, 0, batch, BATCH,
-                                       &count)) == QUIC_WIRE_ITEM)
+  while (result >= 0 &&
+         (result = fill(&iter, bytes, batch, BATCH, &count)) == QUIC_WIRE_ITEM)
     ;
   return iter.offset;
 }

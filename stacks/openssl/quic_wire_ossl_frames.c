@@ -49,7 +49,8 @@ static ossl_inline int decode_frame(PACKET *pkt, quic_wire_frame_kind kind,
     quic_wire_frame_iter frames;
     size_t count;
     int ret = quic_wire_frames_first(&frames, PACKET_data(pkt),
-        PACKET_remaining(pkt), frame, 1, &count);
+        PACKET_remaining(pkt), QUIC_WIRE_READ_NO_ACK_FREQUENCY, frame, 1,
+        &count);
     int64_t len = ret == QUIC_WIRE_ITEM ? (int64_t)frame->end : ret;
 
     return skip_frame(pkt, len, frame, kind, other);
@@ -59,8 +60,8 @@ static ossl_inline int decode_frame(PACKET *pkt, quic_wire_frame_kind kind,
 static ossl_inline int decode_frame_of(PACKET *pkt, quic_wire_frame_kind kind,
     quic_wire_frame *frame)
 {
-    int64_t len = quic_wire_frame_read_basic(PACKET_data(pkt),
-        PACKET_remaining(pkt), 0, frame, NULL, 0);
+    int64_t len = quic_wire_frame_read(PACKET_data(pkt),
+        PACKET_remaining(pkt), QUIC_WIRE_READ_NO_ACK_FREQUENCY, frame, NULL, 0);
 
     return skip_frame(pkt, len, frame, kind, kind);
 }
@@ -157,7 +158,8 @@ int ossl_quic_wire_decode_frame_ack(PACKET *pkt,
         gaps = (quic_wire_gap *)&ack->ack_ranges[1];
         room = ack->num_ack_ranges - 1;
     }
-    len = quic_wire_frame_read_basic(payload, remaining, 0, &frame, gaps, room);
+    len = quic_wire_frame_read(payload, remaining,
+        QUIC_WIRE_READ_NO_ACK_FREQUENCY, &frame, gaps, room);
     if (!skip_frame(pkt, len, &frame, QUIC_WIRE_FRAME_ACK, QUIC_WIRE_FRAME_ACK))
         return 0;
 

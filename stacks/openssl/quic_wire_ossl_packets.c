@@ -143,7 +143,7 @@ static int decode_long_hdr(const unsigned char *p, size_t len, int nodata,
 {
     static const uint32_t versions[] = { QUIC_WIRE_VERSION_1 };
     int64_t end = quic_wire_header_read(p, len, 0, versions,
-        OSSL_NELEM(versions), h);
+        OSSL_NELEM(versions), QUIC_WIRE_READ_GREASED_BIT, h);
 
     if (end < 0 && end != QUIC_WIRE_ERR_PACKET_VERSION
         && !(nodata && end == QUIC_WIRE_ERR_PACKET_CUT))
@@ -275,7 +275,8 @@ int ossl_quic_wire_get_pkt_hdr_dst_conn_id(const unsigned char *buf,
     }
 
     /* IDs alone are read of a version that isn't among those given. */
-    end = quic_wire_header_read(buf, buf_len, 0, NULL, 0, &h);
+    end = quic_wire_header_read(buf, buf_len, 0, NULL, 0,
+        QUIC_WIRE_READ_GREASED_BIT, &h);
     if (end < 0 && end != QUIC_WIRE_ERR_PACKET_VERSION
         && quic_wire_negotiation_read(buf, buf_len, &h) < 0)
         return 0;

@@ -110,8 +110,8 @@ int ossl_quic_wire_decode_transport_param_preferred_addr(PACKET *pkt,
     /* The entry is read as a list that a server sent. */
     body = ossl_quic_wire_decode_transport_param_bytes(pkt, &id, &len);
     if (body == NULL || id != QUIC_TPARAM_PREFERRED_ADDR
-        || quic_wire_params_read(QUIC_WIRE_SIDE_CLIENT, list,
-               (size_t)(body - list) + len, &params, sizeof(params))
+        || quic_wire_params_read(QUIC_WIRE_SIDE_CLIENT, 0, list,
+               (size_t)(body - list) + len, &params, sizeof(params), NULL)
             != QUIC_WIRE_OK)
         return 0;
 

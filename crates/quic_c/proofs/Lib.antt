@@ -1,7 +1,6 @@
 mod Unset
 pub mod Places
 mod Shapes
-mod DescribedFrames
 mod Meanings
 mod Filling
 mod Fronts

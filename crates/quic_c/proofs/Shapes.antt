@@ -6,7 +6,7 @@ use Rattle.quic_frame_fields.specs.Numbers.{AreNumeric}
 use Rattle.quic_frame_fields.specs.declared.frame.close.Close.TheVariants as closes
 use Rattle.quic_frames.specs.declared.frame.Frame.{Frame}
 use Rattle.quic_frames.specs.declared.frame.Frame.TheVariants as frames
-use Rattle.quic_frames.specs.InRange.{IsNoAck, IsTypedFrame, InRange, open_data}
+use Rattle.quic_frames.specs.InRange.{IsNoAck, IsTypedFrame, InRange}
 use Rattle.quic_c.specs.Shown.{frame_kind_of, flags_of, frame_numbers_of, data_of, tail_of}
 use Rattle.quic_c.specs.Shapes.{IsSound, Shape, shape, bare_shape, first_shape, second_shape, both_shape, shape_of, kept_by_mask, kept_numbers, kept_data, token_room}
 
@@ -176,61 +176,3 @@ keeps (frames.AckFrequency f) here =
     kept_by (frames.AckFrequency f) (shape true true true true false) refl refl refl refl refl
 keeps frames.ImmediateAck here = kept_by frames.ImmediateAck bare_shape refl refl refl refl refl
 keeps frames.HandshakeDone here = kept_by frames.HandshakeDone bare_shape refl refl refl refl refl
-
--- data that have a written length are counted by the frame's
-pub open_short : (frame : Frame) → IsNoAck frame → length (data_of frame) < 2 ^ 62 → length (open_data frame) < 2 ^ 62
-open_short frames.Padding here lt = zero_fits
-open_short (frames.Ack _) here lt = elim here [ ]
-open_short frames.Ping here lt = zero_fits
-open_short (frames.ResetStream r) here lt = zero_fits
-open_short (frames.StopSending s) here lt = zero_fits
-open_short (frames.Crypto x) here lt = zero_fits
-open_short (frames.NewToken t) here lt = zero_fits
-open_short (frames.Stream s) here lt = lt
-open_short (frames.MaxData n) here lt = zero_fits
-open_short (frames.MaxStreamData id offset) here lt = zero_fits
-open_short (frames.MaxStreams dirs.Bi count) here lt = zero_fits
-open_short (frames.MaxStreams dirs.Uni count) here lt = zero_fits
-open_short (frames.DataBlocked offset) here lt = zero_fits
-open_short (frames.StreamDataBlocked id offset) here lt = zero_fits
-open_short (frames.StreamsBlocked dirs.Bi limit) here lt = zero_fits
-open_short (frames.StreamsBlocked dirs.Uni limit) here lt = zero_fits
-open_short (frames.NewConnectionId n) here lt = zero_fits
-open_short (frames.RetireConnectionId sequence) here lt = zero_fits
-open_short (frames.PathChallenge n) here lt = zero_fits
-open_short (frames.PathResponse n) here lt = zero_fits
-open_short (frames.Close (closes.Connection x)) here lt = zero_fits
-open_short (frames.Close (closes.Application x)) here lt = zero_fits
-open_short (frames.Datagram d) here lt = lt
-open_short (frames.AckFrequency f) here lt = zero_fits
-open_short frames.ImmediateAck here lt = zero_fits
-open_short frames.HandshakeDone here lt = zero_fits
-
-pub counted_short : (frame : Frame) → IsNoAck frame → InRange frame → length (open_data frame) < 2 ^ 62
-    → length (data_of frame) < 2 ^ 62
-counted_short frames.Padding here ok lt = zero_fits
-counted_short (frames.Ack _) here ok lt = elim here [ ]
-counted_short frames.Ping here ok lt = zero_fits
-counted_short (frames.ResetStream r) here ok lt = zero_fits
-counted_short (frames.StopSending s) here ok lt = zero_fits
-counted_short (frames.Crypto x) here ok lt = ok.1.0
-counted_short (frames.NewToken t) here ok lt = ok
-counted_short (frames.Stream s) here ok lt = lt
-counted_short (frames.MaxData n) here ok lt = zero_fits
-counted_short (frames.MaxStreamData id offset) here ok lt = zero_fits
-counted_short (frames.MaxStreams dirs.Bi count) here ok lt = zero_fits
-counted_short (frames.MaxStreams dirs.Uni count) here ok lt = zero_fits
-counted_short (frames.DataBlocked offset) here ok lt = zero_fits
-counted_short (frames.StreamDataBlocked id offset) here ok lt = zero_fits
-counted_short (frames.StreamsBlocked dirs.Bi limit) here ok lt = zero_fits
-counted_short (frames.StreamsBlocked dirs.Uni limit) here ok lt = zero_fits
-counted_short (frames.NewConnectionId n) here ok lt = omega (arith, ok.3)
-counted_short (frames.RetireConnectionId sequence) here ok lt = zero_fits
-counted_short (frames.PathChallenge n) here ok lt = zero_fits
-counted_short (frames.PathResponse n) here ok lt = zero_fits
-counted_short (frames.Close (closes.Connection x)) here ok lt = ok.1
-counted_short (frames.Close (closes.Application x)) here ok lt = ok
-counted_short (frames.Datagram d) here ok lt = lt
-counted_short (frames.AckFrequency f) here ok lt = zero_fits
-counted_short frames.ImmediateAck here ok lt = zero_fits
-counted_short frames.HandshakeDone here ok lt = zero_fits

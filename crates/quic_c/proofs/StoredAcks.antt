@@ -9,7 +9,7 @@ use Rattle.std.proofs.lemmas.List.{append-nil, at_drop_more, drop-drop, drop_all
 use Rattle.std.proofs.lemmas.Nat.{le_or_l, le_or_r}
 use Rattle.quic_base.specs.Varint.{shortest_varint, size}
 use Rattle.quic_base.proofs.PublicLaws.{length-short}
-use Rattle.quic_frame_fields.proofs.Putting.{stores_more, stores_none}
+use Rattle.quic_frame_fields.proofs.Putting.{stores_more}
 use Rattle.quic_frame_fields.proofs.Encoded.{all_short-append}
 use Rattle.quic_frame_fields.specs.Putting.{Stores}
 use Rattle.quic_frame_fields.specs.Numbers.{AreNumeric, shortest_varints}
@@ -234,9 +234,6 @@ counted_more low gaps i len lt inv =
       small = omega (arith, h, small, size_least g.gap, size_least g.len);
     }
 
-pub counted_none : (low : ℕ) (gaps : List CGap) → Fit low gaps → CountedOn low gaps 0 0
-counted_none low gaps f = record { rest = low; fit = f; counted = refl; small = omega arith }
-
 pub counted_all : (low : ℕ) (gaps : List CGap) (i len : ℕ) → length gaps ≤ i → CountedOn low gaps i len
     → len ≡ length (shortest_varints (gap_numbers gaps))
 counted_all low gaps i len le inv =
@@ -246,9 +243,6 @@ counted_all low gaps i len le inv =
 pub record StoredOn (gaps : List CGap) (at : ℕ) (old : List ℕ) (i end : ℕ) (new : List ℕ) : Type 0 where
   pub stored : Stores (shortest_varints (gap_numbers (take i gaps))) at old end new
   pub len : length new ≡ length old
-
-pub stored_none : (gaps : List CGap) (at : ℕ) (old : List ℕ) → StoredOn gaps at old 0 at old
-stored_none gaps at old = record { stored = stores_none at old; len = refl }
 
 pub stored_more : (gaps : List CGap) (at i end stop : ℕ) (old one new : List ℕ) → i < length gaps
     → StoredOn gaps at old i end one

@@ -7,7 +7,6 @@ use Rattle.quic_frame_fields.specs.Field.{AreBlocks}
 use Rattle.quic_frame_fields.specs.FirstRange.{BeginsWithRange, RangeStops, SplitsRanges}
 use Rattle.quic_frame_fields.specs.Numbers.{AreEncoded}
 use Rattle.quic_frame_fields.specs.Reading.{Invalid}
-use Rattle.quic_frames.specs.IterState.{IterState}
 use Rattle.quic_frames.specs.declared.frame.rules.Rules.{Rules}
 use Rattle.quic_frames.specs.Checking.{IsRefusedFrame}
 use Rattle.quic_frames.specs.Rules.{Keeps}

@@ -1,4 +1,4 @@
-use Rattle.std.proofs.Common.{◌∙◌, inl, inr, refl, sym, pos, to_z, of_z, w64, ◌≡◌, [], ◌∷◌, None, Some, subst, rules}
+use Rattle.std.proofs.Common.{◌∙◌, inl, inr, refl, sym, pos, to_z, of_z, w64, ◌≡◌, [], Some, subst, rules}
 use Rattle.quic_results.proofs.FrameFailures.{not_empty}
 use Rattle.quic_frames.proofs.Turns.{spent_is_empty}
 use Rattle.quic_frames.specs.Walk.{invalid_of, first_of, Advances, Finds, LacksFrame, IsSpent}

@@ -1,27 +1,30 @@
--- The reading of quinn-proto, in its copy.
-use Rattle.std.proofs.Common.{◌≡◌, rules, subst, sym}
-use Rattle.std.specs.Prelude.{IfErr, OnOk}
-use Rattle.quic_params.specs.Entry.{StopsIn}
-use Rattle.quic_params.specs.Meaning.{IsMeantWith}
-use Rattle.quic_params.specs.Options.{as_quinn}
-use Rattle.quic_params.specs.Refusal.{IsRefusedFrom}
-use Rattle.quic_params.specs.declared.options.ReadOptions.{ReadOptions}
+use Rattle.std.proofs.Common.{refl, ◌∙◌, arith}
+use Rattle.quic_params.proofs.Progress.{read_none, read_more, entry_shorter, refused_from}
+use Rattle.quic_params.proofs.Ends.{stops_in}
 use Rattle.quic_params.proofs.reading.read_entries.Goals as goal
 
-pub returns-then-eq-clause-ok : goal.returns-then-eq-clause-ok
-returns-then-eq-clause-ok g c =
-    let same : c.args.options ≡ as_quinn = search rules in
-    subst (λ (o : ReadOptions). OnOk c.fill_as_quinn.result (IsMeantWith o c.fill_as_quinn.new.params (g.R.Buf.unread c.args.r.now)))
-    (sym same) c.fill_as_quinn.ensures.ok
+pub entries-init : goal.entries-init
+entries-init g c = (read_none c.args.options _ _ c.requires.fresh, refl)
 
-pub returns-then-eq-clause-err : goal.returns-then-eq-clause-err
-returns-then-eq-clause-err g c =
-    let same : c.args.options ≡ as_quinn = search rules in
-    subst (λ (o : ReadOptions). IfErr c.fill_as_quinn.result (λ x. IsRefusedFrom o (g.R.Buf.unread c.args.r.now) x.0 x.1))
-    (sym same) c.fill_as_quinn.ensures.err
+pub entries-smaller : goal.entries-smaller
+entries-smaller g c = entry_shorter c.args.options _ _ _ _ _ _ _ c.entries.invariant.0 c.in-Ok.ensures.ok
 
-pub returns-then-eq-clause-left : goal.returns-then-eq-clause-left
-returns-then-eq-clause-left g c =
-    let same : c.args.options ≡ as_quinn = search rules in
-    subst (λ (o : ReadOptions). IfErr c.fill_as_quinn.result (λ x. StopsIn o (g.R.Buf.unread c.args.r.now) x.0 (g.R.Buf.unread c.fill_as_quinn.new.r)))
-    (sym same) c.fill_as_quinn.ensures.left
+pub entries-preserved : goal.entries-preserved
+entries-preserved g c =
+    (read_more c.args.options _ _ _ _ _ _ _ c.entries.invariant.0 c.in-Ok.ensures.ok, c.in-Ok.ensures.kept ∙ c.entries.invariant.1)
+
+pub returns-in-Err-clause-left : goal.returns-in-Err-clause-left
+returns-in-Err-clause-left g c =
+    stops_in c.args.options _ _ _ _ _ _ c.entries.invariant.0 (omega arith)
+    c.in-Err.ensures.err c.in-Err.ensures.left
+
+pub returns-in-Err-clause-kept : goal.returns-in-Err-clause-kept
+returns-in-Err-clause-kept g c = c.in-Err.ensures.kept ∙ c.entries.invariant.1
+
+pub returns-clause-kept : goal.returns-clause-kept
+returns-clause-kept g c = c.entries.invariant.1
+
+pub returns-in-Err-clause-err : goal.returns-in-Err-clause-err
+returns-in-Err-clause-err g c =
+    refused_from c.args.options _ _ _ _ _ _ c.remaining-left.ensures c.entries.invariant.0
+    (omega arith) c.in-Err.ensures.err

@@ -63,6 +63,10 @@ class Packets(unittest.TestCase):
     def test_wrong_arguments_are_refused(self):
         rows = [
             (ValueError, lambda: q.read_packets(b"\x40", 21)),
+            (ValueError, lambda: q.read_packets(b"\x00", 21)),
+            (ValueError, lambda: q.read_packets(b"\x40", 1 << 32)),
+            (ValueError, lambda: q.write_header(256)),
+            (ValueError, lambda: q.write_header(q.PacketType.INITIAL, CID, version=1 << 32)),
             (ValueError, lambda: q.read_packet(b"\x40", 0, 2)),
             (ValueError, lambda: q.read_packet(b"\x40", 0, -1)),
             (ValueError, lambda: q.read_packets(b"\x40", 0, [1 << 32])),

@@ -93,6 +93,8 @@ class Parameters(unittest.TestCase):
 
     def test_what_the_peer_would_refuse_is_not_written(self):
         token = bytes(16)
+        address = type("Address", (), {"packed": bytes(500)})()
+        forged = q.PreferredAddress(b"a", token, v4=(address, 443))
         rows = [
             (ValueError, lambda: q.TransportParameters(max_udp_payload_size=1199).write(q.Side.CLIENT)),
             (ValueError, lambda: q.TransportParameters(stateless_reset_token=token).write(q.Side.CLIENT)),
@@ -105,6 +107,8 @@ class Parameters(unittest.TestCase):
             (ValueError, lambda: q.TransportParameters(initial_source_connection_id=bytes(21))),
             (ValueError, lambda: q.TransportParameters(preferred_address=q.PreferredAddress(b"", token))),
             (AttributeError, lambda: q.TransportParameters(preferred_address=1)),
+            (ValueError, lambda: q.TransportParameters(preferred_address=forged)),
+            (ValueError, lambda: q.TransportParameters.read(1 << 32, b"")),
             (TypeError, lambda: q.TransportParameters(other=1)),
             (TypeError, lambda: q.TransportParameters(1)),
             (TypeError, lambda: q.TransportParameters(initial_max_data="1")),

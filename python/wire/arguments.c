@@ -35,6 +35,30 @@ int wire_varint(PyObject *value, const char *name, uint64_t *out) {
   return 0;
 }
 
+int wire_to_uint32(PyObject *value, void *out) {
+  uint64_t number;
+  if (wire_number(value, "this argument", &number) < 0)
+    return 0;
+  if (number > UINT32_MAX) {
+    PyErr_SetString(PyExc_ValueError, "this argument must be below 2^32");
+    return 0;
+  }
+  *(uint32_t *)out = (uint32_t)number;
+  return 1;
+}
+
+int wire_to_uint8(PyObject *value, void *out) {
+  uint32_t number;
+  if (!wire_to_uint32(value, &number))
+    return 0;
+  if (number > UINT8_MAX) {
+    PyErr_SetString(PyExc_ValueError, "this argument must be below 2^8");
+    return 0;
+  }
+  *(uint8_t *)out = (uint8_t)number;
+  return 1;
+}
+
 int wire_flags(PyObject *const *args, Py_ssize_t nargs, PyObject *names,
                const char *first, int *first_out, const char *second,
                int *second_out) {

@@ -49,10 +49,9 @@ static int header_at(const reader *how, const uint8_t *bytes, size_t len,
                          (how->grease ? QUIC_WIRE_READ_GREASED_BIT : 0);
   int64_t end = quic_wire_header_read(bytes, len, how->cid_len, how->versions,
                                       how->count, flags, h);
-  if (end == QUIC_WIRE_ERR_PACKET_CID)
-    end = quic_wire_negotiation_read(bytes, len, h) > 0
-              ? (int64_t)h->end
-              : QUIC_WIRE_ERR_PACKET_CID;
+  if (end == QUIC_WIRE_ERR_PACKET_CID &&
+      quic_wire_negotiation_read(bytes, len, h) > 0)
+    end = h->end;
   if (end == QUIC_WIRE_ERR_PACKET_VERSION) {
     h->end = (uint32_t)len;
     return QUIC_WIRE_OK;
@@ -70,7 +69,7 @@ static PyObject *packet_at(wire_state *state, const reader *how,
   int result;
   memset(&h, 0, sizeof h);
   result = header_at(how, bytes->at + begin, bytes->len - begin, &h);
-  if (result > QUIC_WIRE_ERR_PACKET_END && result < 0)
+  if (result < 0 && result > QUIC_WIRE_ERR_PACKET_END)
     return wire_mistake(result);
   if (result == QUIC_WIRE_OK || result == QUIC_WIRE_ERR_PACKET_CUT) {
     packet = packet_made(state, owner, begin, &h);
@@ -116,14 +115,12 @@ static PyObject *read_packets(PyObject *module, PyObject *args,
                               PyObject *keywords) {
   static char *names[] = {"datagram", "cid_len", "versions", "grease", NULL};
   PyObject *datagram, *versions = Py_None;
-  unsigned cid_len;
   reader how = {0};
-  if (!PyArg_ParseTupleAndKeywords(args, keywords, "OI|O$p:read_packets", names,
-                                   &datagram, &cid_len, &versions,
-                                   &how.grease) ||
+  if (!PyArg_ParseTupleAndKeywords(args, keywords, "OO&|O$p:read_packets",
+                                   names, &datagram, wire_to_uint32,
+                                   &how.cid_len, &versions, &how.grease) ||
       set_versions(&how, versions) < 0)
     return NULL;
-  how.cid_len = cid_len;
   return read_from(PyModule_GetState(module), &how, datagram, 0, 1);
 }
 
@@ -132,17 +129,15 @@ static PyObject *read_packet(PyObject *module, PyObject *args,
   static char *names[] = {"datagram", "cid_len", "at",
                           "versions", "grease",  NULL};
   PyObject *datagram, *versions = Py_None;
-  unsigned cid_len;
   Py_ssize_t at = 0;
   reader how = {0};
-  if (!PyArg_ParseTupleAndKeywords(args, keywords, "OI|nO$p:read_packet", names,
-                                   &datagram, &cid_len, &at, &versions,
-                                   &how.grease) ||
+  if (!PyArg_ParseTupleAndKeywords(args, keywords, "OO&|nO$p:read_packet",
+                                   names, &datagram, wire_to_uint32,
+                                   &how.cid_len, &at, &versions, &how.grease) ||
       set_versions(&how, versions) < 0)
     return NULL;
   if (at < 0)
     return PyErr_Format(PyExc_ValueError, "at must not be negative");
-  how.cid_len = cid_len;
   return read_from(PyModule_GetState(module), &how, datagram, (size_t)at, 0);
 }
 

@@ -26,12 +26,13 @@ static PyObject *entry_at(PyObject *module, PyObject *args) {
 /* What reading a list gives, as a number. */
 static PyObject *read_result(PyObject *module, PyObject *args) {
   PyObject *list;
-  unsigned side;
+  uint32_t side;
   wire_bytes bytes;
   quic_wire_params params;
   int result;
   (void)module;
-  if (!PyArg_ParseTuple(args, "IO:_read_result", &side, &list) ||
+  if (!PyArg_ParseTuple(args, "O&O:_read_result", wire_to_uint32, &side,
+                        &list) ||
       wire_acquire(list, &bytes) < 0)
     return NULL;
   result = quic_wire_params_read(side, 0, bytes.at, bytes.len, &params,

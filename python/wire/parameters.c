@@ -145,25 +145,46 @@ static int set_bytes(quic_wire_params *p, const parameter_field *field,
   return PyErr_Occurred() ? -1 : 0;
 }
 
-/* The parts of a PreferredAddress, which Python has checked. */
+/* The parts of a PreferredAddress. */
+typedef struct address_parts {
+  const char *cid, *token, *v4, *v6;
+  Py_ssize_t cid_len, token_len, v4_len, v6_len;
+  uint16_t v4_port, v6_port;
+} address_parts;
+
+static int check_address(const address_parts *a) {
+  if (a->cid_len <= CID && a->token_len == RESET_TOKEN &&
+      (!a->v4 || a->v4_len == 4) && (!a->v6 || a->v6_len == 16))
+    return 0;
+  PyErr_SetString(PyExc_ValueError, "an address, id or token has other bytes");
+  return -1;
+}
+
+static void copy_address(quic_wire_params *p, const address_parts *a) {
+  memcpy(p->preferred_cid, a->cid, (size_t)a->cid_len);
+  memcpy(p->preferred_token, a->token, RESET_TOKEN);
+  p->preferred_cidlen = (uint32_t)a->cid_len;
+  p->preferred_v4_port = a->v4_port;
+  p->preferred_v6_port = a->v6_port;
+  if (a->v4)
+    memcpy(p->preferred_v4, a->v4, sizeof p->preferred_v4);
+  if (a->v6)
+    memcpy(p->preferred_v6, a->v6, sizeof p->preferred_v6);
+  p->present |= (a->v4 ? QUIC_WIRE_HAS_PREFERRED_V4 : 0u) |
+                (a->v6 ? QUIC_WIRE_HAS_PREFERRED_V6 : 0u);
+}
+
 static int set_address(quic_wire_params *p, PyObject *value) {
   PyObject *parts = wire_call("quic_wire.parameters", "_address_parts",
                               Py_BuildValue("(O)", value));
-  const char *cid, *token, *v4, *v6;
-  Py_ssize_t cid_len, token_len, v4_len, v6_len;
+  address_parts a;
   int result = -1;
-  if (parts && PyArg_ParseTuple(parts, "y#y#z#Hz#H", &cid, &cid_len, &token,
-                                &token_len, &v4, &v4_len, &p->preferred_v4_port,
-                                &v6, &v6_len, &p->preferred_v6_port)) {
-    memcpy(p->preferred_cid, cid, (size_t)cid_len);
-    memcpy(p->preferred_token, token, (size_t)token_len);
-    p->preferred_cidlen = (uint32_t)cid_len;
-    if (v4)
-      memcpy(p->preferred_v4, v4, (size_t)v4_len);
-    if (v6)
-      memcpy(p->preferred_v6, v6, (size_t)v6_len);
-    p->present |= (v4 ? QUIC_WIRE_HAS_PREFERRED_V4 : 0u) |
-                  (v6 ? QUIC_WIRE_HAS_PREFERRED_V6 : 0u);
+  if (parts &&
+      PyArg_ParseTuple(parts, "y#y#z#Hz#H", &a.cid, &a.cid_len, &a.token,
+                       &a.token_len, &a.v4, &a.v4_len, &a.v4_port, &a.v6,
+                       &a.v6_len, &a.v6_port) &&
+      check_address(&a) == 0) {
+    copy_address(p, &a);
     result = 0;
   }
   Py_XDECREF(parts);
@@ -331,11 +352,11 @@ static Py_hash_t parameters_hash(PyObject *self) {
 
 static PyObject *parameters_read(PyObject *type, PyObject *args) {
   PyObject *list;
-  unsigned side;
+  uint32_t side;
   wire_bytes bytes;
   parameters_object *o;
   int result;
-  if (!PyArg_ParseTuple(args, "IO:read", &side, &list) ||
+  if (!PyArg_ParseTuple(args, "O&O:read", wire_to_uint32, &side, &list) ||
       wire_acquire(list, &bytes) < 0)
     return NULL;
   o = allocate((PyTypeObject *)type);
@@ -356,7 +377,7 @@ static PyObject *parameters_read(PyObject *type, PyObject *args) {
 
 /* Further entries and an order of all, as quic_wire_params_write_with has them.
  */
-static PyObject *written(PyObject *self, unsigned side, const Py_buffer *more,
+static PyObject *written(PyObject *self, uint32_t side, const Py_buffer *more,
                          const Py_buffer *order) {
   const size_t room = sizeof(quic_wire_params) + 256 + (size_t)more->len;
   uint8_t *at;
@@ -376,10 +397,11 @@ static PyObject *written(PyObject *self, unsigned side, const Py_buffer *more,
 
 static PyObject *parameters_write(PyObject *self, PyObject *args) {
   Py_buffer more = {0}, order = {0};
-  unsigned side;
+  uint32_t side;
   PyObject *out;
   more.buf = order.buf = (void *)"";
-  if (!PyArg_ParseTuple(args, "I|y*y*:write", &side, &more, &order))
+  if (!PyArg_ParseTuple(args, "O&|y*y*:write", wire_to_uint32, &side, &more,
+                        &order))
     return NULL;
   out = written(self, side, &more, &order);
   if (more.obj)

@@ -82,11 +82,11 @@ static PyObject *set_length(PyObject *module, PyObject *args,
   static char *names[] = {"packet", "number_at", "length_len", NULL};
   Py_buffer packet;
   Py_ssize_t at;
-  unsigned len = 2;
+  uint32_t len = 2;
   int result = QUIC_WIRE_ERR_PLACE;
   (void)module;
-  if (!PyArg_ParseTupleAndKeywords(args, keywords, "w*n|I:set_length", names,
-                                   &packet, &at, &len))
+  if (!PyArg_ParseTupleAndKeywords(args, keywords, "w*n|O&:set_length", names,
+                                   &packet, &at, wire_to_uint32, &len))
     return NULL;
   if (at >= 0)
     result = quic_wire_set_len(packet.buf, (size_t)packet.len, (size_t)at, len);
@@ -116,13 +116,14 @@ static int parse_header(PyObject *args, PyObject *keywords,
   static char *names[] = {
       "packet_type", "dcid",       "scid", "token",     "version",   "number",
       "number_len",  "length_len", "spin", "key_phase", "fixed_bit", NULL};
-  unsigned char kind, number_len = 4, length_len = 2;
-  unsigned version = QUIC_WIRE_VERSION_1;
+  uint8_t kind, number_len = 4, length_len = 2;
+  uint32_t version = QUIC_WIRE_VERSION_1;
   int spin = 0, key_phase = 0, fixed_bit = 1;
   PyObject *number = NULL;
   if (!PyArg_ParseTupleAndKeywords(
-          args, keywords, "b|y*y*y*$IObbppp:write_header", names, &kind,
-          &a->dcid, &a->scid, &a->token, &version, &number, &number_len,
+          args, keywords, "O&|y*y*y*$O&OO&O&ppp:write_header", names,
+          wire_to_uint8, &kind, &a->dcid, &a->scid, &a->token, wire_to_uint32,
+          &version, &number, wire_to_uint8, &number_len, wire_to_uint8,
           &length_len, &spin, &key_phase, &fixed_bit) ||
       (number && wire_varint(number, "number", &a->fields.number) < 0))
     return -1;
@@ -194,15 +195,15 @@ static PyObject *write_negotiation(PyObject *module, PyObject *args,
   static char *names[] = {"dcid", "scid", "versions", "unused", NULL};
   Py_buffer dcid, scid;
   PyObject *versions, *out = NULL;
-  unsigned char unused = QUIC_WIRE_BIT_FIXED;
+  uint8_t unused = QUIC_WIRE_BIT_FIXED;
   uint32_t *list;
   size_t count, room, len = 0;
   uint8_t *at = NULL;
   int result = 0;
   (void)module;
-  if (!PyArg_ParseTupleAndKeywords(args, keywords,
-                                   "y*y*O|b:write_version_negotiation", names,
-                                   &dcid, &scid, &versions, &unused))
+  if (!PyArg_ParseTupleAndKeywords(
+          args, keywords, "y*y*O|O&:write_version_negotiation", names, &dcid,
+          &scid, &versions, wire_to_uint8, &unused))
     return NULL;
   list = versions_of(versions, &count);
   room = 7 + (size_t)dcid.len + (size_t)scid.len + 4 * count;
@@ -260,12 +261,13 @@ static PyObject *read_varint(PyObject *module, PyObject *args) {
 
 static PyObject *write_varint(PyObject *module, PyObject *args) {
   PyObject *value;
-  unsigned width = 0;
+  uint32_t width = 0;
   uint64_t number;
   uint8_t out[8];
   size_t len;
   (void)module;
-  if (!PyArg_ParseTuple(args, "O|I:write_varint", &value, &width) ||
+  if (!PyArg_ParseTuple(args, "O|O&:write_varint", &value, wire_to_uint32,
+                        &width) ||
       wire_varint(value, "value", &number) < 0)
     return NULL;
   len = quic_wire_varint_write(number, width, out, sizeof out);
@@ -299,10 +301,10 @@ static PyObject *number_len(PyObject *module, PyObject *args) {
 static PyObject *number_expand(PyObject *module, PyObject *args) {
   PyObject *truncated, *expected;
   uint64_t written, next, number;
-  unsigned len;
+  uint32_t len;
   (void)module;
-  if (!PyArg_ParseTuple(args, "OIO:expand_packet_number", &truncated, &len,
-                        &expected) ||
+  if (!PyArg_ParseTuple(args, "OO&O:expand_packet_number", &truncated,
+                        wire_to_uint32, &len, &expected) ||
       wire_number(truncated, "truncated", &written) < 0 ||
       wire_varint(expected, "expected", &next) < 0)
     return NULL;
@@ -313,12 +315,13 @@ static PyObject *number_expand(PyObject *module, PyObject *args) {
 
 static PyObject *number_read(PyObject *module, PyObject *args) {
   PyObject *data;
-  unsigned len;
+  uint32_t len;
   uint64_t written = 0;
   wire_bytes bytes;
   int result;
   (void)module;
-  if (!PyArg_ParseTuple(args, "OI:read_packet_number", &data, &len) ||
+  if (!PyArg_ParseTuple(args, "OO&:read_packet_number", &data, wire_to_uint32,
+                        &len) ||
       wire_acquire(data, &bytes) < 0)
     return NULL;
   result = quic_wire_number_read(bytes.at, bytes.len, len, &written);
@@ -331,12 +334,13 @@ static PyObject *number_read(PyObject *module, PyObject *args) {
 
 static PyObject *number_write(PyObject *module, PyObject *args) {
   PyObject *value;
-  unsigned len;
+  uint32_t len;
   uint64_t number;
   uint8_t out[4];
   int result;
   (void)module;
-  if (!PyArg_ParseTuple(args, "OI:write_packet_number", &value, &len) ||
+  if (!PyArg_ParseTuple(args, "OO&:write_packet_number", &value, wire_to_uint32,
+                        &len) ||
       wire_number(value, "number", &number) < 0)
     return NULL;
   result = quic_wire_number_write(number, len, out, sizeof out);

@@ -62,6 +62,9 @@ PyObject *wire_front(PyObject *bytes, size_t len);
 int wire_number(PyObject *value, const char *name, uint64_t *out);
 /* A number below 2^62. */
 int wire_varint(PyObject *value, const char *name, uint64_t *out);
+/* For "O&" of PyArg_ParseTuple: a number below 2^32, a byte. */
+int wire_to_uint32(PyObject *value, void *out);
+int wire_to_uint8(PyObject *value, void *out);
 /* Up to two arguments by their names, True or False, after the positional ones
  * of a METH_FASTCALL | METH_KEYWORDS function: -1 with an exception. */
 int wire_flags(PyObject *const *args, Py_ssize_t nargs, PyObject *names,

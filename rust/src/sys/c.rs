@@ -161,13 +161,8 @@ extern "C" {
         out_len: usize,
         written: *mut usize,
     ) -> i32;
-    pub fn quic_wire_param_write_number_(
-        id: u64,
-        value: u64,
-        out: *mut u8,
-        out_len: usize,
-        written: *mut usize,
-    ) -> i32;
+    pub fn quic_wire_param_write_number_(id: u64, value: u64, out: *mut u8, out_len: usize, written: *mut usize)
+        -> i32;
     pub fn quic_wire_preferred_address_read_(value: *const u8, len: usize, out: *mut Params) -> i32;
     pub fn quic_wire_preferred_address_write_(
         params: *const Params,

@@ -457,21 +457,21 @@ fn entries_are_written_in_parts_and_of_numbers() {
         let mut out = vec![0; shortest.len()];
         // SAFETY: `out` gives its own pointer and length, and is borrowed alone as `written` is. The library looks at
         // no other memory and keeps no pointer.
-        let write_header = |to, room, written| unsafe {
-            c::quic_wire_param_header_write_(id, number.len(), to, room, written)
-        };
+        let write_header =
+            |to, room, written| unsafe { c::quic_wire_param_header_write_(id, number.len(), to, room, written) };
         assert_eq!(wrote(&mut out, write_header), (OK, head));
-        assert_eq!((&out[..head], wrote(&mut out[..head - 1], write_header)), (&shortest[..head], (NO_ROOM, head)));
+        assert_eq!(out[..head], shortest[..head]);
+        assert_eq!(wrote(&mut out[..head - 1], write_header), (NO_ROOM, head));
         // SAFETY: as above.
         let write_number =
             |to, room, written| unsafe { c::quic_wire_param_write_number_(id, value, to, room, written) };
-        assert_eq!((wrote(&mut out, write_number), &out), ((OK, shortest.len()), &shortest));
+        assert_eq!(wrote(&mut out, write_number), (OK, shortest.len()));
+        assert_eq!(out, shortest);
         let read = |list: &[u8]| {
             let (mut entry, mut number) = (Param::default(), 77);
             // SAFETY: `list` gives its own pointer and length; `entry` and `number` are borrowed alone. The library
             // looks at no other memory and keeps no pointer.
-            let end =
-                unsafe { c::quic_wire_param_read_number_(list.as_ptr(), list.len(), &mut entry, &mut number) };
+            let end = unsafe { c::quic_wire_param_read_number_(list.as_ptr(), list.len(), &mut entry, &mut number) };
             (end, entry.id, number)
         };
         assert_eq!(read(&shortest), (shortest.len() as i64, id, value));
@@ -502,5 +502,6 @@ fn a_preferred_address_is_its_entry_alone() {
     let mut out = vec![0; value.len()];
     // SAFETY: `out` gives its own pointer and length, and is borrowed alone as `written` is. Any words serve.
     let write = |to, room, written| unsafe { c::quic_wire_preferred_address_write_(&words, to, room, written) };
-    assert_eq!((wrote(&mut out, write), &out[..]), ((OK, value.len()), value));
+    assert_eq!(wrote(&mut out, write), (OK, value.len()));
+    assert_eq!(out, value);
 }

@@ -3,7 +3,7 @@
 
 show.py frames|strict|canon; show.py datagram LEN; show.py params client|server
 
-0: every line is answered; 1: some line is refused; 2: a wrong call.
+0: every line is answered; 1: some line is rejected; 2: a wrong call.
 """
 
 import binascii
@@ -31,8 +31,8 @@ def frame_lines(payload, strict):
     error = None
     try:
         found = q.read_frames(payload, strict=strict)
-    except q.FrameError as refused:
-        found, error = refused.frames, refused
+    except q.FrameError as rejected:
+        found, error = rejected.frames, rejected
     for frame in found:
         if isinstance(frame, q.Padding):
             end = frame.end - frame.count + 1
@@ -65,8 +65,8 @@ def packet_line(packet):
     return line
 
 
-def is_refused_by_quinn(packet):
-    """What quic-show refuses, as quinn-proto does, and the package reads (RFC 8999, section 6; RFC 9000, section
+def is_rejected_by_quinn(packet):
+    """What quic-show rejects, as quinn-proto does, and the package reads (RFC 8999, section 6; RFC 9000, section
     17.2.1).
     """
     if isinstance(packet, q.UnknownVersion) and max(len(packet.dcid), len(packet.scid)) <= 20:
@@ -83,9 +83,9 @@ def is_refused_by_quinn(packet):
 def datagram_lines(datagram, cid_len):
     try:
         for packet in q.packets(datagram, cid_len):
-            refusal = is_refused_by_quinn(packet)
-            yield f"error {refusal}" if refusal else packet_line(packet)
-            if refusal:
+            rejection = is_rejected_by_quinn(packet)
+            yield f"error {rejection}" if rejection else packet_line(packet)
+            if rejection:
                 return
     except q.PacketError as error:
         yield f"error {error.reason}"

@@ -1,4 +1,4 @@
-"""Refusals: their reasons, places, fields, codes and sections."""
+"""Rejections: their reasons, places, fields, codes and sections."""
 
 import copy
 import pickle
@@ -7,12 +7,12 @@ import unittest
 import quic_wire as q
 
 
-def refused(call, *args, **keywords):
+def rejected(call, *args, **keywords):
     try:
         call(*args, **keywords)
     except q.Error as error:
         return error
-    raise AssertionError("nothing was refused")
+    raise AssertionError("nothing was rejected")
 
 
 class Errors(unittest.TestCase):
@@ -30,14 +30,14 @@ class Errors(unittest.TestCase):
         ]
         for digits, reason, at, field, field_at, code, section, kind in rows:
             with self.subTest(digits):
-                error = refused(q.read_frames, bytes.fromhex(digits))
+                error = rejected(q.read_frames, bytes.fromhex(digits))
                 found = (error.reason, error.offset, error.field, error.field_offset, error.code, error.frame_type)
                 self.assertIsInstance(error, q.FrameError)
                 self.assertEqual(found, (reason, at, field, field_at, code, kind))
                 self.assertEqual(error.section, f"RFC 9000, section {section}")
                 self.assertEqual(error.frames, [q.Ping()] if at else [])
                 for call in (q.canonical, lambda payload: list(q.frames(payload))):
-                    self.assertEqual(str(refused(call, bytes.fromhex(digits))), str(error))
+                    self.assertEqual(str(rejected(call, bytes.fromhex(digits))), str(error))
 
     def test_of_packets(self):
         initial = "c00000000108" + "aa" * 8 + "00" + "00" + "4004" + "00000000"
@@ -51,13 +51,13 @@ class Errors(unittest.TestCase):
         ]
         for digits, cid_len, reason, field, field_at, section in rows:
             with self.subTest(digits):
-                error = refused(q.read_packets, bytes.fromhex(digits), cid_len)
+                error = rejected(q.read_packets, bytes.fromhex(digits), cid_len)
                 self.assertEqual((error.reason, error.field, error.field_offset), (reason, field, field_at))
                 self.assertEqual((error.code, error.packets), (None, []))
                 self.assertEqual(error.section, f"RFC 9000, section {section}")
-        cut = refused(q.read_packets, bytes.fromhex(initial + initial[:-2]), 0)
+        cut = rejected(q.read_packets, bytes.fromhex(initial + initial[:-2]), 0)
         self.assertEqual((len(cut.packets), cut.offset, cut.packet.length), (1, 22, 4))
-        self.assertIsNone(refused(q.read_packet, b"", 0).packets)
+        self.assertIsNone(rejected(q.read_packet, b"", 0).packets)
 
     def test_of_parameters(self):
         rows = [
@@ -76,29 +76,29 @@ class Errors(unittest.TestCase):
         ]
         for digits, side, at, name, reason, why in rows:
             with self.subTest(digits):
-                error = refused(q.TransportParameters.read, side, bytes.fromhex(digits))
+                error = rejected(q.TransportParameters.read, side, bytes.fromhex(digits))
                 found = (error.reason, error.offset, error.name, error.code)
                 self.assertEqual(found, (reason, at, name, q.Code.TRANSPORT_PARAMETER_ERROR))
                 self.assertIn(why, (None, error.why))
         shown = "its value isn't what it must be"
-        error = refused(q.TransportParameters.read, q.Side.CLIENT, bytes.fromhex("03024064"))
+        error = rejected(q.TransportParameters.read, q.Side.CLIENT, bytes.fromhex("03024064"))
         self.assertEqual((error.why, error.wanted, error.value.hex()), (shown, "a number of 1200 or more", "4064"))
         self.assertEqual(error.section, "RFC 9000, section 18.2")
-        error = refused(list, q.parameters(bytes.fromhex("04010105")))
+        error = rejected(list, q.parameters(bytes.fromhex("04010105")))
         self.assertEqual((error.offset, error.why, error.section), (3, "it is cut off", "RFC 9000, section 18"))
 
     def test_of_numbers(self):
-        error = refused(q.read_varint, b"\x01\x40", 1)
+        error = rejected(q.read_varint, b"\x01\x40", 1)
         self.assertEqual(str(error), "unexpected end in a number of variable length at 1 (RFC 9000, section 16)")
 
     def test_an_error_is_a_value_error_that_can_be_copied(self):
-        error = refused(q.read_frames, b"\x01\x10")
+        error = rejected(q.read_frames, b"\x01\x10")
         self.assertIsInstance(error, ValueError)
         for other in (copy.copy(error), pickle.loads(pickle.dumps(error))):
             self.assertEqual((str(other), other.frame_type), (str(error), 0x10))
 
     def test_codes_have_names(self):
-        self.assertEqual(refused(q.read_frames, b"").code, q.Code.PROTOCOL_VIOLATION)
+        self.assertEqual(rejected(q.read_frames, b"").code, q.Code.PROTOCOL_VIOLATION)
         self.assertEqual(q.Code.CRYPTO_ERROR, 0x100)
 
 

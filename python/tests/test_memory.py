@@ -26,12 +26,12 @@ assert q.TransportParameters.read(0, q.TransportParameters(initial_max_data=5).w
 """
 
 
-def refused(call, *args, **keywords):
+def rejected(call, *args, **keywords):
     try:
         call(*args, **keywords)
     except (ValueError, TypeError, BufferError):
         return
-    raise AssertionError("nothing was refused")
+    raise AssertionError("nothing was rejected")
 
 
 def read_all():
@@ -44,27 +44,27 @@ def read_all():
         q.canonical(data)
 
 
-def refuse_all():
+def reject_all():
     for data in (b"", b"\x10", b"\x21", b"\x02\x00\x00\x00\x05", b"\x01" * 40 + b"\x10"):
-        refused(q.read_frames, data)
-        refused(q.canonical, data)
-        refused(lambda data=data: list(q.frames(data)))
-    refused(q.read_frames, "text")
-    refused(q.read_frames, b"\x01", other=1)
-    refused(q.read_packets, b"\xc0\x00", 0)
-    refused(q.read_packets, b"\x40", 0, [1 << 40])
-    refused(q.TransportParameters.read, 0, b"\x04")
-    refused(q.Ack, ranges=[1])
-    refused(q.Ack, ranges=[range(3), range(9, 1 << 63)], delay=1 << 62)
-    refused(q.NewConnectionId, 1, 2, b"a", bytes(16))
-    refused(q.Stream, 1, data="text")
-    refused(q.RangeSet, [(1, "2")])
-    refused(q.RangeSet().insert, "1")
-    refused(q.unprotect, bytes(9), 8, bytes(5))
-    refused(q.protect, bytes(9), 1, bytes(5))
-    refused(q.write_header, 0, bytes(21))
-    refused(q.read_varint, b"")
-    refused(q.TransportParameters, stateless_reset_token=b"1")
+        rejected(q.read_frames, data)
+        rejected(q.canonical, data)
+        rejected(lambda data=data: list(q.frames(data)))
+    rejected(q.read_frames, "text")
+    rejected(q.read_frames, b"\x01", other=1)
+    rejected(q.read_packets, b"\xc0\x00", 0)
+    rejected(q.read_packets, b"\x40", 0, [1 << 40])
+    rejected(q.TransportParameters.read, 0, b"\x04")
+    rejected(q.Ack, ranges=[1])
+    rejected(q.Ack, ranges=[range(3), range(9, 1 << 63)], delay=1 << 62)
+    rejected(q.NewConnectionId, 1, 2, b"a", bytes(16))
+    rejected(q.Stream, 1, data="text")
+    rejected(q.RangeSet, [(1, "2")])
+    rejected(q.RangeSet().insert, "1")
+    rejected(q.unprotect, bytes(9), 8, bytes(5))
+    rejected(q.protect, bytes(9), 1, bytes(5))
+    rejected(q.write_header, 0, bytes(21))
+    rejected(q.read_varint, b"")
+    rejected(q.TransportParameters, stateless_reset_token=b"1")
 
 
 def write_all():
@@ -97,7 +97,7 @@ def write_all():
 
 class Memory(unittest.TestCase):
     def test_nothing_leaks(self):
-        for call in (read_all, refuse_all, write_all):
+        for call in (read_all, reject_all, write_all):
             with self.subTest(call.__name__):
                 tracemalloc.start()
                 self.left_after(call)

@@ -60,7 +60,7 @@ class Packets(unittest.TestCase):
         with self.assertRaisesRegex(q.PacketError, "fixed bit unset"):
             q.read_packet(data, 0)
 
-    def test_wrong_arguments_are_refused(self):
+    def test_wrong_arguments_are_rejected(self):
         rows = [
             (ValueError, lambda: q.read_packets(b"\x40", 21)),
             (ValueError, lambda: q.read_packets(b"\x00", 21)),
@@ -148,7 +148,7 @@ class Numbers(unittest.TestCase):
             (q.write_packet_number(0xAC5C02, 2), q.read_packet_number(b"\x5c\x02", 2)), (b"\x5c\x02", 0x5C02)
         )
 
-    def test_wrong_numbers_are_refused(self):
+    def test_wrong_numbers_are_rejected(self):
         rows = [
             (ValueError, lambda: q.write_varint(1 << 62)),
             (ValueError, lambda: q.write_varint(64, 1)),

@@ -91,7 +91,7 @@ class Parameters(unittest.TestCase):
         self.assertEqual(q.write_parameter(27, b"x").hex(), "1b0178")
         self.assertEqual((q.is_known_parameter(27), q.is_known_parameter(0x20)), (False, True))
 
-    def test_what_the_peer_would_refuse_is_not_written(self):
+    def test_what_the_peer_would_reject_is_not_written(self):
         token = bytes(16)
         address = type("Address", (), {"packed": bytes(500)})()
         forged = q.PreferredAddress(b"a", token, v4=(address, 443))
@@ -161,7 +161,7 @@ class Sets(unittest.TestCase):
         with self.assertRaises(TypeError):
             hash(numbers)
 
-    def test_wrong_numbers_are_refused(self):
+    def test_wrong_numbers_are_rejected(self):
         rows = [
             (ValueError, lambda: q.RangeSet().insert(-1)),
             (ValueError, lambda: q.RangeSet().insert(0, 1 << 64)),

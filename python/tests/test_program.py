@@ -148,12 +148,12 @@ class Modes(unittest.TestCase):
             "1..26 CRYPTO offset=0 len=22 data=2330783431207c48656c6c6f3e20303030302020612c",
             "26..51 STREAM id=4 offset=0 fin=true len=22 data=6c617374206c696e65206f6620616c6c206279746573",
         ]
-        refused = {"hexdump.txt", "od-x.txt", "xxd-e.txt", "xxd-e-g2.txt", "od.txt", "xxd-b.txt"}
+        rejected = {"hexdump.txt", "od-x.txt", "xxd-e.txt", "xxd-e-g2.txt", "od.txt", "xxd-b.txt"}
         for path in sorted(folder.glob("*.txt")):
             with self.subTest(path.name):
                 more = ["--base64"] if path.name == "base64.txt" else []
                 found = [line.split(": ", 1)[1] for line in run("frames", *more, str(path))[0].splitlines()]
-                if path.name in refused:
+                if path.name in rejected:
                     self.assertTrue(len(found) == 1 and found[0].startswith("error "), found)
                 else:
                     self.assertEqual(found, wanted)

@@ -133,7 +133,7 @@ class Stored(unittest.TestCase):
         count = 0
         for line, (wanted,) in rows("quic_replay_calls", CALLS, "frame-encode"):
             kind, *words = line.split()
-            # Every reader refuses it (RFC 9000, section 19.15), so this package doesn't write it.
+            # Every reader rejects it (RFC 9000, section 19.15), so this package doesn't write it.
             if kind == "new_connection_id" and int(words[1]) > int(words[0]):
                 with self.assertRaises(ValueError):
                     frame_of(kind, words)

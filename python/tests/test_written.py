@@ -1,4 +1,4 @@
-"""Whatever is written is read back, and any bytes are read or refused: with hypothesis, where it is there."""
+"""Whatever is written is read back, and any bytes are read or rejected: with hypothesis, where it is there."""
 
 import unittest
 
@@ -80,7 +80,7 @@ class Written(unittest.TestCase):
 
     @settings(max_examples=800, deadline=None)
     @given(st.binary(max_size=200))
-    def test_any_payload_is_read_or_refused(self, payload):
+    def test_any_payload_is_read_or_rejected(self, payload):
         try:
             found = q.read_frames(payload)
         except q.FrameError as error:
@@ -99,7 +99,7 @@ class Written(unittest.TestCase):
 
     @settings(max_examples=800, deadline=None)
     @given(st.binary(max_size=120), st.integers(0, 20), st.booleans())
-    def test_any_datagram_is_read_or_refused(self, datagram, cid_len, grease):
+    def test_any_datagram_is_read_or_rejected(self, datagram, cid_len, grease):
         try:
             found = q.read_packets(datagram, cid_len, grease=grease)
         except q.PacketError as error:
@@ -112,7 +112,7 @@ class Written(unittest.TestCase):
 
     @settings(max_examples=800, deadline=None)
     @given(st.binary(max_size=120), st.sampled_from(list(q.Side)))
-    def test_any_parameters_are_read_or_refused(self, data, side):
+    def test_any_parameters_are_read_or_rejected(self, data, side):
         try:
             read = q.TransportParameters.read(side, data)
         except q.ParameterError as error:

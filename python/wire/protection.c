@@ -17,7 +17,7 @@ static int check_mask(Py_ssize_t at, const Py_buffer *mask) {
 }
 
 /* The result of a call that is an error of the packet or the caller's. */
-static PyObject *refuse(int result, PyObject *packet) {
+static PyObject *reject(int result, PyObject *packet) {
   return result == QUIC_WIRE_ERR_PACKET_SMALL
              ? wire_packet_error(result, packet, 0, 0, Py_None, NULL)
              : wire_mistake(result);
@@ -47,7 +47,7 @@ static PyObject *unprotect(PyObject *module, PyObject *args,
                                    mask.buf, next, copy, room, &number);
     if (header && result < 0) {
       Py_CLEAR(header);
-      refuse(result, packet.obj);
+      reject(result, packet.obj);
     } else if (header)
       header = wire_front(header, (size_t)(at + result));
   }
@@ -70,7 +70,7 @@ static PyObject *protect(PyObject *module, PyObject *args, PyObject *keywords) {
   if (check_mask(at, &mask) == 0) {
     result =
         quic_wire_protect(packet.buf, (size_t)packet.len, (size_t)at, mask.buf);
-    out = result < 0 ? refuse(result, packet.obj) : PyLong_FromLong(result);
+    out = result < 0 ? reject(result, packet.obj) : PyLong_FromLong(result);
   }
   PyBuffer_Release(&packet);
   PyBuffer_Release(&mask);

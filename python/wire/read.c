@@ -26,7 +26,7 @@ static int fill(quic_wire_frame_iter *iter, const wire_bytes *bytes,
 }
 
 /* The exception for a result of these two. */
-static PyObject *refuse(int result, PyObject *owner,
+static PyObject *reject(int result, PyObject *owner,
                         const quic_wire_frame_iter *iter,
                         const quic_wire_frame *frame, PyObject *before) {
   if (result == QUIC_WIRE_ERR_PAYLOAD_EMPTY)
@@ -57,7 +57,7 @@ static PyObject *next_frame(PyObject *self) {
     if (result != QUIC_WIRE_ITEM)
       o->count = 0;
     if (result < 0)
-      return refuse(result, o->owner, &o->iter, o->batch, Py_None);
+      return reject(result, o->owner, &o->iter, o->batch, Py_None);
     if (result == QUIC_WIRE_OK)
       return NULL;
   }
@@ -139,7 +139,7 @@ static PyObject *frames(PyObject *module, PyObject *const *args,
   }
   result = start(&o->iter, &o->bytes, flags);
   if (result < 0) {
-    refuse(result, o->owner, &o->iter, o->batch, Py_None);
+    reject(result, o->owner, &o->iter, o->batch, Py_None);
     Py_CLEAR(o);
   }
   return (PyObject *)o;
@@ -172,7 +172,7 @@ static PyObject *list_of(wire_state *state, PyObject *owner,
     if (append(list, state, owner, batch, count) < 0)
       Py_CLEAR(list);
   if (list && result < 0) {
-    refuse(result, owner, &iter, batch, list);
+    reject(result, owner, &iter, batch, list);
     Py_CLEAR(list);
   }
   return list;
@@ -253,7 +253,7 @@ PyMethodDef wire_read_functions[] = {
          "PADDING "
          "frames that follow\neach other are one. Raises FrameError if there "
          "is "
-         "no frame, and where one is invalid.\n\nstrict refuses a type that "
+         "no frame, and where one is invalid.\n\nstrict rejects a type that "
          "isn't in its shortest encoding (RFC 9000, section 12.4);\n"
          "ack_frequency=False doesn't know the frames of the ACK frequency "
          "extension.")},

@@ -1,6 +1,6 @@
 /* SPDX-License-Identifier: MIT OR Apache-2.0 */
-/* What the files of the module quic_wire._wire share.  What they know of the
- * structs of quic_wire.h stands in these files alone. */
+/* What the files of the module quic_wire._wire share.  Only these files
+ * know the structs of quic_wire.h. */
 #ifndef WIRE_H
 #define WIRE_H
 

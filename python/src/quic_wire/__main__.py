@@ -16,7 +16,7 @@ from ._program.datagrams import Ids, show_datagram
 from ._program.output import Look, Output
 from ._program.source import Pieces, Plain
 
-# Some line was refused; the call is wrong; reading, writing or memory failed; who read the output reads no more.
+# Some line was rejected; the call is wrong; reading, writing or memory failed; who read the output reads no more.
 REFUSED, WRONG_CALL, FAILED, UNREAD = 1, 2, 3, 141
 _WHOLE_PACKET = "a packet with its headers of IP, and no payload of QUIC; the mode datagram reads it"
 

@@ -1,6 +1,6 @@
-"""At which field reading failed: the fields of what was refused, one behind the other.
+"""At which field reading failed: the fields of what was rejected, one behind the other.
 
-The library says why bytes are refused; which field is at fault is found here, by the RFC's names.
+The library says why bytes are rejected; which field is at fault is found here, by the RFC's names.
 """
 
 from __future__ import annotations

@@ -108,7 +108,7 @@ def of_cut_off(data: memoryview, at: int) -> Fault:
 
 
 def _suspects(result: int, side: int, data: memoryview) -> Iterator[Entry]:
-    """The entries that are refused alone, or are there twice."""
+    """The entries that are rejected alone, or are there twice."""
     for entry in entries(data):
         is_repeated = result == PARAMS_MALFORMED and _is_repeated(data, entry)
         if entry.id in KNOWN and (is_repeated or _read_result(side, data[entry.begin : entry.end]) == result):
@@ -116,7 +116,7 @@ def _suspects(result: int, side: int, data: memoryview) -> Iterator[Entry]:
 
 
 def fault_in(result: int, side: int, data: memoryview) -> Fault:
-    """Which parameter makes a list one that is refused with this result."""
+    """Which parameter makes a list one that is rejected with this result."""
     by_another = None
     for entry in _suspects(result, side, data):
         # min_ack_delay is judged by max_ack_delay, which may be behind it.

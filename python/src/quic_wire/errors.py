@@ -1,4 +1,4 @@
-"""What is refused, as exceptions: why, where, at which field, with which code, and by which section of the RFC."""
+"""What is rejected, as exceptions: why, where, at which field, with which code, and by which section of the RFC."""
 
 from __future__ import annotations
 
@@ -16,8 +16,7 @@ _NEW_CONNECTION_ID = 0x18
 
 
 class Code(enum.IntEnum):
-    """The codes of a CONNECTION_CLOSE (RFC 9000, section 20.1); from CRYPTO_ERROR on the low byte is the alert of TLS.
-    """
+    """The codes of a CONNECTION_CLOSE (RFC 9000, section 20.1). An alert of TLS is added to CRYPTO_ERROR."""
 
     NO_ERROR = 0x00
     INTERNAL_ERROR = 0x01
@@ -43,9 +42,9 @@ class Error(ValueError):
     """Bytes that a peer may not send."""
 
     reason: str
-    """Why they are refused, in English."""
+    """Why they are rejected, in English."""
     offset: Optional[int]
-    """Where what is refused begins in the bytes that were read."""
+    """Where what is rejected begins in the bytes that were read."""
     field: Optional[str]
     """The field at fault by its name in the RFC, where that is known."""
     field_offset: Optional[int]
@@ -101,7 +100,7 @@ class PacketError(Error):
 
 
 class ParameterError(Error):
-    """A list of transport parameters is refused."""
+    """A list of transport parameters is rejected."""
 
     id: Optional[int] = None
     """The id of the parameter at fault, where one is."""

@@ -45,7 +45,7 @@ class TransportParameters(_Parameters):
     __slots__ = ()
 
     def write(self, side: Side, further: Iterable[tuple[int, Buffer]] = (), order: Iterable[int] = ()) -> bytes:
-        """The shortest list of these, as a side sends them. Raises ValueError if its peer would refuse them.
+        """The shortest list of these, as a side sends them. Raises ValueError if its peer would reject them.
 
         further has parameters that this class doesn't have, as ids and values. order has the ids that come first, each
         once, in their order; the others follow.

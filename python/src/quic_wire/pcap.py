@@ -1,7 +1,7 @@
 """The UDP datagrams of capture files, pcap and pcapng.
 
 Links are Ethernet with its tags of VLANs, Linux cooked captures, raw IP and loopback; of IPv4, and of IPv6 without
-extension headers. Of a datagram in fragments the first one alone is given.
+extension headers. Of a datagram in fragments only the first one is given.
 """
 
 from __future__ import annotations

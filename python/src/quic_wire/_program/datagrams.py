@@ -44,8 +44,7 @@ class Ids:
 
 
 def show_datagram(data: bytes, args: Args, ids: Ids, output: Output) -> None:
-    """Prints the packets of a datagram, and learns the ids in them. A capture has the headers of IP and UDP before it.
-    """
+    """Prints the packets of a datagram, which may have headers of IP and UDP before it, and learns their ids."""
     captured = link.packet(data)
     if captured is None:
         _show_packets(data, 0, args, ids, output)
@@ -88,7 +87,7 @@ def _read(datagram: bytes, begin: int, cid_len: int, args: Args) -> Union[Packet
     except PacketError as error:
         return error
     if isinstance(read, VersionNegotiation) and max(len(read.dcid), len(read.scid)) > _MAX_CID_LEN:
-        # quinn-proto refuses these ids, as the Rust crate does.
+        # quinn-proto rejects these ids, as the Rust crate does.
         return _packet_error(PACKET_CID, "malformed cid", datagram, begin, cid_len, None, None)
     return read
 

@@ -39,7 +39,7 @@ class Dump:
     def __init__(self, number: int, first: Line) -> None:
         self.line, self.form, self.base = number, first.form, first.offset
         self.data, self.row = bytearray(first.data), len(first.data)
-        self.order, self.refusal = first.order, first.refusal
+        self.order, self.rejection = first.order, first.rejection
         self.repeats = False
         # The first line that doesn't go on where the ones before it end.
         self.broken_at: Optional[int] = None
@@ -54,25 +54,25 @@ class Dump:
         read = read_line(text)
         if read is None:
             return self._close(number, trimmed(text))
-        is_like = read.form == self.form and read.refusal == self.refusal
-        if is_like and self.refusal is not None and read.offset != 0:
+        is_like = read.form == self.form and read.rejection == self.rejection
+        if is_like and self.rejection is not None and read.offset != 0:
             return Step.GOES_ON
         if is_like and self.broken_at is None and self._reach(read.offset):
             self.row = len(read.data)
             self.data += read.data
             self.order = max(self.order, read.order)
             return Step.ENDS if read.is_last else Step.GOES_ON
-        if read.offset == 0 or self.refusal is not None or (not self.form.is_closed and not self.repeats):
+        if read.offset == 0 or self.rejection is not None or (not self.form.is_closed and not self.repeats):
             return Step.ANOTHER
         self.broken_at = self.broken_at or number
         return Step.GOES_ON
 
     def _close(self, number: int, text: bytes) -> Step:
-        """The offset of the end closes a dump, but for those that no line closes, which anything ends."""
+        """The offset of the end closes a dump, except of those that no line closes, which anything ends."""
         if not self.form.is_closed:
             return Step.ANOTHER
         offset = self.form.closing(text)
-        if self.refusal is not None:
+        if self.rejection is not None:
             return Step.ANOTHER if offset is None else Step.ENDS
         if offset is None or self.broken_at is not None or not self._reach(offset):
             self.broken_at = self.broken_at or number
@@ -92,9 +92,9 @@ class Dump:
     def finish(self) -> Piece:
         """The bytes that were dumped, or why it isn't known what they are."""
         of_order = {Order.SWAPPED: _SWAPPED, Order.UNKNOWN: _MAY_BE_SWAPPED}
-        refusal = self.refusal or of_order.get(self.order)
-        if refusal is not None:
-            return Piece(self.line, refusal)
+        rejection = self.rejection or of_order.get(self.order)
+        if rejection is not None:
+            return Piece(self.line, rejection)
         if self.broken_at is not None:
             return Piece(self.line, f"the dump does not go on in line {self.broken_at}")
         if self.repeats:

@@ -87,7 +87,7 @@ class Line(NamedTuple):
     """Whether it is nothing else than a line of a dump."""
     is_last: bool = False
     """Whether it has fewer bytes than a line of its dump holds, so that no other follows."""
-    refusal: Optional[str] = None
+    rejection: Optional[str] = None
     """Why its bytes aren't read."""
 
     @property
@@ -113,7 +113,7 @@ def _with_colon(digits: bytes, rest: bytes) -> Optional[Line]:
     end = rest.find(b"  ")
     groups, shown = (rest, b"") if end < 0 else (rest[:end], rest[end + 2 :])
     if _are_bits(groups, shown):
-        return Line(Form.UNITS, offset, refusal=_BITS)
+        return Line(Form.UNITS, offset, rejection=_BITS)
     data = unhex(groups)
     if not data:
         return None
@@ -135,7 +135,7 @@ def _of_units(text: bytes) -> Optional[Line]:
     is_like = all(len(group) == width and _HEX.fullmatch(group) for group in groups)
     if not (3 <= width <= 22 and len(digits) == 7 and _HEX.fullmatch(digits) and is_like):
         return None
-    return Line(Form.UNITS, int(digits, 16), refusal=_SWAPPED if width == 4 else _UNITS)
+    return Line(Form.UNITS, int(digits, 16), rejection=_SWAPPED if width == 4 else _UNITS)
 
 
 def _of_columns(text: bytes) -> Optional[Line]:

@@ -37,7 +37,7 @@ def show_frames(payload: bytes, strict: bool, output: Output) -> None:
 
 
 def show_error(error: FrameError, output: Output) -> None:
-    """Prints why a payload is refused."""
+    """Prints why a payload is rejected."""
     what = error.reason if error.frame_type is None else f"{error.reason} in {frame_name(error.frame_type)}"
     output.error(what, error.offset, [*place_of(error), *closed_by(error)])
 
@@ -166,8 +166,7 @@ def show_canon(payload: bytes, output: Output) -> None:
 
 
 def show_number(data: bytes, largest: Optional[int], output: Output) -> None:
-    """Prints the numbers that bytes are, or the packet number of which they are the end, by the largest received one.
-    """
+    """Prints the numbers that bytes are, or by the largest received packet number the one of which they are the end."""
     if largest is not None:
         _show_packet_number(data, largest, output)
         return

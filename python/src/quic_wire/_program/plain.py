@@ -40,7 +40,7 @@ def character(data: bytes) -> str:
 
 
 def spelled(text: str, quote: str = '"') -> str:
-    """A text as Rust escapes it, but for its quotes."""
+    """A text as Rust escapes it, without its quotes."""
     short = {"\0": "\\0", "\t": "\\t", "\r": "\\r", "\n": "\\n", "\\": "\\\\", quote: "\\" + quote}
 
     def is_plain(c: str) -> bool:

@@ -39,7 +39,7 @@ class Pieces:
         self._line = 0
         self._dump: Optional[Dump] = None
         self._list: Optional[_List] = None
-        # Whether a dump ended with the line before, but for blank ones.
+        # Whether a dump ended with the line before, except for blank ones.
         self._is_behind_dump = False
 
     def __iter__(self) -> Iterator[Piece]:

@@ -23,7 +23,7 @@ impl ReadOptions {
     };
 
     /// The reading of RFC 9000.
-    pub const RFC_9000: ReadOptions = ReadOptions {
+    pub const RFC: ReadOptions = ReadOptions {
         any_width: true,
         no_repeats: true,
     };

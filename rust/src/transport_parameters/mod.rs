@@ -98,7 +98,7 @@ impl core::error::Error for Error {}
 /// // An initial_max_data of 9 in two bytes.
 /// let list = [0x04, 2, 0x40, 9];
 /// assert!(TransportParameters::read(Side::Client, &list).is_err());
-/// let read = TransportParameters::read_with(Side::Client, ReadOptions::RFC_9000, &list)?;
+/// let read = TransportParameters::read_with(Side::Client, ReadOptions::RFC, &list)?;
 /// assert_eq!(read.initial_max_data, 9);
 /// # Ok::<(), quic_wire::Error>(())
 /// ```
@@ -117,7 +117,7 @@ impl ReadOptions {
     pub const QUINN: ReadOptions = ReadOptions { any_width: false, no_repeats: false };
 
     /// The reading of RFC 9000.
-    pub const RFC_9000: ReadOptions = ReadOptions { any_width: true, no_repeats: true };
+    pub const RFC: ReadOptions = ReadOptions { any_width: true, no_repeats: true };
 
     fn flags(self) -> u32 {
         let flag = |is_set: bool, flag| if is_set { flag } else { 0 };
@@ -257,7 +257,7 @@ impl TransportParameters {
     /// let list = [0x6a, 0xb2, 0, 0x6a, 0xb2, 0];
     /// let read = |options| TransportParameters::read_with(Side::Client, options, &list);
     /// assert!(read(ReadOptions::QUINN)?.grease_quic_bit);
-    /// assert_eq!(read(ReadOptions::RFC_9000).unwrap_err().offset(), 3);
+    /// assert_eq!(read(ReadOptions::RFC).unwrap_err().offset(), 3);
     /// # Ok::<(), quic_wire::Error>(())
     /// ```
     ///

@@ -23,7 +23,7 @@ fn ways_of_reading(rt: HostRuntime) -> Result<(), Fail> {
         let read = TransportParameters::read_with(Side::Client, ReadOptions::default(), &mut rest);
         checks.same(read.is_ok(), by_quinn);
         let mut rest = list;
-        let read = TransportParameters::read_with(Side::Client, ReadOptions::RFC_9000, &mut rest);
+        let read = TransportParameters::read_with(Side::Client, ReadOptions::RFC, &mut rest);
         checks.same(read.is_ok(), by_rfc);
     }
     checks.verdict()

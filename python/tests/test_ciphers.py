@@ -1,11 +1,14 @@
 """Packets opened and sealed by the package cryptography: the examples of RFC 9001, appendix A, and captures."""
 
 import io
+import random
 import struct
 import unittest
 
 import quic_wire as q
 from quic_wire import capture, pcap
+from quic_wire._program import captured
+from quic_wire._program.output import Look, Output
 from quic_wire.keylog import KeyLog
 from quic_wire.protection import open_packet, seal_packet
 
@@ -236,6 +239,23 @@ class Captures(unittest.TestCase):
             [(one.why, one.rest) for one in read[1:]],
             [("no packet with the id of the first one", 21), ("the length of its id isn't known", 6)],
         )
+
+    def test_changed_files_are_read_or_rejected(self):
+        packets, keylog = self.connection()
+        files = [make(packets).getvalue() for make in (pcap_file, pcapng_file)]
+        choice, read, rejected = random.Random(1), 0, 0
+        for _ in range(100):
+            changed = bytearray(choice.choice(files))
+            for _ in range(choice.choice((1, 3, 20))):
+                changed[choice.randrange(len(changed))] = choice.randrange(256)
+            try:
+                for one in capture.packets(io.BytesIO(changed), keylog):
+                    self.assertTrue(all(isinstance(line, str) for line in captured._lines(one)))
+                    captured._show_objects(one, Output(str, Look.JSON))
+                    read += 1
+            except pcap.CaptureError:
+                rejected += 1
+        self.assertTrue(read > 300 and rejected > 5, (read, rejected))
 
     def test_a_key_log_is_a_file_of_lines(self):
         made = Connection()

@@ -107,6 +107,8 @@ class Modes(unittest.TestCase):
             (["datagram", "--cid-len", "21"], b"", 2),
             (["frames", "/nonexistent"], b"", 3),
             (["capture", "/nonexistent"], b"", 3),
+            (["capture", str(HERE / "show.py")], b"", 3),
+            (["capture", "--keylog", "/nonexistent", str(HERE / "show.py")], b"", 3),
             (["--help"], b"", 0),
         ]
         for words, given, status in rows:

@@ -5,11 +5,13 @@ import unittest
 import quic_wire as q
 
 try:
-    from hypothesis import given, settings
+    from hypothesis import HealthCheck, given, settings
     from hypothesis import strategies as st
 except ImportError:
     raise unittest.SkipTest("the package hypothesis isn't there") from None
 
+# A machine that does other work too isn't at fault.
+PATIENT = {"deadline": None, "suppress_health_check": [HealthCheck.too_slow]}
 MOST = (1 << 62) - 1
 EDGES = [63, 64, 16383, 16384, (1 << 30) - 1, 1 << 30, MOST]
 number = st.one_of(st.integers(0, 70), st.integers(0, MOST), st.sampled_from(EDGES))
@@ -70,7 +72,7 @@ def merged(frames):
 
 
 class Written(unittest.TestCase):
-    @settings(max_examples=400, deadline=None)
+    @settings(max_examples=400, **PATIENT)
     @given(st.lists(frame, min_size=1, max_size=6))
     def test_frames_are_read_as_they_were_written(self, frames):
         payload = q.write_frames(frames)
@@ -78,7 +80,7 @@ class Written(unittest.TestCase):
         self.assertEqual(list(q.frames(payload, strict=True)), merged(frames))
         self.assertEqual(q.canonical(payload), payload)
 
-    @settings(max_examples=800, deadline=None)
+    @settings(max_examples=800, **PATIENT)
     @given(st.binary(max_size=200))
     def test_any_payload_is_read_or_rejected(self, payload):
         try:
@@ -97,7 +99,7 @@ class Written(unittest.TestCase):
             self.assertEqual(q.read_frames(short), merged(found))
             self.assertEqual(q.write_frames(found), short)
 
-    @settings(max_examples=800, deadline=None)
+    @settings(max_examples=800, **PATIENT)
     @given(st.binary(max_size=120), st.integers(0, 20), st.booleans())
     def test_any_datagram_is_read_or_rejected(self, datagram, cid_len, grease):
         try:
@@ -110,7 +112,7 @@ class Written(unittest.TestCase):
             self.assertEqual((packet.begin, len(packet.data)), (end, packet.end - packet.begin))
             end = packet.end
 
-    @settings(max_examples=800, deadline=None)
+    @settings(max_examples=800, **PATIENT)
     @given(st.binary(max_size=120), st.sampled_from(list(q.Side)))
     def test_any_parameters_are_read_or_rejected(self, data, side):
         try:
@@ -121,14 +123,14 @@ class Written(unittest.TestCase):
         else:
             self.assertEqual(q.TransportParameters.read(side, read.write(q.Side(1 - side))), read)
 
-    @settings(max_examples=300, deadline=None)
+    @settings(max_examples=300, **PATIENT)
     @given(number)
     def test_numbers_are_read_as_they_were_written(self, value):
         written = q.write_varint(value)
         self.assertEqual(q.read_varint(b"\0" + written, 1), (value, 1 + len(written)))
         self.assertEqual(q.varint_len(value), len(written))
 
-    @settings(max_examples=300, deadline=None)
+    @settings(max_examples=300, **PATIENT)
     @given(st.integers(1, MOST - (1 << 32)), st.integers(0, 1 << 30))
     def test_packet_numbers_are_expanded_to_what_they_were(self, value, back):
         acked = max(0, value - back - 1)

@@ -64,7 +64,7 @@ def expand_label(secret: bytes, label: str, length: int, hash_name: str) -> byte
 
 @dataclass(frozen=True, slots=True)
 class PacketKeys:
-    """The keys of the packets that a side sends, made from its secret; quic_wire.protection opens and seals with them."""
+    """The keys of the packets that a side sends, made from its secret, for quic_wire.protection."""
 
     secret: bytes = field(repr=False)
     suite: Suite

@@ -23,7 +23,7 @@ _SENDERS = ("c", "s")
 
 def show(args: Args, file: str, output: Output, write: Callable[[str], None]) -> None:
     """Prints the packets of a capture file. Raises CaptureError and OSError."""
-    keylog = KeyLog.open(args.keylog) if args.keylog is not None else None
+    keylog = _keylog(args.keylog) if args.keylog is not None else None
     before = None
     for captured in packets("/dev/stdin" if file == "-" else file, keylog):
         if before is not None and before.datagram is not captured.datagram:
@@ -38,6 +38,13 @@ def show(args: Args, file: str, output: Output, write: Callable[[str], None]) ->
                 write(line + "\n")
     if before is not None:
         _show_lost(before, args, write)
+
+
+def _keylog(path: str) -> KeyLog:
+    try:
+        return KeyLog.open(path)
+    except ValueError as fault:
+        raise CaptureError(f"{path} is no key log: {fault}") from fault
 
 
 def _begin(captured: Captured) -> str:

@@ -125,6 +125,8 @@ def fields_of(packet: Packet) -> tuple[str, list[Field]]:
         return "version-negotiation", [*fields, ("versions", out.versions(packet.versions))]
     fields.append(("version", out.version(packet.version)))
     match packet:
+        case UnknownVersion():
+            return "unknown", fields
         case Initial():
             fields += [("token_at", out.number(packet.token_at)), ("token", out.data(packet.token))]
             return "initial", [*fields, ("len", out.number(packet.length)), _number_at(packet)]

@@ -154,5 +154,5 @@ export function packetAgrees(packet, walk) {
   return !walk.missing && !walk.wrong && walk.place === packet.end
     && is("Destination Connection ID", packet.dcid, packet.dcidlen)
     && is("Source Connection ID", packet.scid, packet.scidlen)
-    && is("Token", packet.token, packet.tokenlen);
+    && is(packet.kind === RETRY ? "Retry Token" : "Token", packet.token, packet.tokenlen);
 }

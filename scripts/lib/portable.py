@@ -91,19 +91,16 @@ def exports_of(header, functions):
     return exports
 
 
-def without_unions(body):
-    """A struct's fields, of a union within only the first."""
-    return re.sub(r"union \{(.*?;).*?\};", r"\1", body, flags=re.S)
-
-
 def layouts_of(header):
-    """For each struct the sizes of its numbers in turn, a letter each: b, h, l and q of 1, 2, 4 and 8 bytes."""
+    """For each struct, as it is without unions, the sizes of its numbers in turn, a letter each: b, h, l and q of 1, 2, 4
+    and 8 bytes."""
     letters = {"uint8_t": "b", "uint16_t": "h", "uint32_t": "l", "uint64_t": "q", "quic_wire_size": "q", "size_t": "q"}
-    header = re.sub(r"/\*.*?\*/|QUIC_WIRE_EXTENSION|QUIC_WIRE_ALIGNED", "", header, flags=re.S)
+    header = re.sub(r"/\*.*?\*/|QUIC_WIRE_ALIGNED", "", header, flags=re.S)
+    header = re.sub(r"^#ifdef QUIC_WIRE_PLAIN\n(.*?)^#else\n.*?^#endif\n", r"\1", header, flags=re.M | re.S)
     found = {}
     for name, body in re.findall(r"^typedef struct (\w+) \{(.*?)^\} *\w+;", header, re.M | re.S):
         layout = ""
-        for kind, fields in re.findall(r"(\w+)\s+([^;{}]*);", without_unions(body)):
+        for kind, fields in re.findall(r"(\w+)\s+([^;{}]*);", body):
             need(kind in letters, f"{name} has a {kind}")
             for field in fields.split(","):
                 count = re.search(r"\[(\d+)\]", field)

@@ -114,10 +114,10 @@
               QUIC_WIRE_LIB_PATCH))
 #define QUIC_WIRE_LIB_TEXT "0.1.0"
 
-/* Each function is a symbol of both libraries, the archive and the shared one.
- * Who is linked with the archive can define QUIC_WIRE_INLINE before this
- * header: then the C compiler inlines what the functions do before and after
- * the calls of the proved library. */
+/* Each function is a symbol of both libraries, the archive and the shared one,
+ * unless QUIC_WIRE_INLINE is defined before this header by who is linked with
+ * the archive: then the C compiler inlines what the functions do before and
+ * after the calls of the proved library. */
 #ifdef QUIC_WIRE_INLINE
 #define QUIC_WIRE_API static inline
 #else

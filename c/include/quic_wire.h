@@ -1175,6 +1175,14 @@ quic_wire_params_read(uint32_t side, uint32_t flags, const uint8_t *list,
                       quic_wire_refusal *refusal);
 
 /**
+ * Gives each parameter its default, as quic_wire_params_read does for a list of
+ * no bytes (RFC 9000, section 18.2).  Returns 0; QUIC_WIRE_ERR_LENGTH for
+ * another |size|, QUIC_WIRE_ERR_ARGUMENT for NULL, and then nothing changes.
+ */
+QUIC_WIRE_API int quic_wire_params_default(quic_wire_params *params,
+                                           size_t size);
+
+/**
  * Writes the shortest list of these parameters, as QUIC_WIRE_SIDE_CLIENT or as
  * QUIC_WIRE_SIDE_SERVER sends it: those numbers that differ from their
  * defaults, and what else is there.

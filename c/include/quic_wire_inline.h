@@ -529,6 +529,12 @@ QUIC_WIRE_API int quic_wire_params_read(uint32_t side, uint32_t flags,
       params, refusal ? refusal : &unasked);
 }
 
+QUIC_WIRE_API int quic_wire_params_default(quic_wire_params *params,
+                                           size_t size) {
+  return quic_wire_params_read(QUIC_WIRE_SIDE_CLIENT, 0, NULL, 0, params, size,
+                               NULL);
+}
+
 QUIC_WIRE_API int quic_wire_params_write(uint32_t side,
                                          const quic_wire_params *params,
                                          size_t size, uint8_t *dest,

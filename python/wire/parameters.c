@@ -239,8 +239,7 @@ static parameters_object *by_default(PyTypeObject *type) {
   int result;
   if (!o)
     return NULL;
-  result = quic_wire_params_read(QUIC_WIRE_SIDE_CLIENT, 0, NULL, 0, &o->p,
-                                 sizeof o->p, NULL);
+  result = quic_wire_params_default(&o->p, sizeof o->p);
   if (result < 0) {
     wire_mistake(result);
     Py_CLEAR(o);

@@ -132,6 +132,15 @@ void params_nulls(void) {
   WANT(quic_wire_params_read(QUIC_WIRE_SIDE_SERVER, 0, NULL, 0, &params,
                              sizeof params, NULL) == 0);
   WANT(params.max_ack_delay == 25 && params.present == 0);
+  memset(&params, 0x55, sizeof params);
+  WANT(quic_wire_params_default(NULL, sizeof params) == INVALID);
+  WANT(quic_wire_params_default(&params, sizeof params - 1) ==
+       QUIC_WIRE_ERR_LENGTH);
+  WANT(params.max_ack_delay == 0x5555555555555555);
+  WANT(quic_wire_params_default(&params, sizeof params) == 0);
+  WANT(params.max_udp_payload_size == 65527 && params.max_ack_delay == 25);
+  WANT(params.ack_delay_exponent == 3 && params.present == 0);
+  WANT(params.active_connection_id_limit == 2 && params.initial_max_data == 0);
   WANT(quic_wire_params_write(QUIC_WIRE_SIDE_CLIENT, NULL, sizeof params, out,
                               8, &n) == INVALID);
   WANT(quic_wire_params_write(QUIC_WIRE_SIDE_CLIENT, &params, sizeof params,

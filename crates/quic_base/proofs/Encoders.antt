@@ -1,4 +1,4 @@
--- Encoders one after the other: what is after some of them, and what after one that was refused.
+-- Encoders one after the other: what the buffer has after some of them, and after one that failed.
 use Rattle.std.proofs.Common.{◌≡◌, ℕ, ◌+◌, List, [], ◌++◌, length, Result, Ok, Err, OnOk, OnErr, refl, sym, ap, subst, ◌∙◌, append_assoc, arith}
 use Rattle.std.proofs.lemmas.List.{length-append, append-nil}
 use Rattle.std.specs.Result.{is_ok}
@@ -10,7 +10,7 @@ use Rattle.quic_base.proofs.PublicLaws.{begun_first, begun_second}
 err_is_not_ok : {A E : Type 0} {e : E} {x : A} → Err e ≡ Ok x → ⊥
 err_is_not_ok is = cc
 
--- one call that puts n bytes, and an answer that is Ok where its own is
+-- one call that puts n bytes, and a result that is Ok if the call's is
 pub put_writes : {D E : Type 0} (put : Result (Unit {0}) D) (result : Result (Unit {0}) E) (bytes written : List ℕ)
     (spare : ℕ) (written' : List ℕ) (spare' n : ℕ)
     → OnOk put (written' ≡ written ++ bytes) → OnErr put (written' ≡ written) → UsesSpare put spare spare' n
@@ -35,7 +35,7 @@ pub record Wrote (bytes written : List ℕ) (spare : ℕ) (written' : List ℕ) 
 pub wrote_nothing : (written : List ℕ) (spare : ℕ) → Wrote [] written spare written spare
 wrote_nothing written spare = record { stands = sym (append-nil written); room = omega arith }
 
--- an encoder that was not refused, after others
+-- an encoder that succeeded, after others
 pub wrote_more : {E : Type 0} (result : Result (Unit {0}) E) (a b w w1 w2 : List ℕ) (s s1 s2 : ℕ) → Wrote a w s w1 s1
     → Writes result b w1 s1 w2 s2 → result ≡ Ok tt → Wrote (a ++ b) w s w2 s2
 wrote_more (Ok u) a b w w1 w2 s s1 s2 so_far x e = record {
@@ -44,12 +44,12 @@ wrote_more (Ok u) a b w w1 w2 s s1 s2 so_far x e = record {
 }
 wrote_more (Err e) a b w w1 w2 s s1 s2 so_far x is = absurd (err_is_not_ok is)
 
--- the first encoder of several, where it was not refused
+-- the first encoder of several, which succeeded
 pub wrote_first : {E : Type 0} (result : Result (Unit {0}) E) (b w w1 : List ℕ) (s s1 : ℕ) → Writes result b w s w1 s1
     → result ≡ Ok tt → Wrote b w s w1 s1
 wrote_first result b w w1 s s1 x e = wrote_more result [] b w w w1 s s s1 (wrote_nothing w s) x e
 
--- the last encoder after others, whether it is refused or not
+-- the last encoder after others, whether it succeeds or not
 pub writes_last : {E : Type 0} (result : Result (Unit {0}) E) (a b w w1 w2 : List ℕ) (s s1 s2 : ℕ) → Wrote a w s w1 s1
     → Writes result b w1 s1 w2 s2 → Writes result (a ++ b) w s w2 s2
 writes_last (Ok u) a b w w1 w2 s s1 s2 so_far x = record {
@@ -68,7 +68,7 @@ writes_last (Err e) a b w w1 w2 s s1 s2 so_far x =
       room = omega (arith, so_far.room, x.room);
     }
 
--- an encoder that was refused, before others
+-- an encoder that failed, before others
 pub writes_begun : {D E : Type 0} (result : Result (Unit {0}) E) (refused : Result (Unit {0}) D) (d : D)
     (b c w w2 : List ℕ) (s s2 : ℕ) (e : E)
     → Writes result b w s w2 s2 → result ≡ Err e → refused ≡ Err d → Writes refused (b ++ c) w s w2 s2
@@ -78,7 +78,7 @@ writes_begun (Err e0) (Err d0) d b c w w2 s s2 e x is r =
     let all : length (b ++ c) ≡ length b + length c = length-append b c in
     record { ok = tt; err = begun_first w b c w2 x.err; full = omega (arith, x.full, all); room = x.room }
 
--- an encoder that was refused, between others
+-- an encoder that failed, between others
 pub writes_within : {D E : Type 0} (result : Result (Unit {0}) E) (refused : Result (Unit {0}) D) (d : D)
     (a b c whole w w1 w2 : List ℕ) (s s1 s2 : ℕ) (e : E)
     → whole ≡ a ++ (b ++ c)
@@ -88,7 +88,7 @@ writes_within result refused d a b c whole w w1 w2 s s1 s2 e parts so_far x is r
     subst (λ k. Writes refused k w s w2 s2) (sym parts) (writes_last refused a (b ++ c) w w1 w2 s s1 s2 so_far
     (writes_begun result refused d b c w1 w2 s1 s2 e x is r))
 
--- the last of three encoders, after two that were not refused
+-- the last of three encoders, after two that succeeded
 pub writes_third : {E F : Type 0} (second : Result (Unit {0}) E) (third : Result (Unit {0}) F) (a b c w w1 w2 w3 : List ℕ) (s s1 s2 s3 : ℕ)
     → Wrote a w s w1 s1 → Writes second b w1 s1 w2 s2 → second ≡ Ok tt → Writes third c w2 s2 w3 s3
     → Writes third (a ++ (b ++ c)) w s w3 s3

@@ -7,7 +7,7 @@ use Rattle.std.proofs.lemmas.Slice.{between_to_end, drop-append-drop}
 use Rattle.quic_base.specs.ConnectionId.{IsPadded}
 use borrow.Rule.Slice.PartMut.{put_mid}
 
--- xs after the front of length m, over what began with the first k of xs
+-- xs from m on, written over a list that begins with the first k of xs
 second : (k m n : ℕ) (xs to : List ℕ) → n ≡ length xs → m + k ≡ n → n ≤ k + k
     → put_mid m (n - m) (take k xs ++ drop k to) (drop m xs) ≡ xs ++ drop n to
 second k m n xs to is sum covers =

@@ -1,4 +1,4 @@
--- An id in memory is its length, its bytes side by side and what is left of its place, and back.
+-- An id in memory: its length, its bytes side by side, and the rest of its array; and the other way round.
 use mathlib.Core.Path.{◌≡◌, refl, sym}
 use Prim.Native.Nat.{ℕ, zero, ◌+◌}
 use mathlib.Core.List.{List, [], ◌∷◌}
@@ -41,7 +41,7 @@ fields = record { row = u32; ty = ty_int w32 } ∷ record { row = Array u8 20; t
 abbrev pub Tuple : RattleType
 Tuple = Struct (shape_of the_type.name fields)
 
--- where the length and the array lie, in an id at the offset o
+-- where the length and the array are, in an id at the offset o
 abbrev pub len_at : ℕ → ℕ
 len_at o = o + up (align (ty_int w32)) zero
 

@@ -14,13 +14,13 @@ use Rattle.std.specs.Cmp.Lexicographic.{pointwise, same_text}
 use Rattle.quic_base.specs.ConnectionId.{IsLongId, hex_pair}
 use Rattle.quic_base.specs.ConnectionIdOrder.{id_cmp, id_ties}
 
--- the length in front, and what is after it
+-- the length in front, and what follows it
 pub behind_length : (old b new : List ℕ) (n : ℕ) → old ≡ b ++ new → length b ≡ 1 → n ≡ get_or b 0 0 → old ≡ n ∷ new
 behind_length old [] new n e l v = absurd (omega arith)
 behind_length old (x ∷ []) new n e l v = e ∙ ap (λ y. y ∷ new) (sym v)
 behind_length old (x ∷ y ∷ ys) new n e l v = absurd (omega arith)
 
--- a whole id in front shows its length, and that many bytes follow it
+-- a whole id in front begins with its length, and that many bytes follow
 shown : (old b s id mid : List ℕ) (n : ℕ) → old ≡ n ∷ mid → old ≡ b ++ s → IsLongId id b
     → (n ≡ length id) × (n ≤ length mid)
 shown old b s id mid n e f p =
@@ -69,7 +69,7 @@ hex_more xs i l h =
     ∙ flat_map_more hex_pair [] (take i xs) (get_or xs i 0)
     ∙ ap (flat_map hex_pair) (sym (take_more xs i 0 l))
 
--- neither of two ids comes first exactly where they are one
+-- neither of two ids comes first exactly when they are equal
 is_equal : (r : Ordering) → is_eq r ≡ true → r ≡ Equal
 is_equal Less e = absurd cc
 is_equal Equal e = refl

@@ -85,7 +85,7 @@ pub from_be_8 : (b : List ℕ) → length b ≡ 8 → from_be_bytes w64 b ≡ nu
 from_be_8 (a ∷ b ∷ c ∷ d ∷ e ∷ f ∷ g ∷ i ∷ []) h = omega arith
 from_be_8 _ h = absurd (omega arith)
 
--- what it writes
+-- what the program writes
 byte_at_below : (i n : ℕ) → byte_at i n < 256
 byte_at_below zero n = mod_below n 256 (lit< tt)
 byte_at_below (suc i) n = mod_below (n / 256 ^ suc i) 256 (lit< tt)
@@ -138,7 +138,7 @@ is_number_4 n h = record { bytes = bytes_of_are_bytes 4 n; width = length-bytes_
 pub is_number_8 : (n : ℕ) → n < 2 ^ 64 → IsNumber 8 n (bytes_of 8 n)
 is_number_8 n h = record { bytes = bytes_of_are_bytes 8 n; width = length-bytes_of 8 n; value = num-bytes_of_8 n h }
 
--- what is read from k bytes, and where there are fewer
+-- what is read from k bytes, and what if there are fewer
 pub takes_number : (k : ℕ) (old new b : List ℕ) (n : ℕ) → old ≡ b ++ new → length b ≡ k → AreBytes b → num b ≡ n
     → Takes (IsNumber k n) old new
 takes_number k old new b n e l h v = record { front = b; split = e; is = record { bytes = h; width = l; value = v } }

@@ -82,7 +82,7 @@ pub encodes_unique : (v u : ℕ) (b c r s : List ℕ) → b ++ r ≡ c ++ s → 
     → (v ≡ u) × (b ≡ c) × (r ≡ s)
 encodes_unique = encodings.encodes_unique
 
--- the shortest is as short as any other, and alone in that
+-- no encoding is shorter than the shortest, and no other is as short
 pub short_least : (v : ℕ) (b : List ℕ) → Encodes v b
     → (length (shortest_varint v) ≤ length b) × (length b ≡ length (shortest_varint v) → b ≡ shortest_varint v)
 short_least = encodings.short_least
@@ -105,19 +105,19 @@ found_taken = readings.found_taken
 pub short_found : (n : ℕ) (rest : List ℕ) → n < 64 → number_at (n ∷ rest) ≡ Some (n, rest)
 short_found = readings.short_found
 
--- where reading finds none, no front is an encoding, and the other way round
+-- if reading finds none, no front is an encoding, and the other way round
 pub none_found : (bytes : List ℕ) → number_at bytes ≡ None → (v : ℕ) → NoFront (Encodes v) bytes
 none_found = readings.none_found
 
 pub no_number : (bytes : List ℕ) → AreBytes bytes → ((v : ℕ) → NoFront (Encodes v) bytes) → number_at bytes ≡ None
 no_number = readings.no_number
 
--- what two decoders take, one after another
+-- what two decoders consume, one after another
 pub takes_then : (K L : List ℕ → Type 0) (old mid new : List ℕ) → Takes K old mid → Takes L mid new
     → Takes (Follows K L) old new
 takes_then = codecs.takes_then
 
--- where the first of two is cut off, and where the second is
+-- the first of two decoders meets a cut, or the second does
 pub cut_first : (K L : List ℕ → Type 0) (old : List ℕ) → NoFront K old → NoFront (Follows K L) old
 cut_first = codecs.cut_first
 
@@ -125,7 +125,7 @@ pub cut_second : {T : Type 0} (K : T → List ℕ → Type 0) (L : List ℕ → 
     → IsPrefixFree K → Takes (K x) old mid → NoFront L mid → NoFront (Follows (K y) L) old
 cut_second = codecs.cut_second
 
--- where the first of two encoders is refused, and where the second is
+-- the first of two encoders fails, or the second does
 pub begun_first : (old a b new : List ℕ) → IsBegun old a new → IsBegun old (a ++ b) new
 begun_first = codecs.begun_first
 

@@ -105,7 +105,7 @@ no_number_in bytes None e fits none = refl
 no_number_in bytes (Some x) e fits none =
     let t = number_taken bytes x.0 x.1 fits e in absurd (none x.0 t.front x.1 t.split t.is)
 
--- where no front is a number, reading finds none
+-- if no front is a number, reading finds none
 pub no_number : (bytes : List ℕ) → AreBytes bytes → ((v : ℕ) → NoFront (Encodes v) bytes) → number_at bytes ≡ None
 no_number bytes fits none = no_number_in bytes (number_at bytes) refl fits none
 
@@ -114,7 +114,7 @@ pub none_found : (bytes : List ℕ) → number_at bytes ≡ None → (v : ℕ) �
 none_found bytes e v b s split p =
     absurd (let h = number_again v b s p in let g : number_at (b ++ s) ≡ None = ap number_at (sym split) ∙ e in cc)
 
--- what was taken is found
+-- what was consumed is found
 pub found_taken : (n : ℕ) (bytes rest : List ℕ) → Takes (Encodes n) bytes rest → number_at bytes ≡ Some (n, rest)
 found_taken n bytes rest t = ap number_at t.split ∙ number_again n t.front rest t.is
 

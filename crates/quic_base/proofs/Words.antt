@@ -1,4 +1,4 @@
--- A number of any width, as one load of eight bytes tells it.
+-- A number of any width, from one load of eight bytes.
 use Rattle.std.proofs.Common.{◌≡◌, ℕ, zero, suc, ◌+◌, ◌-◌, ◌*◌, ◌/◌, ◌%◌, ◌^◌, ◌<◌, ◌≤◌, false, ltb, List, [], ◌∷◌, ◌++◌, length, take, drop, Some, refl, sym, ap, subst, ◌∙◌, arith}
 use Rattle.std.proofs.lemmas.Bool.{le-ltb}
 use Rattle.std.proofs.lemmas.List.{take_rest, take-append-drop, length-append, length-drop, length-take-le}
@@ -12,7 +12,7 @@ use Rattle.quic_base.specs.Varint.{Encodes}
 use Rattle.quic_base.proofs.Numbers.{same_front}
 use Rattle.quic_base.proofs.Readings.{number_taken}
 
--- What is above the lowest bytes of a word: a number's width by its tag, and its value.
+-- What the high bytes of a word hold: a number's width, by its tag, and its value.
 record IsWordOf (t b s word : ℕ) : Type 0 where
   tag : word / 2 ^ 62 ≡ t
   value : word % 2 ^ 62 / 2 ^ (64 - 8 * 2 ^ t) ≡ b % 64 * 256 ^ (2 ^ t - 1) + s
@@ -29,7 +29,7 @@ word_of (suc (suc (suc zero))) b s low word lt t-is few rest e =
     record { tag = omega (arith, t-is, few, rest, e); value = omega (arith, t-is, few, rest, e) }
 word_of (suc (suc (suc (suc t)))) b s low word lt t-is few rest e = absurd (omega (arith, lt))
 
--- The number at the front of a list of eight bytes and more.
+-- The number at the front of a list of at least eight bytes.
 record ReadsWord (word : ℕ) (bytes : List ℕ) : Type 0 where
   tag : word / 2 ^ 62 < 4
   read : number_at bytes ≡ Some (word % 2 ^ 62 / 2 ^ (64 - 8 * 2 ^ (word / 2 ^ 62)), drop (2 ^ (word / 2 ^ 62)) bytes)
@@ -69,7 +69,7 @@ of_bytes (suc (suc (suc zero))) a b c d e f g i word rest fits lt t-is w =
     word_of 3 a _ 0 word lt t-is (omega (arith, fits 1, fits 2, fits 3, fits 4, fits 5, fits 6, fits 7)) (omega arith) (omega (arith, w))
 of_bytes (suc (suc (suc (suc t)))) a b c d e f g i word rest fits lt t-is w = absurd (omega (arith, lt))
 
--- what the program reads of eight bytes
+-- what the program reads from eight bytes
 reads_word : (word : ℕ) (front : List ℕ) → length front ≡ 8 → AreBytes front → word ≡ from_be_bytes w64 front
     → ReadsWord word front
 reads_word word (a ∷ b ∷ c ∷ d ∷ e ∷ f ∷ g ∷ i ∷ []) eight fits w =

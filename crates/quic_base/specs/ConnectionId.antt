@@ -16,14 +16,14 @@ pub record IsLongId (id b : List ℕ) : Type 0 where
   pub short : length id ≤ 20
   pub value : b ≡ long_id id
 
--- the text of an id: two lower-case hexadecimal digits a byte
+-- the text of an id: two lower-case hexadecimal digits per byte
 abbrev pub hex_pair : ℕ → List ℕ
 hex_pair byte = digit_glyph false (byte / 16) ∷ digit_glyph false (byte % 16) ∷ []
 
 abbrev pub id_text : List ℕ → List ℕ
 id_text id = flat_map hex_pair id
 
--- how an id is kept in an array: its bytes, and then zeros
+-- how an array holds an id: its bytes, and then zeros
 pub record IsPadded (len : ℕ) (bytes : List ℕ) : Type 0 where
   pub short : len ≤ 20
   pub width : length bytes ≡ 20

@@ -1,4 +1,4 @@
--- What a connection id ends as, where its bytes are lent for writing.
+-- What a connection id is once a loan of its bytes for writing has ended.
 use Rattle.std.specs.Prelude.{ℕ, List, length}
 use Rattle.std.specs.List.{refill}
 use Rattle.std.specs.Borrow.{Lends, Fml, MutBor, Array, u8}

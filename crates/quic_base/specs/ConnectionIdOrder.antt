@@ -22,6 +22,6 @@ ties_at x y Less h = unequal nat_eq x y (λ e. omega arith)
 ties_at x y Equal h = texts_ties x y
 ties_at x y Greater h = unequal nat_eq x y (λ e. omega arith)
 
--- equal exactly where neither comes first
+-- equal exactly when neither comes first
 pub id_ties : (x y : List ℕ) → pointwise nat_eq x y ≡ eq_by_cmp id_cmp x y
 id_ties x y = ties_at x y (nat_cmp (length x) (length y)) (ranks (length x) (length y))

@@ -1,4 +1,4 @@
--- What contracts see of a cursor.
+-- How contracts see a cursor.
 use Rattle.std.specs.Prelude.{ℕ, List, drop}
 use Rattle.bytes.specs.Filled.{Filled}
 

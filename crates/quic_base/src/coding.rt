@@ -20,7 +20,7 @@ pub use buffer_cursor::Cursor;
 #[error("unexpected end of buffer")]
 pub struct UnexpectedEnd;
 
-/// There was no room in a buffer, or no memory, for what was to be written.
+/// A buffer lacks the room for what was to be written, or an allocation failed.
 #[derive(Clone, Copy, Debug, PartialEq, Eq, Error)]
 #[error("no room in buffer")]
 pub struct NoRoom;
@@ -31,7 +31,7 @@ impl From<AllocError> for NoRoom {
     }
 }
 
-/// What a decoder answers.
+/// What a decoder returns.
 pub type Result<T> = std::result::Result<T, UnexpectedEnd>;
 
 /// A value that bytes encode.
@@ -45,16 +45,16 @@ pub trait Codec: Sized {
     // The bytes that remain after an `UnexpectedEnd`.
     ghost after_cut: { List ℕ → List ℕ } = { λ r. r };
 
-    /// Takes an encoding from the front of the buffer. Answers `UnexpectedEnd` exactly if no prefix
-    /// of the remaining bytes encodes a value. It allocates no memory.
+    /// Reads the encoding at the front of the buffer and consumes it. Returns `UnexpectedEnd` exactly when no prefix of
+    /// the remaining bytes encodes a value. It doesn't allocate.
     fn decode<B: Buf>(buf: &mut B) -> Result<Self>
         ensures ok { IfOk result (λ v. Takes (encoded v) (B.unread buf.old) (B.unread buf.new)) }
         ensures cut { OnErr result ((v : Self) → NoFront (encoded v) (B.unread buf.old)) }
         ensures left { OnErr result (B.unread buf.new ≡ after_cut (B.unread buf.old)) }
         ensures kept { B.kept buf.new ≡ B.kept buf.old };
 
-    /// Appends the encoding. Answers `NoRoom` only if the buffer's spare room is less than that: the
-    /// buffer then keeps its contents, and may have a prefix of the encoding after them.
+    /// Appends the encoding. Returns `NoRoom` only if the encoding is longer than the buffer's spare room. The buffer
+    /// then has its old contents, and possibly a prefix of the encoding after them.
     fn encode<B: BufMut>(&self, buf: &mut B) -> std::result::Result<(), NoRoom>
         ensures encoded { encoded self.now (encoding self.now) }
         ensures ok { OnOk result (B.written buf.new ≡ B.written buf.old ++ encoding self.now) }
@@ -75,13 +75,14 @@ pub(crate) fn first_byte<B: Buf>(buf: &B) -> Option<u8>
     buf.chunk().first().copied()
 }
 
-/// Tells the prover that each element is a byte, where a caller has lost that bound.
+/// Proves that each element is a byte, for a caller that has lost that bound. It does nothing at run time.
 #[inline]
 pub fn are_bytes(bytes: &[u8])
     ensures { AreBytes bytes.now }
 {}
 
-/// The next N bytes, by one load if they are contiguous. On `UnexpectedEnd` nothing is consumed.
+/// Consumes the next N bytes and returns them, by one load if they are contiguous. N is at most 16. Returns
+/// `UnexpectedEnd` exactly when fewer remain; nothing is consumed then.
 #[inline]
 pub fn get_array<B: Buf, const N: usize>(buf: &mut B) -> Result<[u8; N]>
     requires { N ≤ 16 }
@@ -107,8 +108,8 @@ pub fn get_array<B: Buf, const N: usize>(buf: &mut B) -> Result<[u8; N]>
     Ok(bytes)
 }
 
-/// Stores an array over the bytes at a place, and answers where it ends. The caller must ensure that there are as
-/// many bytes. Other bytes don't change.
+/// Stores an array over the bytes from `at` on, and returns the offset at which it ends. The caller must ensure that
+/// the slice has that many bytes there. Other bytes don't change.
 #[inline(always)]
 pub fn store_array<const N: usize>(bytes: &mut [u8], at: usize, array: [u8; N]) -> usize
     requires { at + N ≤ length bytes.old }
@@ -218,7 +219,7 @@ impl Codec for Ipv6Addr {
 
 /// Reads from any buffer by the type of the value.
 pub trait BufExt: Buf {
-    /// The value at the front, as `T::decode` answers it.
+    /// Reads and consumes the value at the front, with the result of `T::decode`.
     final fn get<T: Codec>(&mut self) -> Result<T>
     where
         Self: Sized,
@@ -231,7 +232,7 @@ pub trait BufExt: Buf {
         T::decode(self)
     }
 
-    /// The number of the varint at the front (RFC 9000, section 16), as `VarInt::decode` answers it.
+    /// Reads and consumes the varint at the front (RFC 9000, section 16), with the result of `VarInt::decode`.
     final fn get_var(&mut self) -> Result<u64>
     where
         Self: Sized,

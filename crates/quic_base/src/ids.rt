@@ -16,22 +16,22 @@ mod connection_id;
 
 pub use connection_id::{ConnectionId, MAX_CID_SIZE};
 
-/// The greatest number of connection ids that an endpoint issues for one connection.
+/// The most connection ids that an endpoint issues for one connection.
 pub const LOC_CID_COUNT: u64 = 8;
 
-/// The greatest number of streams of one side and direction: 2^60 (RFC 9000, section 4.6).
+/// The most streams that one side can open in one direction: 2^60 (RFC 9000, section 4.6).
 pub const MAX_STREAM_COUNT: u64 = 1 << 60;
 
 /// The length of a stateless reset token in bytes (RFC 9000, section 10.3).
 pub const RESET_TOKEN_SIZE: usize = 16;
 
-/// The least payload, in bytes, of a datagram with an Initial packet (RFC 9000, section 14.1).
+/// The smallest UDP payload, in bytes, for a datagram with an Initial packet (RFC 9000, section 14.1).
 pub const MIN_INITIAL_SIZE: u16 = 1200;
 
-/// The size, in bytes, of a UDP payload that every path carries (RFC 9000, section 14).
+/// The UDP payload size, in bytes, that every path must carry (RFC 9000, section 14).
 pub const INITIAL_MTU: u16 = 1200;
 
-/// The greatest payload of a UDP datagram in bytes (RFC 9000, section 18.2).
+/// The largest UDP payload in bytes (RFC 9000, section 18.2).
 pub const MAX_UDP_PAYLOAD: u16 = 65527;
 
 /// The versions that an endpoint supports by default: version 1 (RFC 9000, section 15), the drafts 29 to 34, and
@@ -47,7 +47,7 @@ pub const DEFAULT_SUPPORTED_VERSIONS: &[u32] = &[
     0x6b33_43cf,
 ];
 
-// Each by its value.
+// The values of these constants.
 const _: () = prove!(LOC_CID_COUNT == 8 && MAX_STREAM_COUNT == 1_152_921_504_606_846_976);
 
 const _: () = prove!(RESET_TOKEN_SIZE == 16 && MAX_CID_SIZE == 20);
@@ -116,7 +116,7 @@ impl Not for Side {
 pub enum Dir {
     /// Data flow both ways.
     Bi = 0,
-    /// Data flow from the initiator alone.
+    /// Data flow only from the initiator.
     Uni = 1,
 }
 
@@ -141,7 +141,7 @@ impl fmt::Display for Dir {
     }
 }
 
-/// The number of a stream, below 2^62, which contracts see as that number (RFC 9000, section 2.1).
+/// A stream id, below 2^62 (RFC 9000, section 2.1). Contracts see it as that number.
 #[derive(Clone, Copy, Debug, PartialEq, Eq, PartialOrd, Ord, Hash)]
 pub struct StreamId(u64);
 
@@ -240,7 +240,7 @@ impl Codec for StreamId {
     }
 }
 
-/// As `server unidirectional stream 5`.
+/// Text such as `server unidirectional stream 5`.
 impl fmt::Display for StreamId {
     ghost output = { λ n. Some (stream_text n) };
 
@@ -257,8 +257,8 @@ impl fmt::Display for StreamId {
     }
 }
 
-/// The explicit congestion notification of a datagram, whose number is its two bits (RFC 9000,
-/// section 13.4; RFC 3168, section 5).
+/// The ECN codepoint of a datagram. Its number is the codepoint's two bits (RFC 9000, section 13.4; RFC 3168, section
+/// 5).
 #[derive(Clone, Copy, Debug, PartialEq, Eq)]
 pub enum EcnCodepoint {
     /// ECN-capable transport, ECT(0).
@@ -290,7 +290,7 @@ impl EcnCodepoint {
         }
     }
 
-    /// Whether congestion was experienced.
+    /// Whether this is CE: congestion was experienced.
     pub fn is_ce(self) -> bool
         ensures { IsTrue result ↔ (self ≡ EcnCodepoint.Ce) }
     {
@@ -298,7 +298,7 @@ impl EcnCodepoint {
     }
 }
 
-/// The token of a stateless reset, which contracts see as its sixteen bytes (RFC 9000, section 10.3).
+/// A stateless reset token (RFC 9000, section 10.3). Contracts see it as its sixteen bytes.
 #[derive(Clone, Copy, Debug, PartialEq, Eq, Hash)]
 pub struct ResetToken([u8; RESET_TOKEN_SIZE]);
 
@@ -336,14 +336,14 @@ impl From<ResetToken> for [u8; RESET_TOKEN_SIZE] {
     }
 }
 
-/// A connection id that an endpoint issued, with its number and its token (RFC 9000, section 19.15).
+/// A connection id that an endpoint issued, with its sequence number and its token (RFC 9000, section 19.15).
 #[derive(Clone, Copy, Debug)]
 pub struct IssuedCid {
-    /// The number of the id among those that were issued for the connection.
+    /// The sequence number of the id.
     pub sequence: u64,
     /// The id.
     pub id: ConnectionId,
-    /// The token of a stateless reset for the id.
+    /// The stateless reset token for the id.
     pub reset_token: ResetToken,
 }
 

@@ -38,13 +38,13 @@ pub fn stream_ids()
     ensures different { (side other : Side) (dir turned : Dir) (index count : ℕ) →
         stream_number side dir index ≡ stream_number other turned count
         → (side ≡ other) × (dir ≡ turned) × (index ≡ count) }
-    // The parts give the number back.
+    // The parts determine the number.
     ensures whole { (n : ℕ) → stream_number (initiator_of n) (dir_of n) (n / 4) ≡ n }
 {}
 
 /// How connection ids compare, and how they are hashed.
 pub fn connection_ids()
-    // Two ids are equal exactly if their bytes are.
+    // Two ids are equal exactly when their bytes are.
     ensures equal { (x y : List ℕ) → IsTrue (⟦<ConnectionId as PartialEq>⟧.eq x y) ↔ (x ≡ y) }
     // Equal ids are hashed alike.
     ensures hashed { (x y : List ℕ) → IsTrue (⟦<ConnectionId as PartialEq>⟧.eq x y)

@@ -1,4 +1,4 @@
-//! Integers of variable length (RFC 9000, section 16).
+//! Variable-length integers (RFC 9000, section 16).
 ghost use Rattle.std.specs.Prelude.{◌≡◌, ◌+◌, ◌<◌, ◌≤◌, ◌^◌, ◌++◌, List, ℕ, Ok, Some, drop, take, length, IfOk, MatchResult, OnErr, OnOk};
 ghost use Rattle.std.specs.Fmt.{decimal};
 ghost use Rattle.quic_base.specs.Codec.{Takes, NoFront, IsBegun, KeepsRoom};
@@ -16,7 +16,7 @@ use thiserror::Error;
 #[error("value too large for varint encoding")]
 pub struct VarIntBoundsExceeded;
 
-/// An integer below 2^62, which contracts see as that number.
+/// An integer below 2^62. Contracts see it as that number.
 #[derive(Clone, Copy, PartialEq, Eq, PartialOrd, Ord, Hash)]
 pub struct VarInt(u64);
 
@@ -44,7 +44,7 @@ impl VarInt {
         VarInt(x as u64)
     }
 
-    /// The number `x`; an error exactly from 2^62 on.
+    /// The number `x`, or an error exactly when it is 2^62 or more.
     pub fn from_u64(x: u64) -> Result<VarInt, VarIntBoundsExceeded>
         ensures { IsBounded x result }
     {
@@ -55,7 +55,7 @@ impl VarInt {
         }
     }
 
-    /// The number `x`, of which the caller must ensure that it is below 2^62.
+    /// The number `x`. The caller must ensure that it is below 2^62.
     pub const fn from_u64_unchecked(x: u64) -> VarInt
         requires { x < 2 ^ 62 }
         ensures { result ≡ x }
@@ -89,8 +89,8 @@ const SIZES: [u8; 64] = [
 // The longest encoding has eight bytes (RFC 9000, section 16).
 const _: () = prove!(VarInt::MAX_SIZE == 8);
 
-/// The length in bytes of the shortest encoding of a number: 1, 2, 4 or 8. It is 8 from 2^62 on too, where there is no
-/// encoding.
+/// The length in bytes of the shortest encoding of a number: 1, 2, 4 or 8. It is 8 also for 2^62 and more, which have
+/// no encoding.
 #[inline(always)]
 pub const fn var_size(n: u64) -> usize
     ensures value { result ≡ size n }
@@ -141,7 +141,7 @@ impl From<VarInt> for u64 {
     }
 }
 
-/// Refused exactly from 2^62 on.
+/// An error exactly when the number is 2^62 or more.
 impl TryFrom<u64> for VarInt {
     type Error = VarIntBoundsExceeded;
 
@@ -152,7 +152,7 @@ impl TryFrom<u64> for VarInt {
     }
 }
 
-/// Refused exactly from 2^62 on.
+/// An error exactly when the number is 2^62 or more.
 impl TryFrom<u128> for VarInt {
     type Error = VarIntBoundsExceeded;
 
@@ -164,7 +164,7 @@ impl TryFrom<u128> for VarInt {
     }
 }
 
-/// Refused exactly from 2^62 on.
+/// An error exactly when the number is 2^62 or more.
 impl TryFrom<usize> for VarInt {
     type Error = VarIntBoundsExceeded;
 
@@ -189,8 +189,8 @@ impl fmt::Debug for VarInt {
     }
 }
 
-/// What is added to a number below 2^14 to encode it in two bytes, the higher one first: its two highest bits tell the
-/// width (RFC 9000, section 16).
+/// What is added to a number below 2^14 to encode it in two bytes, the higher one first: its two highest bits are the
+/// width's (RFC 9000, section 16).
 pub const IN_TWO: u16 = 1 << 14;
 
 /// The same for a number below 2^30 in four bytes.
@@ -199,8 +199,8 @@ pub const IN_FOUR: u32 = 2 << 30;
 /// The same for a number below 2^62 in eight bytes.
 pub const IN_EIGHT: u64 = 3 << 62;
 
-// The number that a varint at the front encodes, in any width: one look at the first byte, and one
-// load of the whole width.
+// The number that a varint at the front encodes, in any width. The first byte is read, and then the whole width by one
+// load.
 #[inline(always)]
 fn read_number<B: Buf>(buf: &mut B) -> coding::Result<u64>
     ensures ok { IfOk result (λ v. Takes (Encodes v) (B.unread buf.old) (B.unread buf.new)) }
@@ -238,8 +238,8 @@ fn read_number<B: Buf>(buf: &mut B) -> coding::Result<u64>
 }
 
 /// The number that a varint at the front of the bytes encodes, in any width, and what follows it (RFC 9000, section
-/// 16). Answers `UnexpectedEnd` exactly if the bytes end before it does. It is inlined into its caller, so that no slice
-/// is kept in memory for it: one branch for each width.
+/// 16). Returns `UnexpectedEnd` exactly when the bytes end before the varint does. It has one branch for each width,
+/// and is inlined into its caller, so that no slice is stored in memory for it.
 #[inline(always)]
 #[tactic(auto, using(crate::proofs::Readings::found))]
 pub fn split_var(bytes: &[u8]) -> coding::Result<(u64, &[u8])>
@@ -253,8 +253,8 @@ pub fn split_var(bytes: &[u8]) -> coding::Result<(u64, &[u8])>
     Ok((number, rest))
 }
 
-// The number at the front of eight bytes, and how many of them encode it. Its two width bits determine by how
-// much the whole word is shifted.
+// The number at the front of eight bytes, and how many of them encode it. Its two width bits determine by how much the
+// word is shifted.
 #[inline(always)]
 fn number_of_word(front: &[u8; 8]) -> (u64, usize)
     ensures encoded { Encodes result.0 (take result.1 front.now) }
@@ -266,8 +266,8 @@ fn number_of_word(front: &[u8; 8]) -> (u64, usize)
     ((word & VarInt::MAX.0) >> (64 - 8 * width), width)
 }
 
-/// The same by one load of eight bytes, if so many remain: no branch depends on the width. It is for numbers whose
-/// widths can't be predicted; if most have one width, `split_var` is faster.
+/// The same by one load of eight bytes, if that many remain: no branch depends on the width. Use it for numbers whose
+/// widths can't be predicted. If most have one width, `split_var` is faster.
 #[inline(always)]
 #[tactic(auto, using(crate::proofs::Words::takes_slice))]
 pub fn split_var_by_word(bytes: &[u8]) -> coding::Result<(u64, &[u8])>
@@ -283,7 +283,7 @@ pub fn split_var_by_word(bytes: &[u8]) -> coding::Result<(u64, &[u8])>
     Ok((number, &bytes[width..]))
 }
 
-/// The same for numbers of which nearly all have one byte: reading such a one is inlined into the caller, and others are
+/// The same for numbers of which nearly all have one byte. Reading these is inlined into the caller; longer ones are
 /// read by a call.
 #[inline(always)]
 #[tactic(auto, using(crate::proofs::Readings::found))]
@@ -301,7 +301,7 @@ pub fn split_var_mostly_one_byte(bytes: &[u8]) -> coding::Result<(u64, &[u8])>
     split_var_by_call(bytes)
 }
 
-// The same by a call, for whatever width.
+// The same by a call, for any width.
 #[inline]
 fn split_var_by_call(bytes: &[u8]) -> coding::Result<(u64, &[u8])>
     ensures read { MatchResult result (λ x. Takes (Encodes x.0) bytes.now x.1.now)
@@ -312,8 +312,9 @@ fn split_var_by_call(bytes: &[u8]) -> coding::Result<(u64, &[u8])>
     split_var_by_word(bytes)
 }
 
-/// Stores a number in its shortest encoding over the bytes at a place (RFC 9000, section 16), and answers where it ends.
-/// The caller must ensure that it is below 2^62, and that there are as many bytes. Other bytes don't change.
+/// Stores a number in its shortest encoding over the bytes from `at` on (RFC 9000, section 16), and returns the offset
+/// at which it ends. The caller must ensure that the number is below 2^62, and that the slice has that many bytes
+/// there. Other bytes don't change.
 #[inline(always)]
 #[tactic(auto, unfolding(crate::specs::Varint::shortest_varint, crate::specs::Varint::size, crate::specs::Number::bytes_of))]
 pub fn store_var(bytes: &mut [u8], at: usize, n: u64) -> usize
@@ -336,8 +337,8 @@ pub fn store_var(bytes: &mut [u8], at: usize, n: u64) -> usize
     }
 }
 
-/// All four widths are read, the shortest is written. If the first byte is there and others are missing, `decode`
-/// consumes that one byte.
+/// All four widths are read; the shortest is written. If only bytes after the first are missing, `decode` consumes the
+/// first.
 impl Codec for VarInt {
     ghost encoded = { Encodes };
 

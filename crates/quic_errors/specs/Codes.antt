@@ -59,7 +59,7 @@ aead_limit_reached = 0x0f
 abbrev pub no_viable_path : ℕ
 no_viable_path = 0x10
 
--- the codes that have a text of their own
+-- the codes that have their own text
 abbrev pub code_texts : List (ℕ × List ℕ)
 code_texts =
     (no_error, codes "the connection is being closed abruptly in the absence of any error")
@@ -125,11 +125,11 @@ pub record IsSameCode (one other : Error) : Type 0 where
   pub frame_is : other.frame ≡ one.frame
   pub reason_is : reason_bytes other.reason ≡ reason_bytes one.reason
 
--- the reason for a type that is not in its shortest encoding, where it must be
+-- the reason for a type that is not in its shortest encoding but must be
 abbrev pub long_type_reason : List ℕ
 long_type_reason = codes "frame type not in shortest form"
 
--- The error is that of an invalid frame. It has another code if only the encoding of the type is wrong.
+-- The error is that of an invalid frame. Its code differs if only the encoding of the type is wrong.
 pub record IsErrorOf (ty : Option ℕ) (reason : List ℕ) (error : Error) : Type 0 where
   pub long_is : reason ≡ long_type_reason → error.code ≡ protocol_violation
   pub other_is : reason ≢ long_type_reason → error.code ≡ frame_encoding_error

@@ -3,7 +3,7 @@ use Rattle.std.specs.Prelude.{ℕ, false, ◌++◌, List, [], ◌∷◌, Option,
 use Rattle.std.specs.Map.{lookup}
 use Rattle.std.specs.Fmt.{digits}
 
--- the types that have a name of their own (RFC 9000, section 19; the last is of the ACK frequency extension)
+-- the types that have their own name (RFC 9000, section 19; the last is of the ACK frequency extension)
 abbrev pub names : List (ℕ × List ℕ)
 names =
     (0x00, codes "PADDING") ∷ (0x01, codes "PING") ∷ (0x02, codes "ACK") ∷ (0x03, codes "ACK_ECN")
@@ -18,11 +18,11 @@ names =
     ∷ (0x1f, codes "IMMEDIATE_ACK")
     ∷ (0xaf, codes "ACK_FREQUENCY") ∷ []
 
--- the number in hexadecimal, in lower case, of at least two digits
+-- the number in lower-case hexadecimal, of at least two digits
 abbrev pub hex_of : ℕ → List ℕ
 hex_of n = if nat_lt n 16 then 48 ∷ digits 16 false n else digits 16 false n
 
--- the name of a type with none of its own: types 0x08 to 0x0f are one, and so are 0x30 and 0x31
+-- the name of a type without its own: types 0x08 to 0x0f are one, and so are 0x30 and 0x31
 abbrev pub shared_name : ℕ → List ℕ
 shared_name ty =
     if nat_le 0x08 ty && nat_le ty 0x0f then codes "STREAM"
@@ -39,7 +39,7 @@ own_or_shared ty None = shared_name ty
 abbrev pub name_of : ℕ → List ℕ
 name_of ty = own_or_shared ty (own_name ty)
 
--- ` in TYPE`, where the type is known
+-- ` in TYPE`, if the type is known
 abbrev pub in_type : Option ℕ → List ℕ
 in_type None = []
 in_type (Some ty) = codes " in " ++ name_of ty

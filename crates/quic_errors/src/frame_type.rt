@@ -9,7 +9,7 @@ use quic_base::varint::VarInt;
 use std::fmt;
 use std::marker::Model;
 
-/// The number that begins a frame, below 2^62, which contracts see as that number.
+/// A frame type: the number that begins a frame, below 2^62 (RFC 9000, section 12.4). Contracts see it as that number.
 #[derive(Clone, Copy, PartialEq, Eq)]
 pub struct FrameType(u64);
 
@@ -23,20 +23,20 @@ impl Model for FrameType {
     ghost inverse = { λ n. record { 0 = n } };
 }
 
-/// The types that have a name of their own. STREAM and DATAGRAM frames have several types each.
+/// The types that have their own name. STREAM and DATAGRAM frames have several types each.
 impl FrameType {
     ghost use Rattle.quic_errors.specs.Types.{type_or_zero};
 
-    /// One byte that means nothing (RFC 9000, section 19.1).
+    /// A byte without meaning (RFC 9000, section 19.1).
     pub const PADDING: FrameType = FrameType(0x00);
 
     /// It asks for an acknowledgement (RFC 9000, section 19.2).
     pub const PING: FrameType = FrameType(0x01);
 
-    /// Ranges of packet numbers that came (RFC 9000, section 19.3).
+    /// Ranges of packet numbers that were received (RFC 9000, section 19.3).
     pub const ACK: FrameType = FrameType(0x02);
 
-    /// The same, with counts of marked packets (RFC 9000, section 19.3.2).
+    /// The same, with ECN counts (RFC 9000, section 19.3.2).
     pub const ACK_ECN: FrameType = FrameType(0x03);
 
     /// The sender ends its part of a stream early (RFC 9000, section 19.4).
@@ -51,34 +51,34 @@ impl FrameType {
     /// A token for a later connection (RFC 9000, section 19.7).
     pub const NEW_TOKEN: FrameType = FrameType(0x07);
 
-    /// How many bytes all streams may carry (RFC 9000, section 19.9).
+    /// How many bytes may be sent on all streams together (RFC 9000, section 19.9).
     pub const MAX_DATA: FrameType = FrameType(0x10);
 
-    /// How many bytes a stream may carry (RFC 9000, section 19.10).
+    /// How many bytes may be sent on a stream (RFC 9000, section 19.10).
     pub const MAX_STREAM_DATA: FrameType = FrameType(0x11);
 
-    /// How many streams of both directions the peer may open (RFC 9000, section 19.11).
+    /// How many bidirectional streams the peer may open (RFC 9000, section 19.11).
     pub const MAX_STREAMS_BIDI: FrameType = FrameType(0x12);
 
-    /// How many streams of one direction the peer may open (RFC 9000, section 19.11).
+    /// How many unidirectional streams the peer may open (RFC 9000, section 19.11).
     pub const MAX_STREAMS_UNI: FrameType = FrameType(0x13);
 
-    /// The limit on all streams holds the sender back (RFC 9000, section 19.12).
+    /// The sender is blocked by the connection's limit (RFC 9000, section 19.12).
     pub const DATA_BLOCKED: FrameType = FrameType(0x14);
 
-    /// The limit on a stream holds the sender back (RFC 9000, section 19.13).
+    /// The sender is blocked by a stream's limit (RFC 9000, section 19.13).
     pub const STREAM_DATA_BLOCKED: FrameType = FrameType(0x15);
 
-    /// The limit on streams of both directions holds the sender back (RFC 9000, section 19.14).
+    /// The sender is blocked by the limit on bidirectional streams (RFC 9000, section 19.14).
     pub const STREAMS_BLOCKED_BIDI: FrameType = FrameType(0x16);
 
-    /// The limit on streams of one direction holds the sender back (RFC 9000, section 19.14).
+    /// The sender is blocked by the limit on unidirectional streams (RFC 9000, section 19.14).
     pub const STREAMS_BLOCKED_UNI: FrameType = FrameType(0x17);
 
-    /// A further connection id (RFC 9000, section 19.15).
+    /// Another connection id (RFC 9000, section 19.15).
     pub const NEW_CONNECTION_ID: FrameType = FrameType(0x18);
 
-    /// A connection id is used no more (RFC 9000, section 19.16).
+    /// A connection id that will no longer be used (RFC 9000, section 19.16).
     pub const RETIRE_CONNECTION_ID: FrameType = FrameType(0x19);
 
     /// Eight bytes that the peer must send back (RFC 9000, section 19.17).
@@ -102,10 +102,10 @@ impl FrameType {
     /// How often acknowledgements are wanted (draft-ietf-quic-ack-frequency, section 4).
     pub const ACK_FREQUENCY: FrameType = FrameType(0xaf);
 
-    /// The type of a DATAGRAM without its bit for the length (RFC 9221, section 4).
+    /// The type of a DATAGRAM without its LEN bit (RFC 9221, section 4).
     pub const DATAGRAM: FrameType = FrameType(0x30);
 
-    /// The type of a STREAM without its bit for the length (RFC 9000, section 19.8).
+    /// The type of a STREAM without its LEN bit (RFC 9000, section 19.8).
     pub fn of_stream(has_offset: bool, fin: bool) -> FrameType
         ensures { result ≡ 8 + (if has_offset then 4 else 0) + (if fin then 1 else 0) }
     {
@@ -117,7 +117,7 @@ impl FrameType {
         }
     }
 
-    /// The type of this number, which is below 2^62 (RFC 9000, section 12.4).
+    /// The type with this number. The caller must ensure that it is below 2^62 (RFC 9000, section 12.4).
     pub fn of(number: u64) -> FrameType
         requires { number < 2 ^ 62 }
         ensures { result ≡ number }
@@ -125,8 +125,8 @@ impl FrameType {
         FrameType(number)
     }
 
-    /// The type of this number, which is below 2^62, and `None` if it is 0: so a close names the
-    /// frame at fault (RFC 9000, section 19.19).
+    /// The type with this number, or `None` if it is 0. A close so names the frame that caused it (RFC 9000, section
+    /// 19.19). The caller must ensure that the number is below 2^62.
     pub fn or_none(number: u64) -> Option<FrameType>
         requires { number < 2 ^ 62 }
         ensures value { type_or_zero result ≡ number }
@@ -177,7 +177,7 @@ impl FrameType {
     }
 }
 
-// No frame that is read has this name: an ACK with counts is named ACK.
+// No frame that is read has this name: an ACK with ECN counts is named ACK.
 const _: () = prove!(FrameType::ACK_ECN.0 == 0x03);
 
 /// A type is encoded as the varint of its number.
@@ -212,7 +212,7 @@ impl fmt::Display for FrameType {
     }
 }
 
-/// The name of the constant, else `Type(XX)`, hexadecimal of at least two digits.
+/// The name of the constant, or else `Type(XX)` with at least two hexadecimal digits.
 impl fmt::Debug for FrameType {
     fn fmt<W: fmt::Write>(&self, f: &mut fmt::Formatter<W>) -> fmt::Result {
         match self.own_name() {

@@ -5,19 +5,19 @@ use crate::frame_type::FrameType;
 use crate::transport_error::{Code, Error, Reason};
 use std::fmt;
 
-/// Why a payload could not be read: its first invalid frame.
+/// Why a payload can't be read: its first invalid frame (RFC 9000, section 12.4).
 #[derive(Clone, Copy, Debug, PartialEq, Eq)]
 pub struct InvalidFrame {
-    /// The last type that was read, the broken frame's own included; `None` if none was.
+    /// The last type that was read, which may be that of the invalid frame itself. `None` if none was.
     pub ty: Option<FrameType>,
-    /// `unexpected end`, `invalid frame ID` or `malformed`; where types must be in their shortest encoding, also
-    /// `frame type not in shortest form`.
+    /// `unexpected end`, `invalid frame ID` or `malformed`. If types must be in their shortest encoding, also `frame
+    /// type not in shortest form`.
     pub reason: &'static str,
 }
 
 impl InvalidFrame {
-    /// The error to close the connection with, as `Error::from` gives it. It takes a reference, so that a caller whose
-    /// proof is generated can go on with the error.
+    /// The error to close the connection with, as `Error::from` returns it. It takes a reference, so that a caller
+    /// whose proof is generated can still use `self`.
     pub fn to_error(&self) -> Error
         ensures { IsErrorOf self.now.ty self.now.reason.now result }
     {
@@ -25,7 +25,7 @@ impl InvalidFrame {
     }
 }
 
-/// `REASON in TYPE`, or the reason alone where no type was read.
+/// `REASON in TYPE`, or only the reason if no type was read.
 impl fmt::Display for InvalidFrame {
     ghost use Rattle.std.specs.Prelude.{Some, ◌++◌};
     ghost use Rattle.quic_errors.specs.Names.{in_type};
@@ -53,7 +53,7 @@ impl From<InvalidFrame> for Error {
     }
 }
 
-// The error for a frame of this type that could not be read for this reason.
+// The error for a frame of this type that can't be read for this reason.
 fn error_of(ty: Option<FrameType>, reason: &'static str) -> Error
     ensures { IsErrorOf ty reason.now result }
 {

@@ -1,4 +1,4 @@
-//! Errors by which a connection is closed (RFC 9000, section 20.1).
+//! Transport errors, with which a connection is closed (RFC 9000, section 20.1).
 ghost use Rattle.std.specs.Prelude.{◌≡◌, ◌+◌, ◌<◌, ◌^◌, ℕ, [], None, Some, IfOk, IsOk, MatchOption, drop, true, nat_eq};
 ghost use Rattle.std.specs.Cmp.Lexicographic.{pointwise};
 ghost use Rattle.std.specs.Ordering.{on};
@@ -14,7 +14,7 @@ use std::alloc::Global;
 use std::fmt;
 use std::marker::Model;
 
-/// A transport error code, below 2^62, which contracts see as that number.
+/// A transport error code, below 2^62 (RFC 9000, section 20.1). Contracts see it as that number.
 #[derive(Clone, Copy, PartialEq, Eq)]
 pub struct Code(u64);
 
@@ -34,22 +34,22 @@ impl Code {
     /// There is no error: the connection ends.
     pub const NO_ERROR: Code = Code(0x0);
 
-    /// The endpoint can't go on, for a reason of its own.
+    /// The endpoint has an internal error and can't continue.
     pub const INTERNAL_ERROR: Code = Code(0x1);
 
-    /// The server takes no new connection.
+    /// The server refused the connection.
     pub const CONNECTION_REFUSED: Code = Code(0x2);
 
-    /// More data came than was allowed.
+    /// More data was received than was permitted.
     pub const FLOW_CONTROL_ERROR: Code = Code(0x3);
 
-    /// A stream came above the limit of its kind.
+    /// A frame was received for a stream above the limit of its type.
     pub const STREAM_LIMIT_ERROR: Code = Code(0x4);
 
-    /// A frame came that the stream's state doesn't allow.
+    /// A frame was received that the stream's state doesn't permit.
     pub const STREAM_STATE_ERROR: Code = Code(0x5);
 
-    /// A stream's size changed after it was settled.
+    /// A stream's final size changed, or was exceeded.
     pub const FINAL_SIZE_ERROR: Code = Code(0x6);
 
     /// A frame was badly formatted.
@@ -58,7 +58,7 @@ impl Code {
     /// The transport parameters were in error.
     pub const TRANSPORT_PARAMETER_ERROR: Code = Code(0x8);
 
-    /// More connection ids came than were allowed.
+    /// The peer issued more connection ids than were permitted.
     pub const CONNECTION_ID_LIMIT_ERROR: Code = Code(0x9);
 
     /// The peer broke the protocol in a way that has no other code.
@@ -70,26 +70,26 @@ impl Code {
     /// The application closed the connection during the handshake.
     pub const APPLICATION_ERROR: Code = Code(0xc);
 
-    /// More handshake data came than can be buffered.
+    /// More CRYPTO data was received than can be buffered.
     pub const CRYPTO_BUFFER_EXCEEDED: Code = Code(0xd);
 
-    /// A key update went wrong.
+    /// An error in a key update.
     pub const KEY_UPDATE_ERROR: Code = Code(0xe);
 
-    /// The keys were used as often as they may be.
+    /// The limit on the use of the AEAD was reached.
     pub const AEAD_LIMIT_REACHED: Code = Code(0xf);
 
     /// No network path works.
     pub const NO_VIABLE_PATH: Code = Code(0x10);
 
-    /// The code of an alert of the handshake: 0x100 and the alert.
+    /// The code of a TLS alert: 0x100 plus the alert (RFC 9001, section 4.8).
     pub fn crypto(alert: u8) -> Code
         ensures { result ≡ 0x100 + alert }
     {
         Code(0x100 + u64::from(alert))
     }
 
-    /// The code of this number, which is below 2^62.
+    /// The code with this number. The caller must ensure that it is below 2^62.
     pub fn of(number: u64) -> Code
         requires { number < 2 ^ 62 }
         ensures { result ≡ number }
@@ -97,7 +97,7 @@ impl Code {
         Code(number)
     }
 
-    // The text of the code, if it has one of its own.
+    // The text of the code, if it has its own.
     fn own_text(self) -> Option<&'static str>
         ensures { MatchOption result (own_text self ≡ None) (λ text. own_text self ≡ Some text.now) }
     {
@@ -202,7 +202,7 @@ impl fmt::Display for Code {
     }
 }
 
-/// The name of the constant, else `Code::crypto(XX)` or `Code(X)`, hexadecimal.
+/// The name of the constant, or else `Code::crypto(XX)` or `Code(X)`, in hexadecimal.
 impl fmt::Debug for Code {
     fn fmt<W: fmt::Write>(&self, f: &mut fmt::Formatter<W>) -> fmt::Result {
         if let Some(name) = self.own_name() {
@@ -241,7 +241,7 @@ impl Reason {
         }
     }
 
-    /// An equal reason. A static one allocates no memory.
+    /// An equal reason. It allocates only for an `Owned` one, and returns `NoRoom` if that fails.
     pub fn try_clone(&self) -> Result<Reason, NoRoom>
         ensures same { IfOk result (λ r. reason_bytes r ≡ reason_bytes self.now) }
         ensures free { is_static self.now ≡ true → IsOk result }
@@ -285,16 +285,16 @@ impl Eq for Reason {
 pub struct Error {
     /// What kind of error it is.
     pub code: Code,
-    /// The type of the frame that caused it, where one is known.
+    /// The type of the frame that caused it, if one is known.
     pub frame: Option<FrameType>,
-    /// What else is known of it.
+    /// The reason phrase.
     pub reason: Reason,
 }
 
 impl Error {
     ghost use Rattle.quic_errors.specs.Codes.{IsError, IsSameCode, is_static};
 
-    /// An error with a text that is copied. Answers `NoRoom` if memory runs out.
+    /// An error with a copy of this text, and without a frame type. Returns `NoRoom` if the allocation fails.
     pub fn with_text(alloc: Global, code: Code, text: &str) -> Result<Error, NoRoom>
         ensures { IfOk result (λ e. IsError e code text.now) }
     {
@@ -304,7 +304,7 @@ impl Error {
         }
     }
 
-    /// An equal error. Answers `NoRoom` if memory runs out; a static reason allocates none.
+    /// An equal error. It allocates only for an `Owned` reason, and returns `NoRoom` if that fails.
     pub fn try_clone(&self) -> Result<Error, NoRoom>
         ensures same { IfOk result (IsSameCode self.now) }
         ensures free { is_static self.now.reason ≡ true → IsOk result }
@@ -330,7 +330,7 @@ impl Error {
     }
 }
 
-/// One constructor for each code, named as the code; no frame type is set.
+/// One constructor for each code, named like the code. It sets no frame type.
 impl Error {
     ghost use Rattle.quic_errors.specs.Codes.{IsError};
     ghost use Rattle.quic_errors.specs.Codes as codes;
@@ -455,7 +455,7 @@ impl Error {
     }
 }
 
-/// The error of that code with an empty reason.
+/// The error with this code, an empty reason and no frame type.
 impl From<Code> for Error {
     ghost use Rattle.std.specs.Prelude.{[]};
     ghost use Rattle.quic_errors.specs.Codes.{IsError};

@@ -1,4 +1,4 @@
--- A range that goes into the last run, or after it.
+-- A range that extends the last run, or comes after it.
 use Rattle.std.proofs.Common.{◌≡◌, ℕ, Bool, ◌+◌, ◌-◌, ◌<◌, ◌≤◌, suc, List, [], ◌∷◌, ◌++◌, length, take, drop, set, get_or, refl, ap, sym, ◌∙◌, subst, arith}
 use Rattle.std.specs.declared.ops.Range.{Range}
 use Rattle.quic_ranges.specs.Runs.{IsMaximalRuns, IsRunsOf, in_union}
@@ -9,7 +9,7 @@ use Rattle.quic_ranges.proofs.RunsLemmas.{range, IsRunsOf-unique}
 use Rattle.quic_ranges.proofs.PlacesLemmas.{ends_below-all, ends_below-others, ends_below-starts_upto, starts_upto-above, starts_upto-length, Splices-plain, Splices-touching, IsRunsOf-inside}
 use Rattle.quic_ranges.proofs.SpliceLemmas.{set-one}
 
--- where the last run ends below x, all do
+-- if the last run ends below x, all do
 ends_below-whole : (rs : List (Range ℕ)) (x : ℕ) (d : Range ℕ) → IsMaximalRuns rs
     → (0 < length rs → (get_or rs (length rs - 1) d).end < x) → length rs ≡ ends_below rs x
 ends_below-whole [] x d h below = refl
@@ -23,7 +23,7 @@ whole : {X : Type 0} (xs : List X) (v : X) → take (length xs) xs ++ v ∷ drop
 whole [] v = refl
 whole (x ∷ xs) v = ap (λ l. x ∷ l) (whole xs v)
 
--- a range after all runs becomes a run of its own
+-- a range after all runs becomes a new run
 pub BecomesRunsOf-behind : (rs : List (Range ℕ)) (x d : Range ℕ) → IsMaximalRuns rs → x.start < x.end
     → (0 < length rs → (get_or rs (length rs - 1) d).end < x.start)
     → BecomesRunsOf (in_union rs x) rs (rs ++ x ∷ [])
@@ -36,7 +36,7 @@ BecomesRunsOf-behind rs x d h lt below =
     Splices-plain rs x (length rs) (length rs) h lt from to (omega arith) in
     record { runs = subst (IsRunsOf (in_union rs x)) (whole rs x) splices.runs; differs = splices.differs }
 
--- the last run takes in a range that begins there or at its end
+-- the last run grows by a range that begins in it or at its end
 pub BecomesRunsOf-grown : (rs : List (Range ℕ)) (x d : Range ℕ) → IsMaximalRuns rs → 0 < length rs
     → (get_or rs (length rs - 1) d).start ≤ x.start → x.start ≤ (get_or rs (length rs - 1) d).end
     → (get_or rs (length rs - 1) d).end < x.end
@@ -71,7 +71,7 @@ IsRunsOf-inside_last rs x d h lt some lo hi =
     IsRunsOf-inside rs x d (length rs - 1) h lt (sym (ends_below-others 0 x.start (length rs - 1) d rs h count lo
     (omega arith))) (omega arith) lo hi
 
--- a run that is pushed makes one more of them, however the new set is listed
+-- pushing a run makes one more of them, whichever list the new set has
 pub length-pushed : (p : ℕ → Bool) (rs ss : List (Range ℕ)) (x : Range ℕ) → BecomesRunsOf p rs (rs ++ x ∷ [])
     → IsRunsOf p ss → length ss ≡ length rs + 1
 length-pushed p rs ss x becomes h = ap length (IsRunsOf-unique p ss (rs ++ x ∷ []) h becomes.runs) ∙ one_more rs where

@@ -71,7 +71,7 @@ AscendFrom-numbers_of n (r ∷ rs) h =
     (let lt : r.start < r.end = h.1 in AscendFrom-lower (r.end + 1) (r.start + (r.end - r.start)) (numbers_of rs)
     (omega arith) (AscendFrom-numbers_of (r.end + 1) rs h.2))
 
--- a number is one of those in a row exactly if it is between their bounds
+-- a number is one of those in a row exactly when it is between their bounds
 any_count : (a n y : ℕ) → list_any (λ x. nat_eq x y) (count_from a n) ≡ (leb a y && ltb y (a + n))
 any_count a zero y = none a y where
   none : (a y : ℕ) → false ≡ (leb a y && ltb y (a + 0))

@@ -32,12 +32,12 @@ IsRunsOf-sum_run rs ss cur after i d lt h k = rw (take_more rs i d lt) (
   step : (m s i c e : Bool) → c ≡ (m || s) → e ≡ (m || (i || false)) → (c || i) ≡ (e || s)
   step m s i c e p q = grind (arith, nat_tests)
 
--- a run of those from a place on
+-- a run of those from an index on
 pub run-behind : {X : Type 0} (xs : List X) (k m i : ℕ) (d : X) → i < m
     → get_or (take m (drop k xs)) i d ≡ get_or xs (k + i) d
 run-behind xs k m i d lt = get_or-take m (drop k xs) i d lt ∙ get_or-drop k xs i d
 
--- the runs from a place on
+-- the runs from an index on
 drop-at : {X : Type 0} (xs : List X) (i : ℕ) (d : X) → i < length xs → drop i xs ≡ get_or xs i d ∷ drop (i + 1) xs
 drop-at [] i d lt = absurd (omega arith)
 drop-at (x ∷ xs) zero d lt = refl
@@ -56,7 +56,7 @@ RunsFrom-behind n zero d (r ∷ rs) h lt = h.2
 RunsFrom-behind n (suc i) d (r ∷ rs) h lt =
     let one : suc i + 1 ≡ suc (i + 1) = omega arith in rw one (RunsFrom-behind (r.end + 1) i d rs h.2 (omega arith))
 
--- a range that ends before some runs takes nothing of them
+-- a range that ends before some runs removes nothing from them
 subtracted-skip : (n : ℕ) (g : Range ℕ) (rs gs : List (Range ℕ)) → RunsFrom n rs → g.start < g.end → g.end ≤ n
     → subtracted rs (g ∷ gs) ≡ subtracted rs gs
 subtracted-skip n g [] gs h lt le = refl
@@ -67,7 +67,7 @@ subtracted-skip n g (r ∷ rs) gs h lt le =
     ∙ ap (λ m. outside m r.end gs ++ subtracted rs (g ∷ gs)) same
     ∙ ap (λ l. outside r.start r.end gs ++ l) (subtracted-skip (r.end + 1) g rs gs h.2 lt (omega arith))
 
--- what is left of a run, and of those after it, once the next of the others is seen to end with the run or before
+-- what is left of a run, and of those after it, if the next of the others ends with the run or before
 pub difference-spent : (left rest ss whole : List (Range ℕ)) (s e j : ℕ) (d : Range ℕ) → IsMaximalRuns ss
     → RunsFrom (e + 1) rest → j < length ss → (get_or ss j d).end ≤ e
     → left ++ (outside s e (drop j ss) ++ subtracted rest (drop j ss)) ≡ whole
@@ -86,7 +86,7 @@ difference-spent left rest ss whole s e j d k h lt le is =
     ∙ ap (λ l. left ++ (outside s e l ++ subtracted rest l)) (sym (drop-at ss j d lt))
     ∙ is
 
--- where the others are at their end, or the next of them ends after the run, one range is left of it
+-- if no others are left, or the next of them ends after the run, one range of the run is left
 outside-last : (s e m j : ℕ) (d : Range ℕ) (ss : List (Range ℕ)) → (j < length ss → e < (get_or ss j d).end)
     → (j < length ss → m ≡ min e (get_or ss j d).start) → (length ss ≤ j → m ≡ e)
     → outside s e (drop j ss) ≡ as_runs s m

@@ -1,4 +1,4 @@
--- What a change of a list of runs does, by the places where it begins and ends.
+-- What a change of a list of runs does, by the indices at which it begins and ends.
 use Rattle.std.proofs.Common.{◌≡◌, ℕ, ◌+◌, ◌-◌, ◌<◌, ◌≤◌, suc, zero, min, max, Bool, true, false, ◌||◌, ltb, leb, List, [], ◌∷◌, ◌++◌, take, drop, length, get_or, refl, ap, sym, ◌∙◌, subst, arith, ◌⊎◌, inl, inr}
 use Rattle.std.proofs.lemmas.Bool.{cond_both, ltb-true, lt-ltb, le-ltb, leb-true, le-leb, lt-leb, cases_lt, false≢true}
 use Rattle.std.proofs.lemmas.Bool.Decides.{nat_tests}
@@ -20,7 +20,7 @@ pub starts_upto-none : (n x : ℕ) (rs : List (Range ℕ)) → RunsFrom n rs →
 starts_upto-none n x [] h lt = refl
 starts_upto-none n x (r ∷ rs) h lt = let q : x < r.start = omega arith in rw (lt-leb r.start x q) refl
 
--- an end that a touched run moves up to its own end passes by no further run
+-- if a touched run moves the end of the range up to its own end, no further run is touched
 starts_upto-max : (e b : ℕ) (rs : List (Range ℕ)) → RunsFrom (e + 1) rs → starts_upto rs (max b e) ≡ starts_upto rs b
 starts_upto-max e b rs h =
     elim (cases_lt b e) as (λ _. starts_upto rs (max b e) ≡ starts_upto rs b) [
@@ -28,7 +28,7 @@ starts_upto-max e b rs h =
       | inr le ↦ let q : max b e ≡ b = omega arith in ap (starts_upto rs) q
     ]
 
--- an insertion, by places: the runs that end below a, the hull, and those that start above b
+-- an insertion, by indices: the runs that end below a, the hull, and those that start above b
 pub inserted-places : (n a b : ℕ) (rs : List (Range ℕ)) → RunsFrom n rs → a < b
     → inserted rs a b ≡ take (ends_below rs a) rs ++ hull rs a b ∷ drop (starts_upto rs b) rs
 inserted-places n a b [] h lt = refl
@@ -46,7 +46,7 @@ inserted-places n a b (r ∷ rs) h lt =
           ]
     ]
 
--- where no run is touched, the hull is the range itself
+-- if no run is touched, the hull is the range itself
 pub hull-none : (n a b : ℕ) (rs : List (Range ℕ)) → RunsFrom n rs → a < b → starts_upto rs b ≤ ends_below rs a
     → hull rs a b ≡ range a b
 hull-none n a b [] h lt le = refl
@@ -60,7 +60,7 @@ hull-none n a b (r ∷ rs) h lt le0 =
       ]
     ]) le0
 
--- a run at a place is nonempty, and starts at the bound or later
+-- a run at an index is nonempty, and starts at the bound or later
 pub run-at : (n k : ℕ) (d : Range ℕ) (rs : List (Range ℕ)) → RunsFrom n rs → k < length rs
     → (n ≤ (get_or rs k d).start) × ((get_or rs k d).start < (get_or rs k d).end)
 run-at n k d [] h lt = absurd (omega arith)
@@ -84,7 +84,7 @@ ends_below-length x (r ∷ rs) =
 range_at : (a a' b b' : ℕ) → a ≡ a' → b ≡ b' → range a b ≡ range a' b'
 range_at a a' b b' p q = ap (λ m. range m b) p ∙ ap (range a') q
 
--- where the last run ends below x, all do
+-- if the last run ends below x, all do
 pub ends_below-all : (n x k : ℕ) (d : Range ℕ) (rs : List (Range ℕ)) → RunsFrom n rs → length rs ≡ suc k
     → (get_or rs k d).end < x → ends_below rs x ≡ suc k
 ends_below-all n x k d [] h e lt = absurd (omega arith)
@@ -97,7 +97,7 @@ ends_below-all n x (suc k) d (r ∷ rs) h e lt =
     let q : r.end < x = omega arith in
     rw (lt-ltb r.end x q) (ap suc (ends_below-all (r.end + 1) x k d rs h.2 (omega arith) lt))
 
--- where x is in the last run or at its end, the others end below x
+-- if x is in the last run or at its end, the others end below x
 pub ends_below-others : (n x k : ℕ) (d : Range ℕ) (rs : List (Range ℕ)) → RunsFrom n rs → length rs ≡ suc k
     → (get_or rs k d).start ≤ x → x ≤ (get_or rs k d).end → ends_below rs x ≡ k
 ends_below-others n x k d [] h e le le' = absurd (omega arith)
@@ -209,7 +209,7 @@ covered n a b d (r ∷ rs) h lt all =
         | inr le ↦ le
       ]
 
--- the place that a partition by `ends_below`'s test gives
+-- the index that a partition by `ends_below`'s test returns
 pub ends_below-place : (x i : ℕ) (rs : List (Range ℕ)) → i ≤ length rs
     → IsPartitionPoint (λ (r : Range ℕ). ltb r.end x ≡ true) (λ r. ltb r.end x ≡ false) rs i → ends_below rs x ≡ i
 ends_below-place x i [] le p = omega arith
@@ -242,7 +242,7 @@ ascending n zero (suc j) d (r ∷ rs) h le lt =
 ascending n (suc i) zero d (r ∷ rs) h le lt = absurd (omega arith)
 ascending n (suc i) (suc j) d (r ∷ rs) h le lt = ascending (r.end + 1) i j d rs h.2 (omega arith) (omega arith)
 
--- what `partition_point` asks
+-- what `partition_point` requires
 pub ends_partition : (x : ℕ) (rs : List (Range ℕ)) → IsMaximalRuns rs
     → IsPartitionedBy (λ (r : Range ℕ). ltb r.end x) rs
 ends_partition x rs h i j d le lt e =
@@ -276,7 +276,7 @@ starts_upto-above n (suc k) x d (r ∷ rs) h lt le =
     let ih : k < starts_upto rs x = starts_upto-above (r.end + 1) k x d rs h.2 (omega arith) le in
     rw (le-leb r.start x q) (omega arith)
 
--- where a union with the range changes nothing, the range is inside a run
+-- if a union with the range changes nothing, the range is inside a run
 same_covered : (rs : List (Range ℕ)) (x d : Range ℕ) → IsMaximalRuns rs → x.start < x.end → IsRunsOf (in_union rs x) rs
     → IsCovered rs x.start x.end d
 same_covered rs x d h lt same =

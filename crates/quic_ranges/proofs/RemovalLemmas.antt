@@ -1,4 +1,4 @@
--- What a removal from a list of runs does, by the places where it begins and ends.
+-- What a removal from a list of runs does, by the indices at which it begins and ends.
 use Rattle.std.proofs.Common.{◌≡◌, ℕ, ◌+◌, ◌-◌, ◌<◌, ◌≤◌, suc, zero, min, max, Bool, true, false, cond, ◌&&◌, ◌||◌, not, ltb, List, [], ◌∷◌, ◌++◌, take, drop, length, get_or, refl, ap, sym, ◌∙◌, subst, arith, ◌⊎◌, inl, inr, append_assoc}
 use Rattle.std.proofs.lemmas.List.{append-nil}
 use Rattle.std.proofs.lemmas.Bool.{lt-ltb, le-ltb, le-leb, lt-leb, cases_lt}
@@ -45,8 +45,8 @@ removed-beyond n a b (r ∷ rs) h lt le =
     removed-kept a b r rs h.1 lt (inr (omega arith))
     ∙ ap (λ l. r ∷ l) (removed-beyond (r.end + 1) a b rs h.2 lt (omega arith))
 
--- a removal, by places: the runs that end at a or before, what is left of the next, and those that start at b or
--- later, where b is one more than m
+-- a removal, by indices: the runs that end at a or before, what is left of the next, and those that start at b or
+-- later; b is m + 1
 pub removed-places : (n a m : ℕ) (rs : List (Range ℕ)) → RunsFrom n rs → a ≤ m
     → removed rs a (suc m) ≡ take (ends_below rs (suc a)) rs ++ (rest rs a (suc m) ++ drop (starts_upto rs m) rs)
 removed-places n a m [] h le = refl
@@ -140,7 +140,7 @@ rest-at n a m (suc k) d (r ∷ rs) h le =
       ]
     ]
 
--- where no run is overlapped, nothing is removed
+-- if no run is overlapped, nothing is removed
 removed-none : (n a m : ℕ) (rs : List (Range ℕ)) → RunsFrom n rs → a ≤ m → starts_upto rs m ≤ ends_below rs (suc a)
     → removed rs a (suc m) ≡ rs
 removed-none n a m [] h le = λ e. refl
@@ -195,7 +195,7 @@ difference_at : (rs ss : List (Range ℕ)) (x : Range ℕ) → IsMaximalRuns rs 
 difference_at rs ss x h lt e =
     let P : List (Range ℕ) → Type 0 = IsRunsOf (in_difference rs x) in subst P e (IsRunsOf-removed x.start x.end rs h lt)
 
--- a range that no run overlaps takes nothing
+-- a range that overlaps no run removes nothing
 pub IsRunsOf-apart : (rs : List (Range ℕ)) (x : Range ℕ) (i j : ℕ) → IsMaximalRuns rs → x.start < x.end
     → i ≡ ends_below rs (x.start + 1) → j ≡ starts_upto rs (x.end - 1) → j ≤ i → IsRunsOf (in_difference rs x) rs
 IsRunsOf-apart rs x i j h lt ei ej le =
@@ -252,7 +252,7 @@ member-before n y (r ∷ rs) h =
       | inr le ↦ rw (le-leb r.start y le) (λ e. absurd (omega arith))
     ]
 
--- a number is a member exactly if the last run that starts there or before ends after it
+-- a number is a member exactly when the last run that starts there or before ends after it
 pub member-place : (n y k : ℕ) (d : Range ℕ) (rs : List (Range ℕ)) → RunsFrom n rs → starts_upto rs y ≡ suc k
     → member rs y ≡ ltb y (get_or rs k d).end
 member-place n y k d [] h = λ e. absurd (omega arith)

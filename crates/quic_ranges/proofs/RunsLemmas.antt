@@ -40,7 +40,7 @@ joined : (a b s e y : ℕ) (m : Bool) → a < b → s < e → s ≤ b → a ≤ 
     → (m || in_range (range (min a s) (max b e)) y) ≡ ((in_range (range s e) y || m) || in_range (range a b) y)
 joined a b s e y m h1 h2 h3 h4 = grind (arith, nat_tests)
 
--- a header that the inserted range leaves alone
+-- a head that the inserted range doesn't touch
 kept_head : (h m i : Bool) (t : Bool) → t ≡ (m || i) → (h || t) ≡ ((h || m) || i)
 kept_head h m i t e = grind (arith, nat_tests)
 

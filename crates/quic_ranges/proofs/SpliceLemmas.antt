@@ -1,4 +1,4 @@
--- What edits of a list that keeps runs leave.
+-- What edits of a list of runs leave.
 use Rattle.std.proofs.Common.{◌≡◌, ℕ, Bool, ◌+◌, ◌≤◌, suc, zero, List, [], ◌∷◌, ◌++◌, length, take, drop, set, refl, ap, ◌∙◌, arith}
 use Rattle.std.specs.List.{insert, remove_range}
 use Rattle.std.specs.declared.ops.Range.{Range}
@@ -50,19 +50,19 @@ pub record Holds {X : Type 0} (xs ys : List X) (f t g : ℕ) : Type 0 where
   pub before : take f ys ≡ take f xs
   pub after : drop g ys ≡ drop t xs
 
--- as where one element is put in at t,
+-- that is so if one element is inserted at t,
 pub Holds-insert : {X : Type 0} (xs ys : List X) (f t g : ℕ) (v : X) → f ≤ t → t ≤ length xs → g ≡ t + 1
     → ys ≡ insert xs t v → Holds xs ys f t g
 Holds-insert xs ys f t g v le le' e is =
     rw is (record { before = front xs (v ∷ drop t xs) f t le le'; after = behind xs (drop t xs) v t g e le' })
 
--- where those from g to below t go,
+-- if those from g to below t are removed,
 pub Holds-drain : {X : Type 0} (xs ys : List X) (f t g : ℕ) → f ≤ g → g ≤ length xs → ys ≡ remove_range xs g t
     → Holds xs ys f t g
 Holds-drain xs ys f t g le le' is =
     rw is (record { before = front xs (drop t xs) f g le le'; after = back xs (drop t xs) g le' })
 
--- or where nothing changes
+-- or if nothing changes
 pub Holds-same : {X : Type 0} (xs ys : List X) (f t g : ℕ) → g ≡ t → ys ≡ xs → Holds xs ys f t g
 Holds-same xs ys f t g e is = rw (is, e) (record { before = refl; after = refl })
 
@@ -92,7 +92,7 @@ spliced-behind xs ys ws vs k f t f' t' g le ef et h e =
     ap (drop k) (spliced xs ys ws vs f' t' g h e) ∙ drop-front xs (vs ++ drop t' xs) k f f' ef le
     ∙ ap (λ l. take f (drop k xs) ++ (vs ++ l)) (drop-both xs k t t' et le)
 
--- a splice that makes one run more does so whichever way the new set is listed
+-- a splice that makes one more run does so whichever list the new set has
 pub length-spliced : (p : ℕ → Bool) (rs ss : List (Range ℕ)) (s : Splice) → Splices p rs s
     → length (after_splice rs s) ≡ length rs + 1 → IsRunsOf p ss → length ss ≡ length rs + 1
 length-spliced p rs ss s splices more h = ap length (IsRunsOf-unique p ss (after_splice rs s) h splices.runs) ∙ more

@@ -1,4 +1,4 @@
--- A set that is treated with the runs of another, one after the other.
+-- A set to which the runs of another are applied, one after the other.
 use Rattle.std.proofs.Common.{◌≡◌, ℕ, Bool, false, ◌&&◌, ◌||◌, not, List, [], ◌∷◌, ◌++◌, ap, ◌∙◌, arith, Result, Ok, Err, OnErr}
 use Rattle.std.proofs.lemmas.Bool.Decides.{nat_tests}
 use Rattle.std.specs.declared.ops.Range.{Range}
@@ -27,12 +27,12 @@ IsRunsOf-subtraction_step rs done cur after r h k = (
   step : (m d i c e : Bool) → c ≡ (m && not d) → e ≡ (d || (i || false)) → (c && not i) ≡ (m && not e)
   step m d i c e p q = grind (arith, nat_tests)
 
--- what holds anyway holds on an error
+-- what always holds also holds on an error
 pub on_err : {T E : Type 0} (r : Result T E) (P : Type 0) → P → OnErr r P
 on_err (Ok v) P p = tt
 on_err (Err e) P p = p
 
--- where nothing would change, no run of the other set does
+-- if nothing would change, no run of the other set changes anything
 pub IsRunsOf-sum_kept : (rs others done rest cur : List (Range ℕ)) (r : Range ℕ) → IsRunsOf (in_sum rs others) rs
     → others ≡ done ++ r ∷ rest → IsRunsOf (in_sum rs done) cur → IsRunsOf (in_union cur r) cur
 IsRunsOf-sum_kept rs others done rest cur r h parts k = (

@@ -74,7 +74,7 @@ outside-none s e (g ∷ gs) le =
     ap (λ l. l ++ outside (max s g.end) e gs) (as_runs-empty s (min e g.start) (omega arith))
     ∙ outside-none (max s g.end) e gs (omega arith)
 
--- runs that start after the range's end take nothing of it
+-- runs that start after the range's end remove nothing from it
 outside-front : (n s e : ℕ) (gs : List (Range ℕ)) → RunsFrom n gs
     → outside s e (take (starts_upto gs e) gs) ≡ outside s e gs
 outside-front n s e [] h = refl

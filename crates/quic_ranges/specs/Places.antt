@@ -1,4 +1,4 @@
--- Where a number falls among runs, as halving finds it. No public clause cites this module.
+-- Where a number is among runs, as binary search finds it. No public clause cites this module.
 use Rattle.std.specs.Prelude.{ℕ, suc, zero, min, max, cond, nat_lt, nat_le, List, [], ◌∷◌}
 use Rattle.std.specs.declared.ops.Range.{Range}
 

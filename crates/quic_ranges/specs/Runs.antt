@@ -44,7 +44,7 @@ in_subtraction rs ss y = member rs y && not (member ss y)
 abbrev pub in_sum : List (Range ℕ) → List (Range ℕ) → ℕ → Bool
 in_sum rs ss y = member rs y || member ss y
 
--- the set was treated with the first runs of ss, by the test that says what is in the outcome
+-- the first runs of ss were applied to the set; test says which numbers are in the outcome
 pub record TreatsBeginning (test : List (Range ℕ) → List (Range ℕ) → ℕ → Bool)
     (rs ss after : List (Range ℕ)) : Type 0 where
   pub treated : List (Range ℕ)

@@ -8,7 +8,7 @@ use Rattle.quic_ranges.specs.declared.range_set.sorted_runs.Extension.{Extension
 use Rattle.quic_ranges.specs.declared.range_set.sorted_runs.Extension.TheVariants.{Unchanged, Extended, AfterAll, BeforeLast}
 use Rattle.quic_ranges.specs.Runs.{IsRunsOf, in_union}
 
--- the runs that take the place of others
+-- the runs that replace others
 abbrev pub substitutes : Substitute → List (Range ℕ)
 substitutes Nothing = []
 substitutes (One r) = r ∷ []
@@ -24,7 +24,7 @@ pub record Fits (rs : List (Range ℕ)) (s : Splice) : Type 0 where
   pub within : s.to ≤ length rs
   pub one_more : length (substitutes s.by) ≤ s.to - s.from + 1
 
--- the splice makes of rs the runs of the numbers that pass p, which is another set
+-- the splice turns rs into the runs of the numbers that pass p, which are another set
 pub record Splices (p : ℕ → Bool) (rs : List (Range ℕ)) (s : Splice) : Type 0 where
   pub fits : Fits rs s
   pub runs : IsRunsOf p (after_splice rs s)
@@ -35,7 +35,7 @@ pub record BecomesRunsOf (p : ℕ → Bool) (rs after : List (Range ℕ)) : Type
   pub runs : IsRunsOf p after
   pub differs : IsRunsOf p rs → ⊥
 
--- what became of x, which was tried on the last of the runs rs, and what the runs are then
+-- the outcome of extending the last of the runs rs by x, and the runs after it
 abbrev pub Extends : Extension → List (Range ℕ) → Range ℕ → List (Range ℕ) → Type 0
 Extends Unchanged rs x after = (after ≡ rs) × IsRunsOf (in_union rs x) rs
 Extends Extended rs x after = BecomesRunsOf (in_union rs x) rs after

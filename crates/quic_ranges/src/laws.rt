@@ -5,8 +5,8 @@ ghost use Rattle.std.specs.declared.ops.Range.{Range};
 ghost use Rattle.quic_ranges.specs.Numbers.{numbers_of, AscendFrom};
 ghost use Rattle.quic_ranges.specs.Runs.{IsMaximalRuns, member};
 
-/// A set has one list of maximal runs, so two sets are equal exactly if their lists are. The runs
-/// are nonempty, ascend and never touch, and none can be longer.
+/// A set has one list of maximal runs, so two sets are equal exactly when their lists are. The runs are nonempty,
+/// ascend and never touch, and none can be longer.
 pub fn runs()
     ensures unique { (rs ss : List (Range ℕ)) → IsMaximalRuns rs → IsMaximalRuns ss
         → ((y : ℕ) → member rs y ≡ member ss y) → rs ≡ ss }
@@ -20,7 +20,7 @@ pub fn runs()
         → i < length rs → member rs (slice_index_or rs i d).end ≡ false }
 {}
 
-/// `elts` gives the numbers of the set, each once, ascending.
+/// `elts` returns the numbers of the set, each once, ascending.
 pub fn elements()
     ensures ascending { (rs : List (Range ℕ)) → IsMaximalRuns rs → AscendFrom 0 (numbers_of rs) }
     ensures members { (rs : List (Range ℕ)) (y : ℕ)

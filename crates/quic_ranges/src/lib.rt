@@ -1,4 +1,4 @@
-//! Sets of packet numbers, kept as ascending ranges that never touch: `RangeSet` and `ArrayRangeSet`. An ACK lists such
+//! Sets of packet numbers, held as ascending ranges that never touch: `RangeSet` and `ArrayRangeSet`. An ACK lists such
 //! ranges (RFC 9000, section 19.3).
 #![tactic(auto)]
 

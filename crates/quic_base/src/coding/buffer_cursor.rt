@@ -6,7 +6,7 @@ use crate::coding::are_bytes;
 use bytes::{Buf, BytesMut};
 use std::marker::Model;
 
-/// A buffer and the place up to which it is read, which contracts see too. Reading doesn't change its bytes.
+/// A buffer, and the offset up to which it has been read. Contracts see both. Reading doesn't change the bytes.
 #[derive(Drop)]
 pub struct Cursor {
     buffer: BytesMut,
@@ -36,7 +36,7 @@ impl Cursor {
         Cursor { buffer, place: 0 }
     }
 
-    /// How many bytes are read.
+    /// How many bytes have been read.
     #[inline]
     pub fn position(&self) -> usize
         ensures value { result ≡ self.now.position }
@@ -66,7 +66,7 @@ impl Cursor {
         rest
     }
 
-    /// Skips the next `count` bytes. The caller must ensure that there are so many.
+    /// Skips the next `count` bytes. The caller must ensure that there are that many.
     #[inline]
     pub fn advance(&mut self, count: usize)
         requires { count ≤ length (unread self.old) }
@@ -78,7 +78,7 @@ impl Cursor {
         self.place += count;
     }
 
-    /// The buffer, of which `position` bytes are read.
+    /// The whole buffer, of which `position` bytes have been read.
     #[inline]
     pub fn get_ref(&self) -> &BytesMut
         ensures value { result.now ≡ self.now.bytes }
@@ -87,7 +87,7 @@ impl Cursor {
         &self.buffer
     }
 
-    /// The buffer.
+    /// The whole buffer, of which `position` bytes had been read.
     #[inline]
     pub fn into_inner(self) -> BytesMut
         ensures value { result ≡ self.bytes }
@@ -97,7 +97,7 @@ impl Cursor {
     }
 }
 
-/// The remaining bytes are what is read.
+/// Reads the remaining bytes.
 impl Buf for Cursor {
     ghost use Rattle.quic_base.specs.Cursor.{unread};
 

@@ -1,4 +1,4 @@
-//! The ids by which endpoints know a connection (RFC 9000, section 5.1).
+//! Connection ids (RFC 9000, section 5.1).
 ghost use Rattle.std.specs.Prelude.{◌≡◌, ◌+◌, ◌-◌, ◌<◌, ◌≤◌, ◌++◌, List, ℕ, ⊤, Some, drop, length, replicate, nat_eq, refl, MatchOption, OnErr, OnOk};
 ghost use Rattle.std.specs.Borrow.{sem};
 ghost use Rattle.std.specs.Cmp.{partial_equiv_from_equiv, po};
@@ -18,10 +18,10 @@ use std::fmt;
 use std::hash::{Hash, Hasher};
 use std::marker::Model;
 
-/// The greatest length of a connection id in bytes (RFC 9000, section 17.2).
+/// The longest connection id, in bytes (RFC 9000, section 17.2).
 pub const MAX_CID_SIZE: usize = 20;
 
-/// A connection id of at most 20 bytes, which contracts see as the list of its bytes.
+/// A connection id of at most 20 bytes. Contracts see it as the list of its bytes.
 #[derive(Clone, Copy)]
 pub struct ConnectionId {
     // In four bytes, so that an id is copied by whole words.
@@ -61,7 +61,8 @@ impl ConnectionId {
         id
     }
 
-    /// Takes the next `len` bytes. The caller must ensure that there are so many, and that they are at most 20.
+    /// Consumes the next `len` bytes as an id. The caller must ensure that there are that many, and that `len` is at
+    /// most 20.
     pub fn from_buf<B: Buf>(buf: &mut B, len: usize) -> ConnectionId
         requires short { len ≤ MAX_CID_SIZE }
         requires enough { len ≤ length (B.unread buf.old) }
@@ -79,9 +80,8 @@ impl ConnectionId {
         }
     }
 
-    /// Takes a byte of length and that many bytes (RFC 9000, section 17.2). Answers `None` exactly
-    /// if a byte is missing or the length is above 20; then the length byte is consumed if there was one, and
-    /// nothing else.
+    /// Reads and consumes a length byte and that many bytes (RFC 9000, section 17.2). Returns `None` exactly when a
+    /// byte is missing or the length is above 20. Only the length byte is consumed then, if there was one.
     pub fn decode_long<B: Buf>(buf: &mut B) -> Option<ConnectionId>
         ensures some { MatchOption result ((id : List ℕ) → NoFront (IsLongId id) (B.unread buf.old))
             (λ id. Takes (IsLongId id) (B.unread buf.old) (B.unread buf.new)) }
@@ -98,9 +98,8 @@ impl ConnectionId {
         Some(ConnectionId::from_buf(buf, len))
     }
 
-    /// Appends a byte of length and the bytes (RFC 9000, section 17.2). Answers `NoRoom` only if
-    /// the buffer's spare room is less than that: the buffer then keeps its contents, and may have a
-    /// prefix of these bytes after them.
+    /// Appends a length byte and the id's bytes (RFC 9000, section 17.2). Returns `NoRoom` only if they are longer than
+    /// the buffer's spare room. The buffer then has its old contents, and possibly a prefix of these bytes after them.
     pub fn encode_long<B: BufMut>(&self, buf: &mut B) -> Result<(), NoRoom>
         ensures encoded { IsLongId self.now (long_id self.now) }
         ensures ok { OnOk result (B.written buf.new ≡ B.written buf.old ++ long_id self.now) }
@@ -124,7 +123,7 @@ impl ConnectionId {
         &self.bytes[..self.len as usize]
     }
 
-    /// The bytes, and then zeros up to 20 bytes: an id of any length in one array.
+    /// The id's bytes, followed by zeros up to 20 bytes.
     pub fn padded(&self) -> &[u8; MAX_CID_SIZE]
         ensures value { result.now ≡ self.now ++ replicate (MAX_CID_SIZE - length self.now) 0 }
         ensures short { length self.now ≤ MAX_CID_SIZE }
@@ -140,12 +139,12 @@ impl ConnectionId {
         &mut self.bytes[..self.len as usize]
     }
 
-    /// Replaces the bytes with as many others. The caller must ensure that the lengths are equal.
+    /// Replaces the id's bytes. The caller must ensure that the new ones are as many.
     pub fn copy_from_slice(&mut self, bytes: &[u8])
         requires { length bytes.now ≡ length self.old }
         ensures { self.new ≡ bytes.now }
     {
-        // This tells the prover the bound on the length.
+        // This gives the prover the bound on the length.
         let _ = &self.len;
         *self = ConnectionId::new(bytes);
     }
@@ -185,7 +184,7 @@ fn copy_ends<const N: usize>(to: &mut [u8; MAX_CID_SIZE], bytes: &[u8])
     to[len - N..len].copy_from_slice(&bytes[len - N..]);
 }
 
-/// Two ids are equal exactly if their bytes are.
+/// Two ids are equal exactly when their bytes are.
 impl PartialEq for ConnectionId {
     ghost eq = { pointwise nat_eq };
 
@@ -200,7 +199,7 @@ impl Eq for ConnectionId {
     ghost laws = { nat_list_eq_equiv };
 }
 
-/// Hashes as the slice of the bytes does.
+/// Hashes like the slice of its bytes.
 impl Hash for ConnectionId {
     ghost hash_input = { fed.slice fed.u8 };
 
@@ -211,7 +210,7 @@ impl Hash for ConnectionId {
     }
 }
 
-/// By length, then by bytes.
+/// Ids are ordered by length, then by bytes.
 impl Ord for ConnectionId {
     ghost cmp = { id_cmp };
 
@@ -238,7 +237,7 @@ impl PartialOrd for ConnectionId {
     }
 }
 
-/// Two lower-case hexadecimal digits a byte.
+/// Two lower-case hexadecimal digits per byte.
 impl fmt::Display for ConnectionId {
     ghost output = { λ id. Some (id_text id) };
 
@@ -250,7 +249,7 @@ impl fmt::Display for ConnectionId {
     }
 }
 
-/// As the slice of the bytes.
+/// Text like that of the slice of its bytes.
 impl fmt::Debug for ConnectionId {
     fn fmt<W: fmt::Write>(&self, f: &mut fmt::Formatter<W>) -> fmt::Result {
         fmt::Debug::fmt(self.as_slice(), f)

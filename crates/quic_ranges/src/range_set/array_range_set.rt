@@ -1,4 +1,4 @@
-//! A set of numbers with few runs, which keeps two of them inline.
+//! A set of numbers that holds up to two runs inline.
 ghost use Rattle.std.specs.Prelude.{◌≡◌, ◌≢◌, [], ◌≤◌, ◌<◌, ◌+◌, ◌-◌, ◌^◌, ◌∷◌, ◌++◌, ◌↔◌, ℕ, List, length, take, drop, IfSome, IfNone, IfOk, OnOk, OnErr, IsTrue, IsOk};
 ghost use Rattle.std.specs.declared.ops.Range.{Range};
 ghost use Rattle.smallvec.specs.SmallVec.{small_vec_len, HasRoomFor};
@@ -51,14 +51,14 @@ impl ArrayRangeSet {
         sorted_runs::contains(self.runs.as_slice(), x)
     }
 
-    /// Whether the set has no number.
+    /// Whether the set is empty.
     pub fn is_empty(&self) -> bool
         ensures { IsTrue result ↔ (self.now ≡ []) }
     {
         self.runs.is_empty()
     }
 
-    /// The least number of the set.
+    /// The least number of the set, `None` if it is empty.
     pub fn min(&self) -> Option<u64>
         ensures some { IfSome result (IsLeastMember self.now) }
         ensures none { IfNone result (self.now ≡ []) }
@@ -67,7 +67,7 @@ impl ArrayRangeSet {
         Some(first.start)
     }
 
-    /// The greatest number of the set.
+    /// The greatest number of the set, `None` if it is empty.
     pub fn max(&self) -> Option<u64>
         ensures some { IfSome result (IsGreatest self.now) }
         ensures none { IfNone result (self.now ≡ []) }
@@ -98,7 +98,7 @@ impl ArrayRangeSet {
         EltIter::of(self.runs.as_slice())
     }
 
-    /// An equal set. Answers `NoRoom` only for more than two runs.
+    /// An equal set. It allocates only for more than two runs, and returns `NoRoom` if that fails.
     pub fn try_clone(&self) -> Result<Self, NoRoom>
         ensures equal { IfOk result (λ copy. copy ≡ self.now) }
         ensures inline { length self.now ≤ 2 → IsOk result }
@@ -110,8 +110,9 @@ impl ArrayRangeSet {
         Ok(ArrayRangeSet { runs })
     }
 
-    /// Puts a range into the set. True exactly if that changed the set, which an empty or reversed range never does.
-    /// Answers `NoRoom` only if the union has more runs than the set and more than two; the set is then unchanged.
+    /// Inserts a range. Returns true exactly when that changed the set; an empty or reversed range never does. Returns
+    /// `NoRoom` only if an allocation fails, which needs a union with more runs than the set and more than two. The set
+    /// is unchanged then.
     pub fn insert(&mut self, x: Range<u64>) -> Result<bool, NoRoom>
         ensures union { OnOk result (IsRunsOf (in_union self.old x) self.new) }
         ensures changed { IfOk result (λ changed. IsTrue changed ↔ (self.new ≢ self.old)) }
@@ -124,7 +125,7 @@ impl ArrayRangeSet {
         join(&mut self.runs, &x)
     }
 
-    /// Puts a number below 2^64 - 1 into the set, as `insert` does.
+    /// Inserts one number, as `insert` does. The caller must ensure that it is below 2^64 - 1.
     pub fn insert_one(&mut self, x: u64) -> Result<bool, NoRoom>
         requires { x < 2 ^ 64 - 1 }
         ensures union { OnOk result
@@ -141,8 +142,8 @@ impl ArrayRangeSet {
         self.insert(x..x + 1)
     }
 
-    /// Takes a range out of the set. True exactly if that changed the set. Answers `NoRoom` only if the difference has
-    /// more runs than the set and more than two; the set is then unchanged.
+    /// Removes a range. Returns true exactly when that changed the set. Returns `NoRoom` only if an allocation fails,
+    /// which needs a difference with more runs than the set and more than two. The set is unchanged then.
     pub fn remove(&mut self, x: Range<u64>) -> Result<bool, NoRoom>
         ensures difference { OnOk result (IsRunsOf (in_difference self.old x) self.new) }
         ensures changed { IfOk result (λ changed. IsTrue changed ↔ (self.new ≢ self.old)) }
@@ -159,8 +160,8 @@ impl ArrayRangeSet {
         Ok(true)
     }
 
-    /// Takes the numbers of another set out of this one. The difference is built separately, so that the set is
-    /// unchanged after `NoRoom`, which comes only if the difference has more than two runs.
+    /// Removes the numbers of another set from this one. The difference is built separately, so the set is unchanged
+    /// after `NoRoom`, which needs a difference of more than two runs.
     pub fn subtract(&mut self, other: &Self) -> Result<(), NoRoom>
         ensures difference { OnOk result (IsRunsOf (in_subtraction self.old other.now) self.new) }
         ensures err { OnErr result (self.new ≡ self.old) }
@@ -176,7 +177,7 @@ impl ArrayRangeSet {
         Ok(())
     }
 
-    /// Removes the first run, and gives it.
+    /// Removes the first run and returns it, or `None` if there is none.
     pub fn pop_min(&mut self) -> Option<Range<u64>>
         ensures some { IfSome result (λ run. self.old ≡ run ∷ self.new) }
         ensures none { IfNone result (self.old ≡ []) }
@@ -201,7 +202,7 @@ impl fmt::Debug for ArrayRangeSet {
     }
 }
 
-// Puts a range into the runs. Memory is allocated at most once, before the first change.
+// Inserts a range into the runs. It allocates at most once, before the first change.
 fn join(runs: &mut SmallVec<Range<u64>, 2>, x: &Range<u64>) -> Result<bool, NoRoom>
     requires { IsMaximalRuns runs.old.items }
     ensures union { OnOk result (IsRunsOf (in_union runs.old.items x.now) runs.new.items) }
@@ -224,7 +225,7 @@ fn join(runs: &mut SmallVec<Range<u64>, 2>, x: &Range<u64>) -> Result<bool, NoRo
     }
 }
 
-// Does the same wherever the range lies, by halving.
+// The same for a range anywhere, by binary search.
 fn join_among(runs: &mut SmallVec<Range<u64>, 2>, x: &Range<u64>) -> Result<bool, NoRoom>
     requires { IsMaximalRuns runs.old.items }
     ensures union { OnOk result (IsRunsOf (in_union runs.old.items x.now) runs.new.items) }
@@ -243,7 +244,7 @@ fn join_among(runs: &mut SmallVec<Range<u64>, 2>, x: &Range<u64>) -> Result<bool
     Ok(true)
 }
 
-// Makes a change of the runs. Only a change that adds a run allocates memory, before anything changes.
+// Applies a change to the runs. It allocates only if it adds a run, before anything changes.
 fn apply(runs: &mut SmallVec<Range<u64>, 2>, change: Splice) -> Result<(), NoRoom>
     requires { Fits runs.old.items change }
     ensures ok { OnOk result (runs.new.items ≡ after_splice runs.old.items change) }

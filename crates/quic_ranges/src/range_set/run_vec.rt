@@ -10,8 +10,8 @@ use std::alloc::Global;
 use std::marker::Model;
 use std::ops::Range;
 
-// Runs, of which the first ones were taken. Their places are freed together, once they are more than half of all, so
-// that a run is moved at most once for each that is taken.
+// Runs, from whose front some were taken. The slots of those are freed together, once they are more than half of all,
+// so that a run is moved at most once for each one that is taken.
 #[derive(Drop)]
 pub(crate) struct RunVec {
     items: Vec<Range<u64>>,
@@ -40,7 +40,7 @@ impl RunVec {
         }
     }
 
-    // No runs, with room for so many.
+    // No runs, with room for `count`.
     pub(crate) fn with_capacity(alloc: Global, count: usize) -> Result<Self, NoRoom>
         ensures { IfOk result (λ empty. empty ≡ []) }
     {
@@ -68,7 +68,7 @@ impl RunVec {
         Ok(RunVec { items, taken: 0 })
     }
 
-    // Puts `x` into the last run where it begins there or at the end of it.
+    // Extends the last run by `x` if `x` begins in it or at its end.
     pub(crate) fn extend_last(&mut self, x: &Range<u64>) -> Extension
         requires { IsMaximalRuns self.old }
         ensures { Extends result self.old x.now self.new }
@@ -84,7 +84,7 @@ impl RunVec {
         self.items.push(run).map_err(|_| NoRoom)
     }
 
-    // Makes a change of the runs. Only a change that adds a run allocates memory, before anything changes.
+    // Applies a change to the runs. It allocates only if it adds a run, before anything changes.
     pub(crate) fn apply(&mut self, change: Splice) -> Result<(), NoRoom>
         requires { Fits self.old change }
         ensures ok { OnOk result (self.new ≡ after_splice self.old change) }
@@ -104,7 +104,7 @@ impl RunVec {
         Ok(())
     }
 
-    // Removes the first run, and gives it.
+    // Removes the first run and returns it, or `None` if there is none.
     pub(crate) fn pop_first(&mut self) -> Option<Range<u64>>
         ensures some { IfSome result (λ run. self.old ≡ run ∷ self.new) }
         ensures none { IfNone result (self.old ≡ []) }

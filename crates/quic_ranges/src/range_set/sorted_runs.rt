@@ -1,5 +1,5 @@
-//! What a change does to the runs in a slice: which of them are removed, and which take their place. Each place is
-//! found by binary search, after a look at the last run, where most changes are.
+//! What a change does to the runs in a slice: which of them are removed, and which replace them. The last run is
+//! checked first, since most changes are there; then the index is found by binary search.
 ghost use Rattle.std.specs.Prelude.{◌≡◌, ◌<◌, ◌≤◌, ◌+◌, ◌^◌, ◌++◌, length, take, drop, IfSome, IfNone};
 ghost use Rattle.std.specs.declared.ops.Range.{Range};
 ghost use Rattle.quic_ranges.specs.Runs.{IsMaximalRuns, IsRunsOf, member, in_union, in_difference};
@@ -44,7 +44,7 @@ pub(crate) fn contains(runs: &[Range<u64>], x: u64) -> bool
     after > 0 && x < runs[after - 1].end
 }
 
-// The runs that take the place of others.
+// The runs that replace others.
 #[derive(Drop)]
 pub(crate) enum Substitute {
     Nothing,
@@ -96,8 +96,8 @@ impl Substitute {
     }
 }
 
-// The same place, so that the compiler sees that the place after it doesn't wrap: it then moves the runs from there on
-// by one call, and not one by one.
+// The same index, returned so that the compiler sees that the next one doesn't wrap. It then moves the runs from there
+// on by one call, not one by one.
 pub(crate) fn place(runs: &[Range<u64>], at: usize) -> usize
     requires { at ≤ length runs.now }
     ensures { result ≡ at }
@@ -113,20 +113,20 @@ pub(crate) struct Splice {
     pub by: Substitute,
 }
 
-// What became of a range that was tried on the last run.
+// The outcome of extending the last run by a range.
 #[derive(Clone, Copy)]
 pub(crate) enum Extension {
-    // Every number of it is in the runs already.
+    // All its numbers are in the runs already.
     Unchanged,
-    // The last run took it in, and ends with it now.
+    // The last run was extended, and ends where the range does.
     Extended,
-    // It is after every run and touches none, so it must become a run of its own.
+    // It is after every run and touches none, so it must become a new run.
     AfterAll,
-    // It begins before the last run, so its place is still to be found.
+    // It begins before the last run, so its index is still to be found.
     BeforeLast,
 }
 
-// Puts `x` into the last run where it begins there or at the end of it.
+// Extends the last run by `x` if `x` begins in it or at its end.
 pub(crate) fn extend_last(runs: &mut [Range<u64>], x: &Range<u64>) -> Extension
     requires { IsMaximalRuns runs.old }
     ensures { Extends result runs.old x.now runs.new }

@@ -1,4 +1,4 @@
-//! A set of numbers, kept as a sorted vector of its runs.
+//! A set of numbers, held as a sorted vector of its runs.
 ghost use Rattle.std.specs.Prelude.{◌≡◌, ◌≢◌, [], ◌∷◌, ◌+◌, ◌-◌, ◌^◌, ◌≤◌, ◌<◌, ◌↔◌, ℕ, List, length, slice_get, IfOk, OnOk, OnErr, IfSome, IfNone, IsTrue, IsOk, Option};
 ghost use Rattle.std.specs.Borrow.{sem};
 ghost use Rattle.std.specs.Iterator.{YieldsFirst, item_count};
@@ -55,14 +55,14 @@ impl RangeSet {
         sorted_runs::contains(self.runs.as_slice(), x)
     }
 
-    /// Whether the set has no number.
+    /// Whether the set is empty.
     pub fn is_empty(&self) -> bool
         ensures { IsTrue result ↔ (self.now ≡ []) }
     {
         self.runs.as_slice().is_empty()
     }
 
-    /// The least number of the set.
+    /// The least number of the set, `None` if it is empty.
     pub fn min(&self) -> Option<u64>
         ensures some { IfSome result (IsLeastMember self.now) }
         ensures none { IfNone result (self.now ≡ []) }
@@ -71,7 +71,7 @@ impl RangeSet {
         Some(first.start)
     }
 
-    /// The greatest number of the set.
+    /// The greatest number of the set, `None` if it is empty.
     pub fn max(&self) -> Option<u64>
         ensures some { IfSome result (IsGreatest self.now) }
         ensures none { IfNone result (self.now ≡ []) }
@@ -87,7 +87,7 @@ impl RangeSet {
         self.runs.as_slice().len()
     }
 
-    /// The first run.
+    /// The first run, `None` if the set is empty.
     pub fn peek_min(&self) -> Option<Range<u64>>
         ensures { result ≡ slice_get self.now 0 }
     {
@@ -110,7 +110,7 @@ impl RangeSet {
         EltIter::of(self.runs.as_slice())
     }
 
-    /// An equal set.
+    /// An equal set. Returns `NoRoom` if an allocation fails.
     pub fn try_clone(&self) -> Result<Self, NoRoom>
         ensures { IfOk result (λ copy. copy ≡ self.now) }
     {
@@ -120,8 +120,9 @@ impl RangeSet {
         })
     }
 
-    /// Puts a range into the set. True exactly if that changed the set, which an empty or reversed range never does.
-    /// Answers `NoRoom` only if the union has more runs than the set; the set is then unchanged.
+    /// Inserts a range. Returns true exactly when that changed the set; an empty or reversed range never does. Returns
+    /// `NoRoom` only if an allocation fails, which needs a union with more runs than the set. The set is unchanged
+    /// then.
     pub fn insert(&mut self, x: Range<u64>) -> Result<bool, NoRoom>
         ensures union { OnOk result (IsRunsOf (in_union self.old x) self.new) }
         ensures changed { IfOk result (λ changed. IsTrue changed ↔ (self.new ≢ self.old)) }
@@ -133,7 +134,7 @@ impl RangeSet {
         join(&mut self.runs, &x)
     }
 
-    /// Puts a number below 2^64 - 1 into the set, as `insert` does.
+    /// Inserts one number, as `insert` does. The caller must ensure that it is below 2^64 - 1.
     pub fn insert_one(&mut self, x: u64) -> Result<bool, NoRoom>
         requires { x < 2 ^ 64 - 1 }
         ensures union { OnOk result
@@ -149,8 +150,8 @@ impl RangeSet {
         self.insert(x..x + 1)
     }
 
-    /// Takes a range out of the set. True exactly if that changed the set. Answers `NoRoom` only if the difference has
-    /// more runs than the set; the set is then unchanged.
+    /// Removes a range. Returns true exactly when that changed the set. Returns `NoRoom` only if an allocation fails,
+    /// which needs a difference with more runs than the set. The set is unchanged then.
     pub fn remove(&mut self, x: Range<u64>) -> Result<bool, NoRoom>
         ensures difference { OnOk result (IsRunsOf (in_difference self.old x) self.new) }
         ensures changed { IfOk result (λ changed. IsTrue changed ↔ (self.new ≢ self.old)) }
@@ -162,9 +163,9 @@ impl RangeSet {
         cut(&mut self.runs, &x)
     }
 
-    /// Puts a range into the set, and gives the nonempty parts of it that were there before. The set
-    /// is the union from this call on, however much of the answer is read. After `NoRoom`, which never comes for an
-    /// empty or reversed range, the set is unchanged.
+    /// Inserts a range, and returns the nonempty parts of it that were in the set before. The set is the union from
+    /// this call on, however many parts are read. Returns `NoRoom` if an allocation fails, which never happens for an
+    /// empty or reversed range. The set is unchanged then.
     pub fn replace(&mut self, x: Range<u64>) -> Result<Replace<'_>, NoRoom>
         ensures* union { sem 𝓛 (Ends self.entry
             (λ after. OnOk result (IsRunsOf (in_union self.old x) after)
@@ -180,8 +181,8 @@ impl RangeSet {
         })
     }
 
-    /// Puts the numbers of another set into this one. After `NoRoom`, which never comes if that would change nothing,
-    /// some of the other's runs, from the first on, were put in.
+    /// Inserts the numbers of another set. Returns `NoRoom` if an allocation fails, which never happens if nothing
+    /// would change. Some of the other's runs, from the first on, were inserted then.
     pub fn add(&mut self, other: &Self) -> Result<(), NoRoom>
         ensures union { OnOk result (IsRunsOf (in_sum self.old other.now) self.new) }
         ensures err { OnErr result (TreatsBeginning in_sum self.old other.now self.new) }
@@ -200,8 +201,8 @@ impl RangeSet {
         Ok(())
     }
 
-    /// Takes the numbers of another set out of this one. After `NoRoom`, which never comes if that would change
-    /// nothing, some of the other's runs, from the first on, were taken out.
+    /// Removes the numbers of another set. Returns `NoRoom` if an allocation fails, which never happens if nothing
+    /// would change. Some of the other's runs, from the first on, were removed then.
     pub fn subtract(&mut self, other: &Self) -> Result<(), NoRoom>
         ensures difference { OnOk result (IsRunsOf (in_subtraction self.old other.now) self.new) }
         ensures err { OnErr result (TreatsBeginning in_subtraction self.old other.now self.new) }
@@ -220,7 +221,7 @@ impl RangeSet {
         Ok(())
     }
 
-    /// Removes the first run, and gives it.
+    /// Removes the first run and returns it, or `None` if there is none.
     pub fn pop_min(&mut self) -> Option<Range<u64>>
         ensures some { IfSome result (λ run. self.old ≡ run ∷ self.new) }
         ensures none { IfNone result (self.old ≡ []) }
@@ -238,7 +239,7 @@ impl fmt::Debug for RangeSet {
     }
 }
 
-// Runs, shown as a map from the start of each to its end.
+// Runs, printed as a map from the start of each to its end.
 #[derive(Drop)]
 struct EndsByStart<'a>(&'a [Range<u64>]);
 
@@ -281,7 +282,7 @@ impl<'a> Iterator for Replace<'a> {
     }
 }
 
-// Puts a range into the runs. Memory is allocated at most once, before the first change.
+// Inserts a range into the runs. It allocates at most once, before the first change.
 fn join(runs: &mut RunVec, x: &Range<u64>) -> Result<bool, NoRoom>
     requires { IsMaximalRuns runs.old }
     ensures union { OnOk result (IsRunsOf (in_union runs.old x.now) runs.new) }
@@ -301,7 +302,7 @@ fn join(runs: &mut RunVec, x: &Range<u64>) -> Result<bool, NoRoom>
     }
 }
 
-// Does the same wherever the range lies, by halving.
+// The same for a range anywhere, by binary search.
 fn join_among(runs: &mut RunVec, x: &Range<u64>) -> Result<bool, NoRoom>
     requires { IsMaximalRuns runs.old }
     ensures union { OnOk result (IsRunsOf (in_union runs.old x.now) runs.new) }
@@ -317,7 +318,7 @@ fn join_among(runs: &mut RunVec, x: &Range<u64>) -> Result<bool, NoRoom>
     Ok(true)
 }
 
-// Takes a range out of the runs. Memory is allocated at most once, before the first change.
+// Removes a range from the runs. It allocates at most once, before the first change.
 fn cut(runs: &mut RunVec, x: &Range<u64>) -> Result<bool, NoRoom>
     requires { IsMaximalRuns runs.old }
     ensures difference { OnOk result (IsRunsOf (in_difference runs.old x.now) runs.new) }
@@ -333,12 +334,12 @@ fn cut(runs: &mut RunVec, x: &Range<u64>) -> Result<bool, NoRoom>
     Ok(true)
 }
 
-// Whether one walk over all runs costs less than a search and a move for each of the others.
+// Whether one walk over all runs is cheaper than a search and a move for each of the others.
 fn pays_to_merge(runs: &[Range<u64>], others: &[Range<u64>]) -> bool {
     others.len() >= 8 && others.len() >= runs.len() / 32
 }
 
-// The runs of both lists together, merged from the front on, so that each is joined at the end.
+// The runs of both lists, merged from the front on, so that each run is joined to the last.
 fn sum_of(alloc: Global, runs: &[Range<u64>], others: &[Range<u64>]) -> Result<RunVec, NoRoom>
     ensures { IfOk result (λ sum. IsRunsOf (in_sum runs.now others.now) sum) }
 {
@@ -389,7 +390,7 @@ fn difference_of(
     Ok(left)
 }
 
-// Finds the parts of `x` that the runs hold.
+// Finds the parts of `x` that are in the runs.
 fn find_intersections(
     found: &mut Vec<Range<u64>>,
     runs: &[Range<u64>],

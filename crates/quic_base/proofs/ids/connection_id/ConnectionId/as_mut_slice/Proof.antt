@@ -58,7 +58,7 @@ use Rattle.quic_base.proofs.ids.connection_id.ConnectionId.as_mut_slice.Code as 
 abbrev stayed : Stays F.ended.signature.params F.ended.kept
 stayed = (stay_dropped (RefMutOf (0 ∷ []) tt (plain (λ _. Id)) (λ _. tt)) no, tt)
 
--- what the id becomes where ws was written
+-- what the id becomes once ws was written
 abbrev after : List ℕ → List ℕ → List ℕ
 after d ws = refill (length d) d ws
 

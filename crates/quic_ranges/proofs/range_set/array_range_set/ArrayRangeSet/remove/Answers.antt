@@ -7,7 +7,7 @@ use Rattle.std.proofs.lemmas.Grind.{common_steps}
 use Rattle.quic_ranges.proofs.range_set.array_range_set.ArrayRangeSet.remove.Goals as goal
 use Rattle.quic_ranges.proofs.range_set.array_range_set.ArrayRangeSet.remove.Goals.{After-from_residual}
 
--- a refused change makes one run more
+-- a change that fails would make one more run
 more_runs : (c : After-from_residual) (rs : List (Range ℕ)) → IsRunsOf (in_difference c.args.self.now c.args.x) rs
     → length rs ≡ length c.self.inside.runs.items + 1
 more_runs c rs h =

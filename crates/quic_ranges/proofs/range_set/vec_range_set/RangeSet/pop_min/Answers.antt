@@ -4,7 +4,7 @@ use Rattle.quic_ranges.specs.Runs.{IsMaximalRuns}
 use Rattle.quic_ranges.proofs.RunsLemmas.{IsMaximalRuns-rest}
 use Rattle.quic_ranges.proofs.range_set.vec_range_set.RangeSet.pop_min.Goals as goal
 
--- the runs are maximal still, whether one goes or not
+-- the runs are still maximal, whether one is removed or not
 still : (o : Option (Range ℕ)) (rs ss : List (Range ℕ)) → IfSome o (λ run. rs ≡ run ∷ ss) → IfNone o (ss ≡ rs)
     → IsMaximalRuns rs → IsMaximalRuns ss
 still (Some r) rs ss some none h = IsMaximalRuns-rest r ss rs some h

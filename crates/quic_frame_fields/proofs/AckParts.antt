@@ -181,7 +181,7 @@ holds_more all held held' above run runs left w w1 w2 s s1 s2 x e b room is =
       bound = omega (arith, n.below.some, n.below.apart, x.bound);
     }
 
--- what was held was refused
+-- appending what was held failed
 pub holds_refused : {D E : Type 0} (r : Result (Unit {0}) E) (refused : Result (Unit {0}) D) (d : D) (error : E)
     (all held : List ℕ) (above : Range ℕ) (left : List (Range ℕ)) (w w1 w2 : List ℕ) (s s1 s2 : ℕ)
     → HoldsRuns all held above left w s w1 s1 → Writes r held w1 s1 w2 s2 → r ≡ Err error → refused ≡ Err d
@@ -200,7 +200,7 @@ holds_last r all held above left w w1 w2 s s1 s2 x none y =
     ∙ append-nil (x.before ++ held) in
     subst (λ (l : List ℕ). Writes r l w s w2 s2) (sym whole) (writes_last r x.before held w w1 w2 s s1 s2 x.wrote y)
 
--- nothing was appended of what is held, all of it, or, where it was refused, a beginning
+-- nothing of what is held was appended, or all of it, or, if that failed, a beginning
 pub keeps_held : {E : Type 0} (at : ℕ) (chunk w : List ℕ) (s : ℕ) → Flushes {E = E} (Ok at) at chunk w s w s
 keeps_held at chunk w s = record {
   begun = record { done = []; left = take at chunk; whole = refl; stands = sym (append-nil w) };

@@ -166,7 +166,7 @@ front_of front left header rest e fewer =
     sym (take_at front left (length front) refl) ∙ ap (take (length front)) whole
     ∙ take_at (header ++ back) over (length front) long
 
--- the blocks that are read of a frame's bytes are there
+-- the blocks that are read from a frame's bytes are there
 pub stand_in_frame : (type : ℕ) (ack : Ack) (bytes behind front left : List ℕ) → AreBytes bytes
     → varint_at bytes ≡ Ok (type, behind) → ReadsBlocks (parts_of ack) behind left → bytes ≡ front ++ left
     → BlocksStand type ack front

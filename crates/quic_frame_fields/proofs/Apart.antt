@@ -1,4 +1,4 @@
--- The blocks of an ACK stand for one list of ranges that never touch.
+-- The blocks of an ACK encode one list of ranges that never touch.
 use Rattle.std.proofs.Common.{◌≡◌, ℕ, zero, suc, ◌+◌, ◌-◌, ◌≤◌, cond, ltb, List, [], ◌∷◌, length, Result, Ok, Err, refl, sym, ap, subst, ◌∙◌, arith}
 use Rattle.std.proofs.lemmas.Bool.{ltb-false}
 use Rattle.quic_frame_fields.specs.declared.frame.fault.Fault.{Fault}
@@ -26,7 +26,7 @@ pub blocks_apart : (greatest : ℕ) (ranges : List (ℕ × ℕ)) (bytes : List �
 blocks_apart greatest [] bytes a = absurd a
 blocks_apart greatest (range ∷ ranges) bytes a = below_apart range ranges a.1 a.4 a.6
 
--- ---- what is read never touches, of whatever bytes
+-- ---- ranges that are read never touch, whatever the bytes are
 
 block_low : (greatest : ℕ) (bytes : List ℕ) (x : ℕ × List ℕ) → block_at greatest bytes ≡ Ok x → x.0 ≤ greatest
 unfolding block_at

@@ -276,7 +276,7 @@ blocks_of greatest bytes fits valid =
     subst (AreBlocks greatest (t.range ∷ t.ranges)) (sym whole) t.blocks in
     record { range = t.range; ranges = t.ranges; are = ranges_are greatest t.range t.ranges bytes blocks; blocks = blocks }
 
--- the ranges that are read of valid blocks are theirs
+-- the ranges that are read from valid blocks are theirs
 pub acked : (greatest : ℕ) (bytes : List ℕ) → AreBytes bytes → IsBlocks greatest bytes
     → AreBlocks greatest (ranges_of greatest bytes) bytes
 acked greatest bytes fits valid =

@@ -1,4 +1,4 @@
--- The first range of bytes that may be no blocks of an ACK.
+-- The first range of bytes that may not be the blocks of an ACK.
 use Rattle.std.proofs.Common.{◌≡◌, ◌≢◌, ℕ, ◌+◌, ◌-◌, ◌<◌, ◌≤◌, ltb, List, [], ◌∷◌, ◌++◌, length, drop, Ok, Err, refl, sym, ap, subst, ◌∙◌, append_assoc, inl, inr, arith}
 use Rattle.std.specs.Prelude.{◌⊎◌}
 use Rattle.std.proofs.lemmas.List.{drop_at, length-append}
@@ -61,7 +61,7 @@ short_step greatest n m rest one two le =
 
 -- ---- what the step says
 
--- What is known where a range comes first.
+-- What is known if a range comes first.
 pub record SplitsFirst (greatest : ℕ) (bytes : List ℕ) (least next : ℕ) (rest : List ℕ) : Type 0 where
   pub begins : BeginsWithRange greatest bytes least next rest
   pub shorter : length rest < length bytes
@@ -170,7 +170,7 @@ splits_first greatest bytes x fits e =
         subst (λ (y : ℕ × ℕ × List ℕ). SplitsFirst greatest bytes y.0 y.1 y.2) (ok_is (least, g.0.0, g.0.1) x g.2)
         (splits_next greatest bytes least (c ∷ rest) g.0.0 g.0.1 fits h g.1)
 
--- What is known where none does.
+-- What is known if none does.
 pub record IsRefused (greatest : ℕ) (bytes : List ℕ) (e : Fault) : Type 0 where
   pub reason : IsCutOrLarge e
   pub stops : RangeStops greatest bytes e

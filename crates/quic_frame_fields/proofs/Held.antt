@@ -17,7 +17,7 @@ use Rattle.quic_frame_fields.proofs.Apart.{blocks_apart}
 use Rattle.quic_frame_fields.proofs.Blocks.{blocks_of}
 use Rattle.quic_frame_fields.proofs.Sets.{few_below}
 
--- the numbers that stand for ranges: for each but the first its gap, and for each its block
+-- the numbers that encode ranges: for each its block, and for each except the first its gap
 abbrev below_numbers : ℕ → List (ℕ × ℕ) → List ℕ
 below_numbers low [] = []
 below_numbers low (range ∷ ranges) = (low - (range.1 + 2)) ∷ (range.1 - range.0) ∷ below_numbers range.0 ranges

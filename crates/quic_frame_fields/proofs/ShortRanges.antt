@@ -12,7 +12,7 @@ use Rattle.quic_frame_fields.proofs.Gaps.{by_range, short_range}
 
 -- ---- ranges one after the other
 
--- so many ranges of one byte for each number are at the front
+-- that many ranges of one-byte numbers are at the front
 abbrev IsShort : ℕ → List ℕ → Type 0
 IsShort zero bytes = Unit {0}
 IsShort (suc r) [] = ⊥
@@ -135,7 +135,7 @@ byte_below k low b high word bound clear fits less is six seven lt =
     byte_small k low b high word fits less is (bit_clear word 0xc0c0_c0c0_c0c0_c0c0 (k + 6) bound clear six
     (omega (arith, lt))) (bit_clear word 0xc0c0_c0c0_c0c0_c0c0 (k + 7) bound clear seven lt)
 
--- the bytes at the front, by the place of that bit
+-- the bytes at the front, by the position of that bit
 bytes_below : (a b c d e f g h word i bound : ℕ) → Clear (bit_and word 0xc0c0_c0c0_c0c0_c0c0) bound
     → ((j : ℕ) → get_or (a ∷ b ∷ c ∷ d ∷ e ∷ f ∷ g ∷ h ∷ []) j 0 < 256)
     → word ≡ from_le_bytes w64 (a ∷ b ∷ c ∷ d ∷ e ∷ f ∷ g ∷ h ∷ [])
@@ -189,7 +189,7 @@ abbrev IsSumOf : ℕ → ℕ → Type 0
 IsSumOf word all =
     (bytes : List ℕ) → length bytes ≡ 8 → AreShort bytes → word ≡ from_le_bytes w64 bytes → all ≡ sum bytes
 
--- So many ranges at the front are read at once: they span so many packet numbers.
+-- The first number of ranges at the front is read at once: they span the second number of packet numbers.
 abbrev pub ReadsShort : List ℕ → ℕ → ℕ → Type 0
 ReadsShort front r all =
     (count low : ℕ) (rest : List ℕ) → r ≤ count → all ≤ low → below_at count low (front ++ rest)
@@ -290,7 +290,7 @@ four_read front word all eight fits in_word is none sums =
     let same : word % 2 ^ 64 ≡ word = omega (arith, in_word) in
     shorts_read front word all 4 64 eight fits is (λ i lt. rw none (bit_at-zero i)) (omega arith) (omega arith) (rw same sums)
 
--- and of which one is, where its lowest such bit is at a place
+-- and of which one is, if the lowest such bit is at place
 pub some_few : (word place : ℕ) → word < 2 ^ 64 → bit_and word 0xc0c0_c0c0_c0c0_c0c0 ≢ 0
     → place ≡ trailing_zeros w64 (bit_and word 0xc0c0_c0c0_c0c0_c0c0) → place / 16 < 4
 some_few word place in_word some is =
@@ -303,7 +303,7 @@ some_few word place in_word some is =
     positive zero some = absurd (some refl)
     positive (suc n) some = omega arith
 
--- the bytes below that place
+-- the bytes below that position
 mask_is : (k : ℕ) → k < 4 → 1 * 2 ^ (16 * k) % 2 ^ 64 - 1 ≡ 2 ^ (16 * k) - 1
 mask_is zero lt = refl
 mask_is (suc zero) lt = refl

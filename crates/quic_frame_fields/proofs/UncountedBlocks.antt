@@ -57,7 +57,7 @@ pub block_left : (greatest : ℕ) (bytes : List ℕ) (x : ℕ × List ℕ) → A
     → AreBytes x.1
 block_left greatest bytes x fits e = (block_takes greatest bytes x fits e).1.left_fits
 
--- Reading so many pairs and then more of bytes is reading the more of what is left.
+-- Reading that many pairs of the bytes and then more is reading the others from what is left.
 pub record Comes (greatest : ℕ) (bytes : List ℕ) (low : ℕ) (rest : List ℕ) : Type 0 where
   pub pairs : ℕ
   pub same : (more : ℕ) → after_blocks (pairs + more) greatest bytes ≡ below_at more low rest
@@ -97,7 +97,7 @@ all_read greatest low bytes fits c =
     omega (arith, ap length (ranges_are greatest t.range t.ranges bytes blocks), t.len) in
     ap (λ (k : ℕ). after_blocks k greatest bytes) count ∙ e
 
--- reading that goes on after so many pairs
+-- reading that continues after that many pairs
 record GoesOn (pairs low : ℕ) (bytes left : List ℕ) : Type 0 where
   low_left : ℕ
   same : (more : ℕ) → below_at (pairs + more) low bytes ≡ below_at more low_left left
@@ -126,12 +126,12 @@ goes_on (suc pairs) low bytes left e =
       same = λ more. one_more pairs more low a.0.0 b.0.0 bytes a.0.1 b.0.1 a.1 b.1 ∙ t.same more;
     }
 
--- of no bytes no pair is read
+-- no pair is read from no bytes
 none_of_nothing : (more low : ℕ) → below_at (suc more) low [] ≡ Err UnexpectedEnd
 unfolding below_at gap_at varint_at number_at
 none_of_nothing more low = refl
 
--- Where reading another pair of what is left stops, the bytes are no blocks.
+-- If reading another pair of what is left fails, the bytes aren't blocks.
 stops_short : (greatest low count : ℕ) (bytes rest : List ℕ) (e : Fault) → Comes greatest bytes low rest
     → 0 < length rest → ((more : ℕ) → below_at (suc more) low rest ≡ Err e) → after_blocks count greatest bytes ≡ Ok []
     → ⊥

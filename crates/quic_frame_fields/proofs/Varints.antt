@@ -1,4 +1,4 @@
--- Numbers of any width, as the readers of this crate tell them.
+-- Numbers of any width, as the readers of this crate return them.
 use Rattle.std.proofs.Common.{◌≡◌, ℕ, ◌<◌, List, ◌∷◌, ◌++◌, length, Option, None, Some, Ok, Err, ap}
 use Rattle.quic_base.specs.Number.{AreBytes}
 use Rattle.quic_base.specs.Codec.{Takes}
@@ -33,7 +33,7 @@ varint_fails bytes e h = or_end_err (number_at bytes) e h
 pub varint_some : (n : ℕ) (bytes : List ℕ) → Encodes n bytes → 0 < length bytes
 varint_some n bytes s = (encoded_bound n bytes s).1
 
--- what was found at the front is what reading gives
+-- what was found at the front is what reading returns
 pub varint_found : (bytes : List ℕ) (x : ℕ × List ℕ) → number_at bytes ≡ Some x → varint_at bytes ≡ Ok x
 unfolding varint_at
 varint_found bytes x e = ap or_end e

@@ -21,12 +21,12 @@ range_of_two low n m bytes middle rest one two le =
     let least : low - (n + 2) - m ≡ low - (n + 2 + m) = omega arith in
     rw (one, gap_fits, two, block_fits, least) refl
 
--- A range at the front is read: its least number, and how many bytes it takes.
+-- A range at the front is read: its least number, and its length in bytes.
 abbrev pub ReadsRange : List ℕ → ℕ → ℕ → ℕ → Type 0
 ReadsRange front low least taken =
     (count : ℕ) (rest : List ℕ) → 0 < count → below_at count low (front ++ rest) ≡ below_at (count - 1) least (drop taken front ++ rest)
 
--- a number that the front of some bytes holds is read of all of them
+-- a number that the front of some bytes holds is read from all of them
 read_longer : (n : ℕ) (front behind rest : List ℕ) → AreBytes front → varint_at front ≡ Ok (n, behind)
     → varint_at (front ++ rest) ≡ Ok (n, behind ++ rest)
 read_longer n front behind rest fits e =

@@ -18,8 +18,8 @@ pub record BlocksStand (type : ℕ) (ack : Ack) (bytes : List ℕ) : Type 0 wher
   pub numbers : AreEncoded (type ∷ (parts_of ack).largest ∷ (parts_of ack).delay ∷ (length (ranges_acked ack) - 1)
       ∷ []) header
 
--- The bytes begin with an ACK up to its counts, if it has these: the type, the greatest number, the delay, how many
--- ranges are below the first, and the blocks.
+-- The bytes begin with an ACK, without its ECN counts if it has these: the type, the greatest number, the delay, how
+-- many ranges are below the first, and the blocks.
 pub record BeginsWithAck (bytes : List ℕ) (largest : ℕ) (blocks rest : List ℕ) : Type 0 where
   pub type : ℕ
   pub is_ack : (type ≡ 2) ⊎ (type ≡ 3)
@@ -40,7 +40,7 @@ behind_ack_type bytes = do
   blocks ← blocks_at largest.0 delay.1
   Ok (largest.0, blocks.0, blocks.1)
 
--- the greatest number of an ACK, with counts or without, the bytes of its blocks, and what follows these
+-- the greatest number of an ACK, with or without ECN counts, the bytes of its blocks, and what follows these
 unfoldable pub ack_at : List ℕ → Result (ℕ × List ℕ × List ℕ) Fault
 ack_at bytes = do
   type ← varint_at bytes

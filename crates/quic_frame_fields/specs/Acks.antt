@@ -27,7 +27,7 @@ parts_of a = record { largest = a.largest; delay = a.delay; additional = a.addit
 abbrev pub ranges_acked : Ack → List (ℕ × ℕ)
 ranges_acked a = ranges_of a.largest a.additional.now
 
--- the ranges that an iterator still gives
+-- the ranges that an iterator hasn't returned yet
 abbrev pub ranges_left : AckIter → List (ℕ × ℕ)
 ranges_left it = ranges_of it.largest it.blocks.now
 
@@ -39,13 +39,13 @@ abbrev pub fault_of : AckError → Fault
 fault_of UnexpectedEnd = faults.UnexpectedEnd
 fault_of Malformed = faults.Malformed
 
--- how many packets of a codepoint were counted
+-- how many packets with a codepoint were counted
 abbrev pub count_of : EcnCodepoint → EcnCounts → ℕ
 count_of Ect0 counts = counts.ect0
 count_of Ect1 counts = counts.ect1
 count_of Ce counts = counts.ce
 
--- one more is counted of this codepoint, and no other count has changed
+-- the count of this codepoint is one more, and no other count has changed
 abbrev pub CountsOne : EcnCounts → EcnCodepoint → EcnCounts → Type 0
 CountsOne old Ect0 new = new ≡ record old { ect0 = old.ect0 + 1 }
 CountsOne old Ect1 new = new ≡ record old { ect1 = old.ect1 + 1 }

@@ -13,7 +13,7 @@ abbrev pub is_connection : Close → Bool
 is_connection (Connection c) = true
 is_connection (Application c) = false
 
--- bytes as text, where what is no UTF-8 is shown as U+FFFD
+-- bytes as text, with U+FFFD for what isn't UTF-8
 abbrev pub lossy_text : List ℕ → List ℕ
 lossy_text bytes = encode_utf8_all (lossy_chars bytes)
 

@@ -23,7 +23,7 @@ pub data Field : Type 0 where
   Uint64 : Field
   -- sixteen bytes
   Bytes16 : Field
-  -- the ranges of an ACK whose greatest number is the first number before: their count less one, and their blocks
+  -- the ranges of an ACK whose greatest number is the first number before: their count minus one, and their blocks
   Blocks : Field
   -- all that is left
   Rest : Field
@@ -46,8 +46,8 @@ abbrev pub greatest_of : List Value → ℕ
 greatest_of (Number greatest ∷ values) = greatest
 greatest_of _ = 0
 
--- Bytes that encode ranges below a range with the least number low: for each the numbers between it and the range
--- above, less one, and its numbers, less one (RFC 9000, section 19.3.1).
+-- Bytes that encode ranges below a range with the least number low: for each, how many numbers are between it and the
+-- range above, minus one, and how many numbers it has, minus one (RFC 9000, section 19.3.1).
 abbrev pub AreBelow : ℕ → List (ℕ × ℕ) → List ℕ → Type 0
 AreBelow low [] bytes = bytes ≡ []
 AreBelow low (range ∷ ranges) bytes =
@@ -61,7 +61,7 @@ AreBlocks greatest (range ∷ ranges) bytes =
     (block others : List ℕ) × (bytes ≡ block ++ others) × (range.1 ≡ greatest) × (range.0 ≤ range.1)
     × Encodes (range.1 - range.0) block × AreBelow range.0 ranges others
 
--- Each range is below the one before it, and a number of neither is between them.
+-- Each range is below the one before it, and at least one number is between them.
 abbrev pub AreApart : List (ℕ × ℕ) → Type 0
 AreApart [] = ⊤
 AreApart (range ∷ []) = range.0 ≤ range.1
@@ -99,7 +99,7 @@ NumberStops bytes reason is_large After =
     ⊎ Begins bytes (λ n rest. (is_large n ≡ true) × (reason ≡ Malformed))
     ⊎ Begins bytes (λ n rest. (is_large n ≡ false) × After n rest)
 
--- why so many ranges below low can't be read
+-- why that many ranges below low can't be read
 abbrev pub BelowStops : ℕ → ℕ → List ℕ → Fault → Type 0
 BelowStops zero low bytes reason = ⊥
 BelowStops (suc count) low bytes reason =
@@ -107,7 +107,7 @@ BelowStops (suc count) low bytes reason =
     NumberStops rest reason (λ block. nat_lt (low - (gap + 2)) block)
     (λ block others. BelowStops count (low - (gap + 2) - block) others reason))
 
--- the same, for a first block and so many ranges below it
+-- the same, for a first block and that many ranges below it
 abbrev pub RangesStop : ℕ → ℕ → List ℕ → Fault → Type 0
 RangesStop count greatest bytes reason = NumberStops bytes reason (λ block. nat_lt greatest block)
     (λ block others. BelowStops count (greatest - block) others reason)

@@ -1,4 +1,4 @@
--- What the parts of frames say: each struct as a name and values, and the type by which a frame is named.
+-- What the parts of frames mean: each struct as a name and values, and the type that names a frame.
 use Rattle.std.specs.Prelude.{ℕ, ◌+◌, ◌==◌, List, [], ◌∷◌, Bool, Option, None, Some, if◌then◌else◌}
 use Rattle.quic_frame_fields.specs.declared.frame.ack.Ack.{Ack}
 use Rattle.quic_frame_fields.specs.declared.frame.ack.EcnCounts.{EcnCounts}
@@ -77,8 +77,7 @@ abbrev pub first_number : List Value → ℕ
 first_number (Number n ∷ values) = n
 first_number values = 0
 
--- the type by which a frame is named: that of a STREAM tells whether it ends the stream, and whether its offset is
--- not 0
+-- the type that names a frame: that of a STREAM says whether it ends the stream, and whether its offset isn't 0
 abbrev pub named_type : Name → List Value → ℕ
 named_type names.Padding values = 0x00
 named_type names.Ping values = 0x01

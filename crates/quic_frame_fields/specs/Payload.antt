@@ -33,7 +33,7 @@ pub record IsFrame (strict : Bool) (found : TypedFrame) (bytes : List ℕ) : Typ
   pub name : found.frame.name ≡ row.name
   pub fields : AreFields row.fields [] found.frame.values field_bytes
 
--- The bytes are these frames, an open one last only.
+-- The bytes are these frames, and only the last may be open.
 abbrev pub AreFrames : Bool → List TypedFrame → List ℕ → Type 0
 AreFrames strict [] bytes = bytes ≡ []
 AreFrames strict (found ∷ others) bytes =
@@ -57,7 +57,7 @@ pub record BeginsWithType (strict : Bool) (bytes : List ℕ) (t : ℕ) (P : List
   pub encoded : IsType strict t front
   pub then : P back
 
--- A type comes first, which is not in its shortest encoding, as it must be.
+-- A type comes first, and it isn't in its shortest encoding although it must be.
 pub record HasLongType (strict : Bool) (bytes : List ℕ) (t : ℕ) : Type 0 where
   pub counts : strict ≡ true
   pub front : List ℕ
@@ -66,8 +66,8 @@ pub record HasLongType (strict : Bool) (bytes : List ℕ) (t : ℕ) : Type 0 whe
   pub encoded : Encodes t front
   pub long : front ≢ shortest_varint t
 
--- The type and the reason of the error where no frame begins, after a frame of the given type: no type can be read; or
--- it must be in its shortest encoding, and is not; or it has no row; or a field of its row can't be read.
+-- The type and the reason of the error if no frame begins here, after a frame of the given type: no type can be read;
+-- or it must be in its shortest encoding and isn't; or it has no row; or a field of its row can't be read.
 abbrev pub IsNoFrame : Bool → Option ℕ → List ℕ → Option ℕ → Fault → Type 0
 IsNoFrame strict before bytes type reason =
     ((bytes ≢ []) × NoNumber bytes × (type ≡ before) × (reason ≡ UnexpectedEnd))

@@ -9,7 +9,7 @@ use Rattle.quic_frame_fields.specs.Field.{Value, Number, Bytes, Ranges, Field, V
 use Rattle.quic_frame_fields.specs.Table.{Row, row_of}
 use Rattle.quic_frame_fields.specs.Payload.{Meaning, TypedFrame}
 
--- What a function returned, seen by view, is what reading gives.
+-- What a function returned, seen through view, is what reading returns.
 abbrev pub Gives : {X Y : Type 0} → (X → Y) → Result X Fault → Result Y Fault → Type 0
 Gives view (Ok x) read = read ≡ Ok (view x)
 Gives view (Err e) read = read ≡ Err e
@@ -50,7 +50,7 @@ gap_at low bytes = do
   n ← varint_at bytes
   if nat_lt low (n.0 + 2) then Err Malformed else Ok (low - (n.0 + 2), n.1)
 
--- what comes after so many ranges below low
+-- what comes after that many ranges below low
 unfoldable pub below_at : ℕ → ℕ → List ℕ → Result (List ℕ) Fault
 below_at zero low bytes = Ok bytes
 below_at (suc count) low bytes = do
@@ -76,8 +76,8 @@ range_at low bytes = do
   block ← block_at gap.0 gap.1
   Ok ((block.0, gap.0), block.1)
 
--- what follows a first range with this least number: the greatest number of the next one, and the blocks of that one
--- and those below it; 0 where nothing follows
+-- what follows a first range with this least number: the greatest number of the next range, and the blocks of that
+-- range and of those below it; 0 if nothing follows
 abbrev pub next_range_at : ℕ → List ℕ → Result (ℕ × ℕ × List ℕ) Fault
 next_range_at least [] = Ok (least, 0, [])
 next_range_at least (b ∷ bytes) = gap_at least (b ∷ bytes) >>= λ gap. Ok (least, gap.0, gap.1)
@@ -110,7 +110,7 @@ ranges_of greatest bytes = first_and greatest (block_at greatest bytes)
 abbrev pub IsBlocks : ℕ → List ℕ → Type 0
 IsBlocks greatest bytes = after_blocks (length (ranges_of greatest bytes) - 1) greatest bytes ≡ Ok []
 
--- The same of bytes that may be no block at all: what is left of them.
+-- The same of bytes that may not be blocks: what is left of them.
 abbrev pub blocks_left : ℕ → List ℕ → Result (List ℕ) Fault
 blocks_left greatest [] = Ok []
 blocks_left greatest (b ∷ bytes) = after_blocks (length (ranges_of greatest (b ∷ bytes)) - 1) greatest (b ∷ bytes)
@@ -170,7 +170,7 @@ abbrev pub after_type : ℕ → Result (Meaning × List ℕ) Fault → Result (T
 after_type t (Ok x) = Ok (record { type = t; frame = x.0 }, x.1)
 after_type t (Err e) = Err (invalid (Some t) e)
 
--- a type of so many bytes is in another width than the least, where that counts
+-- a type of that many bytes isn't in its shortest encoding, if it must be
 abbrev pub is_long_type : Bool → ℕ → ℕ → Bool
 is_long_type strict t width = strict && not (width == size t)
 
@@ -179,11 +179,11 @@ at_type strict before total (Ok x) = if is_long_type strict x.0 (total - length 
     then Err (invalid (Some x.0) LongType) else after_type x.0 (frame_at x.0 x.1)
 at_type strict before total (Err e) = Err (invalid before e)
 
--- the frame at the front, where the last type before it is given
+-- the frame at the front, given the last type before it
 unfoldable pub found_at : Bool → Option ℕ → List ℕ → Result (TypedFrame × List ℕ) Invalid
 found_at strict before bytes = at_type strict before (length bytes) (varint_at bytes)
 
--- an item of a payload: a frame from one place to another, or the error
+-- an item of a payload: a frame from one offset to another, or the error
 pub data Item : Type 0 where
   Whole : (start stop : ℕ) → TypedFrame → Item
   Broken : Invalid → Item
@@ -193,13 +193,13 @@ items_after others start total (Err e) = Broken e ∷ []
 items_after others start total (Ok x) =
     let stop = start + (total - length x.1) in Whole start stop x.0 ∷ others stop (Some x.0.type) x.1
 
--- the items of bytes that begin at a place, at most n, up to one that can't be read
+-- the items of bytes that begin at an offset, at most n, up to one that can't be read
 unfoldable pub items_from : Bool → ℕ → ℕ → Option ℕ → List ℕ → List Item
 items_from strict zero start before bytes = []
 items_from strict (suc n) start before [] = []
 items_from strict (suc n) start before (b ∷ bs) = items_after (items_from strict n) start (length (b ∷ bs))
     (found_at strict before (b ∷ bs))
 
--- all items of bytes that begin at a place, where the last type before them is given
+-- all items of bytes that begin at an offset, given the last type before them
 unfoldable pub items_of : Bool → ℕ → Option ℕ → List ℕ → List Item
 items_of strict start before bytes = items_from strict (length bytes) start before bytes

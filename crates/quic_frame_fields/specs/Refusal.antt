@@ -1,10 +1,9 @@
--- Bytes that are no blocks of an ACK.
+-- Bytes that aren't the blocks of an ACK.
 use Rattle.std.specs.Prelude.{ℕ, List}
 use Rattle.quic_frame_fields.specs.declared.frame.fault.Fault.{Fault}
 use Rattle.quic_frame_fields.specs.Field.{AreBlocks, RangesStop}
 
--- The bytes are not the blocks of an ACK with this greatest number, and reading so many pairs of them stops for this
--- reason.
+-- The bytes aren't the blocks of an ACK with this greatest number; reading their pairs stops for this reason.
 pub record AreNoBlocks (greatest : ℕ) (bytes : List ℕ) (reason : Fault) : Type 0 where
   pub none : (ranges : List (ℕ × ℕ)) → AreBlocks greatest ranges bytes → ⊥
   pub pairs : ℕ

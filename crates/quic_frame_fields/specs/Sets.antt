@@ -19,7 +19,7 @@ abbrev pub ranges_in : List (Range ℕ) → List (ℕ × ℕ)
 ranges_in [] = []
 ranges_in (run ∷ runs) = ranges_in runs ++ ends_of run ∷ []
 
--- the greatest number of ranges whose greatest comes first
+-- the greatest number of ranges, of which the greatest comes first
 abbrev pub greatest_in : List (ℕ × ℕ) → ℕ
 greatest_in [] = 0
 greatest_in (range ∷ ranges) = range.1
@@ -45,12 +45,12 @@ IsAckInRange a = AreNumeric (a.largest ∷ a.delay ∷ []) × AreCounts a.ecn
 
 -- ---- what encoders write. No public clause cites what follows.
 
--- the type of an ACK, by whether counts are given
+-- the type of an ACK, by whether it has ECN counts
 abbrev pub ack_type : Option EcnCounts → ℕ
 ack_type None = 0x02
 ack_type (Some counts) = 0x03
 
--- the numbers of counts, where they are given
+-- the numbers of the ECN counts, if they are given
 abbrev pub count_numbers : Option EcnCounts → List ℕ
 count_numbers None = []
 count_numbers (Some counts) = counts.ect0 ∷ counts.ect1 ∷ counts.ce ∷ []

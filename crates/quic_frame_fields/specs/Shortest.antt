@@ -1,4 +1,4 @@
--- The shortest encoding of a frame at its place.
+-- The shortest encoding of a frame, the last of its payload or not.
 use Rattle.std.specs.Prelude.{ℕ, ◌+◌, ◌-◌, List, [], ◌∷◌, ◌++◌, ◌==◌, length, take, max, Option, Some, None, Bool, if◌then◌else◌}
 use Rattle.quic_base.specs.Number.{bytes_of}
 use Rattle.quic_base.specs.Varint.{shortest_varint, size}
@@ -42,7 +42,7 @@ abbrev pub shortest_fields : List Field → List Value → List ℕ
 shortest_fields [] values = []
 shortest_fields (field ∷ fields) values = shortest_of field values ++ shortest_fields fields (values_after field values)
 
--- the type by which a frame is written: an ACK's tells whether counts are given, that of a STREAM or a DATAGRAM
+-- the type with which a frame is written: an ACK's says whether it has ECN counts, that of a STREAM or a DATAGRAM
 -- whether it is the last
 abbrev pub written_type : Bool → Name → List Value → ℕ
 written_type last Ack (greatest ∷ delay ∷ ranges ∷ []) = 0x02
@@ -63,8 +63,8 @@ shortest_frame last frame = let t = written_type last frame.name frame.values
 abbrev pub written_offset : ℕ → List ℕ
 written_offset offset = if offset == 0 then [] else shortest_varint offset
 
--- the bytes of a STREAM before its data: its type, its id, its offset where that isn't 0, and the length of the data
--- where it is written
+-- the bytes of a STREAM before its data: its type, its id, its offset if that isn't 0, and the length of the data if it
+-- is written
 abbrev pub stream_header : ℕ → ℕ → Bool → Option ℕ → List ℕ
 stream_header id offset fin None = shortest_varint (named_type Stream (flag fin ∷ Number id ∷ Number offset ∷ []))
     ++ (shortest_varint id ++ written_offset offset)
@@ -74,8 +74,8 @@ stream_header id offset fin (Some n) = shortest_varint
 
 -- ---- closes that are cut to their room
 
--- the least room that a close asks for: its type, two bytes or the code's, the type of the frame, and the length of
--- the whole reason
+-- the least room that a close needs: its type, two bytes or the code's, the type of the frame, and the length of the
+-- whole reason
 abbrev pub least_room : Close → ℕ
 least_room (closes.Connection c) = 1 + max 2 (size c.error_code) + size (type_or_zero c.frame_type) + size
     (length c.reason.now)
@@ -90,6 +90,6 @@ abbrev pub close_reason : Close → List ℕ
 close_reason (closes.Connection c) = c.reason.now
 close_reason (closes.Application c) = c.reason.now
 
--- a close in so much room
+-- a close in that much room
 abbrev pub close_in : ℕ → Close → Meaning
 close_in room c = cut_close (room - least_room c) c

@@ -114,16 +114,16 @@ offset_field is_written = if is_written then Varint else Implied 0
 abbrev pub data_field : Bool → Field
 data_field is_counted = if is_counted then Counted else Rest
 
--- a STREAM by the low three bits of its type; first whether it ends the stream, then its id, offset and data
+-- a STREAM, by the low three bits of its type: whether it ends the stream, then its id, offset and data
 abbrev pub stream_row : Bool → Bool → Bool → Row
 stream_row has_offset has_length fin = row Stream
     (Implied (if fin then 1 else 0) ∷ stream_id ∷ offset_field has_offset ∷ data_field has_length ∷ [])
 
--- first the direction, then the count
+-- the direction, then the count
 abbrev pub streams_row : Name → Dir → Row
 streams_row name dir = row name (Implied (dir_number dir) ∷ Varint ∷ [])
 
--- the sequence number, the one before which ids are retired, which is at most that, the id, the token
+-- the sequence number; Retire Prior To, which is at most that; the id; the token
 abbrev pub new_connection_id_row : Row
 new_connection_id_row = row NewConnectionId
     (sequence_number ∷ retire_prior_to ∷ Ordered ∷ connection_id ∷ stateless_reset_token ∷ [])

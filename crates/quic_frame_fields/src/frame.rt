@@ -23,7 +23,7 @@ pub use first_range::split_first_range;
 pub use quic_errors::frame_type::FrameType;
 pub use stream_meta::{StreamMeta, StreamMetaVec};
 
-/// The sender ends a stream early.
+/// The sender ends a stream early (RFC 9000, section 19.4).
 #[derive(Clone, Copy, Debug)]
 pub struct ResetStream {
     /// The stream.
@@ -34,7 +34,7 @@ pub struct ResetStream {
     pub final_offset: VarInt,
 }
 
-/// The receiver wants no more of a stream.
+/// The receiver no longer wants a stream's data (RFC 9000, section 19.5).
 #[derive(Clone, Copy, Debug)]
 pub struct StopSending {
     /// The stream.
@@ -43,7 +43,7 @@ pub struct StopSending {
     pub error_code: VarInt,
 }
 
-/// Bytes of the handshake.
+/// Bytes of the handshake (RFC 9000, section 19.6).
 #[derive(Clone, Copy, Debug)]
 pub struct Crypto<'a> {
     /// The offset of the data in the CRYPTO stream.
@@ -52,14 +52,14 @@ pub struct Crypto<'a> {
     pub bytes: &'a [u8],
 }
 
-/// A token for a later connection.
+/// A token for a later connection (RFC 9000, section 19.7).
 #[derive(Clone, Copy, Debug)]
 pub struct NewToken<'a> {
     /// A slice of the payload.
     pub token: &'a [u8],
 }
 
-/// Bytes of a stream.
+/// Bytes of a stream (RFC 9000, section 19.8).
 #[derive(Clone, Copy, Debug)]
 pub struct Stream<'a> {
     /// The stream.
@@ -72,36 +72,36 @@ pub struct Stream<'a> {
     pub bytes: &'a [u8],
 }
 
-/// Another id for the connection.
+/// Another id for the connection (RFC 9000, section 19.15).
 #[derive(Clone, Copy, Debug)]
 pub struct NewConnectionId {
-    /// The number of the id.
+    /// The sequence number of the id.
     pub sequence: u64,
-    /// Ids with numbers below this one are to be retired.
+    /// Ids with lower sequence numbers are to be retired.
     pub retire_prior_to: u64,
     /// The id.
     pub id: ConnectionId,
-    /// The token of a stateless reset for the id.
+    /// The stateless reset token for the id.
     pub reset_token: ResetToken,
 }
 
-/// Data that are sent once.
+/// Data that is sent once (RFC 9221, section 4).
 #[derive(Clone, Copy, Debug)]
 pub struct Datagram<'a> {
     /// A slice of the payload.
     pub bytes: &'a [u8],
 }
 
-/// How often acknowledgements are wanted.
+/// How often the sender wants acknowledgements (draft-ietf-quic-ack-frequency, section 4).
 #[derive(Clone, Copy, Debug, PartialEq, Eq)]
 pub struct AckFrequency {
-    /// The sequence number of the frame, by which an older one is recognized.
+    /// The sequence number of the frame, by which a receiver ignores older ones.
     pub sequence: VarInt,
-    /// How many packets that ask for an acknowledgement may come before one is sent.
+    /// How many ack-eliciting packets may be received before an acknowledgement is sent.
     pub ack_eliciting_threshold: VarInt,
-    /// How long an acknowledgement may wait, in microseconds.
+    /// How long an acknowledgement may be delayed, in microseconds.
     pub request_max_ack_delay: VarInt,
-    /// How far packets may be out of order before one is sent.
+    /// How far packets may be out of order before an acknowledgement is sent.
     pub reordering_threshold: VarInt,
 }
 
@@ -110,5 +110,5 @@ impl Crypto<'_> {
     pub const SIZE_BOUND: usize = 1 + 8 + 8;
 }
 
-// A byte of type, an offset and a length.
+// The type's byte, an offset and a length.
 const _: () = prove!(Crypto::SIZE_BOUND == 17);

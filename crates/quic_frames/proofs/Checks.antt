@@ -59,7 +59,7 @@ first_breach rules (found ∷ frames) =
 keeps_and_breaks : (o : Option Breach) (breach : Breach) → o ≡ None → o ≡ Some breach → ⊥
 keeps_and_breaks o breach none some = cc
 
--- a frame that breaks a rule isn't among those that keep them
+-- a frame that breaks a rule isn't among those that break none
 not_among : (rules : Rules) (before : List TypedFrame) (broken : TypedFrame) (others : List TypedFrame) (breach : Breach)
     → All (Keeps rules) (before ++ broken ∷ others) → breach_of rules broken.frame ≡ Some breach → ⊥
 not_among rules [] broken others breach all breaks =

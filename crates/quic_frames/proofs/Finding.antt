@@ -1,4 +1,4 @@
--- What a decoder takes of a type, and what reading finds.
+-- What a decoder consumes for a type, and what reading finds.
 use Rattle.std.proofs.Common.{rules, arith, ◌≡◌, ◌≤◌, ◌+◌, ◌*◌, ◌/◌, ◌%◌, ◌^◌, ℕ, suc, [], ◌∷◌, ◌-◌, Bool, true, false, cond, ltb, List, length, take, drop, Option, None, Ok, Err, Some, refl, sym, ap, subst}
 use Rattle.std.proofs.lemmas.List.{length-drop}
 use Rattle.quic_base.specs.Number.{num}
@@ -18,7 +18,7 @@ use Rattle.quic_frames.specs.Meaning.{meaning_of}
 use Rattle.quic_frames.specs.declared.frame.Frame.{Frame}
 use Rattle.quic_frames.specs.declared.frame.Frame.TheVariants as frames
 
--- a type that was taken, and a frame that follows it
+-- a type that was consumed, and a frame that follows it
 pub found_whole : (strict : Bool) (before : Option ℕ) (t : ℕ) (bytes rest : List ℕ) (frame : Meaning) (left : List ℕ)
     → varint_at bytes ≡ Ok (t, rest) → is_long_type strict t (length bytes - length rest) ≡ false
     → frame_at t rest ≡ Ok (frame, left)
@@ -26,7 +26,7 @@ pub found_whole : (strict : Bool) (before : Option ℕ) (t : ℕ) (bytes rest : 
 unfolding found_at
 found_whole strict before t bytes rest frame left taken wide e = rw (taken, wide, e) refl
 
--- a type that was taken, and no frame
+-- a type that was consumed, and no frame
 pub found_none : (strict : Bool) (before : Option ℕ) (t : ℕ) (bytes rest : List ℕ) (reason : Fault)
     → varint_at bytes ≡ Ok (t, rest) → is_long_type strict t (length bytes - length rest) ≡ false
     → frame_at t rest ≡ Err reason
@@ -34,7 +34,7 @@ pub found_none : (strict : Bool) (before : Option ℕ) (t : ℕ) (bytes rest : L
 unfolding found_at
 found_none strict before t bytes rest reason taken wide e = rw (taken, wide, e) refl
 
--- a type that was taken, and is too long
+-- a type that was consumed, and is too long
 pub found_long : (strict : Bool) (before : Option ℕ) (t : ℕ) (bytes rest : List ℕ) → varint_at bytes ≡ Ok (t, rest)
     → is_long_type strict t (length bytes - length rest) ≡ true
     → found_at strict before bytes ≡ Err (invalid (Some t) LongType)

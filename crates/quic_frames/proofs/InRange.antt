@@ -23,7 +23,7 @@ use Rattle.quic_frame_fields.specs.Sets.{AreCounts}
 use Rattle.quic_frames.specs.InRange.{HasNoTypeZero, InRange, open_data, CanStand}
 use Rattle.quic_frames.proofs.LeastFrames.{FitsRow, in_row, stream_limits, datagram_limit, frame_least}
 
--- a frame whose data, if it has any, are counted wherever it stands
+-- a frame whose data, if it has any, has its length written wherever the frame is
 closed_frame : {last : Bool} {frame : Frame} → open_data frame ≡ [] → InRange frame → CanStand last frame
 closed_frame {last} {frame} none r = record { in_range = r; counted = λ _. omega (arith, ap length none) }
 
@@ -87,7 +87,7 @@ can_stand last frames.ImmediateAck z f = closed_frame refl tt
 can_stand last (frames.Datagram d) z f = record { in_range = tt; counted = datagram_limit last d.bytes.now f }
 can_stand last (frames.AckFrequency g) z f = closed_frame refl tt
 
--- A frame that is encoded where it may stand can be written there.
+-- A frame that is encoded as the last of its payload, or not, can be written so.
 pub encoded_can_stand : (last : Bool) (t : ℕ) (frame : Frame) (bytes : List ℕ) → HasNoTypeZero frame
     → IsFrame false (record { type = t; frame = meaning_of frame }) bytes → (is_open t ≡ true → last ≡ true)
     → CanStand last frame

@@ -28,7 +28,7 @@ pub some_length : (bytes : List ℕ) → bytes ≢ [] → 1 ≤ length bytes
 some_length [] some = absurd (some refl)
 some_length (b ∷ bytes) some = omega arith
 
--- where a frame ends that begins at a place
+-- where a frame ends that begins at an offset
 abbrev pub end_of : ℕ → List ℕ → List ℕ → ℕ
 end_of start bytes rest = start + (length bytes - length rest)
 
@@ -161,7 +161,7 @@ pub stops_at : (strict : Bool) (n start : ℕ) (before : Option ℕ) (bytes : Li
 stops_at strict zero start before bytes i le some e = absurd (some (nothing bytes le))
 stops_at strict (suc m) start before bytes i le some e = items_err strict m start before bytes i some e
 
--- the frames before what is none, and what is reported of it, are the items
+-- the frames before what is none, and what is reported for it, are the items
 broken_gives : (strict : Bool) (ps : List TypedFrame) (n start : ℕ) (before : Option ℕ) (bytes : List ℕ) (type : Option ℕ) (reason : Fault)
     → AreBytes bytes → length bytes ≤ n → IsBroken strict before ps bytes type reason
     → map unplaced (items_from strict n start before bytes) ≡ map given ps ++ Err (invalid type reason) ∷ []
@@ -304,7 +304,7 @@ pub no_items : (strict : Bool) (start : ℕ) (before : Option ℕ) → items_of 
 unfolding items_of
 no_items strict start before = items_none strict 0 start before
 
--- nothing is left exactly where no bytes are
+-- nothing is left exactly when no bytes are left
 some_of : (strict : Bool) (start : ℕ) (before : Option ℕ) (bytes : List ℕ) → AreBytes bytes → Reads strict before bytes
     → items_of strict start before bytes ≡ [] → bytes ≡ []
 some_of strict start before bytes fits (ends e) none = e
@@ -337,7 +337,7 @@ begins_none strict f g a b x closed first second e =
     let rest : x ≡ [] = left_is f g x [] same in
     sym (e ∙ ap (λ (l : List ℕ). a ++ l) rest ∙ append-nil a)
 
--- ---- what is read where only the shortest types count
+-- ---- what is read if types must be in their shortest encodings
 
 frame_relaxed : (strict : Bool) (found : TypedFrame) (bytes : List ℕ) → IsFrame strict found bytes
     → IsFrame false found bytes

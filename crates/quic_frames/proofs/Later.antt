@@ -43,7 +43,7 @@ blocks_last greatest bytes more reason known s =
     (λ count left t. number_lasts left more reason (λ block. ltb greatest block) _ _ known
     (λ block others u. below_lasts count (greatest - block) others more reason known u) t) s
 
--- a test that tells the fault before the bytes do
+-- a test that finds the fault before the bytes end
 tested_last : (b : Bool) (e : Fault) → e ≡ cond b Malformed UnexpectedEnd → e ≢ UnexpectedEnd
     → (b ≡ true) × (e ≡ Malformed)
 tested_last true e is known = (refl, is)
@@ -223,7 +223,7 @@ frames_stay strict found bytes more (FailsAfter others type reason) are closed b
       (sym (last_then None found others)) b.no_frame;
 }
 
--- They stay where they are.
+-- Their offsets don't change.
 pub places_stay : (strict : Bool) (start : ℕ) (frames others : List Placed) (bytes more : List ℕ)
     → ArePlaced strict start frames bytes → AreClosed (map found_in frames)
     → ArePlaced strict (start + length bytes) others more

@@ -74,7 +74,7 @@ pub record LeastFrame (last : Bool) (frame : Meaning) (bytes : List ℕ) : Type 
   pub fits : FitsRow last (written_type last frame.name frame.values) frame
   pub least : AreOrExceed bytes (shortest_frame last frame)
 
--- bytes of a frame of this type, which is the last where it takes all that is left
+-- bytes of a frame of this type, which is the last if it takes all that is left
 record Stands (last : Bool) (t : ℕ) (r : Row) (values : List Value) (type_bytes field_bytes : List ℕ) : Type 0 where
   type_encoded : Encodes t type_bytes
   in_table : row_of t ≡ Some r
@@ -115,7 +115,7 @@ same_type last t r values type_bytes field_bytes s e =
           (both_least (shortest_varint t) (shortest_fields r.fields values) type_bytes field_bytes n.1 least);
     }
 
--- a type of one byte, whose frames take all that is left where they are the last
+-- a type of one byte, whose frames take all that is left if they are the last
 record HasRow (last : Bool) (t : ℕ) (r : Row) : Type 0 where
   in_table : row_of t ≡ Some r
   opens : is_open t ≡ last
@@ -127,7 +127,7 @@ fits_row : (last : Bool) (t : ℕ) (r : Row) (values : List Value) → HasRow la
 fits_row last t r values h fields =
     record { small = h.small; closed = λ opens. sym h.opens ∙ opens; row = r; in_table = h.in_table; name = refl; fields = fields }
 
--- a frame that is written by another type, where its fields are shorter
+-- a frame that is written with another type, with which its fields are shorter
 other_type : (last : Bool) (t : ℕ) (r : Row) (values : List Value) (type_bytes field_bytes : List ℕ)
     → written_type last r.name values ≡ t → HasRow last t r → AllFit r.fields [] values
     → 0 < length type_bytes → length (shortest_fields r.fields values) < length field_bytes
@@ -171,7 +171,7 @@ least_offset at_start offset = cond at_start [] (shortest_varint offset)
 abbrev least_content : Bool → List ℕ → List ℕ
 least_content end content = cond end content (shortest_varint (length content) ++ content)
 
--- what is written is no longer than what stands, and shorter where it isn't written in the same way
+-- what is written is no longer than the given bytes, and shorter if it is written in another way
 record Better (stood : Bool) (written : Bool) (least bytes : List ℕ) : Type 0 where
   no_longer : length least ≤ length bytes
   shorter : (stood ≡ written) ⊎ (length least < length bytes)

@@ -31,7 +31,7 @@ pads strict payload offset last fits some byte =
     (finds strict payload offset last 0 frames.Padding (drop (suc offset) payload) (tt, tt) fits (omega arith) some
     (found_padding strict last (drop offset payload) (drop (suc offset) payload) front))
 
--- the place after some of them, by its parts
+-- the state after some of them, by its parts
 pads_on : (strict : Bool) (payload : List ℕ) (offset k : ℕ) (last : Option ℕ) → AreBytes (drop offset payload)
     → offset + k < length payload → get_or payload (offset + k) 0 ≡ 0
     → Finds (behind k (at_place strict payload offset last)) frames.Padding (behind (suc k) (at_place strict payload offset last))

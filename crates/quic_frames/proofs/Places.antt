@@ -1,4 +1,4 @@
--- Where frames are in a payload, as an iterator comes over it.
+-- Where frames are in a payload, as an iterator reads it.
 use Rattle.std.proofs.Common.{◌≡◌, ◌≢◌, ℕ, ◌+◌, ◌-◌, ◌<◌, ◌≤◌, Bool, true, false, eqb, List, [], ◌∷◌, ◌++◌, length, take, drop, Option, Some, None, Ok, Err, refl, sym, ap, subst, ◌∙◌, append_assoc, inl, inr, arith}
 use Rattle.std.specs.Prelude.{◌⊎◌, slice_range, if◌then◌else◌}
 use Rattle.std.proofs.lemmas.List.{append-nil, length-append, length-drop, length-take, take_at, take-append-drop, drop_at, take_rest}
@@ -161,7 +161,7 @@ cut_stands strict payload offset stop found rest c =
           ];
     }
 
--- the bytes from a place on, as the code cuts them
+-- the bytes from an offset on, as the code cuts them
 pub rest_is : (payload : List ℕ) (offset : ℕ)
     → take (length payload - offset) (drop offset payload) ≡ drop offset payload
 rest_is payload offset = take_rest payload offset

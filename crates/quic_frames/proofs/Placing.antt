@@ -1,4 +1,4 @@
--- Frames at their places are the items that an iterator gives.
+-- Frames at their offsets are the items that an iterator returns.
 use Rattle.std.proofs.Common.{◌≡◌, ℕ, zero, suc, ◌+◌, ◌<◌, ◌≤◌, Bool, List, [], ◌∷◌, ◌++◌, length, map, Option, Some, None, Ok, refl, sym, ap, subst, ◌∙◌, append_assoc, arith}
 use Rattle.std.proofs.lemmas.List.{length-append}
 use Rattle.quic_base.specs.Number.{AreBytes}
@@ -11,7 +11,7 @@ use Rattle.quic_frame_fields.proofs.Steps.{true_is_not_false}
 use Rattle.quic_frames.proofs.Frames.{found_again, no_frame_again}
 use Rattle.quic_frames.proofs.Items.{end_of, frame_some, is_some_bytes, items_ok, items_none, no_frame_some, stops_at}
 
--- the first of the items, where it stands
+-- the first of the items, at its offset
 placed_first : (strict : Bool) (p : Placed) (n start : ℕ) (before : Option ℕ) (bytes front back : List ℕ)
     → bytes ≡ front ++ back → 0 < length front → found_at strict before bytes ≡ Ok (p.found, back) → p.start ≡ start
     → p.stop ≡ start + length front

@@ -1,4 +1,4 @@
--- What is written of frames is read back as these frames.
+-- What is written for frames is read back as these frames.
 use Rattle.std.proofs.Common.{◌≡◌, ◌≢◌, length, ap, ℕ, ◌^◌, ◌<◌, ◌≤◌, Bool, true, false, List, [], ◌∷◌, map, Option, Some, None, refl, sym, subst, ◌∙◌, arith}
 use Rattle.std.specs.Prelude.{nat_le}
 use Rattle.std.proofs.lemmas.Bool.Decides.{nat_tests}
@@ -114,7 +114,7 @@ frame_fits last (frames.Datagram d) t c = datagram_row_fits last d.bytes.now c.c
 frame_fits last (frames.AckFrequency f) t c =
     of_row (omega arith) refl refl (t.0, (t.1.0, (t.1.1.0, (t.1.1.1.0, refl))))
 
--- What is written of a frame is read back as this frame.
+-- What is written for a frame is read back as this frame.
 pub frame_read_back : (strict last : Bool) (frame : Frame) → IsTypedFrame frame → CanStand last frame
     → IsFrame strict (as_written last (meaning_of frame)) (shortest_frame last (meaning_of frame))
 frame_read_back strict last frame t c = frame_encoded strict last (meaning_of frame) (frame_fits last frame t c)

@@ -1,4 +1,4 @@
--- A payload has one reading, and what it has as a list of items.
+-- A payload has one reading, and that reading as a list of items.
 use Rattle.std.proofs.Common.{◌≡◌, ℕ, ◌+◌, ◌≤◌, List, [], ◌∷◌, ◌++◌, length, map, Bool, Option, None, Result, Ok, Err, refl, sym, ap, ◌∙◌, arith}
 use Rattle.std.proofs.lemmas.List.{length-append, length-map}
 use Rattle.quic_base.specs.Number.{AreBytes}

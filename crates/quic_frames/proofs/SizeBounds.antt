@@ -48,7 +48,7 @@ pub datagram_bound : (bytes : List ℕ) → length (shortest_frame false (frame_
 unfolding size
 datagram_bound bytes = bound 0x31 (length bytes ∷ []) bytes _ refl (datagram_counted bytes)
 
--- frames of numbers alone
+-- frames that have only numbers
 numbers_alone : (t : ℕ) (ns whole : List ℕ) → size t ≡ 1 → whole ≡ shortest_varints (t ∷ ns)
     → length whole ≤ 1 + 8 * length ns
 numbers_alone t ns whole one parts = omega (arith, ap length parts, typed_bound t ns one)

@@ -1,4 +1,4 @@
--- What an iterator gives in turn, and what that says of the payload.
+-- What an iterator returns in turn, and what that says about the payload.
 use Rattle.std.proofs.Common.{◌≡◌, ◌≢◌, ℕ, ◌+◌, ◌-◌, ◌<◌, ◌≤◌, Bool, true, false, List, [], ◌∷◌, ◌++◌, length, map, take, drop, Option, Some, None, Result, Ok, Err, refl, sym, ap, subst, ◌∙◌, append_assoc, inl, inr, arith}
 use Rattle.std.specs.Prelude.{◌↔◌, slice_range}
 use Rattle.std.proofs.lemmas.List.{append-nil, length-append, length-drop, length-take, take-append-drop, drop-drop}
@@ -103,7 +103,7 @@ spent_left state (inr end) =
         going_on state e ∙ ap (items_of state.strict state.offset state.last) none
         ∙ no_items state.strict state.offset state.last
 
--- nothing is left at the front of an empty payload alone
+-- nothing is left at the front only if the payload is empty
 pub spent_is_empty : (strict : Bool) (payload : List ℕ) → IsSpent (first_of strict payload) → payload ≡ []
 spent_is_empty strict payload (inl broken) = absurd cc
 spent_is_empty strict payload (inr end) = nothing payload (omega (arith, end))
@@ -125,7 +125,7 @@ left_done old new frame f =
 
 -- ---- what was read so far
 
--- The frames that an iterator has read are at the front of its payload, an open one last only.
+-- The frames that an iterator has read are at the front of its payload, and only the last may be open.
 pub record HasRead (strict : Bool) (payload : List ℕ) (found : List TypedFrame) (state : IterState) : Type 0 where
   pub front : List ℕ
   pub parts : payload ≡ front ++ rest_of state

@@ -1,4 +1,4 @@
--- How far an iterator by rules has come over its payload, and what it gives next.
+-- How far an iterator with rules has read its payload, and what it returns next.
 use Rattle.std.specs.Prelude.{◌≡◌, ◌↔◌, ◌⊎◌, ◌≤◌, ℕ, List, [], length, Option, Some, None, Result, Ok, Err, IsErr, IfErr, IfOk, codes, Bool, true, false}
 use Rattle.quic_base.specs.One.{ExactlyOne}
 use Rattle.quic_errors.specs.declared.invalid_frame.InvalidFrame.{InvalidFrame}
@@ -19,7 +19,7 @@ pub record CheckedState : Type 0 where
 abbrev pub checked_first : Rules → List ℕ → CheckedState
 checked_first rules payload = record { rules = rules; place = first_of rules.short_types payload }
 
--- The iterator still gives this reading: that of the rest of the payload.
+-- What the iterator still returns is this reading, which is that of the rest of the payload.
 pub record IsCheckedLeft (state : CheckedState) (checked : Checked) : Type 0 where
   pub goes_on : state.place.is_broken ≡ false
   pub reads : IsCheckedAfter state.rules state.place.last (rest_of state.place) checked
@@ -33,7 +33,7 @@ pub record BreaksRule (rules : Rules) (state : IterState) (reported : Invalid) :
   pub breaks : breach_of rules finds.found.frame ≡ Some breach
   pub says : reported ≡ invalid_by finds.found breach
 
--- No frame is given, and this is reported: none begins the rest, or the one that does breaks a rule.
+-- No frame is returned, and this is reported: no frame begins the rest, or the one that does breaks a rule.
 abbrev pub IsRefusedFrame : Rules → IterState → Invalid → Type 0
 IsRefusedFrame rules state reported = LacksFrame state reported ⊎ BreaksRule rules state reported
 

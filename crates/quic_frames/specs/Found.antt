@@ -1,4 +1,4 @@
--- The frame at the front, as the reading functions give it.
+-- The frame at the front, as the reading functions return it.
 use Rattle.std.specs.Prelude.{◌≡◌, ⊤, ℕ, List, Result, Ok, Err, IfOk}
 use Rattle.quic_frames.specs.declared.frame.Frame.{Frame}
 use Rattle.quic_frames.specs.declared.frame.Frame.TheVariants as frames

@@ -9,14 +9,14 @@ pub use Rattle.quic_frame_fields.specs.Sets.{AreCounts}
 use Rattle.quic_frame_fields.specs.Sets.{IsAckInRange}
 use Rattle.quic_frames.specs.Least.{is_end}
 
--- a close whose type isn't given as 0, which is read as no type
+-- a close whose frame type isn't 0, which is read as no type
 abbrev pub HasNoTypeZero : Frame → Type 0
 HasNoTypeZero (frames.Close (closes.Connection c)) = c.frame_type ≢ Some 0
 HasNoTypeZero frame = ⊤
 
--- The frame has an encoding, by which it is read as it is: numbers of any width are below 2^62, an id has 1 to 20
--- bytes and is not among those that it retires; a close with frame type 0 can't be told from one without a type (RFC
--- 9000, sections 16, 19.15 and 19.19). Numbers whose type holds the bound are not named.
+-- The frame has an encoding that is read back as the same frame: numbers of any width are below 2^62; an id has 1 to 20
+-- bytes and is not among those that it retires; the frame type of a close isn't 0, which means no type (RFC 9000,
+-- sections 16, 19.15 and 19.19). Numbers whose Rust type has the bound are not listed.
 abbrev pub InRange : Frame → Type 0
 InRange (frames.Ack a) = IsAckInRange a
 InRange (frames.Crypto c) = AreNumeric (c.offset ∷ length c.bytes.now ∷ [])
@@ -35,8 +35,7 @@ InRange (frames.Close (closes.Connection c)) = HasNoTypeZero (frames.Close (clos
 InRange (frames.Close (closes.Application c)) = length c.reason.now < 2 ^ 62
 InRange frame = ⊤
 
--- What the types of a frame's parts hold by themselves: where numbers are below 2^62 or 2^64, and that a token has 16
--- bytes.
+-- What the types of a frame's parts ensure: which numbers are below 2^62 or 2^64, and that a token has 16 bytes.
 abbrev pub IsTypedFrame : Frame → Type 0
 IsTypedFrame (frames.ResetStream r) = AreNumeric (r.id ∷ r.error_code ∷ r.final_offset ∷ [])
 IsTypedFrame (frames.StopSending s) = AreNumeric (s.id ∷ s.error_code ∷ [])
@@ -57,18 +56,18 @@ abbrev pub AreTyped : List Frame → Type 0
 AreTyped [] = ⊤
 AreTyped (frame ∷ others) = IsTypedFrame frame × AreTyped others
 
--- a frame of any kind but ACK
+-- a frame of any kind except ACK
 abbrev pub IsNoAck : Frame → Type 0
 IsNoAck (frames.Ack a) = ⊥
 IsNoAck frame = ⊤
 
--- the data whose length is written only where the frame isn't the last
+-- the data whose length is written only if the frame isn't the last
 abbrev pub open_data : Frame → List ℕ
 open_data (frames.Stream s) = s.bytes.now
 open_data (frames.Datagram d) = d.bytes.now
 open_data frame = []
 
--- The frame can be written where it is the last or not.
+-- The frame can be written as the last of its payload, or as one that isn't.
 pub record CanStand (last : Bool) (frame : Frame) : Type 0 where
   pub in_range : InRange frame
   pub counted : last ≡ false → length (open_data frame) < 2 ^ 62

@@ -1,4 +1,4 @@
--- What a clause sees of an iterator over a payload.
+-- How clauses see an iterator over a payload.
 use Rattle.std.specs.Prelude.{ℕ, List, Option, Bool}
 
 -- whether a type must be in its shortest encoding, the payload, the end of the last whole frame, the last type that was

@@ -11,12 +11,12 @@ abbrev pub is_end : {T : Type 0} → List T → Bool
 is_end [] = true
 is_end (frame ∷ frames) = false
 
--- frames one after the other, of which the last one alone is written as the last
+-- frames one after the other, of which only the last is written as the last
 abbrev pub shortest_frames : List Meaning → List ℕ
 shortest_frames [] = []
 shortest_frames (frame ∷ frames) = shortest_frame (is_end frames) frame ++ shortest_frames frames
 
--- a frame without the type that it has in a payload, and with the type by which it is written
+-- a frame without the type that it has in a payload, and with the type with which it is written
 abbrev pub frame_in : TypedFrame → Meaning
 frame_in found = found.frame
 

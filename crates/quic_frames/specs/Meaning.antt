@@ -38,7 +38,7 @@ meaning_of (frames.AckFrequency f) = frequency_meaning f
 abbrev pub type_of : Meaning → ℕ
 type_of frame = named_type frame.name frame.values
 
--- a frame that asks for an acknowledgement (RFC 9002, section 2): all but ACK, PADDING and closes
+-- an ack-eliciting frame (RFC 9002, section 2): any except ACK, PADDING and closes
 abbrev pub is_eliciting : Name → Bool
 is_eliciting Padding = false
 is_eliciting Ack = false

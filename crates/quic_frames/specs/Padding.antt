@@ -4,12 +4,12 @@ use Rattle.quic_frames.specs.declared.frame.Frame.TheVariants as frames
 use Rattle.quic_frames.specs.IterState.{IterState}
 use Rattle.quic_frames.specs.Walk.{Finds}
 
--- the state after so many bytes of PADDING
+-- the state after that many bytes of PADDING
 abbrev pub behind : ℕ → IterState → IterState
 behind zero state = state
 behind (suc n) state = record state { offset = state.offset + suc n; last = Some 0 }
 
--- So many frames of PADDING come next, a byte each, and then no byte of 0.
+-- That many frames of PADDING come next, a byte each, and then no byte of 0.
 pub record PassesPadding (old : IterState) (count : ℕ) (new : IterState) : Type 0 where
   pub each : (k : ℕ) → k < count → Finds (behind k old) frames.Padding (behind (suc k) old)
   pub comes : new ≡ behind count old

@@ -1,4 +1,4 @@
--- Frames at their places in a payload.
+-- Frames with their offsets in a payload.
 use Rattle.std.specs.Prelude.{◌≡◌, ℕ, ◌+◌, List, [], ◌∷◌, ◌++◌, Option, None, Bool, true, length, map}
 use Rattle.quic_frame_fields.specs.declared.frame.fault.Fault.{Fault}
 use Rattle.quic_frame_fields.specs.Payload.{TypedFrame, IsFrame, AreClosed, IsNoFrame, last_type}
@@ -14,12 +14,12 @@ pub record Placed : Type 0 where
 abbrev pub found_in : Placed → TypedFrame
 found_in p = p.found
 
--- as the iterator gives it
+-- as the iterator returns it
 abbrev pub whole : Placed → Item
 whole p = Whole p.start p.stop p.found
 
--- The bytes that begin at start are these frames, one after another, an open one last only. The first argument says
--- whether a type must be in its shortest encoding.
+-- The bytes that begin at start are these frames, one after another, and only the last may be open. The first argument
+-- says whether a type must be in its shortest encoding.
 abbrev pub ArePlaced : Bool → ℕ → List Placed → List ℕ → Type 0
 ArePlaced strict start [] bytes = bytes ≡ []
 ArePlaced strict start (p ∷ ps) bytes =

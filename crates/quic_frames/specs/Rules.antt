@@ -1,4 +1,4 @@
--- What RFC 9000 has a receiver check of frames that are encoded as they should be, and a payload's reading by such rules.
+-- What RFC 9000 requires a receiver to check in frames besides their encoding, and a payload's reading by such rules.
 use Rattle.std.specs.Prelude.{◌≡◌, ◌⊎◌, ℕ, ◌+◌, ◌-◌, ◌^◌, List, [], ◌∷◌, ◌++◌, length, All, Option, Some, None, Bool, false, nat_lt, ◌&&◌, ◌==◌, codes, if◌then◌else◌}
 use Rattle.quic_frames.specs.declared.frame.rules.Rules.{Rules}
 use Rattle.quic_frames.specs.declared.frame.rules.Breach.{Breach}
@@ -13,15 +13,15 @@ use Rattle.quic_frame_fields.specs.Reading.{Invalid, invalid, reason_text}
 abbrev pub ends_past : ℕ → ℕ → Bool
 ends_past offset count = nat_lt (2 ^ 62 - 1) (offset + count)
 
--- No stream can have so great a number: 2^60 is the most of either direction (sections 19.11 and 19.14).
+-- There can't be this many streams: 2^60 is the most of either direction (sections 19.11 and 19.14).
 abbrev pub is_past_streams : ℕ → Bool
 is_past_streams count = nat_lt (2 ^ 60) count
 
 abbrev pub broken_if : Bool → Breach → Option Breach
 broken_if is_broken breach = if is_broken then Some breach else None
 
--- the rule that a frame breaks, if it breaks one of these: a limit; that a token isn't empty (section 19.7); that the
--- ACK frequency extension, whose frames these are, was negotiated
+-- the rule that a frame breaks, if any: a limit; that a token isn't empty (section 19.7); that frames of the ACK
+-- frequency extension are known only if it was negotiated
 abbrev pub breach_by : Rules → Name → List Value → Option Breach
 breach_by rules Crypto (Number offset ∷ Bytes sent ∷ []) =
     broken_if (rules.data_limit && ends_past offset (length sent)) breaches.Limit
@@ -39,13 +39,13 @@ breach_by rules name values = None
 abbrev pub breach_of : Rules → Meaning → Option Breach
 breach_of rules frame = breach_by rules frame.name frame.values
 
--- why such a frame is refused
+-- why such a frame is rejected
 abbrev pub breach_text : Breach → List ℕ
 breach_text breaches.Limit = codes "limit exceeded"
 breach_text breaches.Token = reason_text Malformed
 breach_text breaches.Extension = reason_text InvalidFrameId
 
--- what is reported of it
+-- what is reported for it
 abbrev pub invalid_by : TypedFrame → Breach → Invalid
 invalid_by found breach = record { type = Some found.type; reason = breach_text breach }
 
@@ -96,7 +96,7 @@ error_count (Some reported) = 1
 abbrev pub checked_count : Checked → ℕ
 checked_count checked = length checked.frames + error_count checked.error
 
--- no rule for frames that are encoded as they should be
+-- no rule except for the encoding
 abbrev pub only_types : Bool → Rules
 only_types short_types = record
     { short_types = short_types; data_limit = false; stream_limit = false; tokens = false; no_ack_frequency = false }

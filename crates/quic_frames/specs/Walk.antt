@@ -1,4 +1,4 @@
--- How far an iterator has come over its payload, and what it gives next.
+-- How far an iterator has read its payload, and what it returns next.
 use Rattle.std.specs.Prelude.{◌≡◌, ⊤, ◌↔◌, ℕ, ◌-◌, ◌<◌, ◌≤◌, List, [], ◌∷◌, ◌++◌, ◌⊎◌, length, map, drop, slice_range, Option, Some, None, Result, Ok, Err, IsErr, IfErr, IfOk, codes, Bool, true, false, if◌then◌else◌}
 use Rattle.quic_base.specs.Number.{AreBytes}
 use Rattle.quic_base.specs.One.{ExactlyOne}
@@ -21,7 +21,7 @@ use Rattle.quic_frames.specs.IterState.{IterState}
 abbrev pub first_of : Bool → List ℕ → IterState
 first_of strict payload = record { strict = strict; payload = payload; offset = 0; last = None; is_broken = false }
 
--- at a later place, after a frame of this type
+-- at a later offset, after a frame of this type
 abbrev pub resumed : List ℕ → ℕ → Option ℕ → Bool → IterState
 resumed payload offset last strict = record
     { strict = strict; payload = payload; offset = offset; last = last; is_broken = false }
@@ -30,7 +30,7 @@ resumed payload offset last strict = record
 abbrev pub rest_of : IterState → List ℕ
 rest_of state = drop state.offset state.payload
 
--- The iterator still gives this reading: that of the rest of the payload.
+-- What the iterator still returns is this reading, which is that of the rest of the payload.
 pub record IsLeft (state : IterState) (reading : Reading) : Type 0 where
   pub goes_on : state.is_broken ≡ false
   pub reads : IsReadingAfter state.strict state.last (rest_of state) reading
@@ -39,7 +39,7 @@ pub record IsLeft (state : IterState) (reading : Reading) : Type 0 where
 abbrev pub IsSpent : IterState → Type 0
 IsSpent state = (state.is_broken ≡ true) ⊎ (state.offset ≡ length state.payload)
 
--- how many bytes were not read yet, each of which is at most one item; none after an invalid frame
+-- how many bytes were not read yet, and so at most how many items are left; 0 after an invalid frame
 abbrev pub bytes_left : IterState → ℕ
 bytes_left state = if state.is_broken then 0 else length state.payload - state.offset
 
@@ -100,8 +100,8 @@ Advances old None new = IsSpent old × (new ≡ old)
 Advances old (Some (Ok frame)) new = Finds old frame new
 Advances old (Some (Err error)) new = Fails old error new
 
--- An iterator begins at the front of a payload, whose one reading it gives, at most an item for each byte; or the payload
--- is empty, and that is reported.
+-- An iterator begins at the front of a payload and returns its one reading, at most an item for each byte; or the
+-- payload is empty, and that is reported.
 pub record BeginsWalk (strict : Bool) (payload : List ℕ) (result : Result IterState Error) : Type 0 where
   pub empty : IsErr result ↔ (payload ≡ [])
   pub refusal : IfErr result (λ e. IsError e protocol_violation (codes "packet payload is empty"))
@@ -117,7 +117,7 @@ abbrev pub left : IterState → List Item
 left state = if state.is_broken then []
     else items_of state.strict state.offset state.last (rest_of state)
 
--- an item without its place
+-- an item without its offsets
 abbrev pub unplaced : Item → Result TypedFrame Invalid
 unplaced (Whole start stop found) = Ok found
 unplaced (Broken i) = Err i

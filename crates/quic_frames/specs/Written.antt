@@ -1,4 +1,4 @@
--- What is written of frames.
+-- What is written for frames.
 use Rattle.std.specs.Prelude.{◌≡◌, ℕ, List, map, false}
 use Rattle.quic_frame_fields.specs.Payload.{Meaning, TypedFrame, AreFrames}
 use Rattle.quic_frames.specs.Least.{AreOrExceed, frame_in}

@@ -32,7 +32,7 @@ pub use size_bound::{FrameStruct, RETIRE_CONNECTION_ID_SIZE_BOUND};
 /// PATH_CHALLENGE and PATH_RESPONSE.
 #[derive(Clone, Copy, Debug)]
 pub enum Frame<'a> {
-    /// Nothing (RFC 9000, section 19.1).
+    /// A byte without meaning (RFC 9000, section 19.1).
     Padding,
     /// Asks for an acknowledgement (RFC 9000, section 19.2).
     Ping,
@@ -40,7 +40,7 @@ pub enum Frame<'a> {
     Ack(Ack<'a>),
     /// The sender ends a stream early (RFC 9000, section 19.4).
     ResetStream(ResetStream),
-    /// The receiver wants no more of a stream (RFC 9000, section 19.5).
+    /// The receiver no longer wants a stream's data (RFC 9000, section 19.5).
     StopSending(StopSending),
     /// Bytes of the handshake (RFC 9000, section 19.6).
     Crypto(Crypto<'a>),
@@ -57,48 +57,48 @@ pub enum Frame<'a> {
         /// The limit on its offsets.
         offset: u64,
     },
-    /// How many streams may be opened (RFC 9000, section 19.11).
+    /// How many streams the peer may open (RFC 9000, section 19.11).
     MaxStreams {
-        /// Of which direction.
+        /// The direction of these streams.
         dir: Dir,
-        /// How many in all.
+        /// How many in all, since the connection began.
         count: u64,
     },
-    /// The limit of the connection holds back data (RFC 9000, section 19.12).
+    /// The sender is blocked by the connection's limit (RFC 9000, section 19.12).
     DataBlocked {
         /// That limit.
         offset: u64,
     },
-    /// The limit of a stream holds back data (RFC 9000, section 19.13).
+    /// The sender is blocked by a stream's limit (RFC 9000, section 19.13).
     StreamDataBlocked {
         /// The stream.
         id: StreamId,
         /// That limit.
         offset: u64,
     },
-    /// The limit on streams holds back one (RFC 9000, section 19.14).
+    /// The sender is blocked by the limit on streams (RFC 9000, section 19.14).
     StreamsBlocked {
-        /// Of which direction.
+        /// The direction of these streams.
         dir: Dir,
         /// That limit.
         limit: u64,
     },
     /// Another id for the connection (RFC 9000, section 19.15).
     NewConnectionId(NewConnectionId),
-    /// An id will not be used any more (RFC 9000, section 19.16).
+    /// A connection id that will no longer be used (RFC 9000, section 19.16).
     RetireConnectionId {
-        /// The number of the id.
+        /// The sequence number of the id.
         sequence: u64,
     },
     /// Tests a path (RFC 9000, section 19.17).
     PathChallenge(u64),
-    /// Answers such a test (RFC 9000, section 19.18).
+    /// The response to such a test (RFC 9000, section 19.18).
     PathResponse(u64),
     /// Closes the connection (RFC 9000, section 19.19).
     Close(Close<'a>),
-    /// Data that are sent once (RFC 9221, section 4).
+    /// Data that is sent once (RFC 9221, section 4).
     Datagram(Datagram<'a>),
-    /// How often acknowledgements are wanted (the ACK frequency extension).
+    /// How often the sender wants acknowledgements (the ACK frequency extension).
     AckFrequency(AckFrequency),
     /// Asks for an acknowledgement at once (the ACK frequency extension).
     ImmediateAck,
@@ -109,8 +109,8 @@ pub enum Frame<'a> {
 impl Frame<'_> {
     ghost use Rattle.quic_frames.specs.Meaning.{meaning_of, type_of, is_eliciting};
 
-    /// The type that names the frame: ACK also if it has counts, 0x30 for each DATAGRAM. That of a STREAM has the bit
-    /// for the offset exactly if the offset isn't 0, and never the bit for the length.
+    /// The type that names the frame: ACK also if it has ECN counts, 0x30 for each DATAGRAM. That of a STREAM has the
+    /// OFF bit exactly when the offset isn't 0, and never the LEN bit.
     pub fn ty(&self) -> FrameType
         ensures { result ≡ type_of (meaning_of self.now) }
     {
@@ -144,7 +144,7 @@ impl Frame<'_> {
         }
     }
 
-    /// Whether the frame asks for an acknowledgement: all but ACK, PADDING and closes do.
+    /// Whether the frame is ack-eliciting (RFC 9002, section 2): any except ACK, PADDING and closes.
     pub fn is_ack_eliciting(&self) -> bool
         ensures { result ≡ is_eliciting (meaning_of self.now).name }
     {

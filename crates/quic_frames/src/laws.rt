@@ -1,4 +1,4 @@
-//! Laws of payloads, which no single call carries. The functions do nothing.
+//! Laws of payloads, which no single call states. The functions do nothing at run time.
 ghost use Rattle.std.specs.Prelude.{◌≡◌, ◌≢◌, ◌<◌, ◌≤◌, ◌^◌, ◌+◌, ◌++◌, ℕ, List, [], ◌∷◌, None, Some, Option, Bool, Err, true, false, if◌then◌else◌, map, length};
 ghost use Rattle.std.specs.declared.ops.Range.{Range};
 ghost use Rattle.quic_base.specs.Number.{AreBytes};
@@ -29,19 +29,19 @@ ghost use Rattle.quic_frame_fields.specs.declared.frame.fault.Fault.TheVariants.
 
 use crate::frame::RETIRE_CONNECTION_ID_SIZE_BOUND;
 
-/// A payload has one reading: frames to its end, or frames up to an error, with that error's type and reason. So has what
-/// follows a frame. That holds where types may be in any encoding, and where they must be in their shortest.
+/// A payload has one reading: frames to its end, or frames up to an error, with that error's type and reason. So has
+/// what follows a frame. That holds if types may be in any encoding, and if they must be in their shortest.
 pub fn one_reading()
     ensures one { (strict : Bool) (before : Option ℕ) (bytes : List ℕ) → AreBytes bytes
         → ExactlyOne (IsReadingAfter strict before bytes) }
-    // The frames are one list also where the bytes aren't known to be such.
+    // The list of frames is unique even if the elements aren't known to be bytes.
     ensures frames { (strict : Bool) (some others : List TypedFrame) (bytes : List ℕ)
         → AreFrames strict some bytes → AreFrames strict others bytes → some ≡ others }
     // No frame that isn't open begins another one.
     ensures begins_none { (strict : Bool) (one other : TypedFrame) (bytes longer rest : List ℕ)
         → is_open one.type ≡ false
         → IsFrame strict one bytes → IsFrame strict other longer → longer ≡ bytes ++ rest → bytes ≡ longer }
-    // What is read where types must be in their shortest encodings is read alike where they may be in any.
+    // What is read if types must be in their shortest encodings is read the same if they may be in any.
     ensures relaxed { (strict : Bool) (found : List TypedFrame) (bytes : List ℕ)
         → AreFrames strict found bytes → AreFrames false found bytes }
 {}
@@ -53,7 +53,7 @@ pub fn lasting()
         → IsReadingOf strict bytes (Complete found) → AreClosed found
         → IsReadingAfter strict (last_type None found) more rest
         → IsReadingOf strict (bytes ++ more) (followed_by found rest) }
-    // They stay where they are.
+    // Their offsets don't change.
     ensures places { (strict : Bool) (start : ℕ) (frames others : List Placed) (bytes more : List ℕ)
         → ArePlaced strict start frames bytes → AreClosed (map found_in frames)
         → ArePlaced strict (start + length bytes) others more
@@ -74,8 +74,8 @@ pub fn reasons()
     ensures others { (reason : Fault) → reason ≢ LongType → reason_text reason ≢ long_type_reason }
 {}
 
-/// If the bytes are these frames, or these and then an error, exactly these are the items that the iterator gives, with
-/// these places.
+/// If the bytes are these frames, or these and then an error, exactly these are the items that the iterator returns,
+/// with these offsets.
 pub fn items_in_place()
     ensures frames { (strict : Bool) (frames : List Placed) (bytes : List ℕ) → ArePlaced strict 0 frames bytes
         → items_of strict 0 None bytes ≡ map whole frames }
@@ -99,7 +99,7 @@ pub fn set_acknowledged()
     ensures apart { (runs : List (Range ℕ)) → IsMaximalRuns runs → AreApart (ranges_in runs) }
     ensures greatest { (runs : List (Range ℕ)) → runs ≢ [] → IsMaximalRuns runs
         → IsGreatest runs (greatest_in (ranges_in runs)) }
-    // What is written of it is such an ACK,
+    // What is written for it is such an ACK,
     ensures encoded { (strict last : Bool) (delay : ℕ) (runs : List (Range ℕ)) (counts : Option EcnCounts)
         → IsMaximalRuns runs → runs ≢ [] → ((n : ℕ) → member runs n ≡ true → n < 2 ^ 62)
         → delay < 2 ^ 62 → AreCounts counts
@@ -110,8 +110,8 @@ pub fn set_acknowledged()
         → (ranges_acked ack ≡ ranges_in runs) × ((parts_of ack).delay ≡ delay) × ((parts_of ack).ecn ≡ counts) }
 {}
 
-/// Of all encodings of a frame at its place, and of all payloads of the same frames, one is the shortest, and all
-/// others are longer. Its types are in their least widths, and an open frame comes last only.
+/// Of all encodings of a frame, as the last of its payload or not, and of all payloads of the same frames, one is the
+/// shortest, and all others are longer. Its types are in their shortest encodings, and only its last frame is open.
 pub fn least_encoding()
     ensures least { (last : Bool) (found : TypedFrame) (bytes : List ℕ) → IsFrame false found bytes
         → (is_open found.type ≡ true → last ≡ true) → AreOrExceed bytes (shortest_frame last found.frame) }
@@ -126,7 +126,7 @@ pub fn least_encoding()
     ensures same { (frames : List Meaning) → map frame_in (all_written frames) ≡ frames }
 {}
 
-/// Frames that can be written are read back as the same frames from what is written of them, and by `one_reading` as
+/// Frames that can be written are read back as the same frames from what is written for them, and, by `one_reading`, as
 /// nothing else. The bounds of their fields come from `Frame::type_bounds`.
 pub fn read_back()
     ensures one { (strict last : Bool) (frame : Frame) → IsTypedFrame frame → CanStand last frame
@@ -135,20 +135,20 @@ pub fn read_back()
     ensures all { (strict : Bool) (fs : List Frame) → AreTyped fs → CanFollow fs
         → AreFrames strict (all_written (map meaning_of fs)) (shortest_frames (map meaning_of fs))
         × (map frame_in (all_written (map meaning_of fs)) ≡ map meaning_of fs) }
-    // What is asked of a frame that is written holds of each frame that is encoded.
+    // What is required of a frame to be written holds for each frame that is encoded.
     ensures exact { (last : Bool) (t : ℕ) (frame : Frame) (bytes : List ℕ) → HasNoTypeZero frame
         → IsFrame false (found_as t frame) bytes → (is_open t ≡ true → last ≡ true) → CanStand last frame }
 {}
 
-/// The header that `StreamMeta::encode` appends, and then the data, are the shortest encoding of the STREAM: of the
-/// last frame of its payload where the length of the data isn't written, else of a frame that others follow.
+/// The header that `StreamMeta::encode` appends, followed by the data, is the shortest encoding of the STREAM: as the
+/// last frame of its payload if the length of the data isn't written, else as a frame that others follow.
 pub fn stream_header_and_data()
     ensures { (last : Bool) (s : Stream)
         → stream_header s.id s.offset s.fin (if last then None else Some (length s.bytes.now)) ++ s.bytes.now
         ≡ shortest_frame last (meaning_of (frames.Stream s)) }
 {}
 
-/// A RETIRE_CONNECTION_ID takes at most the bytes of its bound.
+/// A RETIRE_CONNECTION_ID has at most as many bytes as its bound.
 #[tactic(auto, using(crate::proofs::SizeBounds::retire_bound))]
 pub fn retire_connection_id_is_bounded()
     ensures value { RETIRE_CONNECTION_ID_SIZE_BOUND ≡ 9 }
@@ -157,7 +157,7 @@ pub fn retire_connection_id_is_bounded()
         (meaning_of (frames.RetireConnectionId sequence))) ≤ RETIRE_CONNECTION_ID_SIZE_BOUND }
 {}
 
-/// By rules a payload has one reading, too. Where no frame is checked, as by `Rules::default()`, it is that of the
+/// By rules, too, a payload has one reading. If no frame is checked, as by `Rules::default()`, it is that of the
 /// iterator without rules.
 pub fn checked_readings()
     ensures one { (rules : Rules) (before : Option ℕ) (bytes : List ℕ) → AreBytes bytes

@@ -21,7 +21,7 @@ pub struct Ack<'a> {
     ghost valid: { IsBlocks largest additional.now },
 }
 
-/// Why bytes are not the blocks of an acknowledgement: the first reason that a reader meets.
+/// Why bytes are not the blocks of an acknowledgement: the first reason that a reader meets (RFC 9000, section 19.3.1).
 #[derive(Clone, Copy, Debug, PartialEq, Eq, Error)]
 pub enum AckError {
     /// A number is missing or cut off.
@@ -35,8 +35,9 @@ pub enum AckError {
 impl<'a> Ack<'a> {
     ghost use Rattle.quic_frame_fields.specs.Acks.{parts_of, ranges_acked, ranges_left, fault_of};
 
-    /// An acknowledgement of these fields, whose numbers the caller must ensure to be below 2^62. `blocks` is a first
-    /// block and any number of pairs of gap and block, and nothing else. It allocates no memory.
+    /// An acknowledgement with these fields. `blocks` must be a first block, any number of pairs of gap and block, and
+    /// nothing else; the error says why it isn't. The caller must ensure that the numbers are below 2^62. It doesn't
+    /// allocate.
     #[tactic(auto, using(crate::proofs::Blocks::acked))]
     pub fn from_parts(
         largest: u64,
@@ -78,14 +79,14 @@ impl<'a> Ack<'a> {
         }
     }
 
-    /// The greatest number that is acknowledged.
+    /// The greatest packet number that is acknowledged.
     pub fn largest(&self) -> u64
         ensures { result ≡ (parts_of self.now).largest }
     {
         self.largest
     }
 
-    /// The delay, in the units that the sender chose.
+    /// The ACK Delay field, in units of 2^`ack_delay_exponent` microseconds (RFC 9000, section 19.3).
     pub fn delay(&self) -> u64
         ensures { result ≡ (parts_of self.now).delay }
     {
@@ -99,15 +100,15 @@ impl<'a> Ack<'a> {
         self.additional
     }
 
-    /// The counts of marked packets, if the frame has them.
+    /// The ECN counts, if the frame has them.
     pub fn ecn(&self) -> Option<EcnCounts>
         ensures { result ≡ (parts_of self.now).ecn }
     {
         self.ecn
     }
 
-    /// The ranges of acknowledged numbers, the greatest first: those that the blocks encode below the greatest
-    /// number (RFC 9000, section 19.3.1). It allocates no memory.
+    /// The ranges of acknowledged numbers, the greatest first: those that the blocks encode below the greatest number
+    /// (RFC 9000, section 19.3.1). It doesn't allocate.
     #[tactic(auto, using(crate::proofs::Blocks::acked))]
     pub fn iter(&self) -> AckIter<'a>
         ensures ranges { ranges_left result ≡ ranges_acked self.now }
@@ -121,7 +122,7 @@ impl<'a> Ack<'a> {
     }
 }
 
-/// Counts of marked packets (RFC 9000, section 19.3.2).
+/// ECN counts: how many packets were received with each codepoint (RFC 9000, section 19.3.2).
 #[derive(Clone, Copy, Debug, PartialEq, Eq)]
 pub struct EcnCounts {
     /// Packets marked ECT(0).
@@ -145,7 +146,7 @@ const _: () = prove!(
     EcnCounts::ZERO.ect0 == 0 && EcnCounts::ZERO.ect1 == 0 && EcnCounts::ZERO.ce == 0
 );
 
-/// Counts one more packet of a codepoint. The caller must ensure that its count is below 2^64 - 1.
+/// Counts one more packet with a codepoint. The caller must ensure that its count is below 2^64 - 1.
 impl AddAssign<EcnCodepoint> for EcnCounts {
     ghost use Rattle.quic_frame_fields.specs.Acks.{count_of, CountsOne};
     ghost use Rattle.std.specs.Prelude.{◌<◌, ◌^◌, ◌+◌};

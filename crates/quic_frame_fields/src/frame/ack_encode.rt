@@ -18,14 +18,14 @@ use quic_base::varint::store_var;
 use quic_ranges::range_set::{ArrayRangeSet, Iter, RangeSet};
 use std::ops::Range;
 
-// The size of the array in which numbers are collected, so that the room is tested once for many.
+// The size of the array in which numbers are collected, so that the room is checked once for many.
 const CHUNK: usize = 64;
 
 impl Ack<'_> {
-    /// Appends an ACK of a set (RFC 9000, section 19.3). The caller must ensure that the set has a number, and
-    /// that its numbers, the delay and the counts are below 2^62. Answers `NoRoom` only if the spare
-    /// room is less than the frame: the buffer then keeps its contents, and may have a prefix of the frame
-    /// after them. It allocates no memory.
+    /// Appends an ACK of a set (RFC 9000, section 19.3). Returns `NoRoom` only if the frame is longer than the buffer's
+    /// spare room. The buffer then has its old contents, and possibly a prefix of the frame after them. The caller must
+    /// ensure that the set isn't empty, and that its numbers, the delay and the counts are below 2^62. It doesn't
+    /// allocate.
     pub fn encode<B: BufMut>(
         delay: u64,
         ranges: &ArrayRangeSet,
@@ -43,8 +43,7 @@ impl Ack<'_> {
         encode_runs(delay, ranges.iter(), ranges.len(), ecn.copied(), out)
     }
 
-    /// Appends an ACK of a set that keeps its runs in a vector, with the conditions, the bytes and the error of
-    /// `Ack::encode`.
+    /// Appends an ACK of a `RangeSet`, as `Ack::encode` appends that of an `ArrayRangeSet`.
     pub fn encode_from<B: BufMut>(
         delay: u64,
         set: &RangeSet,
@@ -62,7 +61,7 @@ impl Ack<'_> {
     }
 }
 
-// Appends an ACK of the runs of a set, of which there are `count`.
+// Appends an ACK of the `count` runs of a set.
 fn encode_runs<B: BufMut>(
     delay: u64,
     runs: Iter<'_>,
@@ -92,14 +91,14 @@ fn encode_runs<B: BufMut>(
     encode_counts(ecn, out)
 }
 
-// The type of an ACK with these counts or with none.
+// The type of an ACK with these counts, or without.
 fn type_of(ecn: Option<EcnCounts>) -> u64
     ensures { result ≡ ack_type ecn }
 {
     if ecn.is_some() { 0x03 } else { 0x02 }
 }
 
-// Appends the chunk's contents if two more numbers may not fit after them, and answers where these go.
+// Appends the chunk's contents if two more numbers may not fit after them, and returns the offset for these.
 #[inline(always)]
 fn make_room<B: BufMut>(chunk: &[u8; CHUNK], at: usize, out: &mut B) -> Result<usize, NoRoom>
     requires { at ≤ CHUNK }
@@ -127,9 +126,9 @@ fn store_two(chunk: &mut [u8; CHUNK], at: usize, gap: u64, len: u64) -> usize
     store_var(chunk, at, len)
 }
 
-// Appends the first bytes of the chunk, which hold numbers already, and then the runs below another one, the greatest
-// first: for each the count of numbers between it and the one above it, less one, and the count of its numbers, less
-// one. They are collected in the chunk.
+// Appends the numbers that are in the chunk already, and then the runs below another one, the greatest first: for each,
+// how many numbers are between it and the one above it, minus one, and how many numbers it has, minus one. They are
+// collected in the chunk.
 fn encode_below<B: BufMut>(
     chunk: &mut [u8; CHUNK],
     at: usize,
@@ -180,7 +179,7 @@ fn counts_len(ecn: Option<EcnCounts>) -> u128
 }
 
 // The numbers before the blocks: the type, the greatest number, the delay, and how many ranges are below the first,
-// from how many numbers the blocks are.
+// which follows from how many `numbers` the blocks have.
 #[inline(always)]
 pub(super) fn header_of(ack: &Ack<'_>, numbers: u64) -> [u64; 4]
     requires { numbers / 2 ≡ length (ranges_acked ack.now) - 1 }
@@ -190,7 +189,7 @@ pub(super) fn header_of(ack: &Ack<'_>, numbers: u64) -> [u64; 4]
 }
 
 /// Appends an acknowledgement that was read, whose numbers may have been encoded in any widths, as `Ack::encode`
-/// appends that of a set. It allocates no memory.
+/// appends that of a set. It doesn't allocate.
 pub fn encode_ack<B: BufMut>(ack: &Ack<'_>, out: &mut B) -> Result<(), NoRoom>
     requires { IsAckInRange ack.now }
     ensures { (last : Bool) → WritesTo B.written B.spare (shortest_frame last (ack_meaning ack.now))

@@ -7,9 +7,9 @@ use super::fault::Fault;
 use super::field::blocks;
 use quic_base::varint::{split_var_by_word, split_var_mostly_one_byte};
 
-/// The greatest number of the ACK that the bytes begin with, the bytes of its blocks, and what follows these. `None`
-/// exactly if the type is another one, a number up to there is missing or cut off, or a block or a gap is too large.
-/// Counts aren't read. It allocates no memory.
+/// The greatest number of the ACK at the front, the bytes of its blocks, and what follows these. `None` exactly when
+/// the type isn't that of an ACK, a number up to there is missing or cut off, or a block or a gap is too large. ECN
+/// counts aren't read. It doesn't allocate.
 pub fn split_ack(bytes: &[u8]) -> Option<(u64, &[u8], &[u8])>
     ensures none { IsNone result
         → (largest : ℕ) (blocks rest : List ℕ) → BeginsWithAck bytes.now largest blocks rest → ⊥ }

@@ -20,7 +20,7 @@ pub enum Close<'a> {
 impl Close<'_> {
     ghost use Rattle.quic_frame_fields.specs.Closes.{is_connection};
 
-    /// Whether the transport closed, and not the application.
+    /// Whether the transport closes the connection, not the application.
     pub fn is_transport_layer(&self) -> bool
         ensures { result ≡ is_connection self.now }
     {
@@ -28,7 +28,7 @@ impl Close<'_> {
     }
 }
 
-/// The transport closes the connection.
+/// The transport closes the connection (RFC 9000, section 19.19).
 #[derive(Clone, Copy, Debug, PartialEq, Eq)]
 pub struct ConnectionClose<'a> {
     /// The kind of error.
@@ -39,7 +39,7 @@ pub struct ConnectionClose<'a> {
     pub reason: &'a [u8],
 }
 
-/// The application closes the connection.
+/// The application closes the connection (RFC 9000, section 19.19).
 #[derive(Clone, Copy, Debug, PartialEq, Eq)]
 pub struct ApplicationClose<'a> {
     /// The application's error code.
@@ -78,7 +78,7 @@ impl<'a> From<ApplicationClose<'a>> for Close<'a> {
     }
 }
 
-/// The close that an error causes, whose reason is borrowed.
+/// The close for an error. It borrows the error's reason.
 impl<'a> From<&'a Error> for ConnectionClose<'a> {
     ghost from_gives = { λ e close. IsCloseOf e.now close };
 
@@ -91,7 +91,7 @@ impl<'a> From<&'a Error> for ConnectionClose<'a> {
     }
 }
 
-/// The close that an error causes, whose reason is borrowed.
+/// The close for an error. It borrows the error's reason.
 impl<'a> From<&'a Error> for Close<'a> {
     ghost use Rattle.quic_frame_fields.specs.Closes.{IsConnectionCloseOf};
 
@@ -102,7 +102,7 @@ impl<'a> From<&'a Error> for Close<'a> {
     }
 }
 
-/// The text of the code, and the reason if there is one. Bytes that are not UTF-8 are shown as U+FFFD.
+/// The text of the code, and the reason if there is one. Bytes that aren't UTF-8 are printed as U+FFFD.
 impl fmt::Display for ConnectionClose<'_> {
     ghost output = { λ c. Some (connection_close_text c) };
 
@@ -116,7 +116,7 @@ impl fmt::Display for ConnectionClose<'_> {
     }
 }
 
-/// The reason and the code, or the code alone. Bytes that are not UTF-8 are shown as U+FFFD.
+/// The reason and the code, or only the code if there is no reason. Bytes that aren't UTF-8 are printed as U+FFFD.
 impl fmt::Display for ApplicationClose<'_> {
     ghost output = { λ c. Some (application_close_text c) };
 

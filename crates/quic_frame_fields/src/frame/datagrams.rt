@@ -7,9 +7,9 @@ use super::{Datagram, write};
 use quic_base::coding::NoRoom;
 
 impl Datagram<'_> {
-    /// Appends the frame, with the length of its data if `with_length` is set; without it the frame must be the last
-    /// of its payload. It reserves room for `size` bytes at once, which can't fail if there is spare room for them.
-    /// Answers `NoRoom` if that fails; `out` then doesn't change. The caller must ensure that the data is below
+    /// Appends the frame, with the length of its data if `with_length` is set. A frame without it must be the last of
+    /// its payload. The call reserves room for `size` bytes at once, which can't fail if there is spare room for them.
+    /// Returns `NoRoom` if that fails; `out` doesn't change then. The caller must ensure that the data has fewer than
     /// 2^62 bytes if its length is written.
     #[tactic(auto, using(crate::proofs::Encoding::datagram_counted))]
     pub fn encode(&self, with_length: bool, out: &mut Vec<u8>) -> Result<(), NoRoom>
@@ -29,7 +29,7 @@ impl Datagram<'_> {
         }
     }
 
-    /// How many bytes `encode` appends. The caller must ensure that the data is below 2^62 bytes if its length is
+    /// How many bytes `encode` appends. The caller must ensure that the data has fewer than 2^62 bytes if its length is
     /// written.
     #[tactic(auto, using(crate::proofs::Encoding::datagram_counted_length, crate::proofs::Encoding::datagram_open_length))]
     pub fn size(&self, with_length: bool) -> usize

@@ -17,8 +17,8 @@ use quic_base::coding::NoRoom;
 use quic_base::varint::{VarInt, var_size};
 
 impl ResetStream {
-    /// Appends the frame. Answers `NoRoom` only if the spare room is less than that: the buffer then keeps its
-    /// contents, and may have a prefix of the frame after them.
+    /// Appends the frame. Returns `NoRoom` only if the frame is longer than the buffer's spare room. The buffer then
+    /// has its old contents, and possibly a prefix of the frame after them.
     #[tactic(auto, unfolding(crate::specs::Shortest::shortest_frame))]
     pub fn encode<B: BufMut>(&self, out: &mut B) -> Result<(), NoRoom>
         ensures { (last : Bool) → WritesTo B.written B.spare (shortest_frame last (reset_meaning self.now))
@@ -27,7 +27,7 @@ impl ResetStream {
         write::numbers(out, &self.numbers())
     }
 
-    /// The numbers that the frame is.
+    /// The numbers that make up the frame, its type first.
     pub fn numbers(&self) -> [u64; 4]
         ensures numbers { result ≡ 0x04 ∷ self.now.id ∷ self.now.error_code ∷ self.now.final_offset ∷ [] }
         ensures numeric { AreNumeric result }
@@ -47,7 +47,7 @@ impl StopSending {
         write::numbers(out, &self.numbers())
     }
 
-    /// The numbers that the frame is.
+    /// The numbers that make up the frame, its type first.
     pub fn numbers(&self) -> [u64; 3]
         ensures numbers { result ≡ 0x05 ∷ self.now.id ∷ self.now.error_code ∷ [] }
         ensures numeric { AreNumeric result }
@@ -66,7 +66,7 @@ impl AckFrequency {
         write::numbers(out, &self.numbers())
     }
 
-    /// The numbers that the frame is.
+    /// The numbers that make up the frame, its type first.
     pub fn numbers(&self) -> [u64; 5]
         ensures numbers { result ≡ 0xaf ∷ self.now.sequence ∷ self.now.ack_eliciting_threshold
             ∷ self.now.request_max_ack_delay ∷ self.now.reordering_threshold ∷ [] }
@@ -119,8 +119,7 @@ impl NewToken<'_> {
 }
 
 impl EcnCounts {
-    /// Appends the three counts, as `ResetStream::encode` does. The caller must ensure that they are below
-    /// 2^62.
+    /// Appends the three ECN counts, as `ResetStream::encode` does. The caller must ensure that they are below 2^62.
     pub fn encode<B: BufMut>(&self, out: &mut B) -> Result<(), NoRoom>
         requires ect0 { self.now.ect0 < 2 ^ 62 }
         requires ect1 { self.now.ect1 < 2 ^ 62 }
@@ -166,7 +165,7 @@ pub fn type_or_zero(ty: Option<FrameType>) -> u64
     }
 }
 
-// The first bytes of a reason, at most so many.
+// The first bytes of a reason, at most `room`.
 #[tactic(auto, using(crate::proofs::Encoding::cut_is, crate::proofs::Encoding::cut_short))]
 fn cut(reason: &[u8], room: usize) -> &[u8]
     ensures value { result.now ≡ take room reason.now }
@@ -176,7 +175,8 @@ fn cut(reason: &[u8], room: usize) -> &[u8]
 }
 
 impl ConnectionClose<'_> {
-    /// The least `max_len` that `encode` accepts. The caller must ensure that the reason's length is below 2^62.
+    /// The least `max_len` that `encode` accepts, in bytes. The caller must ensure that the reason's length is below
+    /// 2^62.
     pub fn min_len(&self) -> usize
         requires { length self.now.reason.now < 2 ^ 62 }
         ensures { result ≡ least_room (closes.Connection self.now) }
@@ -186,9 +186,8 @@ impl ConnectionClose<'_> {
         1 + code + ty + var_size(self.reason.len() as u64)
     }
 
-    /// Appends the frame, as `ResetStream::encode` does, with as much of the reason as leaves the frame
-    /// at most `max_len` bytes. The caller must ensure that this is at least `min_len`, and that the reason's
-    /// length is below 2^62.
+    /// Appends the frame, as `ResetStream::encode` does, and cuts the reason so that the frame has at most `max_len`
+    /// bytes. The caller must ensure that `max_len` is at least `min_len`, and that the reason's length is below 2^62.
     #[tactic(auto, using(crate::proofs::Encoding::connection_close_fits))]
     pub fn encode<B: BufMut>(&self, out: &mut B, max_len: usize) -> Result<(), NoRoom>
         requires reason { length self.now.reason.now < 2 ^ 62 }
@@ -202,7 +201,8 @@ impl ConnectionClose<'_> {
         self.encode_with(out, cut(self.reason, max_len - self.min_len()))
     }
 
-    /// The frame with another reason.
+    /// Appends the frame with another reason, as `ResetStream::encode` does. The caller must ensure that its length is
+    /// below 2^62.
     #[tactic(auto, using(crate::proofs::Encoding::connection_close_parts))]
     pub fn encode_with<B: BufMut>(&self, out: &mut B, reason: &[u8]) -> Result<(), NoRoom>
         requires { length reason.now < 2 ^ 62 }
@@ -227,7 +227,8 @@ impl ConnectionClose<'_> {
 }
 
 impl ApplicationClose<'_> {
-    /// The least `max_len` that `encode` accepts. The caller must ensure that the reason's length is below 2^62.
+    /// The least `max_len` that `encode` accepts, in bytes. The caller must ensure that the reason's length is below
+    /// 2^62.
     pub fn min_len(&self) -> usize
         requires { length self.now.reason.now < 2 ^ 62 }
         ensures { result ≡ least_room (closes.Application self.now) }
@@ -249,7 +250,8 @@ impl ApplicationClose<'_> {
         self.encode_with(out, cut(self.reason, max_len - self.min_len()))
     }
 
-    /// The frame with another reason.
+    /// Appends the frame with another reason, as `ResetStream::encode` does. The caller must ensure that its length is
+    /// below 2^62.
     #[tactic(auto, using(crate::proofs::Encoding::application_close_parts))]
     pub fn encode_with<B: BufMut>(&self, out: &mut B, reason: &[u8]) -> Result<(), NoRoom>
         requires { length reason.now < 2 ^ 62 }
@@ -270,7 +272,8 @@ impl ApplicationClose<'_> {
 }
 
 impl Close<'_> {
-    /// The least `max_len` that `encode` accepts. The caller must ensure that the reason's length is below 2^62.
+    /// The least `max_len` that `encode` accepts, in bytes. The caller must ensure that the reason's length is below
+    /// 2^62.
     pub fn min_len(&self) -> usize
         requires { length (close_reason self.now) < 2 ^ 62 }
         ensures { result ≡ least_room self.now }

@@ -1,10 +1,10 @@
-//! Why a frame could not be read.
+//! Why a frame can't be read.
 ghost use Rattle.std.specs.Prelude.{◌≡◌};
 ghost use Rattle.quic_frame_fields.specs.declared.frame.fault.Fault.TheVariants as faults;
 
 use quic_base::coding::UnexpectedEnd;
 
-/// Why a frame could not be read.
+/// Why a frame can't be read.
 #[derive(Clone, Copy, Debug, PartialEq, Eq)]
 pub enum Fault {
     /// A field, or the type, goes beyond the end of the payload.
@@ -13,7 +13,7 @@ pub enum Fault {
     InvalidFrameId,
     /// A field has a forbidden value.
     Malformed,
-    /// The type is not in its shortest encoding, where it must be.
+    /// The type isn't in its shortest encoding although it must be.
     LongType,
 }
 

@@ -23,7 +23,7 @@ fn block(greatest: u64, bytes: &[u8]) -> Result<(u64, &[u8]), Fault>
     Ok((greatest - n, rest))
 }
 
-// The same, inlined into the caller, whatever width its number has.
+// The same, inlined into the caller, for a number of any width.
 #[inline(always)]
 #[tactic(auto, unfolding(crate::specs::Reading::varint_at, crate::specs::Reading::block_at))]
 fn near_block(greatest: u64, bytes: &[u8]) -> Result<(u64, &[u8]), Fault>
@@ -82,7 +82,7 @@ fn range(low: u64, bytes: &[u8]) -> Result<(u64, u64, &[u8]), Fault>
     Ok((least, greatest, rest))
 }
 
-// What follows so many ranges below `low`: most ACKs have none.
+// What follows `count` ranges below `low`: most ACKs have none.
 #[inline(always)]
 #[tactic(auto, unfolding(crate::specs::Reading::below_at))]
 fn below(count: u64, low: u64, bytes: &[u8]) -> Result<&[u8], Fault>
@@ -95,7 +95,7 @@ fn below(count: u64, low: u64, bytes: &[u8]) -> Result<&[u8], Fault>
     }
 }
 
-// The sum of the bytes of a word, of which each is below 64: of two at a time, and then of those sums.
+// The sum of the bytes of a word, each of which is below 64: first the sums of two, then the sum of these.
 #[inline(always)]
 #[tactic(auto, using(crate::proofs::ShortRanges::sum_of_bytes))]
 fn sum_of(word: u64) -> u64
@@ -107,8 +107,8 @@ fn sum_of(word: u64) -> u64
     pairs.wrapping_mul(0x0001_0001_0001_0001) >> 48
 }
 
-// How many whole ranges whose numbers have one byte each are at the front of eight bytes, and how many packet numbers
-// they span, with the gaps above them. A byte of 64 or more begins a longer number.
+// How many whole ranges of one-byte numbers are at the front of eight bytes, and how many packet numbers they span,
+// with the gaps above them. A byte of 64 or more begins a longer number.
 #[inline(always)]
 fn short_ranges(front: &[u8; 8]) -> (u64, u64)
     ensures few { result.0 ≤ 4 }
@@ -126,7 +126,7 @@ fn short_ranges(front: &[u8; 8]) -> (u64, u64)
     (ranges, sum_of(short) + 2 * ranges)
 }
 
-// Skips ranges whose numbers have one byte each, four at a time, and then those before a longer number: how many ranges
+// Skips ranges of one-byte numbers, four at a time, and then those before a longer number. Returns how many ranges
 // remain, the least number of the last one that was skipped, and what follows it.
 #[inline(always)]
 fn pass_short(count: u64, low: u64, bytes: &[u8]) -> (u64, u64, &[u8])
@@ -154,10 +154,10 @@ fn pass_short(count: u64, low: u64, bytes: &[u8]) -> (u64, u64, &[u8])
     (left, low, rest)
 }
 
-// The least number of the range at the front, below a range that begins at `low`, and how many bytes it takes: sixteen
-// hold its two numbers, whatever their widths. `None` if both numbers have one byte, as those after them may have, and
-// if the range would go below 0. Widths are found by branches: in a run of one width the processor
-// predicts the next place.
+// The least number of the range at the front, below a range that begins at `low`, and its length in bytes; sixteen
+// bytes hold its two numbers, whatever their widths. `None` if both numbers have one byte, since those after them may
+// too, and if the range would go below 0. Widths are found by branches: in a run of one width the processor predicts
+// the next offset.
 #[inline(always)]
 fn wide_front(low: u64, front: &[u8; 16]) -> Option<(u64, usize)>
     ensures within { IfSome result (λ x. x.1 ≤ 16) }
@@ -180,8 +180,8 @@ fn wide_front(low: u64, front: &[u8; 16]) -> Option<(u64, usize)>
     Some((low - all, 16 - rest.len()))
 }
 
-// Skips ranges of which a number is longer than one byte, one after the other, up to one of two short numbers, and
-// answers what `pass_short` does. The last three, and those in the last fifteen bytes, aren't skipped either.
+// Skips ranges with a number longer than one byte, one after the other, up to a range of two one-byte numbers, and
+// returns what `pass_short` does. It doesn't skip the last three ranges, nor those in the last fifteen bytes.
 #[inline(always)]
 fn pass_wide(count: u64, low: u64, bytes: &[u8]) -> (u64, u64, &[u8])
     ensures fewer { result.0 ≤ count }
@@ -204,8 +204,8 @@ fn pass_wide(count: u64, low: u64, bytes: &[u8]) -> (u64, u64, &[u8])
     (left, low, rest)
 }
 
-// What follows so many ranges below `low`: short ones are skipped together, then wide ones in a row, and the range that
-// ended both is read by itself. Each range takes bytes, so a count that is too large ends soon.
+// What follows `count` ranges below `low`: short ones are skipped together, then wide ones in a row, and the range that
+// ended both is read by itself. Each range has bytes, so a count that is too large ends soon.
 fn each_below(count: u64, low: u64, bytes: &[u8]) -> Result<&[u8], Fault>
     ensures { Gives (λ x. x.now) result (below_at count low bytes.now) }
 {
@@ -225,8 +225,8 @@ fn each_below(count: u64, low: u64, bytes: &[u8]) -> Result<&[u8], Fault>
     }
 }
 
-/// The ranges of an ACK: the bytes of their blocks and gaps, after the count of those below the first; and what follows
-/// them.
+/// Reads the ranges of an ACK from the count of those below the first on: the bytes of their blocks and gaps, and what
+/// follows them.
 #[inline(always)]
 #[tactic(auto, unfolding(crate::specs::Reading::varint_at, crate::specs::Reading::blocks_at, crate::specs::Reading::after_blocks))]
 pub fn blocks(greatest: u64, bytes: &[u8]) -> Result<(&[u8], &[u8]), Fault>
@@ -293,8 +293,8 @@ fn wide_range(greatest: u64, blocks: &[u8]) -> (u64, u64, &[u8])
     (least, next, others)
 }
 
-// The same of any bytes, or the reason why they don't begin with a range. Reading a gap and a block of one byte each,
-// as most are, is inlined into the caller.
+// The same of any bytes, or why they don't begin with a range. Reading a gap and a block of one byte each, the usual
+// case, is inlined into the caller.
 #[inline(always)]
 pub(super) fn checked_range(greatest: u64, blocks: &[u8]) -> Result<(u64, u64, &[u8]), Fault>
     ensures gives { Gives (λ x. (x.0, x.1, x.2.now)) result (first_range_at greatest blocks.now) }

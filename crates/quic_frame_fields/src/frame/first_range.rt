@@ -8,10 +8,11 @@ use super::ack::AckError;
 use super::fault::Fault;
 use super::field;
 
-/// One step of `AckIter` over any bytes (RFC 9000, section 19.3.1): the least number of the range that ends with
-/// `greatest`, the greatest number of the next range, and the blocks of that one and those below it. If no byte
-/// remains, there is no next range, and its number is 0. Bytes are refused exactly if they don't begin with a block, or
-/// if more follow it and these don't begin with a gap; what follows the gap isn't read. It allocates no memory.
+/// One step of `AckIter` on any bytes (RFC 9000, section 19.3.1). Returns the least number of the range that ends with
+/// `greatest`, the greatest number of the next range, and the blocks of that range and of those below it. If no byte
+/// remains, there is no next range, and its number is 0. It is an error exactly when the bytes don't begin with a
+/// block, or when more bytes follow it and don't begin with a gap. What follows the gap isn't read. It doesn't
+/// allocate.
 #[inline(always)]
 pub fn split_first_range(greatest: u64, blocks: &[u8]) -> Result<(u64, u64, &[u8]), AckError>
     ensures begins { IfOk result (λ x. BeginsWithRange greatest blocks.now x.0 x.1 x.2.now) }
@@ -21,7 +22,7 @@ pub fn split_first_range(greatest: u64, blocks: &[u8]) -> Result<(u64, u64, &[u8
     ensures shorter { IfOk result (λ x. length x.2.now < length blocks.now) }
     ensures left { IfOk result (λ x. drop (length blocks.now - length x.2.now) blocks.now ≡ x.2.now) }
 
-    // The ranges of an ACK's blocks are the first one and those of the remaining bytes; bytes that are refused are no
+    // The ranges of an ACK's blocks are the first one and those of the remaining bytes; bytes that are rejected aren't
     // blocks.
     ensures ranges { IfOk result (λ x. SplitsRanges greatest blocks.now x.0 x.1 x.2.now) }
     ensures refused { IfErr result (λ e. AreNoBlocks greatest blocks.now (fault_of e)) }

@@ -38,10 +38,10 @@ impl Default for StreamMeta {
 }
 
 impl StreamMeta {
-    /// Appends the frame up to its data, with their length if `with_length` is set. Answers `NoRoom`
-    /// only if the spare room is less than that: the buffer then keeps its contents, and may have a prefix of
-    /// the frame after them. The caller must ensure that the range isn't reversed, that it starts below 2^62, and that
-    /// its length is below 2^62 where it is written.
+    /// Appends the frame up to its data, with the data's length if `with_length` is set. Returns `NoRoom` only if that
+    /// is longer than the buffer's spare room. The buffer then has its old contents, and possibly a prefix of the frame
+    /// after them. The caller must ensure that the range isn't reversed, that it starts below 2^62, and that its length
+    /// is below 2^62 if it is written.
     pub fn encode<B: BufMut>(&self, with_length: bool, out: &mut B) -> Result<(), NoRoom>
         requires ordered { self.now.offsets.start ≤ self.now.offsets.end }
         requires start { self.now.offsets.start < 2 ^ 62 }
@@ -55,8 +55,8 @@ impl StreamMeta {
     }
 }
 
-/// Appends a STREAM up to its data, whose length is written if it is given. The caller must ensure that the numbers are
-/// below 2^62. Answers `NoRoom` as `StreamMeta::encode` does.
+/// Appends a STREAM up to its data. The data's length is written if it is given. Returns `NoRoom` as
+/// `StreamMeta::encode` does. The caller must ensure that the numbers are below 2^62.
 pub fn encode_header<B: BufMut>(
     out: &mut B,
     id: StreamId,

@@ -13,7 +13,7 @@ use quic_base::varint::{split_var_by_word, store_var, var_size};
 // The size of the array that numbers are written into: five of them, each by a store of at most eight bytes.
 pub(super) const HEADER_ROOM: usize = 40;
 
-// Stores numbers, one after the other, and answers where they end.
+// Stores numbers, one after the other, and returns the offset at which they end.
 #[inline(always)]
 pub(super) fn store_numbers(dest: &mut [u8], numbers: &[u64]) -> usize
     requires room { 8 * length numbers.now ≤ length dest.old }
@@ -29,9 +29,9 @@ pub(super) fn store_numbers(dest: &mut [u8], numbers: &[u64]) -> usize
     at
 }
 
-/// Appends at most five numbers in their shortest encodings, which are collected first, so that the room is
-/// tested once. Answers `NoRoom` only if the spare room is less than those: the buffer then keeps its contents, and
-/// may have a prefix of the encodings after them.
+/// Appends at most five numbers, each below 2^62, in their shortest encodings. They are collected first, so that the
+/// room is checked once. Returns `NoRoom` only if they are longer than the buffer's spare room. The buffer then has its
+/// old contents, and possibly a prefix of the encodings after them.
 #[inline(always)]
 pub fn numbers<B: BufMut>(out: &mut B, numbers: &[u64]) -> Result<(), NoRoom>
     requires few { length numbers.now ≤ 5 }
@@ -71,8 +71,8 @@ pub fn id_and_bytes<B: BufMut>(out: &mut B, id: &ConnectionId, tail: &[u8]) -> R
     bytes(out, tail)
 }
 
-/// Appends the numbers that the bytes encode, in their shortest encodings, in the same way. The caller must know how
-/// many bytes these have: if the given bytes are as many, they are the shortest already, and are copied.
+/// Appends the numbers that the bytes encode, in their shortest encodings, in the same way. The caller must give the
+/// length `len` of these; if the given bytes have it, they are the shortest already and are copied.
 pub fn shortened<B: BufMut>(out: &mut B, encoded: &[u8], len: u64) -> Result<(), NoRoom>
     requires { (ns : List ℕ) → AreEncoded ns encoded.now → len ≡ length (shortest_varints ns) }
     ensures { (ns : List ℕ) → AreEncoded ns encoded.now
@@ -111,7 +111,7 @@ fn ones(bytes: &[u8]) -> usize
     n
 }
 
-/// How many numbers the bytes encode, and how many bytes `shortened` appends of them.
+/// How many numbers the bytes encode, and how many bytes `shortened` appends for them.
 pub fn count_and_len(encoded: &[u8]) -> (u64, u64)
     ensures count { (ns : List ℕ) → AreEncoded ns encoded.now → result.0 ≡ length ns }
     ensures len { (ns : List ℕ) → AreEncoded ns encoded.now → result.1 ≡ length (shortest_varints ns) }
@@ -157,7 +157,7 @@ pub fn numbers_and_bytes_len(numbers: &[u64], tail: &[u8]) -> u128
 }
 
 /// Appends numbers and then bytes to a vector. It reserves room for all of them at once, which can't fail if there is
-/// spare room for them. Answers `NoRoom` if that fails; `out` then doesn't change.
+/// spare room for them. Returns `NoRoom` if that fails; `out` doesn't change then.
 pub fn append(out: &mut Vec<u8>, numbers: &[u64], tail: &[u8]) -> Result<(), NoRoom>
     requires few { length numbers.now ≤ 5 }
     requires numeric { AreNumeric numbers.now }

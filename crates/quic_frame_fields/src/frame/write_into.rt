@@ -11,9 +11,9 @@ use super::write::{HEADER_ROOM, count_and_len, store_numbers};
 use super::{Ack, EcnCounts, FrameType, Stream};
 use quic_base::varint::{split_var_by_word, store_var};
 
-/// Stores at most five numbers in their shortest encodings at the front of the slice, and answers how many bytes they
-/// have. If the slice is shorter, and only then, it doesn't change, and the error is how many bytes are needed. The
-/// room is tested once.
+/// Stores at most five numbers, each below 2^62, in their shortest encodings at the front of the slice, and returns how
+/// many bytes they have. It is an error exactly when the slice is shorter: it doesn't change then, and the error is how
+/// many bytes are needed. The room is checked once.
 #[inline(always)]
 pub fn numbers(dest: &mut [u8], numbers: &[u64]) -> Result<usize, usize>
     requires few { length numbers.now ≤ 5 }
@@ -54,7 +54,8 @@ pub fn numbers_and_two(
     three(dest, &encoded[..len], middle, end)
 }
 
-/// Stores at most five numbers in their shortest encodings over the bytes at a place, and answers where they end.
+/// Stores at most five numbers, each below 2^62, in their shortest encodings over the bytes from `at` on, and returns
+/// the offset at which they end.
 #[inline(always)]
 pub fn numbers_at(dest: &mut [u8], at: usize, numbers: &[u64]) -> usize
     requires few { length numbers.now ≤ 5 }
@@ -105,7 +106,7 @@ fn three(dest: &mut [u8], front: &[u8], middle: &[u8], end: &[u8]) -> Result<usi
     Ok(store_bytes(dest, at, end))
 }
 
-// Stores bytes over those at a place, and answers where they end.
+// Stores bytes over those from `at` on, and returns the offset at which they end.
 #[inline(always)]
 fn store_bytes(dest: &mut [u8], at: usize, bytes: &[u8]) -> usize
     requires { at + length bytes.now ≤ length dest.old }
@@ -119,8 +120,8 @@ fn store_bytes(dest: &mut [u8], at: usize, bytes: &[u8]) -> usize
     end
 }
 
-/// Stores a STREAM without its data, and then these, in the same way. Their length is written if it is given. The
-/// caller must ensure that the offset and the length are below 2^62.
+/// Stores a STREAM with its data, in the same way. The data's length is written if it is given. The caller must ensure
+/// that the offset and the length are below 2^62.
 pub fn stream(dest: &mut [u8], stream: &Stream<'_>, counted: Option<u64>) -> Result<usize, usize>
     requires offset { stream.now.offset < 2 ^ 62 }
     requires counted { IfSome counted (λ n. n < 2 ^ 62) }
@@ -143,8 +144,8 @@ pub fn stream(dest: &mut [u8], stream: &Stream<'_>, counted: Option<u64>) -> Res
     }
 }
 
-/// Stores an acknowledgement that was read, whose numbers may have been encoded in any widths, in its shortest
-/// encoding, in the same way. Blocks that are in their shortest encoding are copied.
+/// Stores an acknowledgement that was read in its shortest encoding, in the same way; its numbers may have been encoded
+/// in any widths. Blocks that are already in their shortest encoding are copied.
 pub fn ack(dest: &mut [u8], ack: &Ack<'_>) -> Result<usize, usize>
     requires { IsAckInRange ack.now }
     ensures { (last : Bool) → Puts result (shortest_frame last (ack_meaning ack.now)) dest.old dest.new }
@@ -163,7 +164,7 @@ pub fn ack(dest: &mut [u8], ack: &Ack<'_>) -> Result<usize, usize>
     Ok(store_bytes(dest, at, &counts[..counts_len]))
 }
 
-// Stores the counts of an acknowledgement, if they are given, and answers where they end.
+// Stores the counts of an acknowledgement, if they are given, and returns the offset at which they end.
 fn store_counts(counts: &mut [u8; HEADER_ROOM], ecn: Option<EcnCounts>) -> usize
     requires { AreCounts ecn }
     ensures within { result ≤ HEADER_ROOM }
@@ -175,8 +176,8 @@ fn store_counts(counts: &mut [u8; HEADER_ROOM], ecn: Option<EcnCounts>) -> usize
     }
 }
 
-// Stores the numbers that the bytes encode, in their shortest encodings, which have so many bytes, at a place, and
-// answers where they end.
+// Stores the numbers that the bytes encode from `at` on, in their shortest encodings, which have `len` bytes, and
+// returns the offset at which they end.
 fn store_shortened(dest: &mut [u8], at: usize, encoded: &[u8], len: usize) -> usize
     requires shortens { Shortens encoded.now len }
     requires room { at + len ≤ length dest.old }

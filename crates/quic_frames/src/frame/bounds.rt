@@ -1,11 +1,11 @@
-//! The bounds that the types of a frame's fields set.
+//! The bounds of the types of a frame's fields.
 ghost use Rattle.quic_frames.specs.InRange.{IsTypedFrame};
 
 use super::{Close, Frame};
 use quic_frame_fields::frame::encode::type_or_zero;
 
 impl Frame<'_> {
-    /// Tells the prover that each number is within its type's bound. It does nothing at run time.
+    /// Proves that each number is within its type's bound. It does nothing at run time.
     pub fn type_bounds(&self)
         ensures { IsTypedFrame self.now }
     {
@@ -51,7 +51,7 @@ impl Frame<'_> {
                     f.reordering_threshold.into_inner(),
                 );
             }
-            // The parts of these have no bounds that a law asks for. A further kind is named here or above.
+            // The parts of these have no bounds that a law needs. A new kind must be listed here or above.
             Frame::Padding
             | Frame::Ping
             | Frame::Ack(_)

@@ -1,4 +1,4 @@
-//! The frames of a payload, read by rules.
+//! The frames of a payload, read with rules.
 ghost use Rattle.std.specs.Prelude.{◌≡◌, ◌≤◌, ◌↔◌, [], IfErr, IfOk, IsErr, codes, length};
 ghost use Rattle.quic_base.specs.One.{ExactlyOne};
 ghost use Rattle.quic_errors.specs.Codes.{IsError, protocol_violation};
@@ -11,7 +11,7 @@ use super::{Frame, InvalidFrame, Iter};
 use crate::transport_error::Error;
 use std::marker::Model;
 
-/// Reads a payload frame by frame, and checks each frame by rules. Contracts see the rules, and where the iterator is.
+/// Reads a payload frame by frame, and checks each frame by rules. Contracts see the rules and the iterator's state.
 #[derive(Drop)]
 pub struct Checked<'a> {
     rules: Rules,
@@ -27,18 +27,18 @@ impl<'a> Model for Checked<'a> {
 }
 
 impl<'a> Iter<'a> {
-    /// The frames of a payload, each of which is checked by `rules`: the first that breaks one is an error, with its type
-    /// and `limit exceeded`, `malformed` or `invalid frame ID`, after which nothing is given. An empty payload is refused
-    /// with `PROTOCOL_VIOLATION`. It doesn't allocate.
+    /// The frames of a payload, each checked by `rules`. The first that breaks a rule is an error, with its type and
+    /// `limit exceeded`, `malformed` or `invalid frame ID`; nothing follows it. An empty payload is the error
+    /// `PROTOCOL_VIOLATION` (RFC 9000, section 12.4). It doesn't allocate.
     pub fn with_rules(payload: &'a [u8], rules: Rules) -> Result<Checked<'a>, Error>
         ensures empty { IsErr result ↔ (payload.now ≡ []) }
         ensures refusal { IfErr result (λ e. IsError e protocol_violation (codes "packet payload is empty")) }
         ensures first { IfOk result (λ it. it ≡ checked_first rules payload.now) }
 
-        // Each payload has one reading by rules: that without them, up to the first frame that breaks one.
+        // Each payload has one reading by rules: the one without rules, up to the first frame that breaks one.
         ensures one { ExactlyOne (IsCheckedOf rules payload.now) }
 
-        // That is what the iterator gives,
+        // That is what the iterator returns,
         ensures gives { IfOk result (λ it. (reading : CheckedReading) → IsCheckedOf rules payload.now reading
             → IsCheckedLeft it reading) }
 
@@ -61,8 +61,8 @@ impl<'a> Checked<'a> {
     }
 }
 
-/// Gives each frame, then one `InvalidFrame` if the rest isn't a valid frame or the next one breaks a rule, then nothing.
-/// It doesn't allocate. What frames borrow is as for `Iter`.
+/// Returns each frame, then one `InvalidFrame` if the rest isn't a valid frame or the next one breaks a rule, then
+/// nothing. It doesn't allocate. Frames borrow as those of `Iter` do.
 impl<'a> Iterator for Checked<'a> {
     ghost use Rattle.std.specs.Iterator.{at_most};
     ghost use Rattle.quic_frames.specs.Checking.{AdvancesBy};

@@ -1,4 +1,4 @@
-//! Frames of every kind, written in their shortest form at their place in a payload (RFC 9000, section 19).
+//! Frames of every kind, written in their shortest form, as the last of a payload or not (RFC 9000, section 19).
 ghost use Rattle.std.specs.Prelude.{◌≡◌, ◌<◌, ◌≤◌, ◌+◌, ◌^◌, ◌++◌, ℕ, Bool, List, length, false, if◌then◌else◌};
 ghost use Rattle.quic_base.specs.Ids.{dir_number};
 ghost use Rattle.quic_base.specs.Number.{bytes_of};
@@ -23,11 +23,11 @@ use quic_frame_fields::frame::stream_meta::encode_header;
 use quic_frame_fields::frame::write;
 
 impl Frame<'_> {
-    /// Appends the shortest encoding of the frame, which is the last of its payload or not: no offset 0
-    /// of a STREAM, and no length of a STREAM or DATAGRAM where it is the last. Answers `NoRoom` only
-    /// if the spare room is less than that: the buffer then keeps its contents, and may have a prefix of the
-    /// encoding after them. It allocates no memory. The caller must ensure that the frame is in range, and that
-    /// data whose length is written are below 2^62 bytes.
+    /// Appends the shortest encoding of the frame. `last` says whether the frame is the last of its payload. An offset
+    /// 0 of a STREAM isn't written, nor the length of a STREAM or DATAGRAM that is the last. Returns `NoRoom` only if
+    /// the encoding is longer than the buffer's spare room. The buffer then has its old contents, and possibly a prefix
+    /// of the encoding after them. The caller must ensure that the frame is in range, and that data has fewer than 2^62
+    /// bytes if its length is written. It doesn't allocate.
     #[tactic(auto, unfolding(quic_frame_fields::specs::Shortest::shortest_frame))]
     pub fn encode<B: BufMut>(&self, last: bool, out: &mut B) -> Result<(), NoRoom>
         requires { CanStand last self.now }
@@ -68,7 +68,7 @@ impl Frame<'_> {
         }
     }
 
-    /// How many bytes `encode` appends, under the same conditions. It allocates no memory.
+    /// How many bytes `encode` appends, under the same conditions. It doesn't allocate.
     #[inline(always)]
     #[tactic(auto, unfolding(quic_frame_fields::specs::Shortest::shortest_frame), using(crate::proofs::Encoding::crypto_parts))]
     pub fn encoded_len(&self, last: bool) -> u128

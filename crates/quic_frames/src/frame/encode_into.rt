@@ -14,11 +14,11 @@ use super::{Close, Datagram, Frame, NewConnectionId, Stream};
 use quic_frame_fields::frame::write_into;
 
 impl Frame<'_> {
-    /// Stores the shortest encoding of the frame, which is the last of its payload or not, at the front of the slice,
-    /// and answers how many bytes it has. These are the bytes that `encode` appends; the bytes after them don't
-    /// change. If the slice is shorter, and only then, nothing changes, and the error is how many bytes are needed.
-    /// The caller must ensure that the frame is in range, and that data whose length is written are below 2^62 bytes.
-    /// It allocates no memory.
+    /// Stores the shortest encoding of the frame at the front of the slice, and returns how many bytes it has. `last`
+    /// says whether the frame is the last of its payload. These are the bytes that `encode` appends; the bytes after
+    /// them don't change. It is an error exactly when the slice is shorter: nothing changes then, and the error is how
+    /// many bytes are needed. The caller must ensure that the frame is in range, and that data has fewer than 2^62
+    /// bytes if its length is written. It doesn't allocate.
     #[tactic(auto, unfolding(quic_frame_fields::specs::Shortest::shortest_frame))]
     pub fn encode_into(&self, last: bool, dest: &mut [u8]) -> Result<usize, usize>
         requires { CanStand last self.now }

@@ -22,7 +22,8 @@ fn bytes_of(n: u64, bytes: &[u8]) -> Result<(&[u8], &[u8]), Fault>
     Ok(bytes.split_at(n as usize))
 }
 
-/// A number of any width. It is read by a call, so that reading a frame stays small enough to go into its callers.
+/// A number of any width. It is read by a call, so that reading a frame stays small enough to be inlined into its
+/// callers.
 #[inline]
 #[tactic(auto, unfolding(quic_frame_fields::specs::Reading::varint_at))]
 pub(super) fn number(bytes: &[u8]) -> Result<(u64, &[u8]), Fault>
@@ -66,8 +67,7 @@ pub(super) fn offset(is_written: bool, bytes: &[u8]) -> Result<(u64, &[u8]), Fau
     }
 }
 
-/// The data of a STREAM or a DATAGRAM, and what follows them. If their length is left out, they are all remaining
-/// bytes.
+/// The data of a STREAM or a DATAGRAM, and what follows it. If its length is left out, it is all remaining bytes.
 #[inline(always)]
 pub(super) fn data(is_counted: bool, bytes: &[u8]) -> Result<(&[u8], &[u8]), Fault>
     ensures { (before : List Value)
@@ -80,7 +80,7 @@ pub(super) fn data(is_counted: bool, bytes: &[u8]) -> Result<(&[u8], &[u8]), Fau
     }
 }
 
-/// The data of a STREAM. Reading their length is inlined into the caller.
+/// The data of a STREAM. Reading its length is inlined into the caller.
 #[inline(always)]
 pub(super) fn near_data(is_counted: bool, bytes: &[u8]) -> Result<(&[u8], &[u8]), Fault>
     ensures { (before : List Value)

@@ -21,7 +21,7 @@ pub(super) struct FirstFrame<'a> {
 }
 
 /// Reads the frame at the front of `bytes`. With `strict`, a type that is not in its shortest encoding is an error;
-/// `last_type`, the type of the frame before, is reported where no type can be read.
+/// `last_type`, the type of the frame before, is reported if no type can be read.
 #[inline(always)]
 pub(super) fn read_typed_frame(
     strict: bool,
@@ -54,7 +54,7 @@ pub(super) fn read_typed_frame(
     }
 }
 
-// Whether a type of so many bytes is an error: with `strict`, if that isn't its shortest encoding.
+// Whether a type that was read from `width` bytes is an error: with `strict`, if that isn't its shortest encoding.
 fn is_long(strict: bool, ty: FrameType, width: usize) -> bool
     ensures { result ≡ is_long_type strict ty width }
 {

@@ -9,8 +9,8 @@ use super::{Ack, Close, EcnCounts, Frame, FrameType, NewConnectionId};
 impl Frame<'_> {
     /// Whether the frame has an encoding that is read as the same frame: numbers and lengths that are always written
     /// are below 2^62, the id of a NEW_CONNECTION_ID has 1 to 20 bytes and its `retire_prior_to` is at most its
-    /// `sequence`, and the frame type of a close isn't PADDING, which means that there is none (RFC 9000, sections
-    /// 16, 19.15 and 19.19). It allocates no memory.
+    /// `sequence`, and the frame type of a close isn't PADDING, which means that there is none (RFC 9000, sections 16,
+    /// 19.15 and 19.19). It doesn't allocate.
     pub fn in_range(&self) -> bool
         ensures { IsTrue result ↔ InRange self.now }
     {

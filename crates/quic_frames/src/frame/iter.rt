@@ -36,7 +36,8 @@ impl<'a> Model for Iter<'a> {
 }
 
 impl<'a> Iter<'a> {
-    /// The frames of a payload. An empty one is refused with `PROTOCOL_VIOLATION`. It allocates no memory.
+    /// The frames of a payload. An empty one is the error `PROTOCOL_VIOLATION` (RFC 9000, section 12.4). It doesn't
+    /// allocate.
     pub fn new(payload: &'a [u8]) -> Result<Self, Error>
         ensures empty { IsErr result ↔ (payload.now ≡ []) }
         ensures refusal { IfErr result (λ e. IsError e protocol_violation (codes "packet payload is empty")) }
@@ -45,7 +46,7 @@ impl<'a> Iter<'a> {
         // Each payload has one reading: frames to its end, or frames up to an error, with its type and reason.
         ensures one { ExactlyOne (IsReadingOf false payload.now) }
 
-        // That is what the iterator gives,
+        // That is what the iterator returns,
         ensures gives { IfOk result (λ it. (reading : Reading) → IsReadingOf false payload.now reading
             → IsLeft it reading) }
 
@@ -87,9 +88,9 @@ impl<'a> Iter<'a> {
         })
     }
 
-    /// An iterator as `new` gives it or, if `strict` is true, as `strict` does, at a later place: the end of a whole
-    /// frame, in bytes, with the type of that frame, which is reported if the next type is cut off. `None` exactly if
-    /// the place is past the payload's end. Bytes before that place aren't read. It allocates no memory.
+    /// An iterator like that of `new` or, if `strict` is true, of `strict`, from a later offset on: the end of a whole
+    /// frame, in bytes. `last` is the type of that frame, which is reported if the next type is cut off. `None` exactly
+    /// when the offset is past the payload's end. Bytes before it aren't read. It doesn't allocate.
     pub fn resume(
         payload: &'a [u8],
         offset: usize,
@@ -111,15 +112,15 @@ impl<'a> Iter<'a> {
         })
     }
 
-    /// The type of the last frame that was given, as it is in the payload.
+    /// The type of the last frame that was returned, as it is in the payload.
     pub fn last_type(&self) -> Option<FrameType>
         ensures { result ≡ self.now.last }
     {
         self.last
     }
 
-    /// Skips the PADDING frames that come next, each a byte of 0, and answers how many they are (RFC 9000, section
-    /// 19.1). After an invalid frame it answers 0. It allocates no memory.
+    /// Skips the PADDING frames that come next, each a byte of 0, and returns how many they are (RFC 9000, section
+    /// 19.1). After an invalid frame it returns 0. It doesn't allocate.
     #[inline(always)]
     pub fn pass_padding(&mut self) -> usize
         ensures { PassesPadding self.old result self.new }
@@ -135,7 +136,7 @@ impl<'a> Iter<'a> {
         count
     }
 
-    // Goes back to a place, after a frame of this type, and gives nothing from there on.
+    // Goes back to an offset after a frame of this type, and returns nothing from there on.
     pub(super) fn end_at(&mut self, offset: usize, last: Option<FrameType>)
         requires { offset ≤ length self.old.payload }
         ensures { self.new ≡ record self.old { offset = offset; last = last; is_broken = true } }
@@ -187,8 +188,8 @@ fn zeros(bytes: &[u8]) -> usize
     count
 }
 
-/// Gives each frame, then one `InvalidFrame` if the rest isn't a valid frame, then nothing. It allocates no memory. The
-/// bytes of a frame are a slice of the payload that ends at `offset`; those of an ACK's blocks come after its type, its
+/// Returns each frame, then one `InvalidFrame` if the rest isn't a valid frame, then nothing. It doesn't allocate. The
+/// bytes in a frame are a slice of the payload that ends at `offset`; those of an ACK's blocks come after its type, its
 /// greatest number, its delay and the count of its ranges (RFC 9000, section 19.3).
 impl<'a> Iterator for Iter<'a> {
     ghost use Rattle.std.specs.Iterator.{at_most};
@@ -206,7 +207,7 @@ impl<'a> Iterator for Iter<'a> {
         if self.is_broken || rest.is_empty() {
             return None;
         }
-        // A run of PADDING is a frame for each byte, so that is looked for first: the place moves on by one.
+        // PADDING often comes in runs, a frame for each byte, so it is checked for first. The offset moves on by one.
         if is_padding(rest) {
             self.last = Some(FrameType::PADDING);
             self.offset += 1;

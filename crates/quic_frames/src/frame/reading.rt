@@ -17,8 +17,8 @@ use quic_base::varint::{VarInt, split_var_by_word, split_var_mostly_one_byte};
 use quic_frame_fields::frame::fault::Fault;
 use quic_frame_fields::frame::field::blocks;
 
-// An ACK, with counts or without. Both are read by one body, so that reading a frame stays small enough to go into
-// its callers.
+// An ACK, with counts or without. Both are read by one body, so that reading a frame stays small enough to be inlined
+// into its callers.
 #[tactic(auto, unfolding(quic_frame_fields::specs::Reading::row_at, quic_frame_fields::specs::Reading::varint_at))]
 #[inline(always)]
 fn read_ack(has_counts: bool, bytes: &[u8]) -> Result<(Frame<'_>, &[u8]), Fault>
@@ -40,8 +40,8 @@ fn read_ack(has_counts: bool, bytes: &[u8]) -> Result<(Frame<'_>, &[u8]), Fault>
     Ok((Frame::Ack(ack), rest))
 }
 
-// The end of a stream by its sender. It is read by a call that gives no whole frame: so reading a frame stays small
-// enough to go into its callers, and no frame is made ready for the call to fill.
+// The end of a stream by its sender. It is read by a call that doesn't return a whole frame. So reading a frame stays
+// small enough to be inlined into its callers, and no frame is prepared for the call to fill.
 #[tactic(auto, unfolding(quic_frame_fields::specs::Reading::row_at, quic_frame_fields::specs::Reading::varint_at))]
 #[inline(never)]
 fn reset_stream(bytes: &[u8]) -> Result<(ResetStream, &[u8]), Fault>
@@ -137,8 +137,8 @@ fn read_stream(
     Ok((Frame::Stream(stream), rest))
 }
 
-// The limits of a peer, and what tells that one of them was reached. All begin with a number, which is read by one
-// body and by a call, so that reading a frame stays small enough to go into its callers.
+// The frames that set a limit, and those that say that one was reached. All begin with a number. They are read by one
+// body and by a call, so that reading a frame stays small enough to be inlined into its callers.
 #[tactic(auto, unfolding(quic_frame_fields::specs::Reading::frame_at, quic_frame_fields::specs::Reading::row_at))]
 #[inline(always)]
 fn read_limit(ty: u64, bytes: &[u8]) -> Result<(Frame<'_>, &[u8]), Fault>
@@ -165,8 +165,8 @@ fn read_limit(ty: u64, bytes: &[u8]) -> Result<(Frame<'_>, &[u8]), Fault>
     Ok((frame, rest))
 }
 
-// A connection id of these bytes. It is copied by a call, so that reading a frame stays small enough to go into its
-// callers.
+// A connection id of these bytes. It is copied by a call, so that reading a frame stays small enough to be inlined into
+// its callers.
 #[inline(never)]
 fn id_of(bytes: &[u8]) -> ConnectionId
     requires { length bytes.now ≤ 20 }
@@ -218,7 +218,7 @@ fn read_retire_connection_id(bytes: &[u8]) -> Result<(Frame<'_>, &[u8]), Fault>
     Ok((Frame::RetireConnectionId { sequence }, rest))
 }
 
-// The eight bytes of a path, there or back.
+// The eight bytes of PATH_CHALLENGE or PATH_RESPONSE.
 #[tactic(auto, unfolding(quic_frame_fields::specs::Reading::frame_at, quic_frame_fields::specs::Reading::row_at, quic_frame_fields::specs::Reading::varint_at))]
 #[inline(always)]
 fn read_path(ty: u64, bytes: &[u8]) -> Result<(Frame<'_>, &[u8]), Fault>
@@ -233,7 +233,7 @@ fn read_path(ty: u64, bytes: &[u8]) -> Result<(Frame<'_>, &[u8]), Fault>
 }
 
 // A close by the transport or by the application: both begin with an error code and end with a reason phrase. It is
-// read by a call, so that reading a frame stays small enough to go into its callers.
+// read by a call, so that reading a frame stays small enough to be inlined into its callers.
 #[tactic(auto, unfolding(quic_frame_fields::specs::Reading::frame_at, quic_frame_fields::specs::Reading::row_at, quic_frame_fields::specs::Reading::varint_at))]
 #[inline(never)]
 fn close(ty: u64, bytes: &[u8]) -> Result<(Close<'_>, &[u8]), Fault>
@@ -280,7 +280,7 @@ fn read_datagram(has_length: bool, bytes: &[u8]) -> Result<(Frame<'_>, &[u8]), F
     Ok((Frame::Datagram(Datagram { bytes }), rest))
 }
 
-// How often acknowledgements are wanted, read by a call for the same reason.
+// ACK_FREQUENCY, read by a call for the same reason.
 #[tactic(auto, unfolding(quic_frame_fields::specs::Reading::row_at, quic_frame_fields::specs::Reading::varint_at))]
 #[inline(never)]
 fn ack_frequency(bytes: &[u8]) -> Result<(AckFrequency, &[u8]), Fault>
@@ -316,7 +316,7 @@ fn read_ack_frequency(bytes: &[u8]) -> Result<(Frame<'_>, &[u8]), Fault>
 pub(super) fn read_frame(ty: u64, bytes: &[u8]) -> Result<(Frame<'_>, &[u8]), Fault>
     ensures { GivesFrame (λ rest. rest.now) bytes.now result (frame_at ty bytes.now) }
 {
-    // The two ranges are tested first, since a `match` compares ranges only after it has looked single types up.
+    // The two ranges are compared first, since a `match` compares ranges only after single types.
     match ty {
         0x08..=0x0f => return read_stream(ty & 4 != 0, ty & 2 != 0, ty & 1 != 0, bytes),
         0x10..=0x17 => return read_limit(ty, bytes),

@@ -1,12 +1,12 @@
-//! What RFC 9000 has a receiver check of frames that are encoded as they should be.
+//! What RFC 9000 requires a receiver to check in frames besides their encoding.
 ghost use Rattle.std.specs.Prelude.{◌≡◌, length};
 ghost use Rattle.quic_frames.specs.Rules.{breach_of, breach_text, broken_if, ends_past, is_past_streams, no_rules};
 ghost use Rattle.quic_frames.specs.Meaning.{meaning_of};
 
 use super::Frame;
 
-/// What is checked of a payload's frames besides their encoding. `Rules::default()` checks nothing more, as quinn-proto
-/// does; `Rules::RFC` checks all that RFC 9000 asks of a receiver.
+/// What is checked in a payload's frames besides their encoding. `Rules::default()` checks nothing more, as quinn-proto
+/// does. `Rules::RFC` checks all that RFC 9000 requires of a receiver.
 #[derive(Clone, Copy, Debug, PartialEq, Eq)]
 pub struct Rules {
     /// A type must be in its shortest encoding (RFC 9000, section 12.4).
@@ -17,8 +17,8 @@ pub struct Rules {
     pub stream_limit: bool,
     /// The token of NEW_TOKEN may not be empty (RFC 9000, section 19.7).
     pub tokens: bool,
-    /// ACK_FREQUENCY and IMMEDIATE_ACK have unknown types, since their extension wasn't negotiated (RFC 9000, section
-    /// 12.4).
+    /// The types of ACK_FREQUENCY and IMMEDIATE_ACK are unknown, because their extension wasn't negotiated (RFC 9000,
+    /// section 12.4).
     pub no_ack_frequency: bool,
 }
 
@@ -29,7 +29,7 @@ pub enum Breach {
     Limit,
     /// Its token is empty.
     Token,
-    /// It is of an extension that wasn't negotiated.
+    /// It belongs to an extension that wasn't negotiated.
     Extension,
 }
 
@@ -62,7 +62,7 @@ impl Default for Rules {
 }
 
 impl Rules {
-    /// All that RFC 9000 asks of a receiver without the ACK frequency extension.
+    /// All that RFC 9000 requires of a receiver that hasn't negotiated the ACK frequency extension.
     pub const RFC: Rules = Rules {
         short_types: true,
         data_limit: true,
@@ -71,8 +71,8 @@ impl Rules {
         no_ack_frequency: true,
     };
 
-    /// The rule that a frame breaks, if it breaks one. It doesn't look at `short_types`, since a frame doesn't hold how
-    /// its type was encoded.
+    /// The rule that a frame breaks, if it breaks one. It ignores `short_types`, since a frame doesn't record how its
+    /// type was encoded.
     #[inline(always)]
     pub fn breach(self, frame: &Frame<'_>) -> Option<Breach>
         ensures { result ≡ breach_of self (meaning_of frame.now) }

@@ -1,4 +1,4 @@
-//! How long frames are at most, without their data.
+//! The greatest length of frames, without their data.
 ghost use Rattle.std.specs.Prelude.{◌≡◌, ◌≤◌, ◌+◌, ℕ, [], List, length, false};
 ghost use Rattle.quic_frames.specs.Meaning.{meaning_of};
 ghost use Rattle.quic_frame_fields.specs.Payload.{Meaning};
@@ -121,7 +121,7 @@ impl FrameStruct for NewConnectionId {
     }
 }
 
-// Tells the prover the bounds of an id's and a token's length. It does nothing at run time.
+// Proves the bounds of an id's and a token's length. It does nothing at run time.
 fn has_bounds(id: ConnectionId, token: ResetToken)
     ensures id { length id ≤ 20 }
     ensures token { length token ≡ 16 }

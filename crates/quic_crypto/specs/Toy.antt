@@ -1,4 +1,4 @@
--- Keys that protect nothing, so that what is sealed by them can be read.
+-- Keys that protect nothing, so that what is sealed with them can be read.
 use Rattle.std.specs.Prelude.{ℕ, ◌-◌, List, ◌++◌, length, take, drop, nat_le, nat_eq, replicate, Option, Some, None, if◌then◌else◌, ◌&&◌}
 use Rattle.std.specs.Cmp.Lexicographic.{pointwise}
 use Rattle.quic_base.specs.Number.{bytes_of}
@@ -11,7 +11,7 @@ toy_tag number = bytes_of 8 number ++ replicate 8 0
 abbrev pub toy_seal : ℕ → List ℕ → List ℕ
 toy_seal number payload = payload ++ toy_tag number
 
--- the bytes before the last sixteen, where those are the number's tag
+-- the bytes before the last sixteen, if those are the number's tag
 abbrev pub toy_open : ℕ → List ℕ → Option (List ℕ)
 toy_open number sealed =
     let at = length sealed - 16 in

@@ -1,5 +1,5 @@
-//! Traits of keys, with laws (RFC 9001, sections 5.3 and 5.4). The caller chooses the ciphers: what contracts promise
-//! of packets holds for every pair of keys that keeps these laws.
+//! Traits of keys, with laws (RFC 9001, sections 5.3 and 5.4). The caller chooses the ciphers: contracts about packets
+//! hold for every pair of keys with these laws.
 ghost use Rattle.std.specs.Prelude.{◌≡◌, ℕ, ◌+◌, ◌-◌, ◌^◌, ◌<◌, ◌≤◌, List, ◌++◌, length, take, Option, Some, None, MatchResult};
 ghost use Rattle.quic_base.specs.Number.{AreBytes};
 ghost use Rattle.quic_crypto.specs.Keys.{HasSample, Protects, Unprotects, payload_in};
@@ -7,25 +7,25 @@ ghost use Rattle.quic_crypto.specs.Keys.{HasSample, Protects, Unprotects, payloa
 use bytes::BytesMut;
 use thiserror::Error;
 
-/// A payload's tag doesn't match the number, the header and the key that are to open it.
+/// A payload's tag doesn't match the packet number, the header and the key.
 #[derive(Clone, Copy, Debug, PartialEq, Eq, Error)]
 #[error("payload does not belong to the packet's number, header and key")]
 pub struct CryptoError;
 
-/// A key that hides the low bits of a header's first byte, and the packet number (RFC 9001, section 5.4). What
-/// its calls do is a function of the key, the number's place and the packet.
+/// A key that hides the low bits of a header's first byte, and the packet number (RFC 9001, section 5.4). What its
+/// calls do is a function of the key, the number's offset and the packet.
 pub trait HeaderKey {
     // How many bytes are sampled.
     ghost sample_len: { Self → ℕ };
 
-    // The packet with its header protected, whose number begins at a place.
+    // The packet with its header protected, whose number begins at an offset.
     ghost protected: { Self → ℕ → List ℕ → List ℕ };
 
-    // The packet with its header's protection taken off.
+    // The packet with its header protection removed.
     ghost unprotected: { Self → ℕ → List ℕ → List ℕ };
 
-    /// How many bytes are sampled. They begin four bytes after the place where the packet number begins, however many
-    /// bytes the number takes.
+    /// How many bytes are sampled. They begin four bytes after the start of the packet number, whatever its length (RFC
+    /// 9001, section 5.4.2).
     fn sample_size(&self) -> usize
         ensures { result ≡ sample_len self.now };
 
@@ -35,8 +35,7 @@ pub trait HeaderKey {
         requires { HasSample (sample_len self.now) pn_offset packet.old }
         ensures { packet.new ≡ protected self.now pn_offset packet.old };
 
-    /// Takes off the protection of the header of a packet whose number begins at `pn_offset`. The caller must ensure
-    /// what `encrypt` requires.
+    /// Removes the header protection of a packet whose number begins at `pn_offset`, under the conditions of `encrypt`.
     fn decrypt(&self, pn_offset: usize, packet: &mut [u8])
         requires { HasSample (sample_len self.now) pn_offset packet.old }
         ensures { packet.new ≡ unprotected self.now pn_offset packet.old };
@@ -45,11 +44,11 @@ pub trait HeaderKey {
     ghost protects: { (k : Self) (at : ℕ) (packet : List ℕ) → AreBytes packet → HasSample (sample_len k) at packet
         → Protects at packet (protected k at packet) };
 
-    // Taking protection off changes only the low bits of the first byte and four bytes.
+    // Removing protection changes only the low bits of the first byte and four bytes.
     ghost unprotects: { (k : Self) (at : ℕ) (packet : List ℕ) → AreBytes packet → HasSample (sample_len k) at packet
         → Unprotects at packet (unprotected k at packet) };
 
-    // Taking protection off what was protected gives the packet back.
+    // Removing the protection of a protected packet restores it.
     ghost restores: { (k : Self) (at : ℕ) (packet : List ℕ) → AreBytes packet → HasSample (sample_len k) at packet
         → unprotected k at (protected k at packet) ≡ packet };
 }
@@ -60,10 +59,10 @@ pub trait PacketKey {
     // How many bytes longer a sealed payload is.
     ghost tag_size: { Self → ℕ };
 
-    // The sealed payload of a packet number, a header and a payload.
+    // The sealed payload for a packet number, a header and a payload.
     ghost sealed: { Self → ℕ → List ℕ → List ℕ → List ℕ };
 
-    // The plaintext of a packet number, a header and a sealed payload, or none if the tag doesn't match.
+    // The plaintext for a packet number, a header and a sealed payload, or none if the tag doesn't match.
     ghost opened: { Self → ℕ → List ℕ → List ℕ → Option (List ℕ) };
 
     /// How many bytes longer a sealed payload is.
@@ -79,8 +78,8 @@ pub trait PacketKey {
             ++ sealed self.now number (take header_len packet.old)
             (payload_in header_len (tag_size self.now) packet.old) };
 
-    /// Opens a sealed payload in place. Answers `CryptoError` exactly if the tag doesn't match this number, header and
-    /// key; the contents of `payload` are then unspecified.
+    /// Opens a sealed payload in place. Returns `CryptoError` exactly when the tag doesn't match this number, header
+    /// and key; the contents of `payload` are then unspecified.
     fn decrypt(&self, number: u64, header: &[u8], payload: &mut BytesMut) -> Result<(), CryptoError>
         ensures { MatchResult result
             (λ _. opened self.now number header.now payload.old.items ≡ Some payload.new.items)

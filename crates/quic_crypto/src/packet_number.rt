@@ -13,17 +13,17 @@ pub enum PacketNumber {
     U8(u8),
     /// Two bytes.
     U16(u16),
-    /// Three bytes. Whoever writes or expands it must ensure that it is below 2^24.
+    /// Three bytes. To write or expand it, the caller must ensure that it is below 2^24.
     U24(u32),
     /// Four bytes.
     U32(u32),
 }
 
 impl PacketNumber {
-    /// The low part of `n` that a sender writes whose receiver has acknowledged `largest_acked`: in 1, 2, 3 or
-    /// 4 bytes as twice the distance of the two is below 2^8, 2^16, 2^24 or 2^32. Whoever expects a number from
-    /// the acknowledged one to `n + 1` finds `n` by `expand`. The caller must ensure that the acknowledged number is at
-    /// most `n`, and less than 2^31 below it.
+    /// The low part of `n` for a receiver that has acknowledged `largest_acked` (RFC 9000, appendix A.2). It has the
+    /// fewest bytes, 1, 2, 3 or 4, so that `2 * (n - largest_acked)` is below 2^8, 2^16, 2^24 or 2^32. A receiver that
+    /// expects a number from `largest_acked` to `n + 1` finds `n` with `expand`. The caller must ensure that
+    /// `largest_acked` is at most `n`, and less than 2^31 below it.
     pub fn new(n: u64, largest_acked: u64) -> Self
         requires order { largest_acked ≤ n }
         requires near { n < largest_acked + 2 ^ 31 }
@@ -45,7 +45,7 @@ impl PacketNumber {
         }
     }
 
-    /// How many bytes it takes, 1 to 4.
+    /// How many bytes it has, 1 to 4.
     #[allow(clippy::len_without_is_empty)]
     pub fn len(self) -> usize
         ensures { result ≡ number_size self }
@@ -58,8 +58,8 @@ impl PacketNumber {
         }
     }
 
-    /// Appends its bytes, the highest first. Answers `NoRoom` only if the buffer's spare room is less than
-    /// that: the buffer's contents then don't change. The caller must ensure that a `U24` is below 2^24.
+    /// Appends its bytes, the highest first. Returns `NoRoom` only if they are more than the buffer's spare room. The
+    /// buffer's contents don't change then. The caller must ensure that a `U24` is below 2^24.
     #[tactic(auto, unfolding(quic_base::specs::Number::bytes_of))]
     pub fn encode<W: BufMut>(self, w: &mut W) -> Result<(), NoRoom>
         requires { IsInRange self }
@@ -78,8 +78,8 @@ impl PacketNumber {
         .map_err(|_| NoRoom)
     }
 
-    /// Takes a number of `len` bytes from the front of the buffer. It is an error exactly if fewer remain, and then
-    /// nothing is consumed. The caller must ensure that `len` is 1 to 4.
+    /// Reads a number of `len` bytes at the front of the buffer and consumes them. It is an error exactly when fewer
+    /// remain; nothing is consumed then. The caller must ensure that `len` is 1 to 4.
     pub fn decode<R: Buf>(len: usize, r: &mut R) -> coding::Result<Self>
         requires low { 1 ≤ len }
         requires high { len ≤ 4 }
@@ -100,14 +100,15 @@ impl PacketNumber {
         })
     }
 
-    /// How many bytes the number takes, by the lowest two bits of a header's first byte: one more than these say.
+    /// How many bytes the packet number has, by the lowest two bits of a header's first byte: one more than their value
+    /// (RFC 9000, section 17.2).
     pub fn decode_len(tag: u8) -> usize
         ensures { result ≡ tag % 4 + 1 }
     {
         usize::from(tag % 4) + 1
     }
 
-    /// The lowest two bits of a header's first byte for this number: how many bytes it takes, less one.
+    /// The lowest two bits of a header's first byte for this number: its length in bytes minus one.
     pub fn tag(self) -> u8
         ensures { result + 1 ≡ number_size self }
     {
@@ -119,11 +120,11 @@ impl PacketNumber {
         }
     }
 
-    /// The whole number, by the one that is expected next (RFC 9000, appendix A.3): of the numbers that end in
-    /// this low part, the one above `expected` less half the window and at most `expected` and half the window,
-    /// where the window is 2^8, 2^16, 2^24 or 2^32 by the bytes it takes. If that would be negative it is the low
-    /// part itself. The caller must ensure that a `U24` is below 2^24, and `expected` below 2^62. The answer is not
-    /// tested against 2^62.
+    /// The whole packet number, from the one that is expected next (RFC 9000, appendix A.3). Of the numbers with this
+    /// low part, it is the one that is less than half the window below `expected` or at most half the window above it.
+    /// The window is 2^8, 2^16, 2^24 or 2^32, for 1 to 4 bytes. If that number would be negative, it is the low part
+    /// itself. The result isn't checked against 2^62. The caller must ensure that a `U24` is below 2^24, and `expected`
+    /// below 2^62.
     pub fn expand(self, expected: u64) -> u64
         requires valid { IsInRange self }
         requires small { expected < 2 ^ 62 }
@@ -138,8 +139,8 @@ impl PacketNumber {
     }
 }
 
-// The number with this low part among as many successive numbers as the window has, which begin half a window, less
-// one, below the expected one, or at 0.
+// The number with this low part among as many successive numbers as the window has. These begin half a window minus one
+// below the expected number, or at 0.
 fn nearest(low: u64, window: u64, expected: u64) -> u64
     requires residue { low < window }
     requires even { window % 2 ≡ 0 }

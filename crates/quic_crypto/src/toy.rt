@@ -1,4 +1,4 @@
-//! A pair of keys that keeps the laws and protects nothing: for tests, and to read packets by eye.
+//! A pair of keys that fulfils the laws and protects nothing: for tests, and to read packets by eye.
 ghost use Rattle.std.specs.Prelude.{◌≡◌, refl};
 ghost use Rattle.quic_crypto.specs.Toy.{toy_tag, toy_seal, toy_open};
 ghost use Rattle.quic_crypto.specs.ToyLaws.{toy_protects, toy_unprotects, toy_sealed_len, toy_opens};
@@ -9,7 +9,7 @@ use bytes::BytesMut;
 /// How many bytes the sample and the tag have.
 pub const TAG_LEN: usize = 16;
 
-/// A header key that changes nothing. Its sample is of 16 bytes.
+/// A header key that changes nothing. Its sample has 16 bytes.
 #[derive(Clone, Copy, Debug)]
 pub struct ToyHeaderKey;
 
@@ -35,8 +35,8 @@ impl HeaderKey for ToyHeaderKey {
     fn decrypt(&self, _pn_offset: usize, _packet: &mut [u8]) {}
 }
 
-/// A packet key that doesn't change the payload, and appends as the tag the packet number in eight bytes, the highest
-/// first, and eight zeros. It opens a payload that ends with the number's tag.
+/// A packet key that doesn't change the payload. Its tag is the packet number in eight bytes, the highest first,
+/// followed by eight zeros. It opens a payload that ends with the number's tag.
 #[derive(Clone, Copy, Debug)]
 pub struct ToyPacketKey;
 

@@ -1,4 +1,4 @@
--- Each datagram has one answer.
+-- Each datagram has one result.
 use Rattle.std.specs.Prelude.{◌≡◌, ◌≢◌, ℕ, ◌+◌, ◌-◌, ◌<◌, ◌≤◌, ◌⊎◌, Bool, IsTrue, true, false, List, ◌++◌, length, take, drop, Option, Some, None, Result, Ok, Err, IfErr, IfOk, IfSome, IsErrOf, nat_lt, codes, unwrap_or, MatchOption, MatchResult}
 use Rattle.std.proofs.Common.{sym, ap, ◌∙◌, arith, refl, cond, subst, inl, inr, length-drop}
 use Rattle.std.proofs.Math.Seq.{take-append_seam, drop-append_seam}
@@ -17,7 +17,7 @@ use Rattle.quic_header_decode.specs.Reading.{DecodeOptions, IsRest, header_at, c
 use Rattle.quic_header_decode.proofs.Headers.{header_found, header_again, refused_found, refused_again, header_strict}
 use Rattle.quic_header_decode.proofs.Steps.{then_ok, then_err, otherwise, taken}
 
--- what a parser takes is there
+-- a parser consumes only bytes that are there
 abbrev pub Takes : DecodeOptions → Type 0
 Takes options = (text : List ℕ) (id : List ℕ) (n : ℕ) → options.parsed text ≡ Ok (id, n) → n ≤ length text
 
@@ -51,7 +51,7 @@ end_positive : (o : Option ℕ) (p q whole : ℕ) → 0 < p → p ≤ whole → 
 end_positive None p q whole some room ends = omega arith
 end_positive (Some len) p q whole some room ends = omega arith
 
--- a packet takes a byte
+-- a packet has at least one byte
 pub cut_positive : (options : DecodeOptions) (bytes : List ℕ) (h : ProtectedHeader) (p q : ℕ) → Cut options bytes h p q
     → 0 < q
 cut_positive options bytes h p q cut =
@@ -162,7 +162,7 @@ pub cut_answer : (options : DecodeOptions) (bytes : List ℕ) → AreBytes bytes
     → CutAnswer options bytes (cut_at options bytes)
 cut_answer options bytes fits takes = cut_of options bytes fits takes (header_at options (length bytes) bytes) refl
 
--- ---- what calls answer
+-- ---- what calls return
 
 pub header_given : (options : DecodeOptions) (whole : ℕ) (bytes left : List ℕ) (result : Result ProtectedHeader PacketDecodeError)
     → AreBytes bytes → length bytes ≤ whole → Takes options
@@ -241,7 +241,7 @@ uncut_given options takes_memory bytes (Err error.OutOfMemory) fits takes given 
   | inr past ↦ inr (followed options bytes (cut_at options bytes) (cut_answer options bytes fits takes) past)
 ]
 
--- an error that isn't for want of memory
+-- an error that isn't out of memory
 pub is_uncut : (options : DecodeOptions) (takes_memory : Bool) (bytes : List ℕ) (e : PacketDecodeError)
     → IsUncut options takes_memory bytes e → refusal_of e ≢ NoMemory → Uncut options bytes (refusal_of e)
 is_uncut options takes_memory bytes (error.UnsupportedVersion src dst version) uncut other = uncut

@@ -40,7 +40,7 @@ cut_read options bytes stop remaining len h read sum len_is le =
 pub between-take : (xs : List ℕ) (i j n : ℕ) → j ≤ n → slice_range (take n xs) i j ≡ slice_range xs i j
 between-take xs i j n le = between_is (take n xs) i j ∙ ap (drop i) (take-take j n xs le) ∙ sym (between_is xs i j)
 
--- the same cut, of places that are equal
+-- the same cut, with equal offsets
 pub cut_shown : (h : ProtectedHeader) (p a q b : ℕ) → p ≡ a → q ≡ b
     → (let r : Result (ProtectedHeader × ℕ × ℕ) Refusal = Ok (h, p, q) in r) ≡ Ok (h, a, b)
 cut_shown h p a q b e f =

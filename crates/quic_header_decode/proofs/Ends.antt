@@ -18,7 +18,7 @@ use Rattle.quic_header_decode.proofs.Rows.{row_behind_ids}
 use Rattle.quic_header_decode.proofs.Steps.{take_front, drop_front}
 use Rattle.quic_header_decode.proofs.Headers.{Ids, id_values, long_row, ids_of, of_ids, stops_behind_ids, version_is}
 
--- bytes are replaced after a front and so many others
+-- bytes are replaced after a front and that many others
 replaced : (front rest other bytes : List ℕ) (q len : ℕ) → bytes ≡ front ++ rest → q ≡ length front + len
     → take q bytes ++ other ≡ front ++ (take len rest ++ other)
 replaced front rest other bytes q len split at =
@@ -54,7 +54,7 @@ no_ids whole first len v d s values (protected.Initial h) (count, left, start, s
     (let e : id_values v d s ≡ Number h.version ∷ Bytes h.dst_cid ∷ Bytes h.src_cid ∷ Number count ∷ Number left
     ∷ Number h.len ∷ [] = sym values_are ∙ is in cc)
 
--- a header without a token has no place
+-- a header without a token has no range for it
 kept : (whole whole' first v n len : ℕ) (d s : List ℕ) (values : List HeaderValue) (h : ProtectedHeader)
     → IsHeader whole first values h → len_in h ≡ Some len
     → values ≡ Number v ∷ Bytes d ∷ Bytes s ∷ Number n ∷ [] → IsHeader whole' first values h
@@ -70,7 +70,7 @@ kept whole whole' first v n len d s values (protected.Initial h) (count, left, s
 abbrev six : ℕ → List ℕ → List ℕ → ℕ → ℕ → ℕ → List HeaderValue
 six v d s count left n = Number v ∷ Bytes d ∷ Bytes s ∷ Number count ∷ Number left ∷ Number n ∷ []
 
--- and where one has a token, its place goes by what follows it
+-- and if it has a token, the token's offsets depend on what follows
 shifted : (whole whole' first v count left left' n len : ℕ) (d s : List ℕ) (values : List HeaderValue) (h : ProtectedHeader)
     → IsHeader whole first values h → len_in h ≡ Some len
     → values ≡ six v d s count left n → whole' + left ≡ whole + left'
@@ -265,7 +265,7 @@ cut_alone options bytes other h p q len (rest, (first, text, values, split, fixe
       omega (arith, total),
     )
 
--- ---- refusals that stay, whatever follows
+-- ---- errors that stay, whatever follows
 
 -- how long its text is
 abbrev text_size : Refusal → ℕ

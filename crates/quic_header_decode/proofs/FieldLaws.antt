@@ -1,4 +1,4 @@
--- The fields of a header: read as functions, and in the words of their encodings.
+-- The fields of a header: as functions that read them, and as relations to their encodings.
 use Rattle.std.specs.Prelude.{◌≡◌, ℕ, ◌+◌, ◌-◌, ◌<◌, ◌≤◌, ◌^◌, false, List, [], ◌∷◌, ◌++◌, length, take, drop, Option, Some, None, nat_lt, ◌||◌}
 use Rattle.std.proofs.Common.{sym, ap, subst, ◌∙◌, arith, refl, suc, inl, inr, length-append}
 use Rattle.std.proofs.lemmas.List.{take-append-drop, length-take}
@@ -122,7 +122,7 @@ var_again = law.number_again
 pub var_without : (bytes : List ℕ) → AreBytes bytes → NoNumber bytes → number_at bytes ≡ None
 var_without = law.no_number
 
--- ---- what calls of decoders took
+-- ---- what calls of decoders consumed
 
 pub var_taken : (v : ℕ) (old new : List ℕ) → Takes (Encodes v) old new → number_at old ≡ Some (v, new)
 var_taken v old new t = ap number_at t.split ∙ law.number_again v t.front new t.is

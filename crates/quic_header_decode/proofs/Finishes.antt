@@ -1,4 +1,4 @@
--- The number that was read is at its place.
+-- The number that was read is at its offset.
 use Rattle.std.specs.Prelude.{ℕ, ◌+◌, List, take, drop, slice_range}
 use Rattle.std.proofs.Common.{sym, ap, subst, ◌∙◌}
 use Rattle.std.proofs.lemmas.List.{drop-take}

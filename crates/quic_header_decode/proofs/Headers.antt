@@ -1,4 +1,4 @@
--- A header, or a refusal, is read just where the grammar has it.
+-- A header, or an error, is read exactly when the grammar has it.
 use Rattle.std.specs.Prelude.{◌≡◌, ◌≢◌, ℕ, ◌+◌, ◌-◌, ◌/◌, ◌%◌, ◌<◌, ◌≤◌, Bool, true, false, List, [], ◌∷◌, ◌++◌, length, take, drop, Result, Ok, Err, Some, nat_eq, nat_lt, not, ◌&&◌, ◌||◌, codes}
 use Rattle.std.proofs.Common.{sym, ap, ◌∙◌, arith, refl, cond, subst, suc, inl, inr, length-append}
 use Rattle.std.specs.List.{list_any}
@@ -412,7 +412,7 @@ refused_found options whole (first ∷ text) e fits takes h =
       )
     ]
 
--- a header takes a byte
+-- a header has at least one byte
 pub header_strict : (options : DecodeOptions) (whole : ℕ) (bytes : List ℕ) (h : ProtectedHeader) (rest : List ℕ)
     → HeaderAt options whole bytes h rest → length rest < length bytes
 header_strict options whole bytes h rest (first, text, values, split, fixed, fields, is) =

@@ -238,7 +238,7 @@ field_stops options field before bytes e h = record {
 abbrev pub row_behind_ids : ℕ → ℕ → List HeaderField
 row_behind_ids first version = cond (nat_eq version 0) [] (Supported version ∷ typed_row (long_type version first))
 
--- where no such field stands, none is read
+-- if there is no such field, none is read
 none_of_other : (options : DecodeOptions) (field : HeaderField) (before : List HeaderValue) (bytes : List ℕ) (e : Refusal)
     → AreBytes bytes → (field ≡ ShortId → TakesWithin options)
     → StopsAtField options field before bytes e → ((d : Refusal) → IsRefusal options field before bytes d → d ≡ e)
@@ -330,7 +330,7 @@ row_stops options (field ∷ fields) before bytes finish e fits (inr (values, le
     ∙ then_ok _ _ (values, left) _ (field_again options field before values front left is)
     (row_stops options fields (before ++ values) left finish e (back_fits bytes front left fits split) others)
 
--- a row takes a front
+-- a row consumes a front
 pub row_room : (options : DecodeOptions) (fields : List HeaderField) (before after : List HeaderValue) (bytes rest : List ℕ)
     → AreHeaderFields options fields before after bytes rest → length rest ≤ length bytes
 row_room options [] before after bytes rest d = omega (arith, ap length d.1)

@@ -1,4 +1,4 @@
--- Where fields stand, and what a scan answers.
+-- Where fields are, and what a scan returns.
 use Rattle.std.specs.Prelude.{◌≡◌, ℕ, ◌+◌, ◌-◌, ◌≤◌, List, ◌∷◌, length, take, drop, None, Some, slice_range, nat_lt, false}
 use Rattle.std.proofs.Common.{sym, ap, ◌∙◌, arith, refl}
 use Rattle.std.proofs.lemmas.List.{drop-drop}

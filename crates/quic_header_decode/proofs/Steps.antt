@@ -86,7 +86,7 @@ pub option_err : {A : Type 0} (o : Option A) (e f : Refusal) → ok_or o e ≡ E
 option_err (Some x) e f h = absurd cc
 option_err None e f h = (refl, (let same : e ≡ f = cc in same))
 
--- a step that takes a field, or is refused
+-- a step that consumes a field, or fails
 pub step : {A B : Type 0} (o : Option A) (r : Refusal) (f : A → Result B Refusal) (e : Refusal)
     → (ok_or o r >>= f) ≡ Err e → ((o ≡ None) × (r ≡ e)) ⊎ ((x : A) × (o ≡ Some x) × (f x ≡ Err e))
 step (Some x) r f e h = inr (x, refl, h)

@@ -1,4 +1,4 @@
--- Headers that are read with ids of any length where their version isn't known.
+-- Headers that are read with ids of any length if their version isn't known.
 use Rattle.std.specs.Prelude.{◌≡◌, ◌≢◌, ℕ, ◌+◌, ◌-◌, ◌≤◌, Bool, true, false, List, [], ◌∷◌, ◌++◌, length, take, drop, Option, Some, None, Result, Ok, Err, Contains, nat_lt, nat_eq, not, ◌&&◌, ◌||◌}
 use Rattle.std.proofs.Common.{sym, ap, subst, ◌∙◌, arith, refl, cond, inl, inr, suc, length-append, length-take}
 use Rattle.std.specs.List.{list_any}
@@ -99,7 +99,7 @@ wide_again id rest =
 
 -- ---- what both readers say
 
--- but for unknown versions one says what the other does
+-- except for unknown versions, both say the same
 abbrev pub Agrees : Read → Read → Type 0
 Agrees (Ok x) other = other ≡ Ok x
 Agrees (Err (Unsupported src dst version)) other = (found : ProtectedHeader × List ℕ) → other ≡ Ok found → ⊥

@@ -18,8 +18,8 @@ pub record CutsFirst (options : DecodeOptions) (bytes : List ℕ) (packet : CutP
   pub cut : Cut options bytes packet.head packet.header_end (length packet.bytes)
   pub text : bytes ≡ packet.bytes ++ rest
 
--- No packet is cut, for this error: the first field that can't be read, or a length beyond the end; or memory ran out,
--- which happens only in a parser that takes memory, or if bytes follow the packet.
+-- No packet is cut, for this error: the first field that can't be read, or a length beyond the end; or out of memory,
+-- which happens only in a parser that allocates, or if bytes follow the packet.
 abbrev pub IsUncut : DecodeOptions → Bool → List ℕ → PacketDecodeError → Type 0
 IsUncut options takes_memory bytes error.OutOfMemory = IsTrue takes_memory
     ⊎ ((packet : CutPacket) × (rest : List ℕ) × CutsFirst options bytes packet rest × (0 < length rest))
@@ -55,7 +55,7 @@ and_then others start bytes (Ok cut) =
     let more = others (start + cut.2) (drop cut.2 bytes) in
     if nat_lt cut.2 (length bytes) then (first ∷ more.0, more.1) else (first ∷ [], None)
 
--- at most so many packets
+-- at most that many packets
 unfoldable pub packets_from : DecodeOptions → ℕ → ℕ → List ℕ → List PlacedPacket × Option Refusal
 packets_from options zero start bytes = ([], None)
 packets_from options (suc n) start bytes = and_then (packets_from options n) start bytes (cut_at options bytes)

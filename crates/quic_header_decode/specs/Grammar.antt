@@ -33,7 +33,7 @@ pub data HeaderField : Type 0 where
   TokenLength Length : HeaderField
   -- as many bytes as the number before (section 17.2.2)
   Token : HeaderField
-  -- as many bytes as the parser of ids takes, since their length is not written (section 17.3.1)
+  -- as many bytes as the parser of ids consumes, since their length isn't written (section 17.3.1)
   ShortId : HeaderField
 
 -- what a type has after the ids (sections 17.2.2 to 17.2.5)
@@ -65,8 +65,8 @@ IsId values bytes = (id : List ℕ) × (values ≡ Bytes id ∷ []) × (length i
 abbrev pub IsVarint : List HeaderValue → List ℕ → Type 0
 IsVarint values bytes = (n : ℕ) × (values ≡ Number n ∷ []) × Encodes n bytes
 
--- After fields with the values before, and in front of rest, the bytes are a field of this kind, with these values.
--- The value of a token is how many bytes follow it, which gives its place.
+-- After fields with the values before, and in front of rest, the bytes are a field of this kind, with these values. The
+-- value of a token is how many bytes follow it, which determines its offset.
 abbrev pub IsHeaderField : DecodeOptions → HeaderField → List HeaderValue → List HeaderValue → List ℕ → List ℕ → Type 0
 IsHeaderField options Version before values bytes rest = (n : ℕ) × (values ≡ Number n ∷ []) × IsNumber 4 n bytes
 IsHeaderField options DestinationId before values bytes rest = IsId values bytes
@@ -80,7 +80,7 @@ IsHeaderField options Length before values bytes rest = IsVarint values bytes
 IsHeaderField options ShortId before values bytes rest =
     (id : List ℕ) × (values ≡ Bytes id ∷ []) × (options.parsed (bytes ++ rest) ≡ Ok (id, length bytes))
 
--- The error where the bytes don't begin with such a field.
+-- The error if the bytes don't begin with such a field.
 abbrev pub refusal_at : HeaderField → List HeaderValue → Refusal
 refusal_at DestinationId before = Invalid (codes "malformed cid")
 refusal_at SourceId before = Invalid (codes "malformed cid")
@@ -88,7 +88,7 @@ refusal_at (Supported version) (number ∷ Bytes dst ∷ Bytes src ∷ []) = Uns
 refusal_at Token before = Invalid (codes "token out of bounds")
 refusal_at field before = Invalid (codes "unexpected end of packet")
 
--- Of a short header's id it is what the parser says.
+-- For a short header's id it is the parser's error.
 abbrev pub IsRefusal : DecodeOptions → HeaderField → List HeaderValue → List ℕ → Refusal → Type 0
 IsRefusal options ShortId before bytes e = options.parsed bytes ≡ Err e
 IsRefusal options field before bytes e = e ≡ refusal_at field before
@@ -123,7 +123,7 @@ StopsWithinRow options (field ∷ fields) before bytes e =
 
 -- ---- headers
 
--- The header that a first byte and the values of its row say. The spin bit is 0x20 (section 17.3.1). Places are counted
+-- The header for a first byte and the values of its row. The spin bit is 0x20 (section 17.3.1). Offsets are counted
 -- from the end of the datagram, of this length.
 abbrev pub IsHeader : ℕ → ℕ → List HeaderValue → ProtectedHeader → Type 0
 IsHeader datagram_len first values (protected.Short spin dst) =
@@ -146,14 +146,15 @@ HeaderAt options datagram_len bytes h rest =
     × AreHeaderFields options (header_row_of first (num (take 4 text))) [] values text rest
     × IsHeader datagram_len first values h
 
--- The bytes begin with no header, and this is the refusal: of the first byte, or of the first field that is not there.
+-- The bytes begin with no header, and this is the error: that of the first byte, or of the first field that isn't
+-- there.
 abbrev pub Refused : DecodeOptions → List ℕ → Refusal → Type 0
 Refused options [] e = e ≡ Invalid (codes "unexpected end of packet")
 Refused options (first ∷ text) e =
     ((is_fixed options first ≡ false) × (e ≡ Invalid (codes "fixed bit unset")))
     ⊎ ((is_fixed options first ≡ true) × StopsWithinRow options (header_row_of first (num (take 4 text))) [] text e)
 
--- the bytes begin with this header, which these bytes follow, or are refused with this error
+-- the bytes begin with this header, which these bytes follow, or are rejected with this error
 abbrev pub HeaderAnswer : DecodeOptions → ℕ → List ℕ → Result (ProtectedHeader × List ℕ) Refusal → Type 0
 HeaderAnswer options datagram_len bytes (Ok found) = HeaderAt options datagram_len bytes found.0 found.1
 HeaderAnswer options datagram_len bytes (Err e) = Refused options bytes e
@@ -170,14 +171,14 @@ Cut options bytes h p q =
     (rest : List ℕ) × HeaderAt options (length bytes) bytes h rest × (p + length rest ≡ length bytes)
     × MatchOption (len_in h) (q ≡ length bytes) (λ len. q ≡ p + len) × (q ≤ length bytes)
 
--- No packet can be cut from the bytes, and this is the refusal: the header's, or that of a length beyond the end.
+-- No packet can be cut from the bytes, and this is the error: the header's, or that of a length beyond the end.
 pub data Uncut (options : DecodeOptions) (bytes : List ℕ) : Refusal → Type 0 where
   no_header : (e : Refusal) → Refused options bytes e → Uncut options bytes e
   past_end : (h : ProtectedHeader) (rest : List ℕ) (len : ℕ) → HeaderAt options (length bytes) bytes h rest
       → len_in h ≡ Some len → length rest < len
       → Uncut options bytes (Invalid (codes "packet too short to contain payload length"))
 
--- a header, where it ends and where its packet ends, or a refusal, is what the bytes begin with
+-- the bytes begin with this header, with its end and its packet's end, or are rejected with this error
 abbrev pub CutAnswer : DecodeOptions → List ℕ → Result (ProtectedHeader × ℕ × ℕ) Refusal → Type 0
 CutAnswer options bytes (Ok cut) = Cut options bytes cut.0 cut.1 cut.2
 CutAnswer options bytes (Err e) = Uncut options bytes e

@@ -1,4 +1,5 @@
--- Headers before and after their protection is removed (RFC 9000, section 17), and why it isn't (RFC 9001, section 5.4).
+-- Headers before and after their protection is removed (RFC 9000, section 17), and why it can't be (RFC 9001, section
+-- 5.4).
 use Rattle.std.specs.Prelude.{◌≡◌, ℕ, ◌+◌, ◌≤◌, ◌⊎◌, Bool, true, false, List, length, slice_index, slice_range, is_some, codes, Option, Some, None}
 use Rattle.quic_base.specs.Number.{has_bit}
 use Rattle.quic_crypto.specs.Keys.{number_len}
@@ -16,7 +17,7 @@ use Rattle.quic_header_encode.specs.declared.long_type.LongType.TheVariants.{Zer
 
 -- ---- protected headers
 
--- the space of a packet's number, where it has one
+-- the space of a packet's number, if it has one
 abbrev pub space_of : ProtectedHeader → Option SpaceId
 space_of (protected.Initial h) = Some space.Initial
 space_of (protected.Long ty dst src len version) = Some (long_space ty)
@@ -47,7 +48,7 @@ dst_of (protected.VersionNegotiate random dst src) = dst
 abbrev pub is_protected : ProtectedHeader → Bool
 is_protected h = is_some (space_of h)
 
--- the number in a packet at a place, of as many bytes as the first byte says
+-- the number in a packet at an offset, of as many bytes as the first byte says
 pub record IsNumberIn (number : PacketNumber) (at : ℕ) (packet : List ℕ) : Type 0 where
   pub size : number_size number ≡ number_len (slice_index packet 0)
   pub within : at + number_size number ≤ length packet
@@ -81,7 +82,7 @@ IsOpenedBy true h at header packet end =
     × (end ≡ at + number_size number)
 IsOpenedBy false h at header packet end = IsWithoutNumber h header × (end ≡ at)
 
--- the header of an open packet: with a number where it was protected
+-- the header of an open packet: with a number if it was protected
 abbrev pub IsOpened : ProtectedHeader → ℕ → Header → List ℕ → ℕ → Type 0
 IsOpened h = IsOpenedBy (is_protected h) h
 
@@ -89,6 +90,6 @@ IsOpened h = IsOpenedBy (is_protected h) h
 abbrev pub sample_refusal : Refusal
 sample_refusal = Invalid (codes "packet too short to extract header protection sample")
 
--- the error: if the packet has no sample, that it has none, else want of memory
+-- the error: no sample if the packet has none, else out of memory
 abbrev pub IsUnfinished : Type 0 → Refusal → Type 0
 IsUnfinished has e = ((has → ⊥) × (e ≡ sample_refusal)) ⊎ (has × (e ≡ NoMemory))

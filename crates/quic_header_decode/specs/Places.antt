@@ -1,4 +1,4 @@
--- Headers as places in bytes: the header whose fields are at these places, or an error.
+-- Headers as offsets in bytes: the header whose fields are at these offsets, or an error.
 use Rattle.std.specs.Prelude.{◌≡◌, ◌≢◌, ℕ, ◌+◌, ◌-◌, ◌<◌, ◌≤◌, List, ◌∷◌, ◌++◌, drop, length, true, Option, Some, None, Result, Ok, Err, Contains, slice_range, codes, nat_lt, if◌then◌else◌}
 use Rattle.quic_base.specs.ConnectionId.{long_id}
 use Rattle.quic_base.specs.Number.{has_bit, IsNumber}
@@ -44,11 +44,11 @@ header_placed kind.Retry first dst src token len version = protected.Retry dst s
 header_placed kind.Short first dst src token len version = protected.Short (has_bit 0x20 first) dst
 header_placed kind.VersionNegotiate first dst src token len version = protected.VersionNegotiate (first - 0x80) dst src
 
--- the header that places say in these bytes
+-- the header at these offsets of the bytes
 abbrev pub header_in : List ℕ → HeaderPlaces → ProtectedHeader
 header_in bytes x = header_placed x.kind x.first (dst_part bytes x) (src_part bytes x) x.token x.len x.version
 
--- the refusal that an error is in these bytes
+-- the error, with the ids that these bytes hold
 abbrev pub refusal_in : List ℕ → ReadError → Refusal
 refusal_in bytes (error.UnsupportedVersion version dst_len src_len) =
     Unsupported (slice_range bytes (6 + dst_len + 1) (6 + dst_len + 1 + src_len))
@@ -58,7 +58,7 @@ refusal_in bytes error.SmallPacket = Invalid (codes "packet too small")
 refusal_in bytes error.MalformedCid = Invalid (codes "malformed cid")
 refusal_in bytes error.TokenOutOfBounds = Invalid (codes "token out of bounds")
 
--- what a reading says: the header and what follows it, or a refusal
+-- what a reading says: the header and what follows it, or an error
 abbrev pub seen_in : List ℕ → Result HeaderPlaces ReadError → Result (ProtectedHeader × List ℕ) Refusal
 seen_in bytes (Ok x) = Ok (header_in bytes x, drop x.header_end bytes)
 seen_in bytes (Err e) = Err (refusal_in bytes e)
@@ -79,7 +79,7 @@ ArePlaces kind.Short x = (1 + x.dst_len ≡ x.header_end) × (x.src_len ≡ 0) �
 ArePlaces kind.VersionNegotiate x = (ids_end x ≡ x.header_end) × IsNowhere x.token × (x.len ≡ 0) × (x.version ≡ 0)
 ArePlaces _ x = (ids_end x < x.header_end) × IsNowhere x.token
 
--- The fields are within the header, and the header within so many bytes.
+-- The fields are within the header, and the header within that many bytes.
 pub record ArePlacesWithin (kind : HeaderKind) (x : HeaderPlaces) (datagram_len : ℕ) : Type 0 where
   pub fields : ArePlaces kind x
   pub dst_few : x.dst_len ≤ 20
@@ -89,14 +89,14 @@ pub record ArePlacesWithin (kind : HeaderKind) (x : HeaderPlaces) (datagram_len 
   pub first : 0 < x.header_end
   pub head : x.header_end ≤ datagram_len
 
--- the ids of an unknown version are within so many bytes
+-- the ids of an unknown version are within that many bytes
 abbrev pub IsSeen : Result HeaderPlaces ReadError → ℕ → Type 0
 IsSeen (Ok x) datagram_len = ArePlacesWithin x.kind x datagram_len
 IsSeen (Err (error.UnsupportedVersion version dst_len src_len)) datagram_len = (dst_len ≤ 255) × (src_len ≤ 255)
     × (6 + dst_len + 1 + src_len ≤ datagram_len)
 IsSeen _ datagram_len = Unit {0}
 
--- where a packet ends in so many bytes
+-- where a packet ends in that many bytes
 abbrev pub ends_at : HeaderPlaces → ℕ → Option ℕ
 ends_at x datagram_len =
     if (row x.kind).has_len then (if nat_lt datagram_len (x.header_end + x.len) then None else Some (x.header_end + x.len))
@@ -115,12 +115,12 @@ abbrev pub IsUnknownVersion : DecodeOptions → List ℕ → ℕ → List ℕ �
 IsUnknownVersion options bytes version dst src =
     (rest : List ℕ) × AnyVersion bytes version dst src rest × (version ≢ 0) × (Contains options.versions version → ⊥)
 
--- what headers are read by where the fixed bit isn't looked at: the ids of short headers have so many bytes
+-- options that ignore the fixed bit, with that many bytes for the ids of short headers
 abbrev pub any_fixed : ℕ → List ℕ → DecodeOptions
 any_fixed id_len versions = read_by (fixed_parsed id_len) versions true
 
--- The bytes begin with this header and go on with these bytes, or are refused so. A long header of an unknown version
--- is given with its ids even where these are longer than those of the known versions may be.
+-- The bytes begin with this header and go on with these bytes, or are rejected with this error. A long header of an
+-- unknown version is reported with its ids even if these are longer than known versions allow.
 abbrev pub ReadAnswer : DecodeOptions → List ℕ → Result (ProtectedHeader × List ℕ) Refusal → Type 0
 ReadAnswer options bytes (Ok found) = HeaderAt options (length bytes) bytes found.0 found.1
 ReadAnswer options bytes (Err (Unsupported src dst version)) = IsUnknownVersion options bytes version dst src

@@ -13,7 +13,7 @@ use Rattle.quic_base.specs.Number.{has_bit, num}
 use Rattle.quic_base.specs.Reading.{◌>>=◌, number_at}
 use Rattle.bytes.specs.Filled.{Filled}
 
--- what headers are read by: the ids of short headers, the versions that are known, and whether the fixed bit may be
+-- how headers are read: the parser of short headers' ids, the versions that are known, and whether the fixed bit may be
 -- clear
 pub record DecodeOptions : Type 0 where
   pub parsed : List ℕ → Result (List ℕ × ℕ) Refusal
@@ -27,9 +27,9 @@ read_by parsed versions grease = record { parsed = parsed; versions = versions; 
 abbrev pub TakesWithin : DecodeOptions → Type 0
 TakesWithin options = (text id : List ℕ) (count : ℕ) → options.parsed text ≡ Ok (id, count) → count ≤ length text
 
--- ---- fields: each gives a value and the bytes after it
+-- ---- fields: each is a value and the bytes after it
 
--- what a call that reads answers is what there is to be read, and the rest is left
+-- what a reading call returns is what there is to read, and the rest is left
 abbrev pub Reads : {X : Type 0} → Option X → List ℕ → Option (X × List ℕ) → Type 0
 Reads (Some x) new read = read ≡ Some (x, new)
 Reads None new read = read ≡ None
@@ -60,7 +60,7 @@ at_end = Invalid (codes "unexpected end of packet")
 abbrev pub bad_id : Refusal
 bad_id = Invalid (codes "malformed cid")
 
--- an Initial packet's header, whose token is at a place
+-- an Initial packet's header, whose token is at an offset
 abbrev pub initial_at : List ℕ → List ℕ → ℕ → ℕ → ℕ → ℕ → ProtectedHeader
 initial_at dst src start end len version = protected.Initial (record {
   dst_cid = dst;
@@ -91,7 +91,7 @@ long_at versions datagram_len first bytes = do
       else (if not (list_any (λ known. nat_eq known version.0) versions) then Err (Unsupported src.0 dst.0 version.0)
       else typed_at (long_type version.0 first) datagram_len dst.0 src.0 version.0 src.1)
 
--- a long header whose ids may be longer, where its version isn't known
+-- a long header whose ids may be longer, if its version isn't known
 unfoldable pub wide_at : List ℕ → ℕ → ℕ → List ℕ → Result (ProtectedHeader × List ℕ) Refusal
 wide_at versions datagram_len first bytes = do
   version ← ok_or (word_at bytes) at_end
@@ -111,7 +111,7 @@ header_at options datagram_len bytes = do
       then (options.parsed first.1 >>= λ id. Ok (protected.Short (has_bit 0x20 first.0) id.0, drop id.1 first.1))
       else long_at options.versions datagram_len first.0 first.1)
 
--- a header whose fixed bit isn't checked, with ids of so many bytes in short ones, and of any length in long ones
+-- a header whose fixed bit isn't checked, with ids of that many bytes in short headers, and of any length in long ones
 unfoldable pub wide_header_at : ℕ → List ℕ → ℕ → List ℕ → Result (ProtectedHeader × List ℕ) Refusal
 wide_header_at id_len versions datagram_len bytes = do
   first ← ok_or (byte_at bytes) at_end
@@ -153,7 +153,7 @@ abbrev pub token_end : ProtectedHeader → ℕ
 token_end (protected.Initial h) = h.token_pos.end
 token_end _ = 0
 
--- a header that ends at this place has its first byte, and its token is within it
+-- a header that ends at this offset has its first byte, and its token is within it
 pub record IsPlaced (h : ProtectedHeader) (at : ℕ) : Type 0 where
   pub after_first : 0 < at
   pub token_order : token_start h ≤ token_end h

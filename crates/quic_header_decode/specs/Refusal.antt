@@ -1,4 +1,4 @@
--- Why a packet can't be read: an error without the place of its text in memory.
+-- Why a packet can't be read: an error without the address of its text.
 use Rattle.std.specs.Prelude.{◌≡◌, ℕ, List, Result, Ok, Err}
 use Rattle.quic_header_decode.specs.declared.decode_error.PacketDecodeError.{PacketDecodeError}
 use Rattle.quic_header_decode.specs.declared.decode_error.PacketDecodeError.TheVariants as error
@@ -13,7 +13,7 @@ refusal_of (error.UnsupportedVersion src dst version) = Unsupported src dst vers
 refusal_of (error.InvalidHeader text) = Invalid text.now
 refusal_of error.OutOfMemory = NoMemory
 
--- what a call answered is what there is to be read, or its refusal, unless memory ran out
+-- what a call returned is what there is to read, or its error, unless it is out of memory
 abbrev pub RefusesHeader : {Y : Type 0} → PacketDecodeError → Result Y Refusal → Type 0
 RefusesHeader error.OutOfMemory read = Unit {0}
 RefusesHeader e read = read ≡ Err (refusal_of e)

@@ -1,4 +1,4 @@
-//! The cutting of datagrams into packets (RFC 9000, section 12.2).
+//! Cuts datagrams into packets (RFC 9000, section 12.2).
 ghost use Rattle.std.specs.Prelude.{◌≡◌, ◌<◌, ◌≤◌, length, take, drop, IsTrue, IfErr, IfOk, IsErrOf, IfSome, IsNone, MatchResult, ◌⊎◌, ◌↔◌};
 ghost use Rattle.quic_header_decode.specs.Headers.{dst_of, space_of, IsShort, IsInitial, IsZeroRtt};
 ghost use Rattle.quic_header_decode.specs.Datagram.{CutsFirst, IsUncut};
@@ -14,7 +14,7 @@ use quic_base::ids::{ConnectionId, SpaceId};
 use quic_header_encode::long_type::LongType;
 use std::marker::Model;
 
-/// A packet that was cut from a datagram, with its header's protection still on.
+/// A packet that was cut from a datagram, whose header is still protected.
 #[derive(Debug, Drop)]
 pub struct PartialDecode {
     pub(crate) plain_header: ProtectedHeader,
@@ -35,10 +35,11 @@ impl Model for PartialDecode {
 }
 
 impl PartialDecode {
-    /// Cuts the first packet from a datagram, and gives the bytes after it. An Initial, Handshake or 0-RTT packet ends
-    /// where the length in its header says; the others take the whole datagram. If no header can be read, the error is
-    /// that of `ProtectedHeader::decode`; a length beyond the end is `InvalidHeader("packet too short to contain
-    /// payload length")`. `OutOfMemory` comes only from a parser that allocates, or if bytes follow the packet.
+    /// Cuts the first packet from a datagram, and returns it with the bytes after it, if there are any. An Initial,
+    /// Handshake or 0-RTT packet ends where the length in its header says; others end with the datagram. If no header
+    /// can be read, the error is that of `ProtectedHeader::decode`; a length beyond the end is `InvalidHeader("packet
+    /// too short to contain payload length")`. `OutOfMemory` comes only from a parser that allocates, or if bytes
+    /// follow the packet.
     ///
     /// So without `grease` a version negotiation whose fixed bit is clear is rejected, though clients ignore that bit
     /// (RFC 9000, section 17.2.1).
@@ -81,7 +82,7 @@ impl PartialDecode {
         let position = buf.position();
         let remaining = buf.remaining() as u64;
         let mut datagram = buf.into_inner();
-        // All errors go this way, so that the datagram is dropped in one place.
+        // All errors leave here, so that the datagram is dropped in one place.
         let refusal = match read {
             Ok(plain_header) => {
                 let len = plain_header.payload_len().unwrap_or(remaining);
@@ -126,7 +127,7 @@ impl PartialDecode {
         self.packet.len()
     }
 
-    /// The header, before its protection is taken off.
+    /// The header, still protected.
     pub fn header(&self) -> &ProtectedHeader
         ensures { result.now ≡ self.now.head }
     {
@@ -151,7 +152,7 @@ impl PartialDecode {
         self.plain_header.dst_cid()
     }
 
-    /// The space of the packet's number: none for Retry and version negotiation, which have no number.
+    /// The packet number space. `None` for Retry and version negotiation, which have no number.
     pub fn space(&self) -> Option<SpaceId>
         ensures { result ≡ space_of self.now.head }
     {
@@ -181,7 +182,7 @@ impl PartialDecode {
         matches!(&self.plain_header, ProtectedHeader::Initial(_))
     }
 
-    /// Whether it is a 0-RTT packet, of early data.
+    /// Whether it is a 0-RTT packet.
     pub fn is_0rtt(&self) -> bool
         ensures { IsTrue result ↔ IsZeroRtt self.now.head }
     {

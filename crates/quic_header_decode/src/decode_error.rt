@@ -7,7 +7,7 @@ use quic_base::coding::UnexpectedEnd;
 use quic_base::ids::ConnectionId;
 use thiserror::Error;
 
-/// Why no packet can be read from the remaining bytes of a datagram. Nothing after them can be read then: the rest of
+/// Why no packet can be read from the remaining bytes of a datagram. Nothing after these can be read, so the rest of
 /// the datagram is dropped.
 #[derive(Clone, Copy, Debug, PartialEq, Eq, PartialOrd, Ord, Hash, Drop, Error)]
 pub enum PacketDecodeError {
@@ -24,7 +24,7 @@ pub enum PacketDecodeError {
     /// The header or the packet is malformed, as the text says.
     #[error("invalid header: {0}")]
     InvalidHeader(&'static str),
-    /// Memory ran out.
+    /// An allocation failed.
     #[error("out of memory")]
     OutOfMemory,
 }

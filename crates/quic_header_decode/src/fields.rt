@@ -1,4 +1,4 @@
-//! The fields of headers, read from bytes at a place, which moves to the end of what was read.
+//! The fields of headers, read from an offset on, which moves to the end of what was read.
 ghost use Rattle.std.specs.Prelude.{◌≡◌, ◌+◌, ◌<◌, ◌≤◌, Some, None, drop, length, IfSome, MatchOption};
 ghost use Rattle.quic_base.specs.Number.{AreBytes};
 ghost use Rattle.quic_base.specs.Reading.{number_at};
@@ -8,16 +8,16 @@ use quic_base::coding::are_bytes;
 use quic_base::ids::MAX_CID_SIZE;
 use quic_base::varint::split_var_by_word;
 
-/// A range of bytes within others: from `start` to before `end`.
+/// A byte range: from `start` to before `end`.
 #[derive(Clone, Copy, Debug, PartialEq, Eq)]
 pub struct Place {
-    /// Where they begin.
+    /// The offset of the first byte.
     pub start: usize,
-    /// Where they end.
+    /// The offset after the last byte.
     pub end: usize,
 }
 
-// The bytes from the place on.
+// The bytes from the offset on.
 #[inline]
 fn left(bytes: &[u8], place: usize) -> &[u8]
     requires { place ≤ length bytes.now }
@@ -29,7 +29,7 @@ fn left(bytes: &[u8], place: usize) -> &[u8]
     rest
 }
 
-// How many bytes there are from the place on.
+// How many bytes there are from the offset on.
 #[inline]
 pub(crate) fn remaining(bytes: &[u8], place: usize) -> usize
     requires { place ≤ length bytes.now }
@@ -39,7 +39,7 @@ pub(crate) fn remaining(bytes: &[u8], place: usize) -> usize
     bytes.len() - place
 }
 
-// Skips the next `count` bytes. The caller must ensure that there are so many.
+// Skips the next `count` bytes. The caller must ensure that there are that many.
 #[inline]
 pub(crate) fn pass(bytes: &[u8], place: &mut usize, count: usize)
     requires inside { place.old ≤ length bytes.now }
@@ -86,7 +86,7 @@ pub(crate) fn read_id<'a>(bytes: &'a [u8], place: &mut usize) -> Option<&'a [u8]
     Some(&rest[..len])
 }
 
-// A number in one, two, four or eight bytes. It is inlined into its callers, so that the place stays in a register.
+// A varint. It is inlined into its callers, so that the offset stays in a register.
 #[inline(always)]
 #[tactic(auto, using(crate::proofs::FieldLaws::reading))]
 pub(crate) fn read_var(bytes: &[u8], place: &mut usize) -> Option<u64>

@@ -1,4 +1,4 @@
-//! Takes the protection off headers (RFC 9001, section 5.4).
+//! Removes header protection (RFC 9001, section 5.4).
 ghost use Rattle.std.specs.Prelude.{◌≡◌, ◌≤◌, ◌<◌, ◌/◌, ◌%◌, ◌++◌, length, take, drop, IfOk, IfErr, IsTrue, IsSome, IsNone, IfSome, true, false, nat_eq, slice_index, slice_range};
 ghost use Rattle.quic_crypto.specs.Keys.{HasSample};
 ghost use Rattle.quic_header_decode.specs.Headers.{IsUnfinished, IsNumberIn};
@@ -18,11 +18,11 @@ use quic_header_encode::long_type::LongType;
 use std::alloc::AllocError;
 
 impl PartialDecode {
-    /// Takes the protection off the packet's header, and cuts the packet after the header, which ends with the packet
-    /// number. The error is `InvalidHeader("packet too short to extract header protection sample")` exactly if fewer
-    /// than four bytes and the sample follow the place where the number begins; else it is only `OutOfMemory`. A Retry
-    /// or version negotiation has no protection: it needs no key, and is given unchanged. The caller must give a key
-    /// for the others, which are those with a `space()`.
+    /// Removes the protection of the packet's header, and splits the packet after the header, which ends with the
+    /// packet number (RFC 9001, section 5.4). The error is `InvalidHeader("packet too short to extract header
+    /// protection sample")` exactly when there are fewer than four bytes and the sample from the number on; any other
+    /// error is `OutOfMemory`. A Retry or version negotiation has no protection: it needs no key, and is returned
+    /// unchanged. The caller must give a key for other packets, which are those with a `space()`.
     pub fn finish<H: HeaderKey>(self, key: Option<&H>) -> Result<Packet, PacketDecodeError>
         requires { IsTrue (is_protected self.head) → IsSome key }
         ensures opened { IfOk result
@@ -45,8 +45,7 @@ impl PartialDecode {
         }
     }
 
-    /// Takes the protection off the header as `finish` does, of a packet that has one: the caller must ensure that it
-    /// has a `space()`.
+    /// Does what `finish` does for a packet that has protection. The caller must ensure that it has a `space()`.
     pub fn finish_protected<H: HeaderKey>(self, key: &H) -> Result<Packet, PacketDecodeError>
         requires { IsTrue (is_protected self.head) }
         ensures opened { IfOk result
@@ -95,8 +94,8 @@ impl PartialDecode {
         finish_with(packet, end, header)
     }
 
-    /// Cuts a Retry or version negotiation after its header, and gives it unchanged. The error is only `OutOfMemory`.
-    /// The caller must ensure that the packet has no `space()`.
+    /// Splits a Retry or version negotiation after its header, and returns it unchanged. The only error is
+    /// `OutOfMemory`. The caller must ensure that the packet has no `space()`.
     pub fn finish_plain(self) -> Result<Packet, PacketDecodeError>
         requires { is_protected self.head ≡ false }
         ensures opened { IfOk result
@@ -135,7 +134,7 @@ impl PartialDecode {
     }
 }
 
-// Takes the protection off a header whose number begins at a place, and reads the number. `None` if the packet is too
+// Removes the protection of a header whose number begins at `at`, and reads the number. `None` if the packet is too
 // short for a sample.
 #[tactic(auto, using(crate::proofs::Finishes::number_at_place))]
 fn decrypt_header<H: HeaderKey>(packet: &mut BytesMut, at: usize, key: &H) -> Option<PacketNumber>
@@ -156,7 +155,7 @@ fn decrypt_header<H: HeaderKey>(packet: &mut BytesMut, at: usize, key: &H) -> Op
     PacketNumber::decode(count, &mut rest).ok()
 }
 
-// A packet whose header ends at the buffer's place.
+// A packet whose header ends at `end`.
 fn finish_with(packet: BytesMut, end: usize, header: Header) -> Result<Packet, PacketDecodeError>
     requires { end ≤ length packet.items }
     ensures header { IfOk result (λ x. x.header ≡ header) }
@@ -174,7 +173,7 @@ fn finish_with(packet: BytesMut, end: usize, header: Header) -> Result<Packet, P
     })
 }
 
-// Cuts a packet after its header.
+// Splits a packet after its header.
 fn split_header(mut packet: BytesMut, end: usize) -> Result<(Bytes, BytesMut), AllocError>
     requires { end ≤ length packet.items }
     ensures head { IfOk result (λ x. x.0 ≡ take end packet.items) }

@@ -16,8 +16,8 @@ use quic_crypto::packet_number::PacketNumber;
 use quic_header_encode::header::{Header, InitialHeader};
 use quic_header_encode::long_type::LongType;
 
-/// Bytes begin with one header or are refused with one error, and the same holds of the packet that is cut from them;
-/// reading finds that answer, if the parser of ids takes no more bytes than there are.
+/// Bytes begin with one header or are rejected with one error, and the same holds for the packet that is cut from them.
+/// Reading returns it, if the parser of ids consumes no more bytes than there are.
 pub fn one_answer()
     ensures head { (options : DecodeOptions) (whole : ℕ) (bytes : List ℕ) (one other : Result (ProtectedHeader
         × List ℕ) Refusal)
@@ -32,7 +32,7 @@ pub fn one_answer()
         → CutAnswer options bytes (cut_at options bytes) }
 {}
 
-/// Bytes begin with one header, or with the ids of one unknown version, or are refused with one error, if all ids of
+/// Bytes begin with one header, or with the ids of one unknown version, or are rejected with one error, if all ids of
 /// short headers have the same length and the fixed bit isn't checked.
 pub fn one_reading()
     ensures { (id_len : ℕ) (versions bytes : List ℕ) (one other : Result (ProtectedHeader × List ℕ) Refusal)
@@ -59,7 +59,7 @@ pub fn ends()
     // A packet whose header has a length has the same header and the same end, whatever follows it.
     ensures alone { (options : DecodeOptions) (bytes other : List ℕ) (h : ProtectedHeader) (p q len : ℕ)
         → Cut options bytes h p q → len_in h ≡ Some len → Cut options (take q bytes ++ other) h p q }
-    // A long header that is refused for its fixed bit or for its version is refused so whatever follows.
+    // A long header that is rejected for its fixed bit or for its version is rejected so whatever follows.
     ensures fixed { (options : DecodeOptions) (bytes other : List ℕ) → 128 ≤ slice_index bytes 0
         → Refused options bytes (Invalid (codes "fixed bit unset"))
         → Refused options (bytes ++ other) (Invalid (codes "fixed bit unset")) }
@@ -68,7 +68,7 @@ pub fn ends()
         → Refused options (bytes ++ other) (Unsupported src dst version) }
 {}
 
-/// A header that was read as places begins a packet that ends where `packet_end` says, or one that is cut off.
+/// A header that was read as offsets begins a packet that ends where `packet_end` says, or one that is cut off.
 pub fn places_cut()
     ensures whole { (options : DecodeOptions) (bytes : List ℕ) (x : HeaderPlaces) (q : ℕ)
         → HeaderAt options (length bytes) bytes (header_in bytes x) (drop x.header_end bytes)
@@ -81,7 +81,7 @@ pub fn places_cut()
         → Uncut options bytes (Invalid (codes "packet too short to contain payload length")) }
 {}
 
-/// Headers are read back as they are written, before protection is put on, whatever follows them.
+/// Headers are read back as they were written, before protection is applied, whatever follows them.
 pub fn written()
     // The length may be in any encoding, and the number isn't read.
     ensures initial { (options : DecodeOptions) (whole start n : ℕ) (h : InitialHeader) (len rest : List ℕ)

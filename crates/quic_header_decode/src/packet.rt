@@ -1,4 +1,4 @@
-//! Packets whose headers' protection is taken off (RFC 9000, section 17).
+//! Packets whose header protection was removed (RFC 9000, section 17).
 ghost use Rattle.std.specs.Prelude.{◌≡◌, ◌<◌, length, slice_index, false};
 ghost use Rattle.quic_header_encode.specs.declared.header.Header.TheVariants as headers;
 ghost use Rattle.quic_header_encode.specs.Kinds.{reserved_zero};
@@ -6,31 +6,31 @@ ghost use Rattle.quic_header_encode.specs.Kinds.{reserved_zero};
 use bytes::{Bytes, BytesMut};
 use quic_header_encode::header::{Header, InitialHeader};
 
-/// An Initial packet whose header's protection is taken off. Its payload may still be sealed.
+/// An Initial packet whose header protection was removed. Its payload may still be sealed.
 #[derive(Debug, Drop)]
 pub struct InitialPacket {
     /// The header.
     pub header: InitialHeader,
-    /// The header's bytes, the packet number among them.
+    /// The header's bytes, with the packet number.
     pub header_data: Bytes,
     /// What follows the header.
     pub payload: BytesMut,
 }
 
-/// A packet whose header's protection is taken off. Its payload may still be sealed.
+/// A packet whose header protection was removed. Its payload may still be sealed.
 #[derive(Debug, Drop)]
 pub struct Packet {
     /// The header.
     pub header: Header,
-    /// The header's bytes, the packet number among them.
+    /// The header's bytes, with the packet number.
     pub header_data: Bytes,
-    /// What follows the header: of a Retry its token and tag, of a version negotiation the versions.
+    /// What follows the header: in a Retry its token and tag, in a version negotiation the versions.
     pub payload: BytesMut,
 }
 
 impl Packet {
-    /// Whether the reserved bits of the header's first byte are zero, as they have to be (RFC 9000, sections 17.2
-    /// and 17.3.1): 0x18 in a short header, 0x0c in the others. They are not where `header_data` has no byte.
+    /// Whether the reserved bits of the header's first byte are zero, as they must be (RFC 9000, sections 17.2 and
+    /// 17.3.1): 0x18 in a short header, 0x0c in others. False if `header_data` is empty.
     pub fn reserved_bits_valid(&self) -> bool
         ensures some { 0 < length self.now.header_data
             → result ≡ reserved_zero self.now.header (slice_index self.now.header_data 0) }

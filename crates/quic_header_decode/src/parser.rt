@@ -7,18 +7,18 @@ use quic_base::coding::Cursor;
 use quic_base::ids::ConnectionId;
 
 /// Reads the connection id of a short header, which doesn't hold the id's length. An endpoint knows its own ids, so it
-/// brings the parser.
+/// provides the parser.
 pub trait ConnectionIdParser {
     ghost use Rattle.quic_base.specs.Cursor.{unread};
 
     // What the remaining bytes begin with: an id and how many bytes it takes, or an error.
     ghost parsed: { Self → List ℕ → Result (List ℕ × ℕ) Refusal };
 
-    // It allocates, so that memory may run out.
+    // It allocates, so an allocation may fail.
     ghost takes_memory: { Self → Bool };
 
-    /// Takes an id from the cursor's place. The cursor's bytes don't change; after an error its place is unspecified.
-    /// If the parser allocates, any call may answer `OutOfMemory`.
+    /// Reads the id at the cursor's position and moves past it. The cursor's bytes don't change; after an error its
+    /// position is unspecified. If the parser allocates, any call may return `OutOfMemory`.
     fn parse(&self, buf: &mut Cursor) -> Result<ConnectionId, PacketDecodeError>
         ensures bytes { buf.new.bytes ≡ buf.old.bytes }
         ensures parsed { GivesRead (λ id. (id, length (unread buf.old) - length (unread buf.new))) result
@@ -28,7 +28,7 @@ pub trait ConnectionIdParser {
         ensures forward { IfOk result (λ _. buf.old.position ≤ buf.new.position) }
         ensures memory { IsErrOf result PacketDecodeError.OutOfMemory → IsTrue (takes_memory self.now) };
 
-    // An id takes no more bytes than there are, and `OutOfMemory` never depends on the bytes.
+    // An id has no more bytes than there are, and `OutOfMemory` never depends on the bytes.
     ghost lawful: { (p : Self) (bytes : List ℕ)
         → MatchResult (parsed p bytes) (λ x. x.1 ≤ length bytes) (λ e. e ≢ NoMemory) };
 }
@@ -38,14 +38,14 @@ pub trait ConnectionIdParser {
 pub struct DecodeOptions<'a, P> {
     /// Reads the ids of short headers.
     pub parser: &'a P,
-    /// The versions that are known. Of others only the ids are read.
+    /// The supported versions. Only the ids are read from headers of others.
     pub versions: &'a [u32],
     /// Whether the fixed bit may be clear (RFC 9287).
     pub grease: bool,
 }
 
-/// A parser of ids that all have one length, of at most 20 bytes. If fewer bytes remain it answers
-/// `InvalidHeader("packet too small")`. It allocates no memory.
+/// A parser of ids that all have one length, of at most 20 bytes. If fewer bytes remain it returns
+/// `InvalidHeader("packet too small")`. It doesn't allocate.
 #[derive(Clone, Copy, Debug)]
 pub struct FixedLengthConnectionIdParser {
     expected_len: usize,
@@ -55,7 +55,7 @@ pub struct FixedLengthConnectionIdParser {
 impl FixedLengthConnectionIdParser {
     ghost use Rattle.quic_header_decode.specs.Parsers.{id_len};
 
-    /// A parser of ids of that many bytes. The caller must ensure that these are at most 20.
+    /// A parser of ids of `expected_len` bytes. The caller must ensure that this is at most 20.
     pub fn new(expected_len: usize) -> Self
         requires { expected_len ≤ 20 }
         ensures { id_len result ≡ expected_len }
@@ -83,8 +83,8 @@ impl ConnectionIdParser for FixedLengthConnectionIdParser {
 
     ghost lawful = { λ p bytes. fixed_lawful (id_len p) bytes };
 
-    /// Takes an id from the cursor's place. The cursor's bytes don't change; after an error its place is unspecified.
-    /// If the parser allocates, any call may answer `OutOfMemory`.
+    /// Reads the id at the cursor's position and moves past it. The cursor's bytes don't change; after an error its
+    /// position is unspecified. If the parser allocates, any call may return `OutOfMemory`.
     #[inline]
     fn parse(&self, buf: &mut Cursor) -> Result<ConnectionId, PacketDecodeError> {
         let len = self.expected_len;

@@ -1,4 +1,4 @@
-//! Reads headers as places in the caller's bytes: nothing is copied.
+//! Reads headers as offsets in the caller's bytes: nothing is copied.
 ghost use Rattle.std.specs.Prelude.{◌≡◌, ◌+◌, ◌<◌, ◌≤◌, ◌∷◌, ℕ, Some, None, length, drop, slice_index, slice_range, IfOk, IfSome, MatchOption, ◌==◌};
 ghost use Rattle.std.specs.List.{list_any};
 ghost use Rattle.quic_header_encode.specs.Writing.{IsTyped};
@@ -12,29 +12,29 @@ use quic_base::coding::are_bytes;
 use quic_base::ids::MAX_CID_SIZE;
 pub use quic_header_encode::long_type::HeaderKind;
 
-/// A packet's header as places in bytes that begin with the packet. Fields that its kind doesn't have are 0.
+/// A packet's header as offsets in bytes that begin with the packet. Fields that its kind doesn't have are 0.
 #[derive(Clone, Copy, Debug, PartialEq, Eq)]
 pub struct HeaderPlaces {
     /// The kind.
     pub kind: HeaderKind,
-    /// The first byte, before protection is taken off.
+    /// The first byte, still protected.
     pub first: u8,
     /// The version of QUIC: 0 for short headers, which have none, and for a version negotiation.
     pub version: u32,
-    /// How many bytes the receiver's id has, which begins at 6 in a long header and at 1 in a short one.
+    /// How many bytes the receiver's id has. It begins at offset 6 in a long header and at 1 in a short one.
     pub dst_len: usize,
-    /// How many bytes the sender's id has, which begins after the receiver's and its own length. Short headers have
-    /// none.
+    /// How many bytes the sender's id has. It begins after the receiver's id and its own length byte. Short headers
+    /// have none.
     pub src_len: usize,
     /// The token of an Initial packet.
     pub token: Place,
     /// How many bytes an Initial, Handshake or 0-RTT packet has after its header, including those of the packet number.
     pub len: u64,
-    /// Where the header ends: if the packet has a number, where that begins.
+    /// The offset at which the header ends or, if the packet has a number, at which the number begins.
     pub header_end: usize,
 }
 
-/// Why no header can be read. Nothing after it can be read then: the rest of the datagram is dropped.
+/// Why no header can be read. Nothing after it can be read, so the rest of the datagram is dropped.
 #[derive(Clone, Copy, Debug, PartialEq, Eq)]
 pub enum ReadError {
     /// The endpoint doesn't support the version of a long header (RFC 9000, section 6.1). Its ids may have up to 255
@@ -42,9 +42,9 @@ pub enum ReadError {
     UnsupportedVersion {
         /// The version.
         version: u32,
-        /// How many bytes the receiver's id has, which begins at 6.
+        /// How many bytes the receiver's id has. It begins at offset 6.
         dst_len: usize,
-        /// How many bytes the sender's id has, which begins after the receiver's and its own length.
+        /// How many bytes the sender's id has. It begins after the receiver's id and its own length byte.
         src_len: usize,
     },
     /// The bytes end within the header: "unexpected end of packet".
@@ -58,8 +58,8 @@ pub enum ReadError {
 }
 
 impl HeaderPlaces {
-    /// Where the packet ends in `whole` bytes: where the length in its header says, else where the bytes end. `None` if
-    /// the bytes end before that.
+    /// The offset at which the packet ends in a datagram of `whole` bytes: as the length in its header says, or else
+    /// the datagram's end. `None` if the datagram ends before that.
     #[inline(always)]
     pub fn packet_end(&self, whole: usize) -> Option<usize>
         ensures value { result ≡ ends_at self.now whole }
@@ -75,13 +75,12 @@ impl HeaderPlaces {
     }
 }
 
-/// Reads the header at the front of bytes, in the order of its fields, even if the packet is cut off after it. Ids of
-/// short headers have `id_len` bytes, and the caller must ensure that this is at most 20. Of versions that are not
-/// among
-/// `versions` only the ids are read. The first field that can't be read gives the error. It allocates no memory.
+/// Reads the header at the front of the bytes, in the order of its fields, even if the packet is cut off after it. Ids
+/// of short headers have `id_len` bytes; the caller must ensure that this is at most 20. For versions other than
+/// `versions` only the ids are read. The error is that of the first field that can't be read. It doesn't allocate.
 ///
-/// The fixed bit is not checked: the caller finds it in `first`. In a version negotiation clients ignore it (RFC 9000,
-/// section 17.2.1).
+/// The fixed bit isn't checked; it is in `first`. Clients ignore it in a version negotiation (RFC 9000, section
+/// 17.2.1).
 #[inline(always)]
 pub fn read_header(bytes: &[u8], id_len: usize, versions: &[u32]) -> Result<HeaderPlaces, ReadError>
     requires { id_len ≤ MAX_CID_SIZE }
@@ -93,7 +92,7 @@ pub fn read_header(bytes: &[u8], id_len: usize, versions: &[u32]) -> Result<Head
     scan_header(bytes, id_len, versions)
 }
 
-/// The same of bytes that begin with a long header's first byte, which is given.
+/// The same for bytes that begin with `first`, the first byte of a long header.
 #[inline(always)]
 pub fn read_long(bytes: &[u8], first: u8, versions: &[u32]) -> Result<HeaderPlaces, ReadError>
     requires begins { bytes.now ≡ first ∷ drop 1 bytes.now }
@@ -137,7 +136,7 @@ fn scan_header(bytes: &[u8], id_len: usize, versions: &[u32]) -> Result<HeaderPl
     })
 }
 
-// Whether a version is among the supported ones. The test of the first is inlined into the caller.
+// Whether a version is among the supported ones. The comparison with the first is inlined into the caller.
 #[inline(always)]
 fn is_among(version: u32, versions: &[u32]) -> bool
     ensures { result ≡ list_any (λ known. known == version) versions.now }
@@ -161,7 +160,8 @@ fn read_version(bytes: &[u8]) -> Option<u32>
     read_word(bytes, &mut place)
 }
 
-// How many bytes, up to 255, a connection id has whose length is at a place. `None` if the bytes end before its end.
+// How many bytes, up to 255, a connection id has whose length byte is at `at`. `None` if the bytes end before the id
+// does.
 #[inline(always)]
 fn read_id_len(bytes: &[u8], at: usize) -> Option<usize>
     requires { at ≤ length bytes.now }

@@ -1,4 +1,4 @@
-//! Headers of packets, before their protection is taken off (RFC 9000, section 17).
+//! Protected packet headers (RFC 9000, section 17).
 ghost use Rattle.std.specs.Prelude.{◌≡◌, ◌<◌, ◌≤◌, length, IsTrue, Err, IfErr, IfOk, IsErrOf, ◌≢◌, drop};
 ghost use Rattle.quic_header_decode.specs.Refusal.{refusal_of, GivesRead};
 ghost use Rattle.quic_header_decode.specs.Grammar.{HeaderAt, Refused};
@@ -13,14 +13,14 @@ use quic_base::ids::ConnectionId;
 use quic_header_encode::long_type::{LongHeaderType, LongType};
 use std::ops::Range;
 
-/// The header of an Initial packet, before its protection is taken off (RFC 9000, section 17.2.2).
+/// The protected header of an Initial packet (RFC 9000, section 17.2.2).
 #[derive(Clone, Debug, Drop)]
 pub struct ProtectedInitialHeader {
     /// The receiver's id.
     pub dst_cid: ConnectionId,
     /// The sender's id.
     pub src_cid: ConnectionId,
-    /// The place of the token in the cursor's bytes; after `PartialDecode::new`, in the packet.
+    /// The byte range of the token in the cursor's bytes; after `PartialDecode::new`, in the packet.
     pub token_pos: Range<usize>,
     /// How many bytes the packet has after its header, including those of the packet number.
     pub len: u64,
@@ -28,7 +28,7 @@ pub struct ProtectedInitialHeader {
     pub version: u32,
 }
 
-/// The header of a packet, before its protection is taken off.
+/// The protected header of a packet.
 #[derive(Clone, Debug, Drop)]
 pub enum ProtectedHeader {
     /// The header of an Initial packet.
@@ -46,7 +46,7 @@ pub enum ProtectedHeader {
         /// The version of QUIC.
         version: u32,
     },
-    /// The header of a Retry packet (RFC 9000, section 17.2.5). What follows it is its token and tag.
+    /// The header of a Retry packet (RFC 9000, section 17.2.5). Its token and tag follow it.
     Retry {
         /// The receiver's id.
         dst_cid: ConnectionId,
@@ -57,12 +57,12 @@ pub enum ProtectedHeader {
     },
     /// The header of a 1-RTT packet (RFC 9000, section 17.3.1).
     Short {
-        /// The spin bit, for measuring round trips.
+        /// The spin bit (RFC 9000, section 17.4).
         spin: bool,
         /// The receiver's id.
         dst_cid: ConnectionId,
     },
-    /// The header of a version negotiation (RFC 9000, section 17.2.1). What follows it are the versions.
+    /// The header of a version negotiation (RFC 9000, section 17.2.1). The versions follow it.
     VersionNegotiate {
         /// The first byte without its highest bit.
         random: u8,
@@ -76,9 +76,9 @@ pub enum ProtectedHeader {
 impl ProtectedHeader {
     ghost use Rattle.quic_base.specs.Cursor.{unread};
 
-    /// Reads the header at the cursor's place, in the order of its fields: the first that can't be read gives the
-    /// error. Afterwards the cursor is at the header's end; after an error its place is unspecified. Its bytes don't
-    /// change. Of versions that are not among `versions` only the ids are read; with `grease` the fixed bit may be
+    /// Reads the header at the cursor's position, in the order of its fields. The error is that of the first field that
+    /// can't be read. Afterwards the cursor is at the header's end; after an error its position is unspecified. Its
+    /// bytes don't change. For versions other than `versions` only the ids are read. With `grease` the fixed bit may be
     /// clear (RFC 9287). `OutOfMemory` comes only from a parser that allocates.
     ///
     /// Without `grease` every header whose fixed bit is clear is rejected, as in quinn-proto, though clients ignore
@@ -104,7 +104,7 @@ impl ProtectedHeader {
         Self::decode_header(buf, parser, versions, grease)
     }
 
-    // Reading a short header is inlined into the caller; a long one takes a call.
+    // Reading a short header is inlined into the caller; a long one is read by a call.
     #[inline(always)]
     #[tactic(auto, unfolding(crate::specs::Reading::header_at))]
     pub(crate) fn decode_header<P: ConnectionIdParser>(
@@ -138,7 +138,7 @@ impl ProtectedHeader {
         Self::decode_long(buf, first, versions)
     }
 
-    // Reads the rest of a long header, after its first byte, at the cursor's place.
+    // Reads the rest of a long header, after its first byte, at the cursor's position.
     #[inline(always)]
     fn decode_long(buf: &mut Cursor, first: u8, versions: &[u32]) -> Result<Self, PacketDecodeError>
         requires long { 128 ≤ first }
@@ -155,10 +155,9 @@ impl ProtectedHeader {
         head
     }
 
-    // Reads the rest of a long header, after its first byte, and moves the place to its end. It is one function, so
-    // that each header is put together once, and not once for each call that it goes through. Each kind returns by
-    // itself, and builds the sender's id itself, so that its words go from where they are read to their places in the
-    // answer.
+    // Reads the rest of a long header, after its first byte, and moves the offset to its end. It is one function, so
+    // that each header is built once, not once for each call that returns it. Each kind returns separately and builds
+    // the sender's id itself, so that the id's bytes are copied directly into the result.
     #[inline(never)]
     #[tactic(auto, unfolding(crate::specs::Reading::long_at, crate::specs::Reading::typed_at))]
     fn read_long(

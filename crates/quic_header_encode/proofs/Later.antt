@@ -1,4 +1,4 @@
--- A length that is filled in later is the one that is written at once.
+-- A length that is filled in later equals one that is written at once.
 use Rattle.std.proofs.Common.{◌≡◌, ℕ, ◌+◌, ◌-◌, List, [], ◌++◌, length, take, drop, replicate, IsTrue, refl, sym, ap, ◌∙◌, append_assoc, arith, rules}
 use Rattle.std.proofs.lemmas.List.{length-append, length-replicate, take_at, drop_at}
 use Rattle.quic_base.specs.Varint.{shortest_varint}
@@ -12,7 +12,7 @@ use Rattle.quic_header_encode.specs.Kinds.{long_front}
 use Rattle.quic_header_encode.specs.Writing.{begun_by, encoding_in, with_len}
 use Rattle.quic_header_encode.specs.Writing.{has_length, header_bytes, header_size, header_with, size_in, with_length}
 
--- n elements of a list are written over
+-- n elements of a list are overwritten
 pub filled : (front zeros number tail len : List ℕ) (n at : ℕ) → length zeros ≡ n → at ≡ length front + n
     → take (at - n) ((front ++ (zeros ++ number)) ++ tail) ++ (len ++ drop at ((front ++ (zeros ++ number)) ++ tail))
     ≡ (front ++ (len ++ number)) ++ tail

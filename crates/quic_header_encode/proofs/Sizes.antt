@@ -1,4 +1,4 @@
--- How many bytes headers take that are written.
+-- How many bytes written headers have.
 use Rattle.std.proofs.Common.{◌≡◌, ℕ, ◌+◌, ◌≤◌, Bool, true, false, IsTrue, List, [], ◌∷◌, ◌++◌, length, replicate, if◌then◌else◌, refl, sym, ap, ◌∙◌, arith, rules}
 use Rattle.std.proofs.lemmas.Bool.Decides.{nat_tests}
 use Rattle.std.proofs.lemmas.List.{length-append, length-replicate}
@@ -38,7 +38,7 @@ pub zeros_length : (len : ℕ) (number : PacketNumber)
 zeros_length len number =
     omega (arith, length-append (replicate len 0) (number_bytes number), length-replicate {A = ℕ} len 0, number_length number)
 
--- how many bytes a header of each kind takes
+-- how many bytes a header of each kind has
 abbrev pub stored_size : HeaderKind → ℕ → ℕ → List ℕ → PacketNumber → ℕ → ℕ
 stored_size kinds.Initial dst src token number len =
     7 + dst + src + (size (length token) + length token) + (len + number_size number)
@@ -106,7 +106,7 @@ size_within kinds.Retry dst src token number len d s = omega arith
 size_within kinds.Short dst src token number len d s = omega (arith, number_few number)
 size_within kinds.VersionNegotiate dst src token number len d s = omega arith
 
--- 60 bytes and its length are enough for what is not its token
+-- 60 bytes are enough for a header's fields other than its token, with the token's length
 pub stored_within : (k : HeaderKind) (bits version : ℕ) (dst src token : List ℕ) (number : PacketNumber) (len : ℕ)
     → length dst ≤ 20 → length src ≤ 20
     → length (header_text (replicate len 0) (says (row k) bits version dst src token number)) ≤ length token + 60 + len
@@ -131,7 +131,7 @@ short_sized id fields is =
     sized id fields
     ∙ ap (λ k. stored_size k (length (id fields.dst_cid)) (length (id fields.src_cid)) fields.token.now fields.number.now fields.length_len) is
 
--- what a header has is as long as it is
+-- the length of a field that a header has or lacks
 pub field_length : (has : Bool) (bytes : List ℕ) → IsTrue has → length (if has then bytes else []) ≡ length bytes
 field_length true bytes is = refl
 field_length false bytes is = absurd (search (rules, is))

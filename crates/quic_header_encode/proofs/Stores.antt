@@ -1,4 +1,4 @@
--- What is written into an array, by its front.
+-- What is written at the front of an array.
 use Rattle.std.proofs.Common.{◌≡◌, ℕ, ◌+◌, ◌-◌, ◌<◌, ◌≤◌, ◌^◌, List, [], ◌∷◌, ◌++◌, length, take, drop, sym, ap, ◌∙◌, arith}
 use Rattle.std.proofs.Math.Seq.{take-append-add, take-append_seam}
 use Rattle.std.proofs.lemmas.Bool.Decides.{nat_tests}
@@ -17,14 +17,14 @@ pub size_small : (n : ℕ) → n < 64 → size n ≡ 1
 unfolding size
 size_small n h = grind (arith, nat_tests)
 
--- what is after a place stays, where it stays after an earlier one
+-- what is after an offset stays, if it stays after an earlier one
 pub stays : (a b : ℕ) (new old : List ℕ) → drop a new ≡ drop a old → a ≤ b → drop b new ≡ drop b old
 stays a b new old e le =
     let at : a + (b - a) ≡ b = omega arith in
     ap (λ (i : ℕ). drop i new) (sym at) ∙ sym (drop-drop (b - a) a new) ∙ ap (drop (b - a)) e
     ∙ drop-drop (b - a) a old ∙ ap (λ (i : ℕ). drop i old) at
 
--- what was written over bytes, where nothing after it changed
+-- what was written over bytes, if nothing after it changed
 pub stored_over : (at end : ℕ) (old new bytes : List ℕ) → take end new ≡ take at old ++ bytes
     → drop end new ≡ drop end old
     → new ≡ take at old ++ (bytes ++ drop end old)
@@ -32,7 +32,7 @@ stored_over at end old new bytes front back =
     sym (take-append-drop end new) ∙ ap (λ (xs : List ℕ). xs ++ drop end new) front
     ∙ ap (λ (xs : List ℕ). (take at old ++ bytes) ++ xs) back ∙ append_assoc (take at old) bytes (drop end old)
 
--- a length was written before a place
+-- a length was written before an offset
 pub len_stored : (width place end : ℕ) (old new bytes : List ℕ) → end ≡ place
     → bytes ≡ encoding_in width (length old - place)
     → take end new ≡ take (place - width) old ++ bytes → drop end new ≡ drop end old → new ≡ with_len width place old
@@ -41,7 +41,7 @@ len_stored width place end old new bytes at is front back =
     ∙ ap (λ (i : ℕ). take (place - width) old ++ (bytes ++ drop i old)) at
     ∙ ap (λ (xs : List ℕ). take (place - width) old ++ (xs ++ drop place old)) is
 
--- what was written at a place has its first k elements there
+-- what was written at an offset has its first k elements there
 pub shorter_stored : (k n at : ℕ) (head stored bytes : List ℕ) → k ≤ n → at ≤ length head
     → take (at + n) stored ≡ take at head ++ bytes → take (at + k) stored ≡ take at head ++ take k bytes
 shorter_stored k n at head stored bytes shortest_varint within is =
@@ -49,7 +49,7 @@ shorter_stored k n at head stored bytes shortest_varint within is =
     ∙ ap (λ (i : ℕ). take (i + k) (take at head ++ bytes)) (sym (length-take-le at head within))
     ∙ take-append-add (take at head) bytes k
 
--- the first k of n elements were written at a place, and then the last k over them
+-- the first k of n elements were written at an offset, and then the last k over them
 pub both_ends : (k n at : ℕ) (xs head once twice : List ℕ) → n ≡ length xs → k ≤ n → n ≤ k + k → at ≤ length head
     → take (at + k) once ≡ take at head ++ take k xs
     → take (at + (n - k) + k) twice ≡ take (at + (n - k)) once ++ drop (n - k) xs
@@ -77,7 +77,7 @@ no_token_stored n [] front stored is none e =
     sym (append-nil stored) ∙ token_stored n [] front stored is (omega (arith, none)) e
 no_token_stored n (x ∷ xs) front stored is none e = absurd (omega arith)
 
--- a header was written over zeros that had been appended, and those that remain after the header are removed
+-- a header was written over zeros that had been appended, and the zeros after it were removed
 pub stored_behind : (n k all : ℕ) (old zeros both head post rest bytes : List ℕ) → n ≡ length old → both ≡ old ++ zeros
     → k ≤ length head → n + k ≤ all
     → take k head ≡ bytes → take (n + k) (take all ((take n both ++ (head ++ post)) ++ rest)) ≡ old ++ bytes

@@ -1,5 +1,5 @@
--- One row for each kind of header, the one text of a header's bytes, and what a header says (RFC 9000, sections 17.2 and
--- 17.3).
+-- One row for each kind of header, the fields of a header, and the bytes that they determine (RFC 9000, sections 17.2
+-- and 17.3).
 use Rattle.std.specs.Prelude.{ℕ, ◌+◌, ◌-◌, ◌*◌, Bool, true, false, Option, Some, None, List, [], ◌∷◌, ◌++◌, length, bit_or, is_some, if◌then◌else◌, ◌≡◌, ◌/◌, ◌%◌, nat_eq}
 use Rattle.std.specs.Option.{option_map_or}
 use Rattle.quic_base.specs.ConnectionId.{long_id}
@@ -19,8 +19,8 @@ use Rattle.quic_header_encode.specs.Types.{type_number, long_space}
 use Rattle.quic_base.specs.declared.ids.SpaceId.{SpaceId}
 use Rattle.quic_base.specs.declared.ids.SpaceId.TheVariants as space
 
--- What a header has: the type that its first byte says; a version and both ids, each after its length, if it is long,
--- else the receiver's id alone; then a token with its length, the packet's length, and its number.
+-- What a header has: the type that its first byte says; if it is long, a version and both ids, each after its length,
+-- else only the receiver's id; then a token with its length, the packet's length, and its number.
 pub record Row : Type 0 where
   pub type : Option LongHeaderType
   pub is_long : Bool
@@ -46,7 +46,7 @@ row kinds.Retry = type_row kind.Retry
 row kinds.VersionNegotiate = has None true false false false
 row kinds.Short = has None false false false true
 
--- What a header says. `bits` are those of its first byte other than the type and the number's length.
+-- The fields of a header. `bits` are those of its first byte other than the type and the number's length.
 pub record Fields : Type 0 where
   pub row : Row
   pub bits : ℕ
@@ -73,8 +73,8 @@ fields_of (header.VersionNegotiate random src dst) =
 fields_of (header.Short spin key_phase dst number) =
     says (row kinds.Short) (0x40 + bit_value spin 0x20 + bit_value key_phase 0x04) 0 dst [] [] number
 
--- the first byte: a type is said by 16 times its number under the version, and the length of a number by one less in
--- the lowest two bits
+-- the first byte: bits 0x30 hold the type's number in the version, and the lowest two bits hold the packet number's
+-- length minus one
 abbrev pub first_in : Fields → ℕ
 first_in f =
     let typed = option_map_or (λ ty. f.bits + 16 * type_number f.version ty) f.row.type f.bits in
@@ -88,7 +88,7 @@ version_in f = if is_some f.row.type then f.version else 0
 abbrev pub long_front : ℕ → ℕ → List ℕ → List ℕ → List ℕ
 long_front first version dst src = (first ∷ bytes_of 4 version) ++ (long_id dst ++ long_id src)
 
--- The bytes of a header, with these bytes as its length where it has one.
+-- The bytes of a header, with these bytes as its length if it has one.
 abbrev pub header_text : List ℕ → Fields → List ℕ
 header_text len f =
     let ids = if f.row.is_long then long_front (first_in f) (version_in f) f.dst f.src else first_in f ∷ f.dst in
@@ -96,7 +96,7 @@ header_text len f =
     let number = if f.row.has_len then len ++ number_bytes f.number else number_bytes f.number in
     if f.row.has_number then front ++ number else front
 
--- ---- what a header says once its protection is off
+-- ---- what a header says once its protection is removed
 
 -- the space of a header's number; Initial also for headers without one
 abbrev pub space_in : Header → SpaceId
@@ -108,7 +108,7 @@ space_in _ = space.Initial
 abbrev pub dst_in : Header → List ℕ
 dst_in h = (fields_of h).dst
 
--- the packet's number as it is written, where the header has one
+-- the packet's number as it is written, if the header has one
 abbrev pub number_in : Header → Option PacketNumber
 number_in h = let f = fields_of h in if f.row.has_number then Some f.number else None
 

@@ -11,7 +11,7 @@ use Rattle.quic_header_encode.specs.declared.long_type.LongType.TheVariants.{Han
 abbrev pub version_2 : ℕ
 version_2 = 0x6b3343cf
 
--- the types of long headers under a version, by the numbers 0 to 3 that first bytes say
+-- the types of long headers in a version, by the numbers 0 to 3 in first bytes
 abbrev pub types_of : ℕ → List LongHeaderType
 types_of version =
     if nat_eq version version_2 then kind.Retry ∷ kind.Initial ∷ kind.Standard ZeroRtt ∷ kind.Standard Handshake ∷ []
@@ -21,24 +21,24 @@ types_of version =
 abbrev pub long_type : ℕ → ℕ → LongHeaderType
 long_type version first = slice_index_or (types_of version) (first / 16 % 4) kind.Retry
 
--- the number of a type under version 1 (RFC 9000, section 17.2), which tells the types apart
+-- the number of a type in version 1 (RFC 9000, section 17.2)
 abbrev pub type_code : LongHeaderType → ℕ
 type_code kind.Initial = 0
 type_code (kind.Standard ZeroRtt) = 1
 type_code (kind.Standard Handshake) = 2
 type_code kind.Retry = 3
 
--- the place of a type in a table
+-- the index of a type in a table
 abbrev pub place_of : LongHeaderType → List LongHeaderType → ℕ
 place_of ty [] = 0
 place_of ty (k ∷ ks) = if nat_eq (type_code k) (type_code ty) then 0 else 1 + place_of ty ks
 
--- the number of a type under a version
+-- the number of a type in a version
 abbrev pub type_number : ℕ → LongHeaderType → ℕ
 type_number version ty = place_of ty (types_of version)
 
--- the first byte of a type under a version: bits 0x80 and 0x40 are set, and so are those of its number; the lowest
--- four are clear
+-- the first byte of a type in a version: bits 0x80 and 0x40 are set, bits 0x30 hold its number, and the lowest four are
+-- clear
 abbrev pub first_byte : ℕ → LongHeaderType → ℕ
 first_byte version ty = 0xc0 + 16 * type_number version ty
 

@@ -1,6 +1,6 @@
 -- The bytes of headers, and a packet that is finished after its payload was appended to its header (RFC 9000, section
--- 17; RFC 9001, sections 5.3 and 5.4). Headers are appended, or written over bytes: then the first byte's fixed bit may
--- be clear (RFC 9287), and there are as many zeros in place of the length as are asked for.
+-- 17; RFC 9001, sections 5.3 and 5.4). Headers are appended, or written over bytes. Then the fixed bit may be clear
+-- (RFC 9287), and the length is as many zeros as the caller chooses.
 use Rattle.std.specs.Prelude.{◌≡◌, IsTrue, IsOk, OnOk, OnErr, Result, Vec, vec_len, vec_capacity, ◌≤◌, take, drop, ℕ, ◌+◌, ◌-◌, ◌<◌, ◌^◌, Bool, true, false, Option, Some, None, List, [], ◌∷◌, ◌++◌, length, ◌*◌, ◌⊎◌, replicate, ◌==◌, is_some, if◌then◌else◌}
 use Rattle.std.specs.declared.alloc.Global.{Global}
 use Rattle.quic_base.specs.declared.coding.NoRoom.{NoRoom}
@@ -24,7 +24,7 @@ use Rattle.quic_header_encode.specs.Types.{type_number}
 abbrev pub IsWidth : ℕ → Type 0
 IsWidth n = (n ≡ 1) ⊎ (n ≡ 2) ⊎ (n ≡ 4) ⊎ (n ≡ 8)
 
--- a number encoded in a width: the two highest bits say which
+-- a number encoded in a width, which is in the two highest bits
 abbrev pub encoding_in : ℕ → ℕ → List ℕ
 encoding_in width n =
     if width == 1 then n ∷ [] else if width == 2 then bytes_of 2 (2 ^ 14 + n)
@@ -34,7 +34,7 @@ encoding_in width n =
 abbrev pub no_length : List ℕ
 no_length = 0 ∷ 0 ∷ []
 
--- the bytes of a header, with these bytes as its length where it has one
+-- the bytes of a header, with these bytes as its length if it has one
 abbrev pub header_with : List ℕ → Header → List ℕ
 header_with len h = header_text len (fields_of h)
 
@@ -45,8 +45,8 @@ header_bytes h = header_with no_length h
 abbrev pub header_size : Header → ℕ
 header_size h = length (header_bytes h)
 
--- What can be written as a header: its token's length has an encoding, and its packet number takes no more bytes than
--- it says.
+-- The header can be written: its token's length has an encoding, and its packet number fits in as many bytes as it
+-- says.
 abbrev pub IsWritable : Header → Type 0
 IsWritable h = (length (fields_of h).token < 2 ^ 62) × IsInRange (fields_of h).number
 
@@ -54,19 +54,19 @@ IsWritable h = (length (fields_of h).token < 2 ^ 62) × IsInRange (fields_of h).
 abbrev pub has_length : Header → Bool
 has_length h = (fields_of h).row.has_len
 
--- the length of a header's number, where it has one, and whether it has a length
+-- the length of a header's number, if it has one, and whether it has a length
 abbrev pub place_in : Header → Option (ℕ × Bool)
 place_in h = option_map (λ number. (number_size number, has_length h)) (number_in h)
 
--- how many bytes a header's number takes
+-- how many bytes a header's number has
 abbrev pub size_in : Header → ℕ
 size_in h = option_map_or number_size (number_in h) 0
 
--- all packets have a number but Retry and version negotiation
+-- all packets have a number except Retry and version negotiation
 abbrev pub has_number : Header → Bool
 has_number h = (fields_of h).row.has_number
 
--- a packet whose header's length, where it has one, counts the bytes from the number on
+-- a packet whose header's length, if it has one, counts the bytes from the number on
 abbrev pub with_length : ℕ → Bool → ℕ → List ℕ → List ℕ
 with_length pn_len false header_len bytes = bytes
 with_length pn_len true header_len bytes =
@@ -79,13 +79,13 @@ sealed_packet header_len None bytes = bytes
 sealed_packet header_len (Some key) bytes =
     take header_len bytes ++ key.1 (take header_len bytes) (payload_in header_len key.0 bytes)
 
--- A packet before its header is protected: its length filled in where pn says so, pn being the length of its number and
--- whether it has a length; its payload sealed if there is a key for it.
+-- A packet before its header is protected. pn is the length of its number, and whether it has a length; if so, the
+-- length is filled in. The payload is sealed if there is a key for it.
 abbrev pub finished : ℕ × Bool → ℕ → Option (ℕ × (List ℕ → List ℕ → List ℕ)) → List ℕ → List ℕ
 finished pn header_len key bytes = sealed_packet header_len key (with_length pn.0 pn.1 header_len bytes)
 
 -- A packet of that size has room for its number after the first byte; for the two bytes of its length if it has one,
--- which is then below 2^14; for its header; and for the sample, which begins four bytes after the number's place.
+-- which is then below 2^14; for its header; and for the sample, which begins four bytes after the start of the number.
 pub record HasRoom (pn_len : ℕ) (write_len : Bool) (header_len sample_len size : ℕ) : Type 0 where
   pub head : pn_len < header_len
   pub length_place : IsTrue write_len → pn_len + 2 ≤ header_len
@@ -95,11 +95,11 @@ pub record HasRoom (pn_len : ℕ) (write_len : Bool) (header_len sample_len size
 
 -- ---- headers over bytes
 
--- the bits that say a long header's type under a version, and those that say how many bytes of a number are written
+-- the bits for a long header's type in a version, and those for how many bytes of a number are written
 abbrev pub type_bits : HeaderKind → ℕ → ℕ
 type_bits kind version = option_map_or (λ ty. 16 * type_number version ty) (row kind).type 0
 
--- what it says, and its first byte
+-- its fields, and its first byte
 abbrev pub fields_by : {I : Type 0} → (I → List ℕ) → HeaderRef I → Fields
 fields_by id fields =
     says (row fields.kind) fields.first fields.version (id fields.dst_cid) (id fields.src_cid) fields.token.now fields.number.now
@@ -111,15 +111,14 @@ first_byte_of id fields = first_in (fields_by id fields)
 abbrev pub begun_by : ℕ → List ℕ → List ℕ
 begun_by first bytes = first ∷ drop 1 bytes
 
--- the bytes that are written, with so many zeros as its length, and how many these are
+-- the bytes that are written, with that many zeros as its length, and how many these are
 abbrev pub stored_bytes : {I : Type 0} → (I → List ℕ) → HeaderRef I → List ℕ
 stored_bytes id fields = header_text (replicate fields.length_len 0) (fields_by id fields)
 
 abbrev pub stored_len : {I : Type 0} → (I → List ℕ) → HeaderRef I → ℕ
 stored_len id fields = length (stored_bytes id fields)
 
--- what a first byte has beside its type and number has room for these: all eight bits of a version negotiation are
--- its own
+-- the bits that a first byte has besides those of its type and its number's length: in a version negotiation, all eight
 abbrev pub HasLow : HeaderKind → ℕ → Type 0
 HasLow kinds.VersionNegotiate first = Unit {0}
 HasLow _ first = first ≤ 192
@@ -137,7 +136,7 @@ pub record IsStorable {I : Type 0} (id : I → List ℕ) (fields : HeaderRef I) 
 abbrev pub IsShortToken : List ℕ → Type 0
 IsShortToken token = (length token ≡ 0) ⊎ ((16 ≤ length token) × (length token ≤ 32))
 
--- all headers but short ones, and those that say a type
+-- all headers except short ones, and those that have a type
 abbrev pub IsLong : HeaderKind → Type 0
 IsLong kind = IsTrue (row kind).is_long
 
@@ -155,7 +154,7 @@ kind_of kind.Retry = kinds.Retry
 abbrev pub version_field : {I : Type 0} → (I → List ℕ) → HeaderRef I → ℕ
 version_field id fields = version_in (fields_by id fields)
 
--- a token after its length; zeros for the length and a number: where a header has these
+-- a token after its length; zeros for the length, and a number; each if the header has it
 abbrev pub token_by : HeaderKind → List ℕ → List ℕ
 token_by kind token = if (row kind).has_token then shortest_varint (length token) ++ token else []
 
@@ -166,7 +165,7 @@ end_bytes fields =
 abbrev pub room_by : HeaderKind → ℕ → ℕ → ℕ
 room_by kind short long = if (row kind).is_long then long else short
 
--- So many bytes have room for the header, and for what its ids are written with. A short header has no sender's id.
+-- That many bytes have room for the header, and for what is written after its ids. A short header has no sender's id.
 pub record HasStoreRoom {I : Type 0} (id : I → List ℕ) (room : I → ℕ) (fields : HeaderRef I) (size : ℕ) : Type 0 where
   pub whole : stored_len id fields ≤ size
   pub dst : room_by fields.kind 1 6 + room fields.dst_cid ≤ size
@@ -182,18 +181,19 @@ pub record StoresHeader {I : Type 0} (id : I → List ℕ) (fields : HeaderRef I
   pub bytes : stored_bytes id fields ≡ header_bytes h
   pub storable : IsStorable id fields
 
--- a padded id, and over how many bytes it is written
+-- a padded id, and how many bytes it overwrites
 abbrev pub padded_id : Padded → List ℕ
 padded_id id = id.0.now
 
 abbrev pub padded_room : Padded → ℕ
 padded_room id = 20
 
--- a packet with its length set, in so many bytes before the place of its number: it counts the bytes from there on
+-- a packet with its length set, in that many bytes before its number: it counts the bytes from the number on
 abbrev pub with_len : ℕ → ℕ → List ℕ → List ℕ
 with_len width place bytes = take (place - width) bytes ++ (encoding_in width (length bytes - place) ++ drop place bytes)
 
--- A packet of so many bytes has a length of this width before a place, and what it is to count has room in it.
+-- A packet of that many bytes has a length of this width before an offset, and the count of the bytes from there on
+-- fits in it.
 pub record TakesLen (width place whole : ℕ) : Type 0 where
   pub known : IsWidth width
   pub behind : width ≤ place
@@ -203,8 +203,8 @@ pub record TakesLen (width place whole : ℕ) : Type 0 where
 
 -- ---- No public clause cites what follows.
 
--- The header is appended, always where there is room for it; or the items stay as they are, and there still is less
--- room than that.
+-- The header is appended, always if there is room for it; or the items don't change, and there is still too little
+-- room.
 pub record AppendsHeader (header : Header) (old new : Vec ℕ Global) (result : Result (Unit {0}) NoRoom) : Type 0 where
   pub ok : OnOk result (new.items ≡ old.items ++ header_bytes header)
   pub len : OnOk result (vec_len new ≡ vec_len old + header_size header)

@@ -17,7 +17,7 @@ use quic_base::varint::IN_TWO;
 use quic_crypto::crypto::{HeaderKey, PacketKey};
 use quic_crypto::packet_number::PacketNumber;
 
-/// Where a header was written: what `finish` needs after the payload was appended.
+/// Where a header was written: what `finish` needs once the payload was appended.
 #[derive(Clone, Copy, Debug)]
 pub struct PartialEncode {
     /// Where the header begins in its buffer.
@@ -25,12 +25,12 @@ pub struct PartialEncode {
     /// How many bytes the header has.
     pub header_len: usize,
     /// How many bytes the packet number has, which ends the header, and whether the header has a length, which comes
-    /// before the number; `None` for Retry and version negotiation.
+    /// before the number. `None` for Retry and version negotiation.
     pub pn: Option<(usize, bool)>,
 }
 
-// How many bytes of room suffice for a short header, for a long one without a token, and for an Initial one whose token
-// has at most 32 bytes.
+// How many bytes of room are enough for a short header, for a long one without a token, and for an Initial one whose
+// token has at most 32 bytes.
 const SHORT_ROOM: usize = 32;
 
 const LONG_ROOM: usize = 64;
@@ -43,7 +43,7 @@ const LONG_FIRST: u8 = 0xc0;
 // The number of headers that have none.
 const NO_NUMBER: PacketNumber = PacketNumber::U8(0);
 
-// Whether a token is written without a call: if it has 16 to 32 bytes, or none.
+// Whether a token is written without a call: it has 16 to 32 bytes, or none.
 #[inline(always)]
 fn is_stored_by_stores(token: &[u8]) -> bool
     ensures { IsTrue result ↔ IsShortToken token.now }
@@ -52,7 +52,7 @@ fn is_stored_by_stores(token: &[u8]) -> bool
 }
 
 // Appends a header if there is spare room for the longest of its kind: zeros are appended, the header is written over
-// them, and the remaining ones are removed. Answers whether there was room.
+// them, and the remaining ones are removed. Returns whether there was room.
 #[inline(always)]
 fn put<const ROOM: usize>(head: HeaderRef<'_, Padded<'_>>, out: &mut Vec<u8>) -> bool
     requires storable { IsStorable padded_id head }
@@ -250,7 +250,7 @@ impl Header {
         }
     }
 
-    /// How many bytes `encode` appends. The caller must ensure what `encode` requires.
+    /// How many bytes `encode` appends, under the same conditions.
     pub fn encoded_len(&self) -> usize
         requires { IsWritable self.now }
         ensures value { result ≡ header_size self.now }
@@ -343,7 +343,8 @@ impl Header {
         self.put_with_room(out)
     }
 
-    // Appends a header that isn't short. It is not inlined, so that for a short one its caller makes one comparison.
+    // Appends a header that isn't short. It isn't inlined, so that its caller makes only one comparison for a short
+    // header.
     #[inline(never)]
     fn put_other(&self, out: &mut Vec<u8>) -> Result<(), NoRoom>
         requires { IsWritable self.now }
@@ -355,7 +356,7 @@ impl Header {
         }
     }
 
-    /// How many bytes the number takes, and whether the header has a length; `None` for Retry and version negotiation,
+    /// How many bytes the number has, and whether the header has a length. `None` for Retry and version negotiation,
     /// which have neither.
     #[inline]
     pub fn number_place(&self) -> Option<(usize, bool)>
@@ -370,7 +371,7 @@ impl Header {
         }
     }
 
-    /// How many bytes the number takes, at most 4: 0 if there is no number.
+    /// How many bytes the number has, at most 4; 0 if there is no number.
     pub fn number_size(&self) -> usize
         ensures value { result ≡ size_in self.now }
         ensures small { result ≤ 4 }
@@ -397,9 +398,9 @@ impl Header {
         }
     }
 
-    /// Appends the header, and answers where it begins and ends. The two bytes of its length, if it has one, are zeros,
-    /// which `PartialEncode::finish` fills in. Answers `NoRoom` only if the spare room of `out` is less than the header
-    /// and there is no memory for more: the bytes of `out` then don't change, and its spare room is still less. The
+    /// Appends the header, and returns where it is. The two bytes of its length, if it has one, are zeros, which
+    /// `PartialEncode::finish` fills in. Returns `NoRoom` only if the header is longer than the spare room of `out` and
+    /// an allocation for more fails. The bytes of `out` don't change then, and its spare room is still too little. The
     /// caller must ensure that the token has fewer than 2^62 bytes, and that a `U24` is below 2^24.
     #[inline]
     pub fn encode(&self, out: &mut Vec<u8>) -> Result<PartialEncode, NoRoom>
@@ -432,11 +433,11 @@ impl Header {
 }
 
 impl PartialEncode {
-    /// Finishes a packet, which is `buf`: fills in its length, if its header has one, seals its payload by the number
-    /// and key of `crypto`, if there is one, and protects the header by `header_key`. The payload's last bytes are room
-    /// for the tag. Retry and version negotiation don't change. The caller must ensure that the packet has its header
-    /// and the tag's room; from the number on, at least four bytes and the sample; and, if the header has a length,
-    /// fewer than 2^14 bytes from there on.
+    /// Finishes the packet `buf` (RFC 9001, sections 5.3 and 5.4). It fills in the length, if the header has one; seals
+    /// the payload with the packet number and the key of `crypto`, if given; and protects the header with `header_key`.
+    /// The payload's last bytes are room for the tag. Retry and version negotiation don't change. The caller must
+    /// ensure that the packet has its header and room for the tag; that it has at least four bytes and the sample from
+    /// the number on; and, if the header has a length, fewer than 2^14 bytes from there on.
     pub fn finish<H: HeaderKey, P: PacketKey>(
         self,
         buf: &mut [u8],
@@ -470,7 +471,7 @@ impl PartialEncode {
     }
 }
 
-// Writes the count of the bytes from a place on into the two bytes before that place.
+// Writes the count of the bytes from `pn_pos` on into the two bytes before it.
 #[tactic(auto, unfolding(quic_base::specs::Number::bytes_of))]
 fn write_length(buf: &mut [u8], pn_pos: usize)
     requires place { 2 ≤ pn_pos }

@@ -1,4 +1,4 @@
-//! The fields of a header, each written at a place: bytes, ids and packet numbers.
+//! The fields of a header, each written at an offset: bytes, ids and packet numbers.
 ghost use Rattle.std.specs.Prelude.{◌≡◌, ◌+◌, ◌≤◌, ◌++◌, length, take, drop};
 ghost use Rattle.quic_base.specs.Number.{bytes_of};
 ghost use Rattle.quic_crypto.specs.PacketNumbers.{number_bytes, number_size, IsInRange};
@@ -28,7 +28,7 @@ pub(crate) fn store_ends<const N: usize>(out: &mut [u8], at: usize, bytes: &[u8]
     store_array(out, at + (bytes.len() - N), last)
 }
 
-// Stores bytes at a place, and answers where they end.
+// Stores bytes from `at` on, and returns the offset at which they end.
 #[inline(always)]
 pub(crate) fn store_bytes(out: &mut [u8], at: usize, bytes: &[u8]) -> usize
     requires { at + length bytes.now ≤ length out.old }
@@ -42,8 +42,8 @@ pub(crate) fn store_bytes(out: &mut [u8], at: usize, bytes: &[u8]) -> usize
     end
 }
 
-// Stores an id of at most 20 bytes at a place, and answers where it ends. Those of 8 bytes, the usual ones, are written
-// by one store.
+// Stores an id of at most 20 bytes from `at` on, and returns the offset at which it ends. Ids of 8 bytes, the usual
+// length, are written by one store.
 #[inline(always)]
 pub(crate) fn store_id(out: &mut [u8], at: usize, id: &[u8]) -> usize
     requires few { length id.now ≤ 20 }
@@ -87,8 +87,8 @@ fn store_whole<const N: usize>(out: &mut [u8], at: usize, bytes: &[u8]) -> usize
     store_array(out, at, *all)
 }
 
-/// Stores the low `len` bytes of a number at a place, and answers where they end. The caller must ensure that these are
-/// 1 to 4, and that there is room.
+/// Stores the low `len` bytes of a number from `at` on, and returns the offset at which they end. The caller must
+/// ensure that `len` is 1 to 4, and that there is room.
 #[inline(always)]
 #[tactic(auto, unfolding(quic_base::specs::Number::bytes_of))]
 pub fn store_low(out: &mut [u8], at: usize, number: u64, len: usize) -> usize
@@ -112,8 +112,8 @@ pub fn store_low(out: &mut [u8], at: usize, number: u64, len: usize) -> usize
     }
 }
 
-/// Stores a truncated number, and answers where it ends. The caller must ensure that there is room,
-/// and that a `U24` is below 2^24.
+/// Stores a truncated packet number from `at` on, and returns the offset at which it ends. The caller must ensure that
+/// there is room, and that a `U24` is below 2^24.
 #[inline(always)]
 #[tactic(auto, using(crate::proofs::Stores::numbers), unfolding(quic_base::specs::Number::bytes_of))]
 pub fn store_number(out: &mut [u8], at: usize, number: PacketNumber) -> usize

@@ -15,15 +15,15 @@ pub struct InitialHeader {
     pub dst_cid: ConnectionId,
     /// The sender's id.
     pub src_cid: ConnectionId,
-    /// The token, below 2^62 bytes in a header that is written.
+    /// The token. A header that is written must have one of fewer than 2^62 bytes.
     pub token: Bytes,
-    /// The packet's number as it is written.
+    /// The truncated packet number.
     pub number: PacketNumber,
     /// The version of QUIC.
     pub version: u32,
 }
 
-/// The header of a packet, without protection. The length of an Initial, Handshake or 0-RTT packet is not a part of it:
+/// The header of a packet, without protection. The length of an Initial, Handshake or 0-RTT packet isn't a part of it:
 /// `PartialEncode::finish` fills it in.
 #[derive(Debug, Drop)]
 pub enum Header {
@@ -37,12 +37,12 @@ pub enum Header {
         dst_cid: ConnectionId,
         /// The sender's id.
         src_cid: ConnectionId,
-        /// The packet's number as it is written.
+        /// The truncated packet number.
         number: PacketNumber,
         /// The version of QUIC.
         version: u32,
     },
-    /// The header of a Retry packet (RFC 9000, section 17.2.5). What follows it is its token and tag.
+    /// The header of a Retry packet (RFC 9000, section 17.2.5). Its token and tag follow it.
     Retry {
         /// The receiver's id.
         dst_cid: ConnectionId,
@@ -53,16 +53,16 @@ pub enum Header {
     },
     /// The header of a 1-RTT packet (RFC 9000, section 17.3.1).
     Short {
-        /// The spin bit, for measuring round trips.
+        /// The spin bit (RFC 9000, section 17.4).
         spin: bool,
-        /// The key phase: the bit that changes with the keys.
+        /// The Key Phase bit (RFC 9001, section 6).
         key_phase: bool,
         /// The receiver's id.
         dst_cid: ConnectionId,
-        /// The packet's number as it is written.
+        /// The truncated packet number.
         number: PacketNumber,
     },
-    /// The header of a version negotiation (RFC 9000, section 17.2.1). What follows it are the versions.
+    /// The header of a version negotiation (RFC 9000, section 17.2.1). The versions follow it.
     VersionNegotiate {
         /// The first byte without its highest bit.
         random: u8,
@@ -74,7 +74,7 @@ pub enum Header {
 }
 
 impl Header {
-    /// Whether the packet is protected: all but Retry and version negotiation.
+    /// Whether the packet is protected: all are, except Retry and version negotiation.
     pub fn is_protected(&self) -> bool
         ensures { result ≡ has_number self.now }
     {
@@ -87,7 +87,7 @@ impl Header {
         }
     }
 
-    /// The truncated packet number: `None` for Retry and version negotiation.
+    /// The truncated packet number. `None` for Retry and version negotiation.
     pub fn number(&self) -> Option<PacketNumber>
         ensures { result ≡ number_in self.now }
     {
@@ -116,7 +116,7 @@ impl Header {
         }
     }
 
-    /// The key phase of a short header; false for the others.
+    /// The Key Phase bit of a short header; false for others.
     pub fn key_phase(&self) -> bool
         ensures { result ≡ phase_in self.now }
     {
@@ -160,7 +160,7 @@ impl Header {
         self.is_short()
     }
 
-    /// Whether it is a 0-RTT packet, of early data.
+    /// Whether it is a 0-RTT packet.
     pub fn is_0rtt(&self) -> bool
         ensures { IsTrue result ↔ IsEarly self.now }
     {

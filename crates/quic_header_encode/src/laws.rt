@@ -5,8 +5,8 @@ ghost use Rattle.quic_header_encode.specs.Writing.{has_length, header_bytes, hea
 
 use crate::header::Header;
 
-/// A header whose length is filled in after the payload was appended equals the header that is written with its length
-/// at once. The length counts the bytes of the number and of the payload.
+/// A header whose length is filled in after the payload was appended equals a header that is written with its length at
+/// once. The length counts the bytes of the number and of the payload.
 pub fn length_later()
     // By `PartialEncode::finish`.
     ensures finished { (h : Header) (body : List ℕ) → IsTrue (has_length h)

@@ -7,16 +7,16 @@ ghost use Rattle.quic_header_encode.specs.Types.{first_byte, long_type};
 /// The bit of a first byte that is set in long headers.
 pub const LONG_HEADER_FORM: u8 = 0x80;
 
-/// The bit of a first byte that is set in all headers, but for greased ones.
+/// The bit of a first byte that is set in all headers, except greased ones (RFC 9287).
 pub const FIXED_BIT: u8 = 0x40;
 
-/// The spin bit of a short header's first byte, for measuring round trips.
+/// The spin bit of a short header's first byte (RFC 9000, section 17.4).
 pub const SPIN_BIT: u8 = 0x20;
 
-/// Version 2 of QUIC.
+/// Version 2 of QUIC (RFC 9369, section 3.1).
 pub const VERSION_2: u32 = 0x6b33_43cf;
 
-// Each by its value.
+// The values of these constants.
 const _: () = prove!(LONG_HEADER_FORM == 128 && FIXED_BIT == 64 && SPIN_BIT == 32);
 
 const _: () = prove!(VERSION_2 == 1_798_521_807);
@@ -100,20 +100,20 @@ impl HeaderKind {
 /// Long headers of one form.
 #[derive(Clone, Copy, Debug, PartialEq, Eq)]
 pub enum LongType {
-    /// Of the handshake.
+    /// Of a Handshake packet (RFC 9000, section 17.2.4).
     Handshake,
-    /// Of early data.
+    /// Of a 0-RTT packet (RFC 9000, section 17.2.3).
     ZeroRtt,
 }
 
 /// The types of long headers.
 #[derive(Clone, Copy, Debug, PartialEq, Eq)]
 pub enum LongHeaderType {
-    /// With a token.
+    /// Initial, with a token (RFC 9000, section 17.2.2).
     Initial,
-    /// Without protection.
+    /// Retry, without protection (RFC 9000, section 17.2.5).
     Retry,
-    /// Without a token.
+    /// Handshake and 0-RTT, without a token.
     Standard(LongType),
 }
 
@@ -123,7 +123,7 @@ impl LongHeaderType {
     pub fn from_byte(first: u8, version: u32) -> Self
         ensures { result ≡ long_type version first }
     {
-        // Initial first, by a test of its own: servers see it most, and a table of four ways takes longer.
+        // Initial is compared first, since servers read it most often; a table of four cases takes longer.
         if version != VERSION_2 && first % 64 < 16 {
             return Self::Initial;
         }

@@ -1,5 +1,5 @@
-//! The one writer of headers: a header is written at the front of bytes, one field after another, by stores of whole
-//! arrays, whose ends the next field overwrites.
+//! The one writer of headers. It writes a header at the front of a slice, one field after another, by stores of whole
+//! arrays whose ends the next field overwrites.
 ghost use Rattle.std.specs.Prelude.{◌≡◌, ◌+◌, ◌*◌, ◌^◌, ◌<◌, ◌≤◌, ◌⊎◌, ◌∷◌, ◌++◌, List, ℕ, length, take, drop, replicate, true, ◌↔◌, IsTrue};
 ghost use Rattle.quic_base.specs.ConnectionId.{long_id};
 ghost use Rattle.quic_base.specs.Varint.{shortest_varint, size};
@@ -20,13 +20,13 @@ pub trait StoredId: Copy {
 
     ghost room: { Self → ℕ };
 
-    /// How many bytes it has.
+    /// How many bytes the id has.
     fn len(self) -> usize
         ensures value { result ≡ length (id self) }
         ensures near { result ≤ room self };
 
-    /// Stores it at a place, and answers where it ends. The caller must ensure that it has at most 20 bytes, and that
-    /// there is room for it, for 20 bytes where it is padded.
+    /// Stores the id from `at` on, and returns the offset at which it ends. The caller must ensure that it has at most
+    /// 20 bytes, and that there is room for it, or for 20 bytes if it is padded.
     fn store(self, out: &mut [u8], at: usize) -> usize
         requires few { length (id self) ≤ 20 }
         requires room { at + room self ≤ length out.old }
@@ -37,7 +37,7 @@ pub trait StoredId: Copy {
         ensures len { length out.new ≡ length out.old };
 }
 
-/// An id with room for 20 bytes where it is written: it is written with zeros up to 20 bytes.
+/// An id that is written with zeros up to 20 bytes. There must be room for these.
 #[derive(Clone, Copy)]
 pub struct Padded<'a>(pub &'a ConnectionId);
 
@@ -83,9 +83,9 @@ impl StoredId for Exact<'_> {
 pub struct HeaderRef<'a, I> {
     /// The kind.
     pub kind: HeaderKind,
-    /// The bits of the first byte other than the type and the number length. In long headers 0xc0, or 0x80 if the
-    /// fixed bit is clear (RFC 9287). In short ones likewise 0x40 or 0, and 0x20 for the spin bit and 0x04 for the key
-    /// phase. In a version negotiation the whole byte, with 0x80.
+    /// The bits of the first byte other than the type and the number length. In long headers: 0xc0, or 0x80 to clear
+    /// the fixed bit (RFC 9287). In short headers: 0x40, or 0 to clear the fixed bit, plus 0x20 for the spin bit and
+    /// 0x04 for the key phase. In a version negotiation: the whole byte, with 0x80 set.
     pub first: u8,
     /// The version of QUIC. Short headers and version negotiations have none.
     pub version: u32,
@@ -97,12 +97,12 @@ pub struct HeaderRef<'a, I> {
     pub token: &'a [u8],
     /// The truncated packet number. Retry and version negotiation have none.
     pub number: &'a PacketNumber,
-    /// How many bytes the length takes that Initial, Handshake and 0-RTT have: 1, 2, 4 or 8.
+    /// How many bytes the length field of Initial, Handshake and 0-RTT has: 1, 2, 4 or 8.
     pub length_len: usize,
 }
 
-/// Stores a short header up to its number at the front, and answers where the number begins. The caller must ensure
-/// that the id has at most 20 bytes, and that there is room for it.
+/// Stores a short header up to its number at the front, and returns the offset at which the number begins. The caller
+/// must ensure that the id has at most 20 bytes, and that there is room for it.
 #[inline(always)]
 pub fn store_short<I: StoredId>(out: &mut [u8], first: u8, dst_cid: I) -> usize
     requires few { length (I.id dst_cid) ≤ 20 }
@@ -132,8 +132,8 @@ fn store_long_id<I: StoredId>(out: &mut [u8], at: usize, id: I) -> usize
     id.store(out, at)
 }
 
-/// Stores the beginning of a long header, up to the end of the sender's id, at the front, and answers where it ends.
-/// The caller must ensure that each id has at most 20 bytes, and that there is room for it.
+/// Stores the beginning of a long header, up to the end of the sender's id, at the front, and returns the offset at
+/// which it ends. The caller must ensure that each id has at most 20 bytes, and that there is room for it.
 #[inline(always)]
 #[tactic(auto, unfolding(quic_base::specs::Number::bytes_of))]
 pub fn store_long_start<I: StoredId>(
@@ -159,8 +159,8 @@ pub fn store_long_start<I: StoredId>(
     store_long_id(out, at, src)
 }
 
-/// Stores a token after its length, and answers where it ends. The caller must ensure that there is room for it, that
-/// it has fewer than 2^62 bytes and, if SHORT is true, that it is empty or has 16 to 32.
+/// Stores a token after its length, and returns the offset at which it ends. The caller must ensure that there is room
+/// for it, that it has fewer than 2^62 bytes and, if SHORT is true, that it is empty or has 16 to 32.
 #[inline(always)]
 pub fn store_token<const SHORT: bool>(out: &mut [u8], at: usize, token: &[u8]) -> usize
     requires short { SHORT ≡ true → IsShortToken token.now }
@@ -198,7 +198,7 @@ fn store_short_token<const SHORT: bool>(out: &mut [u8], at: usize, token: &[u8])
     }
 }
 
-// Stores bytes, of which there are some: 16 to 32 by stores.
+// Stores bytes, at least one of them; 16 to 32 by stores.
 #[inline(always)]
 fn store_some<const SHORT: bool>(out: &mut [u8], at: usize, bytes: &[u8]) -> usize
     requires short { SHORT ≡ true → IsShortToken bytes.now }
@@ -231,8 +231,8 @@ fn store_long_token(out: &mut [u8], at: usize, token: &[u8]) -> usize
     store_bytes(out, at, token)
 }
 
-/// Stores as many zeros as a length takes, 1, 2, 4 or 8, and answers where they end. The caller must ensure that there
-/// is room.
+/// Stores the `len` zeros of a length that is filled in later, 1, 2, 4 or 8, and returns the offset at which they end.
+/// The caller must ensure that there is room.
 #[inline(always)]
 pub fn store_no_length(out: &mut [u8], at: usize, len: usize) -> usize
     requires known { IsWidth len }
@@ -277,7 +277,7 @@ impl<I: StoredId> HeaderRef<'_, I> {
         }
     }
 
-    /// How many bytes the header has. The caller must ensure that its token has fewer than 2^62.
+    /// How many bytes the header has. The caller must ensure that its token has fewer than 2^62 bytes.
     pub fn encoded_len(&self) -> usize
         requires { IsStorable I.id self.now }
         ensures { result ≡ stored_len I.id self.now }
@@ -300,7 +300,7 @@ impl<I: StoredId> HeaderRef<'_, I> {
         }
     }
 
-    /// Whether so many bytes have room for the header. Whether they have room for the longest ids is looked at first.
+    /// Whether `room` bytes have room for the header. Whether they have room for the longest ids is checked first.
     #[inline(always)]
     #[tactic(auto, using(crate::proofs::Sizes::stored_within))]
     pub fn fits(&self, room: usize) -> bool
@@ -348,9 +348,9 @@ impl<I: StoredId> HeaderRef<'_, I> {
         store_number(out, at, *self.number)
     }
 
-    /// Stores a header that isn't short at the front, and answers how many bytes it has. Its length, if it has one, is
-    /// 0, which `set_len` or `PartialEncode::finish` fill in. The caller must ensure that there is room for it and, if
-    /// SHORT_TOKEN is true, that the token is empty or has 16 to 32 bytes.
+    /// Stores a header that isn't short at the front, and returns how many bytes it has. Its length, if it has one, is
+    /// zeros, which `set_len` or `PartialEncode::finish` fill in. The caller must ensure that there is room for it and,
+    /// if SHORT_TOKEN is true, that the token is empty or has 16 to 32 bytes.
     #[inline(always)]
     pub fn store_long<const SHORT_TOKEN: bool>(&self, out: &mut [u8]) -> usize
         requires long { IsLong self.now.kind }
@@ -394,9 +394,9 @@ impl<I: StoredId> HeaderRef<'_, I> {
     }
 }
 
-/// Writes how many bytes a packet has from a place on, where its number begins, into the length before it, which has
-/// 1, 2, 4 or 8 bytes (RFC 9000, section 17.2). It returns false, and changes nothing, if the length is to have another
-/// size, if there is no such place, or if the count doesn't fit.
+/// Fills in the length of a packet (RFC 9000, section 17.2): the count of the bytes from `place` on, where the packet
+/// number begins, in the `length_len` bytes before it, which are 1, 2, 4 or 8. It returns false, and changes nothing,
+/// if `length_len` is another number, if the packet has no such offset, or if the count doesn't fit.
 #[tactic(auto, unfolding(quic_base::specs::Varint::size))]
 pub fn set_len(packet: &mut [u8], place: usize, length_len: usize) -> bool
     ensures set { IsTrue result → packet.new ≡ with_len length_len place packet.old }

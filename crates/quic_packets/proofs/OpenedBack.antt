@@ -55,7 +55,7 @@ use Rattle.quic_packets.proofs.SealedFound.{Found, sealed_found, read_numbered}
 use Rattle.quic_header_decode.proofs.CutAnswers.{cut_positive, cut_again, is_rest, is_uncut, uncut_again}
 use Rattle.quic_header_decode.specs.Datagram.{CutsFirst, IsUncut}
 
--- ---- records of the same parts
+-- ---- records with the same parts
 
 opened_same : (a b : OpenedPacket) → a.header ≡ b.header → a.header_bytes ≡ b.header_bytes → a.number ≡ b.number
     → a.payload ≡ b.payload → a ≡ b
@@ -123,7 +123,7 @@ abbrev pub sealed_cut : ProtectedHeader → PacketContents → List ℕ → CutP
 sealed_cut found contents packet =
     record { head = found; header_end = header_size contents.header - size_in contents.header; bytes = packet }
 
--- all that is known of what was sealed
+-- all that is known about what was sealed
 record Given (key : KeyPair) (options : DecodeOptions) (expected : ℕ) (contents : PacketContents) (packet rest : List ℕ) : Type 0 where
   laws : IsLawful key
   sealed : Sealed key contents packet
@@ -386,7 +386,7 @@ refused_first opening bytes e laws fits refuses = record {
   sealed = λ contents rest begins. first_refuses opening bytes contents rest (laws (space_in contents.header)) fits begins e refuses;
 }
 
--- ---- what a call answers
+-- ---- what a call returns
 
 -- no packet is cut
 pub answers_uncut : (opening : Opening) (bytes : Filled) {f : OpenError}

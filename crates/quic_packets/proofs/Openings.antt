@@ -1,4 +1,4 @@
--- What packets are opened with, of the keys of each space, a parser of ids, and what else a call is given.
+-- What packets are opened with: the keys of each space, a parser of ids, and the other arguments of a call.
 use Rattle.std.specs.Prelude.{ℕ, Bool, List}
 use Rattle.quic_crypto.specs.declared.crypto.HeaderKey as header_key
 use Rattle.quic_crypto.specs.declared.crypto.PacketKey as packet_key

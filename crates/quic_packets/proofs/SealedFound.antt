@@ -38,7 +38,7 @@ use Rattle.quic_header_encode.proofs.Sizes.{long_length}
 use Rattle.quic_packets.proofs.Parts.{length_encoded}
 use Rattle.quic_packets.proofs.Opened.{Lawful, Shape, shape, front_bytes, number_known, number_there}
 
--- what there is to know of a sealed packet before its payload is opened
+-- what is known about a sealed packet before its payload is opened
 pub record Found (seal : KeyPair) (key : KeyPair) (options : DecodeOptions) (h : Header) (n : ℕ)
     (payload packet rest : List ℕ) : Type 0 where
   pub cut : (found : ProtectedHeader) × Cut options (packet ++ rest) found (header_size h - size_in h) (length packet)
@@ -93,7 +93,7 @@ size_bounds (U16 x) = (omega arith, omega arith)
 size_bounds (U24 x) = (omega arith, omega arith)
 size_bounds (U32 x) = (omega arith, omega arith)
 
--- the tables of the types, and the place of a type in them
+-- the tables of the types, and the index of a type in them
 back_in : (second : Bool) (ty : LongHeaderType)
     → (place_of ty (cond {A = List LongHeaderType} second (kind.Retry ∷ kind.Initial ∷ kind.Standard ZeroRtt
     ∷ kind.Standard Handshake ∷ []) (kind.Initial ∷ kind.Standard ZeroRtt ∷ kind.Standard Handshake ∷ kind.Retry

@@ -1,4 +1,4 @@
--- Memory runs out, as a refusal of the packet that was cut.
+-- An allocation fails, as an error for the packet that was cut.
 use Rattle.std.specs.Prelude.{◌≡◌, MatchOption, Option, None, Some}
 use Rattle.std.proofs.Common.{refl}
 use Rattle.quic_base.specs.declared.ids.SpaceId.{SpaceId}

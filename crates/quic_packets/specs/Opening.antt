@@ -22,14 +22,14 @@ use Rattle.quic_packets.specs.declared.opening.Opened.{Opened}
 use Rattle.quic_packets.specs.Pairs.{KeyPair}
 use Rattle.quic_packets.specs.Sealing.{IsAppended, PacketContents, Sealed, sealed_header}
 
--- ---- what the caller gives, and what is returned
+-- ---- what the caller passes, and what is returned
 
 -- what packets are opened with
 pub record Opening : Type 0 where
   pub keys : SpaceId → KeyPair
   -- the parser of ids, the versions that are known, and whether the fixed bit may be clear
   pub options : DecodeOptions
-  -- the parser takes memory
+  -- the parser allocates
   pub takes_memory : Bool
   -- the number that is expected next in each space
   pub expected : SpaceId → ℕ
@@ -44,7 +44,7 @@ pub record AreExpected (expected : Expected) : Type 0 where
 pub record OpenedPacket : Type 0 where
   pub header : Header
   pub header_bytes : List ℕ
-  -- the whole number, where the packet has one
+  -- the whole number, if the packet has one
   pub number : Option ℕ
   pub payload : List ℕ
 
@@ -64,7 +64,7 @@ pub record UnlockedPacket : Type 0 where
   pub sealed_payload : List ℕ
   pub number : ℕ
 
--- a key removes the header protection, and the whole number is found from the one that is expected
+-- a key removes the header protection, and the whole number is derived from the expected one
 pub record Unlocks (key : KeyPair) (expected : ℕ) (cut : CutPacket) (packet : UnlockedPacket) : Type 0 where
   pub sample : HasSample key.sample_len cut.header_end cut.bytes
   pub whole : packet.header_bytes ++ packet.sealed_payload ≡ key.unprotected cut.header_end cut.bytes
@@ -97,7 +97,7 @@ abbrev pub OpensPacket : (SpaceId → KeyPair) → (SpaceId → ℕ) → CutPack
 OpensPacket keys expected cut opened = MatchOption (space_of cut.head) (OpensPlain cut opened)
     (λ space. OpensWithKey (keys space) (expected space) cut opened)
 
--- why a key does not open the packet: there is no sample, or it was not sealed by that key; memory may run out
+-- why a key doesn't open the packet: there is no sample, or it wasn't sealed with that key, or an allocation fails
 abbrev pub RefusesWithKey : KeyPair → ℕ → CutPacket → OpenError → Type 0
 RefusesWithKey key expected cut (error.Decode e) =
     (refusal_of e ≡ sample_refusal) × (HasSample key.sample_len cut.header_end cut.bytes → ⊥)
@@ -105,12 +105,12 @@ RefusesWithKey key expected cut error.Unsealed =
     (packet : UnlockedPacket) × Unlocks key expected cut packet × (payload_opened key packet ≡ None)
 RefusesWithKey key expected cut error.OutOfMemory = Unit {0}
 
--- why the packet is not opened: the key of its space does not open it, or memory ran out
+-- why the packet isn't opened: the key of its space doesn't open it, or an allocation failed
 abbrev pub RefusesPacket : (SpaceId → KeyPair) → (SpaceId → ℕ) → CutPacket → OpenError → Type 0
 RefusesPacket keys expected cut e = MatchOption (space_of cut.head) (e ≡ error.OutOfMemory)
     (λ space. RefusesWithKey (keys space) (expected space) cut e)
 
--- the same error as a cut's; out of memory is an error of its own
+-- the same error as a cut's; out of memory has its own value
 abbrev pub IsDecode : PacketDecodeError → OpenError → Type 0
 IsDecode e (error.Decode f) = (refusal_of f ≡ refusal_of e) × (refusal_of e ≢ NoMemory)
 IsDecode e error.Unsealed = ⊥
@@ -135,7 +135,7 @@ pub record IsCutUnopened (opening : Opening) (bytes : List ℕ) (e : OpenError) 
   pub first : CutsFirst opening.options bytes packet rest
   pub refused : RefusesPacket opening.keys opening.expected packet e
 
--- why the first packet is not opened: none is cut, or it is not opened
+-- why the first packet isn't opened: none is cut, or the one that is cut isn't opened
 abbrev pub Refuses : Opening → List ℕ → OpenError → Type 0
 Refuses opening bytes e = IsNoneCut opening bytes e ⊎ ((rest : List ℕ) × IsCutUnopened opening bytes e rest)
 
@@ -175,8 +175,8 @@ IsReadBack options (header.Short spin key_phase dst number) rest =
     (rest ≡ []) × ((tail : List ℕ) → options.parsed (dst ++ tail) ≡ Ok (dst, length dst))
 IsReadBack options (header.VersionNegotiate random src dst) rest = ⊥
 
--- The bytes begin with a packet that was sealed by the keys of its space, whose header is read back, and whose number
--- is found from the one that is expected; rest follows it.
+-- The bytes begin with a packet that was sealed with the keys of its space, whose header is read back, and whose number
+-- is derived from the expected one; rest follows it.
 pub record BeginsSealed (opening : Opening) (bytes : List ℕ) (contents : PacketContents) (rest : List ℕ) : Type 0 where
   pub packet : List ℕ
   pub sealed : Sealed (opening.keys (space_in contents.header)) contents packet
@@ -184,7 +184,7 @@ pub record BeginsSealed (opening : Opening) (bytes : List ℕ) (contents : Packe
   pub number : ExpandsIn contents.header (opening.expected (space_in contents.header)) contents.number
   pub text : bytes ≡ packet ++ rest
 
--- the packet that comes back of sealed contents
+-- the packet that is returned for sealed contents
 abbrev pub returned : KeyPair → PacketContents → OpenedPacket
 returned keys contents = record {
   header = contents.header;
@@ -219,7 +219,7 @@ abbrev pub ReturnsFront : Opening → List PacketContents → List Opened → Li
 ReturnsFront opening packets old new = (front back : List PacketContents) × (packets ≡ front ++ back)
     × IsAppended (AreReturned opening front) old new
 
--- ---- what the calls answer
+-- ---- what the calls return
 
 -- a call that opens the first packet
 pub record PacketAnswer (opening : Opening) (bytes : List ℕ)
@@ -243,7 +243,7 @@ abbrev pub left_size : Option Filled → ℕ
 left_size None = 0
 left_size (Some left) = 1 + length left.items
 
--- a call that opens all packets, and appends them; if one is refused, it has appended those before it
+-- a call that opens all packets, and appends them; if one can't be opened, those before it have been appended
 pub record DatagramAnswer {X : Type 0} (opening : Opening) (bytes : List ℕ) (result : Result X OpenError)
     (old new : List Opened) : Type 0 where
   pub opened : IfOk result (λ _. IsAppended (λ added. OpensRow opening bytes (map packet_of added) None) old new)

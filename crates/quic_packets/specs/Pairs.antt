@@ -10,7 +10,7 @@ use Rattle.quic_packets.specs.declared.keys.SpaceKeys.{SpaceKeys}
 use Rattle.quic_packets.specs.declared.keys.Expected.{Expected}
 
 -- What a header key and a packet key do (RFC 9001, sections 5.3 and 5.4): how many bytes are sampled; how many bytes
--- longer a sealed payload is; a packet, whose number begins at a place, with its header protected, and with that
+-- longer a sealed payload is; a packet, whose number begins at an offset, with its header protected, and with that
 -- protection removed; the sealed payload for a number, a header and a payload; and the payload for a number, a header
 -- and a sealed payload, if they belong together.
 pub record KeyPair : Type 0 where

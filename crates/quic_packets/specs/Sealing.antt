@@ -38,9 +38,9 @@ plain_packet keys packet =
     sealed_header keys.tag_size packet.header packet.payload
     ++ keys.sealed packet.number (sealed_header keys.tag_size packet.header packet.payload) packet.payload
 
--- The bytes are a packet of these contents, sealed by these keys: the header can be written, and its number is the low
--- part of the packet's, which is below 2^62; from the number on there are at least four bytes and the sample, and fewer
--- than 2^14 if the header has a length; the bytes are the header with its length, then protected, and the sealed
+-- The bytes are a packet with these contents, sealed with these keys: the header can be written, and its number is the
+-- low part of the packet's, which is below 2^62; from the number on there are at least four bytes and the sample, and
+-- fewer than 2^14 if the header has a length; the bytes are the header with its length, then protected, and the sealed
 -- payload.
 pub record Sealed (keys : KeyPair) (packet : PacketContents) (bytes : List ℕ) : Type 0 where
   pub writable : IsWritable packet.header
@@ -52,7 +52,7 @@ pub record Sealed (keys : KeyPair) (packet : PacketContents) (bytes : List ℕ) 
   pub payload_bytes : AreBytes packet.payload
   pub text : bytes ≡ keys.protected (header_size packet.header - size_in packet.header) (plain_packet keys packet)
 
--- Why a packet is not sealed with so much spare room: the first of these that holds, in this order. From the number on
+-- Why a packet isn't sealed with that much spare room: the first of these that holds, in this order. From the number on
 -- there are fewer than four bytes and the sample; there are 2^14 or more, and the header has a length; the spare room
 -- is less than the packet needs.
 abbrev pub SealRefused : KeyPair → Header → List ℕ → ℕ → SealError → Type 0
@@ -73,7 +73,7 @@ IsAppended {X} IsSuch old new = (added : List X) × IsSuch added × (new ≡ old
 abbrev pub payload_of : List Frame → List ℕ
 payload_of frames = shortest_frames (map meaning_of frames)
 
--- the bytes are a packet of this header, number and frames, sealed by these keys
+-- the bytes are a packet with this header, number and frames, sealed with these keys
 pub record SealedFrames (keys : KeyPair) (h : Header) (n : ℕ) (frames : List Frame) (bytes : List ℕ) : Type 0 where
   pub payload : List ℕ
   pub is_payload : IsPayload frames payload

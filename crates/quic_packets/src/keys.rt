@@ -16,16 +16,16 @@ pub struct Keys<H, P> {
 /// The keys of each space. 0-RTT packets use those of `app`.
 #[derive(Drop)]
 pub struct SpaceKeys<H, P> {
-    /// Of Initial packets.
+    /// For Initial packets.
     pub initial: Keys<H, P>,
-    /// Of Handshake packets.
+    /// For Handshake packets.
     pub handshake: Keys<H, P>,
-    /// Of 0-RTT and short packets.
+    /// For 0-RTT and 1-RTT packets.
     pub app: Keys<H, P>,
 }
 
 impl<H, P> SpaceKeys<H, P> {
-    /// The keys of a space. 0-RTT packets are of the space `Data`, as short ones are, so both use the keys `app`.
+    /// The keys of a space. 0-RTT packets are in the space `Data`, like 1-RTT packets, so both use the keys `app`.
     pub fn of(&self, space: SpaceId) -> &Keys<H, P>
         ensures { result.now ≡ keys_in self.now space }
     {
@@ -37,19 +37,19 @@ impl<H, P> SpaceKeys<H, P> {
     }
 }
 
-/// The number that is expected next in each space. 0-RTT packets use that of `app`.
+/// The packet number that is expected next in each space, below 2^62. 0-RTT packets use that of `app`.
 #[derive(Clone, Copy, Debug, PartialEq, Eq)]
 pub struct Expected {
-    /// Of Initial packets.
+    /// For Initial packets.
     pub initial: u64,
-    /// Of Handshake packets.
+    /// For Handshake packets.
     pub handshake: u64,
-    /// Of 0-RTT and short packets.
+    /// For 0-RTT and 1-RTT packets.
     pub app: u64,
 }
 
 impl Expected {
-    /// The number that is expected next in a space.
+    /// The packet number that is expected next in a space.
     pub fn of(&self, space: SpaceId) -> u64
         ensures { result ≡ expected_in self.now space }
     {

@@ -1,4 +1,4 @@
-//! Laws about sealed packets that no single call's contract gives. The functions do nothing.
+//! Laws about sealed packets, which no single call states. The functions do nothing at run time.
 ghost use Rattle.std.specs.Prelude.{◌≡◌, List, Some, ℕ};
 ghost use Rattle.quic_crypto.specs.PacketNumbers.{Expands, low_part, window_of};
 ghost use Rattle.quic_frames.specs.Written.{IsPayload};
@@ -13,8 +13,8 @@ use quic_crypto::packet_number::PacketNumber;
 use quic_frames::frame::Frame;
 pub use quic_header_decode::laws::{ends, one_answer, one_row_of_packets};
 
-/// The same keys, header, number and payload give one packet; frames have one shortest payload; and a truncated number
-/// stands for one whole number, given the number that is expected.
+/// The same keys, header, number and payload make one packet; frames have one shortest payload; and a truncated number
+/// means one whole number, for a given expected number.
 pub fn one_packet()
     ensures packet { (keys : KeyPair) (contents : PacketContents) (one other : List ℕ)
         → Sealed keys contents one → Sealed keys contents other → one ≡ other }
@@ -26,8 +26,8 @@ pub fn one_packet()
         → Expands (low_part number) (window_of number) expected other → one ≡ other }
 {}
 
-/// A packet that was sealed by lawful keys can be opened by them, whatever bytes follow it: it is cut where it ends,
-/// its number's space is that of its header, and it gives its header, its number and its payload.
+/// A packet that was sealed with lawful keys can be opened with them, whatever bytes follow it. It is cut where it
+/// ends, its number's space is that of its header, and its header, number and payload are returned.
 pub fn sealed_opens()
     ensures opens { (opening : Opening) (bytes : List ℕ) (contents : PacketContents) (rest : List ℕ)
         → IsLawful (opening.keys (space_in contents.header)) → BeginsSealed opening bytes contents rest

@@ -16,18 +16,19 @@ use quic_header_decode::parser::{ConnectionIdParser, DecodeOptions};
 use quic_header_encode::header::Header;
 use thiserror::Error;
 
-/// Why a packet is not opened. `Packets` keeps what follows a packet that was cut, since an endpoint has to process it
-/// (RFC 9000, section 12.2); `open_packet` and `open_datagram` drop it.
+/// Why a packet isn't opened. After an error, `Packets` still has the bytes after a packet that was cut, since an
+/// endpoint has to process them (RFC 9000, section 12.2); `open_packet` and `open_datagram` drop them.
 #[derive(Clone, Copy, Debug, PartialEq, Eq, Drop, Error)]
 pub enum OpenError {
     /// No packet can be cut from the datagram, or the packet is too short for a sample. It never holds
     /// `PacketDecodeError::OutOfMemory`.
     #[error("{0}")]
     Decode(PacketDecodeError),
-    /// The packet was not sealed by the keys of its space, or not with the number that was found from the expected one.
+    /// The packet wasn't sealed with the keys of its space, or not with the packet number that follows from the
+    /// expected one.
     #[error("packet not sealed by these keys")]
     Unsealed,
-    /// Memory ran out.
+    /// An allocation failed.
     #[error("out of memory")]
     OutOfMemory,
 }
@@ -39,9 +40,9 @@ pub struct Opened {
     pub header: Header,
     /// The header's bytes, unprotected and with the length filled in. They include the packet number.
     pub header_data: Bytes,
-    /// The whole packet number; `None` for Retry and version negotiation.
+    /// The whole packet number. `None` for Retry and version negotiation.
     pub number: Option<u64>,
-    /// The payload; for Retry and version negotiation what follows the header.
+    /// The payload. For Retry and version negotiation, what follows the header.
     pub payload: BytesMut,
 }
 
@@ -118,7 +119,7 @@ fn open_plain(partial: PartialDecode) -> Result<Opened, OpenError>
     })
 }
 
-// Opens a packet by the keys of its space, or returns it unchanged if it has no protection.
+// Opens a packet with the keys of its space, or returns it unchanged if it has no protection.
 fn open_part<H: HeaderKey, P: PacketKey>(
     partial: PartialDecode,
     keys: &SpaceKeys<H, P>,
@@ -136,8 +137,8 @@ fn open_part<H: HeaderKey, P: PacketKey>(
     }
 }
 
-// Cuts a datagram's first packet and opens it, and returns what comes of it with what is left. Without `room` for the
-// opened packet, none is opened.
+// Cuts a datagram's first packet and opens it, and returns the outcome with what is left. Without `room` for the opened
+// packet, none is opened.
 fn open_first<C: ConnectionIdParser, H: HeaderKey, P: PacketKey>(
     bytes: BytesMut,
     options: &DecodeOptions<'_, C>,
@@ -164,17 +165,17 @@ fn open_first<C: ConnectionIdParser, H: HeaderKey, P: PacketKey>(
 }
 
 /// Opens a datagram's first packet with the keys and the expected number of its space, and returns it with what follows
-/// it. Ids of short headers are read by `parser`; headers of versions other than `versions` are refused; with `grease`
-/// the fixed bit may be clear. A Retry or version negotiation is returned unchanged, without a number.
+/// it. `parser` reads the ids of short headers. Headers of versions other than `versions` are rejected. With `grease`
+/// the fixed bit may be clear (RFC 9287). A Retry or version negotiation is returned unchanged, without a number.
 ///
-/// An error drops what follows. An endpoint has to process it (RFC 9000, section 12.2), so it calls
+/// An error drops what follows the packet. An endpoint has to process that (RFC 9000, section 12.2), so it calls
 /// `Packets::open_next`.
 ///
-/// Errors: `Decode` only if `PartialDecode::new` or `PartialDecode::finish` refuses the packet; `Unsealed` only if the
-/// packet key answers `CryptoError`. Once a packet was cut, any call may answer `OutOfMemory` instead; before that,
-/// only if the parser takes memory. A packet that was sealed by these keys, with a number that is found from the
-/// expected one, is opened to the same header, number and payload, unless memory runs out. The caller must give
-/// expected numbers below 2^62.
+/// Errors: `Decode` only if `PartialDecode::new` or `PartialDecode::finish` rejects the packet; `Unsealed` only if the
+/// packet key returns `CryptoError`. Once a packet was cut, any call may return `OutOfMemory` instead; before that,
+/// only if the parser allocates. A packet that was sealed with these keys, and whose packet number follows from the
+/// expected one, is opened to the same header, number and payload, unless an allocation fails. The caller must ensure
+/// that expected numbers are below 2^62.
 pub fn open_packet<C: ConnectionIdParser, H: HeaderKey, P: PacketKey>(
     bytes: BytesMut,
     parser: &C,
@@ -216,10 +217,10 @@ impl Packets {
         }
     }
 
-    /// Opens the next packet as `open_packet` does, and moves past it. Answers `None` once nothing is left. Each call
-    /// may have other keys and other expected numbers. A packet that was cut but not opened is passed over, and the
-    /// next call goes on after it (RFC 9000, section 12.2); if none can be cut, the rest is given up. The caller must
-    /// give expected numbers below 2^62.
+    /// Opens the next packet as `open_packet` does, and moves past it. Returns `None` once nothing is left. Each call
+    /// may have other keys and other expected numbers. A packet that was cut but not opened is skipped, and the next
+    /// call goes on after it (RFC 9000, section 12.2). If none can be cut, the rest is dropped. The caller must ensure
+    /// that expected numbers are below 2^62.
     pub fn open_next<C: ConnectionIdParser, H: HeaderKey, P: PacketKey>(
         &mut self,
         options: &DecodeOptions<'_, C>,
@@ -240,8 +241,8 @@ impl Packets {
 
 /// Opens a datagram's packets one after another, with the same expected numbers for all of them, and appends them to
 /// `out`. There is room in `out` for a packet before it is opened, so after an error `out` has every packet opened so
-/// far. If the packets in a row were sealed by these keys, all of them are opened, in order, or, if memory runs out,
-/// the first ones. The caller must give expected numbers below 2^62.
+/// far. If all packets were sealed with these keys, all are opened, in order; or only the first ones, if an allocation
+/// fails. The caller must ensure that expected numbers are below 2^62.
 ///
 /// The first error drops what is left. An endpoint has to process it (RFC 9000, section 12.2), so it calls
 /// `Packets::open_next`.

@@ -1,4 +1,4 @@
-//! Headers of packets, the cutting of datagrams into packets, and packets sealed and opened.
+//! Packet headers, cutting datagrams into packets, and sealing and opening packets.
 
 pub use crate::keys::{Expected, Keys, SpaceKeys};
 pub use crate::opening::{OpenError, Opened, Packets, open_datagram, open_packet};

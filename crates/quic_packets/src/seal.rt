@@ -14,21 +14,22 @@ use quic_header_encode::encode::PartialEncode;
 use quic_header_encode::header::Header;
 use thiserror::Error;
 
-/// Why a packet is not sealed. If several of these hold, the first of them is reported.
+/// Why a packet isn't sealed. If several of these hold, the first is reported.
 #[derive(Clone, Copy, Debug, PartialEq, Eq, Error)]
 pub enum SealError {
-    /// The number, the payload and the tag have together fewer than four bytes and the sample: PADDING helps.
+    /// The number, the payload and the tag together have fewer than four bytes and the sample. Add PADDING (RFC 9001,
+    /// section 5.4.2).
     #[error("packet too short for header protection sample")]
     TooShort,
-    /// The header has a length, and the number, the payload and the tag have together 2^14 bytes or more.
+    /// The header has a length, and the number, the payload and the tag together have 2^14 bytes or more.
     #[error("packet too long for its length field")]
     TooLong,
-    /// The buffer's spare room is less than the packet needs, and there is no memory for more.
+    /// The buffer's spare room is less than the packet needs, and an allocation for more failed.
     #[error("no room in buffer")]
     NoRoom,
 }
 
-// Why a packet of these lengths is not sealed. `payload` is its length, or 2^128 - 1 if that is greater.
+// Why a packet of these lengths isn't sealed. `payload` is its length, or 2^128 - 1 if that is greater.
 fn refused(
     number: usize,
     has_len: bool,
@@ -120,14 +121,14 @@ fn sum(a: usize, payload: u128, c: usize) -> Option<usize>
     a.checked_add(payload)?.checked_add(c)
 }
 
-/// Appends a packet of this header, number and frames, sealed by the keys, and answers how many bytes it has. The
-/// frames are written by `Frame::encode`, the last one as the last of its payload, so in their shortest forms. `out`
-/// grows at most once, after the lengths are known.
+/// Appends a packet with this header, number and frames, sealed with the keys, and returns how many bytes it has (RFC
+/// 9001, sections 5.3 and 5.4). The frames are written by `Frame::encode` in their shortest form, the last one as the
+/// last of its payload. `out` grows at most once, after the lengths are known.
 ///
-/// Of the errors that hold the first is reported, and each leaves `out` as it was; `NoRoom` comes only if the spare
-/// room is less than what would be written. The caller must give a header that `Header::encode` can write and whose
-/// number is the low part of `number`, a `number` below 2^62, and one or more frames that `Frame::encode` can write at
-/// their places.
+/// The first error that holds is reported, and `out` doesn't change then. `NoRoom` comes only if the spare room is less
+/// than what would be written. The caller must ensure that `Header::encode` can write the header, that its number is
+/// the low part of `number`, that `number` is below 2^62, and that there are one or more frames, which `Frame::encode`
+/// can write.
 pub fn seal_packet<H: HeaderKey, P: PacketKey>(
     header: &Header,
     number: u64,
@@ -145,7 +146,7 @@ pub fn seal_packet<H: HeaderKey, P: PacketKey>(
     ensures len { IfOk result
         (λ len. len ≡ header_size header.now + length (payload_of frames.now) + P.tag_size keys.now.packet) }
     ensures unchanged { OnErr result (out.new.items ≡ out.old.items) }
-    // If the lengths are refused `out` doesn't grow, and if growing fails its capacity stays.
+    // If the lengths are rejected, `out` doesn't grow; if growing fails, its capacity stays.
     ensures untouched { IfErr result (λ e. e ≢ SealError.NoRoom → out.new ≡ out.old) }
     ensures capacity { OnErr result (vec_capacity out.new ≡ vec_capacity out.old) }
     ensures refused { IfErr result (SealRefused (⟦<Keys<H, P> as PairOfKeys>⟧.pair keys.now)

@@ -1,4 +1,4 @@
--- By what reading answers.
+-- By what reading returns.
 use Rattle.std.proofs.Common.{sym, ◌∙◌}
 use Rattle.quic_header_decode.proofs.CutAnswers.{header_sole, cut_sole, header_answer, cut_answer}
 use Rattle.quic_header_decode.proofs.laws.one_answer.Goals as goal

@@ -1,4 +1,4 @@
--- The length is written over the bytes before the place.
+-- The length is written over the bytes before the packet number.
 use Rattle.std.proofs.Common.{ℕ, ◌-◌, List, [], ◌∷◌, ◌++◌, length, take, refl, sym, ap, ◌∙◌, arith}
 use Rattle.quic_base.specs.Number.{bytes_of}
 use Rattle.quic_header_encode.specs.Writing.{with_len}

@@ -1,4 +1,4 @@
--- One packet after another is opened, each where there is room for it.
+-- One packet after another is opened, each once there is room for it.
 use Rattle.std.proofs.Common.{rules, ◌≡◌, ◌++◌, [], ◌∷◌, None, Some}
 use Rattle.quic_packets.proofs.Nexts.{reached_first, reached_step, reached_less, reached_all, reached_refused}
 use Rattle.quic_packets.proofs.opening.open_datagram.Goals as goal

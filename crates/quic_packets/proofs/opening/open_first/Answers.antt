@@ -1,4 +1,4 @@
--- What is opened of the first packet, and why it is not; what was sealed by the keys comes back, by their laws.
+-- The first packet as it is opened, or why it isn't. What was sealed with the keys is returned, by their laws.
 use Rattle.std.proofs.Common.{subst, ℕ, Bool, List, Err}
 use Rattle.quic_base.specs.Number.{AreBytes}
 use Rattle.quic_base.specs.declared.ids.SpaceId.{SpaceId}

@@ -1,4 +1,4 @@
--- The reading answers what the grammar says.
+-- The reading returns what the grammar says.
 use Rattle.std.proofs.Common.{◌≡◌, ◌≤◌, length, subst}
 use Rattle.quic_base.specs.Number.{AreBytes}
 use Rattle.quic_header_decode.specs.Refusal.{NoMemory}

@@ -1,4 +1,4 @@
--- The reading answers what the grammar says.
+-- The reading returns what the grammar says.
 use Rattle.std.proofs.Common.{◌≡◌, ◌≤◌, length, arith}
 use Rattle.quic_header_decode.specs.Refusal.{NoMemory}
 use Rattle.quic_header_decode.proofs.Steps.{match_ok}

@@ -1,4 +1,4 @@
--- The bytes that were made for the header are as many as it has.
+-- The bytes that were appended for the header are as many as it has.
 use Rattle.std.proofs.Common.{◌≤◌, ◌-◌, length, take, drop, arith, rules}
 use Rattle.quic_header_encode.proofs.Sizes.{exact_room}
 use Rattle.quic_header_encode.proofs.header.Header.put_with_room.Goals as goal

@@ -1,4 +1,4 @@
--- A walk over a payload that sums up how many bytes its frames take in their shortest encodings.
+-- A walk over a payload that sums up how many bytes its frames have in their shortest encodings.
 use Rattle.std.proofs.Common.{◌≡◌, ◌≢◌, ℕ, zero, suc, ◌+◌, ◌≤◌, eqb, false, List, [], ◌∷◌, ◌++◌, length, map, drop, None, Err, refl, sym, ap, ◌∙◌, subst, inl, inr, arith}
 use Rattle.std.proofs.lemmas.List.{length-append}
 use Rattle.quic_frames.specs.declared.frame.Frame.{Frame}
@@ -16,7 +16,7 @@ use Rattle.quic_canon.proofs.Steps.{BeginsNone, OneShortest, Walks, walk_on, nex
 use Rattle.quic_c_canon.specs.Answers.{IsReportedOf, HasLength}
 use Rattle.quic_c_canon.proofs.PaddingBytes.{EachPads, padding_is}
 
--- So many bytes are those of the frames so far, and the others are still to come.
+-- The frames so far have total bytes, and the others are still to come.
 pub record Sums (payload : List ℕ) (total start : ℕ) (state : IterState) (found : List TypedFrame) : Type 0 where
   pub rest : List TypedFrame
   pub left_are : map unplaced (left state) ≡ map given rest

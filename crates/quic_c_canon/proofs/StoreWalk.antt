@@ -130,7 +130,7 @@ store_on payload old new out at end stop state next frame begins w f there ends 
           };
     }
 
--- bytes of 0 over those that were at a place
+-- bytes of 0 over those that were at an offset
 abbrev padded : List ℕ → ℕ → ℕ → List ℕ
 padded bytes at k = take at bytes ++ (replicate k 0 ++ drop (at + k) bytes)
 

@@ -1,4 +1,4 @@
--- What the call answers that writes the shortest payload of a meaning.
+-- What the call returns that writes the shortest payload of a meaning.
 use Rattle.std.specs.Prelude.{◌≡◌, ◌≢◌, ℕ, ℤ, ◌-◌, ◌<◌, ◌^◌, List, [], ◌++◌, length, map, drop, Option, None, Some, false}
 use Rattle.quic_frame_fields.specs.declared.frame.fault.Fault.{Fault}
 use Rattle.quic_frame_fields.specs.Payload.{TypedFrame, AreFrames, IsBroken}
@@ -8,7 +8,7 @@ use Rattle.quic_canon.specs.Least.{IsLeast}
 use Rattle.quic_c_canon.specs.declared.words.CCanonical.{CCanonical}
 use Rattle.quic_results.specs.Results.{failed, frame_failure}
 
--- the word of a type
+-- the number of a type, as C sees it
 abbrev pub type_word : Option ℕ → ℕ
 type_word None = 2 ^ 64 - 1
 type_word (Some n) = n
@@ -28,7 +28,7 @@ pub record LeastNeedsMore (payload before : List ℕ) (old new : CCanonical) : T
   pub full : length before < length least
   pub words : new ≡ record old { len = length least }
 
--- Frames and then an invalid one: the type and the reason that reading gives for it.
+-- Frames and then an invalid one: the type and the reason that reading reports for it.
 pub record IsReportedOf (payload : List ℕ) (reported : Invalid) : Type 0 where
   pub found : List TypedFrame
   pub type : Option ℕ
@@ -36,14 +36,14 @@ pub record IsReportedOf (payload : List ℕ) (reported : Invalid) : Type 0 where
   pub broken : IsBroken false None found payload type reason
   pub reported_is : reported ≡ invalid type reason
 
--- Something in the payload is no frame, and that is returned, with the type.
+-- Something in the payload isn't a frame, and that is returned, with the type.
 pub record ReportsInvalidPayload (payload : List ℕ) (old : CCanonical) (result : ℤ) (new : CCanonical) : Type 0 where
   pub reported : Invalid
   pub of_it : IsReportedOf payload reported
   pub reason : result ≡ failed (frame_failure reported.reason)
   pub words : new ≡ record old { last_type = type_word reported.type }
 
--- The payload has frames and nothing else, which take so many bytes in their shortest encodings.
+-- The payload has frames and nothing else, and their shortest encodings have n bytes.
 pub record HasLength (payload : List ℕ) (n : ℕ) : Type 0 where
   pub some : payload ≢ []
   pub found : List TypedFrame

@@ -15,7 +15,7 @@ use quic_frames::frame::{Frame, FrameType, InvalidFrame, Iter};
 use quic_frames::laws::{least_encoding, one_reading, read_back};
 use quic_results::results::{Failure, frame_failure};
 
-// The number for a type.
+// The number for a type, `u64::MAX` for none.
 fn type_word(ty: Option<FrameType>) -> u64
     ensures { result ≡ type_word ty }
 {
@@ -25,7 +25,7 @@ fn type_word(ty: Option<FrameType>) -> u64
     }
 }
 
-// How many bytes a frame takes in its shortest encoding, which are no more than it takes now.
+// How many bytes a frame has in its shortest encoding: at most as many as it has now.
 #[inline(always)]
 fn frame_len(frame: &Frame<'_>, last: bool, len: usize) -> usize
     requires stands { CanStand last frame.now }
@@ -35,7 +35,7 @@ fn frame_len(frame: &Frame<'_>, last: bool, len: usize) -> usize
     frame.encoded_len(last) as usize
 }
 
-// The frames of a payload, as `Iter::new` gives them. The error of `Iter::new` owns a text: code that may drop one
+// The frames of a payload, as `Iter::new` returns them. The error of `Iter::new` owns a text: code that may drop one
 // calls the allocator, and WebAssembly has none.
 fn begin(payload: &[u8]) -> Result<Iter<'_>, ()>
     ensures empty { IsErr result ↔ (payload.now ≡ []) }
@@ -50,7 +50,7 @@ fn begin(payload: &[u8]) -> Result<Iter<'_>, ()>
     Ok(iter)
 }
 
-// Reads all of a payload, and counts how many bytes its frames take in their shortest encodings.
+// Reads all of a payload, and counts how many bytes its frames have in their shortest encodings.
 fn shortest_len(payload: &[u8]) -> Result<usize, InvalidFrame>
     requires { payload.now ≢ [] }
     ensures ok { IfOk result (λ n. HasLength payload.now n) }
@@ -73,7 +73,7 @@ fn shortest_len(payload: &[u8]) -> Result<usize, InvalidFrame>
         let is_last = stop == payload.len();
         let len = frame_len(&frame, is_last, stop - start);
         total += len;
-        // After a frame of one byte, as PADDING is, all PADDING that follows is skipped at once.
+        // After a frame of one byte, such as PADDING, all PADDING that follows is skipped at once.
         if stop - start == 1 {
             let count = iter.pass_padding();
             total += count;
@@ -83,7 +83,7 @@ fn shortest_len(payload: &[u8]) -> Result<usize, InvalidFrame>
     Ok(total)
 }
 
-// Stores a frame in its shortest encoding at a place, and answers where it ends.
+// Stores a frame in its shortest encoding from `at` on, and returns the offset at which it ends.
 #[inline(always)]
 fn put(frame: &Frame<'_>, last: bool, dest: &mut [u8], at: usize) -> usize
     requires stands { CanStand last frame.now }
@@ -98,7 +98,7 @@ fn put(frame: &Frame<'_>, last: bool, dest: &mut [u8], at: usize) -> usize
     }
 }
 
-// Stores so many bytes of 0 at a place, and answers where they end.
+// Stores `count` bytes of 0 from `at` on, and returns the offset at which they end.
 fn pad(count: usize, dest: &mut [u8], at: usize) -> usize
     requires { at + count ≤ length dest.old }
     ensures end { result ≡ at + count }
@@ -137,8 +137,8 @@ fn store(payload: &[u8], dest: &mut [u8])
     }
 }
 
-// Writes the shortest form of a payload, which has so many bytes, for which there is room, at the front. One that has
-// as many bytes is its own shortest form, and is copied at once.
+// Writes the shortest form of a payload, which has `len` bytes, for which there is room, at the front. A payload of
+// that length is its own shortest form, and is copied at once.
 fn write(payload: &[u8], len: usize, dest: &mut [u8])
     requires known { HasLength payload.now len }
     requires room { len ≤ length dest.old }
@@ -155,12 +155,11 @@ fn write(payload: &[u8], len: usize, dest: &mut [u8])
     }
 }
 
-/// Writes the one shortest payload with the meaning of the payload at the front of `dest`: equal frames in equal order,
-/// each in its shortest form, where the last frame of a payload needs no length (RFC 9000, sections 12.4 and 19). It
-/// returns 0 with its length, and the bytes after it don't change; `NoRoom` with the length if `dest` has less room;
-/// `PayloadEmpty` exactly if the payload is empty; `FrameEnd`, `FrameType` or `FrameMalformed` if it has an invalid
-/// frame, with the last type that was read. `dest` changes only with 0, and `out` only in the words that are named here.
-/// It doesn't allocate.
+/// Writes the shortest payload with the same meaning at the front of `dest`: equal frames in the same order, each in
+/// its shortest form; the last frame needs no length (RFC 9000, sections 12.4 and 19). It returns 0 and its length, and
+/// the bytes after it don't change; `NoRoom` and the length if `dest` has less room; `PayloadEmpty` exactly when the
+/// payload is empty; `FrameEnd`, `FrameType` or `FrameMalformed` if it has an invalid frame, and the last type that was
+/// read. `dest` changes only with 0, and `out` only in the fields that are named here. It doesn't allocate.
 #[unsafe(no_mangle)]
 pub extern "C" fn quic_wire_canonical_(payload: &[u8], dest: &mut [u8], out: &mut CCanonical) -> i32
     ensures { (result ≡ pos 0) × GivesLeastLen payload.now dest.old dest.new out.old out.new

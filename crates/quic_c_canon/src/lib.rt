@@ -1,5 +1,5 @@
 //! Functions exported to C: the shortest payload with the same meaning as a given one, written into the caller's bytes.
-//! No memory is allocated. Every argument may have every value.
+//! They don't allocate. Every argument may have any value.
 #![tactic(auto)]
 
 mod canonical;

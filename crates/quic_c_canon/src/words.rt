@@ -1,12 +1,12 @@
 //! The struct that C sees. Each of its fields may have any value: no call relies on them.
 
-/// The length of a payload's shortest form, or the type of the frame because of which it has none.
+/// The length of a payload's shortest form, or the type of the invalid frame if it has none.
 #[repr(C)]
 #[derive(Clone, Copy, PartialEq, Eq)]
 pub struct CCanonical {
     /// How many bytes the shortest form has.
     pub len: usize,
-    /// Of an invalid frame: the last type that was read, its own included; `u64::MAX` if none was.
+    /// For an invalid frame: the last type that was read, which may be its own. `u64::MAX` if none was.
     pub last_type: u64,
 }
 

@@ -1,4 +1,4 @@
--- What is reported of the header that bytes begin with is one answer, and where the packet is whole it is cut there.
+-- What is reported about the header at the front of bytes is unique, and a packet that is complete is cut there.
 use Rattle.std.specs.Prelude.{◌≡◌, ℕ, ◌+◌, ◌≤◌, Bool, true, false, if◌then◌else◌, List, length, drop, Option, None, Some, Result, Ok, Err, slice_index, slice_range, IfOk}
 use Rattle.std.proofs.Common.{refl, sym, ap, subst, ◌∙◌, arith, length-drop, length-take}
 use Rattle.quic_base.specs.Number.{AreBytes}
@@ -21,7 +21,7 @@ use Rattle.quic_results.specs.declared.results.Failure.{Failure}
 use Rattle.quic_results.specs.declared.results.Failure.TheVariants as failure
 use Rattle.std.specs.Option.{option_map_or}
 
--- ---- what a header has at its places
+-- ---- what a header has at its offsets
 
 -- two lists of fields are the same, as far as a header of the kind has them
 abbrev AreSame : HeaderKind → List ℕ → List ℕ → Place → Place → ℕ → ℕ → ℕ → ℕ → Type 0
@@ -58,7 +58,7 @@ same_described kind.Short kind.Short first f dst d src s p q len n version v e =
 same_described kind.VersionNegotiate kind.VersionNegotiate first f dst d src s p q len n version v e = (refl, cc, cc)
 same_described k l first f dst d src s p q len n version v e = absurd cc
 
--- ---- the places of a header
+-- ---- the offsets of a header
 
 slice_len : (a n : ℕ) (xs : List ℕ) → a + n ≤ length xs → length (slice_range xs a (a + n)) ≡ n
 slice_len a n xs room = simp (length-take, length-drop) (omega arith)
@@ -170,9 +170,9 @@ same_places packet x y one two first words behind =
     y.token.start x.token.end y.token.end x.len y.len x.header_end y.header_end
     same.0 first o.version dst o.src o.start o.end o.len head
 
--- ---- what is reported where no header is read
+-- ---- what is reported if no header is read
 
--- a number by which refusals are reported apart
+-- a number that distinguishes errors
 mark : Refusal → ℕ
 mark (Unsupported src dst version) = 0
 mark (Invalid text) = length text
@@ -201,7 +201,7 @@ same_reported packet error.MalformedCid error.MalformedCid is one two = refl
 same_reported packet error.TokenOutOfBounds error.TokenOutOfBounds is one two = refl
 same_reported packet e f is one two = absurd (omega (arith, ap mark is))
 
--- ---- one answer
+-- ---- one result
 
 -- the first byte is reported unchanged
 abbrev pub HasFirst : Result HeaderPlaces ReadError → List ℕ → Type 0
@@ -235,7 +235,7 @@ same_read packet (Ok x) (Err y) e one two f g = absurd cc
 same_read packet (Err x) (Ok y) e one two f g = absurd cc
 same_read packet (Err x) (Err y) e one two f g = ap Err (same_reported packet x y (reported_is _ _ e) one two)
 
--- what is reported of one packet is one outcome
+-- what is reported about a packet is unique
 pub one_answer : (flags id_len : ℕ) (versions packet : List ℕ) (old new words : CHeader) (answer other : Result ℕ Failure)
     → ((id_len : ℕ) (versions bytes : List ℕ) (one other : Result (ProtectedHeader × List ℕ) Refusal) → AreBytes bytes
     → ReadAnswer (any_fixed id_len versions) bytes one → ReadAnswer (any_fixed id_len versions) bytes other
@@ -249,9 +249,9 @@ one_answer flags id_len versions packet old new words answer other law fits t u 
       t.words ∙ ap (λ r. header_words flags packet r old) same ∙ sym u.words,
     )
 
--- ---- where a whole packet ends
+-- ---- where a complete packet ends
 
--- a packet is cut at the place in the words, and ends there
+-- a packet is cut at the offset in the struct, and ends there
 abbrev IsCut : DecodeOptions → List ℕ → CHeader → ℕ → Type 0
 IsCut options packet words end = (h : ProtectedHeader) × Cut options packet h words.header_end end
 
@@ -276,7 +276,7 @@ ended options packet x (Some q) old new end law head within ends is words =
     let stop : end ≡ q = sym (found_end q end is) in
     (header_in packet x, rw (start, stop) (law options packet x q head within ends))
 
--- a whole packet is no partial Retry
+-- a complete packet isn't a partial Retry
 unless : (is_partial : Bool) (options : DecodeOptions) (packet : List ℕ) (x : HeaderPlaces) (old new : CHeader) (end : ℕ) → Law
     → HeaderAt options (length packet) packet (header_in packet x) (drop x.header_end packet)
     → x.header_end ≤ length packet

@@ -1,4 +1,4 @@
--- A number that is stored by four bytes, of which the id covers those that are too many.
+-- A number that is stored in four bytes, of which the id overwrites those that are too many.
 use Rattle.std.proofs.Common.{◌≡◌, ℕ, ◌+◌, ◌-◌, ◌≤◌, List, [], ◌∷◌, ◌++◌, length, take, drop, refl, sym, ap, subst, ◌∙◌, inl, inr, arith}
 use Rattle.std.proofs.Math.Seq.{drop-append-add, take-add}
 use Rattle.std.proofs.lemmas.Bool.{cases_eq}

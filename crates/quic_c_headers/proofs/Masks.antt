@@ -1,4 +1,4 @@
--- A mask that is put on a header and taken off again leaves the header as it was.
+-- A mask that is applied to a header and removed again leaves the header as it was.
 use Rattle.std.proofs.Common.{◌≡◌, ℕ, zero, suc, ◌+◌, ◌-◌, ◌/◌, ◌%◌, ◌<◌, ◌≤◌, ◌⊎◌, Bool, true, false, List, length, get_or, set, refl, sym, ap, ◌∙◌, arith, length-set, inl, inr}
 use Rattle.std.specs.Prelude.{bit_xor, nat_lt, slice_index}
 use Rattle.std.proofs.lemmas.List.{get_or-set_other, get_or-set_same}

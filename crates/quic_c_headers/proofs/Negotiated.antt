@@ -93,7 +93,7 @@ pub same_words : (packet dst src d s : List ℕ) → dst ≡ d → src ≡ s
     → negotiation_words packet dst src ≡ negotiation_words packet d s
 same_words packet dst src d s e f = rw (e, f) refl
 
--- ---- what is reported of headers of all kinds
+-- ---- what is reported about headers of all kinds
 
 -- a part of a list, and what is left after it
 part_at : (a n : ℕ) (packet front part rest : List ℕ) → packet ≡ front ++ (part ++ rest) → length front ≡ a
@@ -106,7 +106,7 @@ part_at a n packet front part rest is from many =
       sym (drop-drop n a packet) ∙ ap (drop n) behind ∙ drop_front part rest n many,
     )
 
--- the places of its fields
+-- the offsets of its fields
 places : List ℕ → List ℕ → List ℕ → HeaderPlaces
 places packet dst src = record {
   kind = kind.VersionNegotiate;
@@ -185,7 +185,7 @@ reported flags id_len versions packet dst src rest old (first, number, whole, lo
 
 -- ---- what is written
 
--- so many versions were written
+-- that many versions were written
 pub record StoredOn (versions : List ℕ) (at : ℕ) (old : List ℕ) (i end : ℕ) (new : List ℕ) : Type 0 where
   pub count : end ≡ at + 4 * i
   pub front : take end new ≡ take at old ++ version_bytes (take i versions)

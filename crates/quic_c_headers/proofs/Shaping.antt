@@ -1,4 +1,4 @@
--- The words of a header that can be written are those of its kind.
+-- The fields of a header that can be written are those of its kind.
 use Rattle.std.proofs.Common.{◌≡◌, ℕ, ◌<◌, ◌≤◌, ◌^◌, ◌⊎◌, List, length, Bool, Some, refl, sym, subst, inl, inr, arith}
 use Rattle.quic_crypto.specs.declared.packet_number.PacketNumber.{PacketNumber}
 use Rattle.quic_header_encode.proofs.Sizes.{number_few}

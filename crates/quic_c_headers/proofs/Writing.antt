@@ -1,4 +1,4 @@
--- The header that words describe, and its bytes.
+-- The header that the fields describe, and its bytes.
 use Rattle.std.proofs.Common.{◌≡◌, ℕ, ◌+◌, ◌-◌, ◌*◌, ◌/◌, ◌%◌, ◌<◌, ◌≤◌, ◌^◌, ◌⊎◌, Bool, false, List, [], ◌∷◌, ◌++◌, length, take, drop, replicate, IsTrue, refl, sym, ap, subst, ◌∙◌, inl, inr, arith, rules}
 use Rattle.std.specs.Prelude.{◌≢◌, bit_xor, nat_eq}
 use Rattle.std.proofs.lemmas.Bool.{cases_eq}
@@ -204,7 +204,7 @@ text_same r a b version m n dst src token number other bits count same =
     ∙ ap (λ (k : ℕ). header_text (replicate k 0) (says r b version dst src token number)) count
     ∙ ap (λ (p : PacketNumber). header_text (replicate n 0) (says r b version dst src token p)) same
 
--- what is written of them
+-- what is written for them
 abbrev pub stored_described : HeaderKind → ℕ → HeaderFields → List ℕ → List ℕ → List ℕ → List ℕ
 stored_described k len words dst src token =
     header_text (replicate len 0)
@@ -369,7 +369,7 @@ typed kind.Retry has = refl
 typed kind.Short has = absurd (search (rules, has))
 typed kind.VersionNegotiate has = absurd (search (rules, has))
 
--- the bytes written for one, field after field, are the header that its words describe
+-- the bytes written for one, field after field, are the header that its fields describe
 pub numbered_described : (k : HeaderKind) (words : HeaderFields) (dst src token : List ℕ) → IsTrue (row k).has_len
     → 1 ≤ words.number_len → words.number_len ≤ 4
     → fields_stored k words dst src token ≡ worded_bytes k words dst src token

@@ -1,4 +1,4 @@
--- The headers that words describe (RFC 9000, section 17), and what the calls that write them answer.
+-- The headers that fields describe (RFC 9000, section 17), and what the calls that write them return.
 use Rattle.quic_base.specs.Number.{has_bit}
 use Rattle.std.specs.Prelude.{◌≡◌, ◌≢◌, IsTrue, is_some, ℕ, ◌+◌, ◌-◌, ◌%◌, ◌<◌, ◌≤◌, ◌^◌, ◌⊎◌, Bool, false, List, [], ◌++◌, length, take, drop, replicate, bit_or, bit_xor, pos, ℤ, Option, None, Some, ◌==◌, if◌then◌else◌}
 use Rattle.std.specs.Option.{option_map_or}
@@ -18,7 +18,7 @@ use Rattle.quic_results.specs.declared.results.Failure.{Failure}
 use Rattle.quic_results.specs.declared.results.Failure.TheVariants as failure
 use Rattle.quic_results.specs.Results.{failed}
 
--- the part of a number that is written in so many bytes
+-- the part of a number that is written in that many bytes
 abbrev pub part_of : ℕ → ℕ → PacketNumber
 part_of len number =
     if len == 2 then U16 (number % 2 ^ 16)
@@ -26,26 +26,26 @@ part_of len number =
     else if len == 4 then U32 (number % 2 ^ 32)
     else U8 (number % 2 ^ 8)
 
--- the word for a kind: 0 Initial, 1 0-RTT, 2 Handshake, 3 Retry, 4 1-RTT, 5 version negotiation
+-- the number of a kind: 0 Initial, 1 0-RTT, 2 Handshake, 3 Retry, 4 1-RTT, 5 version negotiation
 abbrev pub word_of : Row → ℕ
 word_of row = option_map_or type_code row.type (if row.is_long then 5 else 4)
 
--- With 0 a first byte is what RFC 9000 has. 0x40 clears the fixed bit of each kind (RFC 9287). For a short header 0x20
--- is the spin bit and 0x04 the key phase; of a version negotiation each of the seven low bits is turned.
+-- With 0 a first byte is that of RFC 9000. 0x40 clears the fixed bit of each kind (RFC 9287). In a short header 0x20 is
+-- the spin bit and 0x04 the Key Phase bit. In a version negotiation the flags invert the seven low bits.
 abbrev pub DescribesFlags : ℕ → Bool → Header → Type 0
 DescribesFlags flags clear (header.Short spin key_phase dst number) =
     (clear ≡ has_bit 0x40 flags) × (spin ≡ has_bit 0x20 flags) × (key_phase ≡ has_bit 0x04 flags)
 DescribesFlags flags clear (header.VersionNegotiate random src dst) = (clear ≡ false) × (random ≡ bit_xor 0x40 (flags % 0x80))
 DescribesFlags flags clear _ = clear ≡ has_bit 0x40 flags
 
--- A number below 2^62, in so many bytes (RFC 9000, section 17.1), if the header has one.
+-- A number below 2^62, in that many bytes (RFC 9000, section 17.1), if the header has one.
 abbrev pub DescribesNumber : ℕ → ℕ → Option PacketNumber → Type 0
 DescribesNumber number len None = Unit {0}
 DescribesNumber number len (Some written) =
     (number < 2 ^ 62) × (len ≡ number_size written) × (low_part written ≡ number % window_of written)
 
--- The words, two ids and a token describe the header, with the fixed bit clear or set. What its kind lacks isn't looked
--- at.
+-- The fields, two ids and a token describe the header, with the fixed bit clear or set. Fields that its kind doesn't
+-- have are ignored.
 pub record DescribesHeader (words : HeaderFields) (dst src token : List ℕ) (clear : Bool) (header : Header) : Type 0 where
   pub kind : words.kind ≡ word_of (fields_of header).row
   pub flags : DescribesFlags words.flags clear header
@@ -64,17 +64,17 @@ pub record CanWriteHeader (words : HeaderFields) (dst src token : List ℕ) (cle
   pub dst_few : length dst ≤ 20
   pub writable : IsWritable header
 
--- the bytes that are written: the header's, with so many zeros as its length, and with its fixed bit cleared if `clear`
--- says so
+-- the bytes that are written: the header's, with that many zeros as its length, and with its fixed bit cleared if
+-- `clear` says so
 abbrev pub described_bytes : ℕ → Bool → Header → List ℕ
 described_bytes len clear header =
     let f = fields_of header in
     header_text (replicate len 0) (says f.row (f.bits - bit_value clear 0x40) f.version f.dst f.src f.token f.number)
 
--- ---- what the calls that write headers answer
+-- ---- what the calls that write headers return
 
--- The bytes of the header that the words, the ids and the token describe are at the front, the bytes after them didn't
--- change, and they are counted.
+-- The bytes of the header that the fields, the ids and the token describe are at the front, the bytes after them didn't
+-- change, and count is their number.
 pub record WrotePacketHeader (words : HeaderFields) (dst src token old new : List ℕ) (count : ℕ) : Type 0 where
   pub clear : Bool
   pub head : Header
@@ -89,25 +89,26 @@ pub record PacketHeaderNeedsMore (words : HeaderFields) (dst src token : List �
   pub can : CanWriteHeader words dst src token clear head
   pub full : room < length (described_bytes words.length_len clear head)
 
--- No header is described by these words, ids and token.
+-- These fields, ids and token describe no header.
 abbrev pub DescribesNoHeader : HeaderFields → List ℕ → List ℕ → List ℕ → Type 0
 DescribesNoHeader words dst src token =
     (clear : Bool) (header : Header) → CanWriteHeader words dst src token clear header → ⊥
 
--- The version and the number of the words are possible in a header of their kind, if it has them.
+-- The version and the packet number are possible in a header of their kind, if it has them.
 pub record HasPossibleNumbers (words : HeaderFields) : Type 0 where
   pub named : words.kind < 4 → 0 < words.version
   pub numbered : (words.kind ≤ 2) ⊎ (words.kind ≡ 4) → words.number < 2 ^ 62
 
--- What is reported where no header can be written: that there is no such kind; else the version or the number, if that
--- isn't possible; else a length.
+-- What is reported if no header can be written: that there is no such kind; else the version or the packet number, if
+-- that is impossible; else a length.
 abbrev pub IsReason : HeaderFields → Failure → Type 0
 IsReason words why =
     (5 < words.kind) × (why ≡ failure.Kind)
     ⊎ (words.kind ≤ 5) × (HasPossibleNumbers words → ⊥) × (why ≡ failure.Number)
     ⊎ (words.kind ≤ 5) × HasPossibleNumbers words × (why ≡ failure.Length)
 
--- A header is written, and counted; or nothing changes, since there is too little room, or no header can be written.
+-- A header is written, and its length returned; or nothing changes, because there is too little room, or no header can
+-- be written.
 abbrev pub WritesHeader : HeaderFields → List ℕ → List ℕ → List ℕ → List ℕ → ℤ → List ℕ → Type 0
 WritesHeader words dst src token old result new =
     ((count : ℕ) × (result ≡ pos count) × WrotePacketHeader words dst src token old new count)
@@ -128,7 +129,7 @@ pub record AreParts (kind : ℕ) (dst src token : List ℕ) : Type 0 where
   pub src_few : kind ≢ 4 → length src ≤ 20
   pub token_short : kind ≡ 0 → length token < 2 ^ 62
 
--- A header of the kind can have these words, ids and token.
+-- A header of the kind can have these fields, ids and token.
 pub record IsShaped (words : HeaderFields) (dst src token : List ℕ) : Type 0 where
   pub known : words.kind ≤ 5
   pub numbered : IsNumbered words
@@ -142,7 +143,7 @@ first_word kind.Short flags =
 first_word kind.VersionNegotiate flags = bit_or 0x80 (bit_xor 0x40 (flags % 0x80))
 first_word _ flags = 0xc0 - bit_value (has_bit 0x40 flags) 0x40
 
--- the bytes of a header of the kind, with so many zeros as its length
+-- the bytes of a header of the kind, with that many zeros as its length
 abbrev pub worded_bytes : HeaderKind → HeaderFields → List ℕ → List ℕ → List ℕ → List ℕ
 worded_bytes kind words dst src token =
     header_text (replicate words.length_len 0)
@@ -158,7 +159,7 @@ pub record HasShortRoom (words : HeaderFields) (dst : List ℕ) (room : ℕ) : T
   pub dst_few : length dst ≤ 20
   pub fits : short_size words dst ≤ room
 
--- It stands at the front, up to its end, and what stood behind that is the same.
+-- It is at the front, up to its end, and the bytes after that didn't change.
 pub record StoresShort (words : HeaderFields) (dst old new : List ℕ) (end : ℕ) : Type 0 where
   pub size : end ≡ short_size words dst
   pub front : take end new ≡ worded_bytes kind.Short words dst [] []

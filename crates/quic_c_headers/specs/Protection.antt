@@ -1,4 +1,4 @@
--- Protection is put on a header, and taken off, by a mask that the caller brings (RFC 9001, section 5.4.1).
+-- Protection is applied to a header, or removed, with a mask from the caller (RFC 9001, section 5.4.1).
 use Rattle.std.specs.Prelude.{◌≡◌, ℕ, zero, suc, ◌+◌, ◌%◌, ◌<◌, ◌≤◌, List, drop, slice_index, slice_set, bit_xor, nat_lt}
 use Rattle.quic_base.specs.Codec.{Takes}
 use Rattle.quic_crypto.specs.Keys.{first_unit, number_len}
@@ -9,30 +9,30 @@ use Rattle.quic_crypto.specs.PacketNumbers.{NumberAt, Expands, low_part, number_
 abbrev pub unmasked_first : List ℕ → ℕ → ℕ
 unmasked_first mask first = bit_xor first (slice_index mask 0 % first_unit (nat_lt first 128))
 
--- so many bytes of a mask, after its first one, removed from the bytes at a place
+-- that many bytes of a mask, after its first one, removed from the bytes at an offset
 abbrev pub unmasked_at : ℕ → List ℕ → ℕ → List ℕ → List ℕ
 unmasked_at at mask zero bytes = bytes
 unmasked_at at mask (suc n) bytes =
     slice_set (unmasked_at at mask n bytes) (at + n)
     (bit_xor (slice_index (unmasked_at at mask n bytes) (at + n)) (slice_index mask (n + 1)))
 
--- a mask removed from a header whose number begins at a place; the number's size is in the unmasked first byte
+-- a mask removed from a header whose number begins at an offset; the number's size is in the unmasked first byte
 abbrev pub unmasked : ℕ → List ℕ → List ℕ → List ℕ
 unmasked at mask bytes =
     let first = unmasked_first mask (slice_index bytes 0) in
     unmasked_at at mask (number_len first) (slice_set bytes 0 first)
 
--- a number of up to four bytes can begin at a place after the first byte
+-- a number of up to four bytes can begin at an offset after the first byte
 pub record HasNumber (place size : ℕ) : Type 0 where
   pub behind : 0 < place
   pub room : place + 4 ≤ size
 
--- The number is at a place.
+-- The number is at an offset.
 pub record StandsAt (number : PacketNumber) (at : ℕ) (bytes : List ℕ) : Type 0 where
   pub behind : List ℕ
   pub stands : Takes (NumberAt number) (drop at bytes) behind
 
--- The mask was removed, and the whole number, found from the one that is expected, was given, with how many bytes it
+-- The mask was removed, and the whole number, which follows from the expected one, was returned, with how many bytes it
 -- has in the packet.
 pub record GivesNumber (place : ℕ) (mask : List ℕ) (expected : ℕ) (old new : List ℕ) (number count : ℕ) : Type 0 where
   pub unmask : new ≡ unmasked place mask old
@@ -42,7 +42,7 @@ pub record GivesNumber (place : ℕ) (mask : List ℕ) (expected : ℕ) (old new
   pub whole : Expands (low_part written) (window_of written) expected number
   pub count_is : count ≡ number_size written
 
--- A mask is applied to a header whose number begins at a place; the number's size is in the first byte before that. A
+-- A mask is applied to a header whose number begins at an offset; the number's size is in the first byte before that. A
 -- byte is joined to its mask by exclusive or, so applying and removing a mask are the same.
 abbrev pub masked_packet : ℕ → List ℕ → List ℕ → List ℕ
 masked_packet at mask bytes =

@@ -1,4 +1,4 @@
--- Headers as C sees them, and what the call that reads them answers; version negotiation packets (RFC 9000, section
+-- Headers as C sees them, and what the call that reads them returns; version negotiation packets (RFC 9000, section
 -- 17.2.1), whose ids have up to 255 bytes (RFC 8999, section 6).
 use Rattle.std.specs.Prelude.{◌≡◌, ◌≢◌, ℕ, ◌+◌, ◌-◌, ◌<◌, ◌≤◌, ◌⊎◌, Bool, true, false, List, [], length, Result, Ok, Err, IfOk, slice_index, take, drop, unwrap_or, ◌%◌, ◌++◌, bit_xor, Contains, nat_le, nat_lt, ◌==◌, ◌&&◌, if◌then◌else◌}
 use Rattle.quic_header_encode.specs.Kinds.{row}
@@ -17,8 +17,8 @@ use Rattle.std.specs.Option.{option_map_or}
 use Rattle.quic_results.specs.declared.results.Failure.{Failure}
 use Rattle.quic_results.specs.declared.results.Failure.TheVariants as failure
 
--- ---- what the flags ask: 0x10, that the fixed bit may be clear (RFC 9287); 0x20, that it isn't looked at in packets of
--- other versions than those given, nor in version negotiations (section 17.2.1); 0x40, that a Retry is whole
+-- ---- what the flags mean: 0x10, the fixed bit may be clear (RFC 9287); 0x20, it is ignored in packets of versions
+-- other than those given, and in version negotiations (section 17.2.1); 0x40, a Retry must be complete
 
 -- a short header, or a long one of one of the versions
 abbrev pub IsOfVersion : List ℕ → List ℕ → Type 0
@@ -26,19 +26,19 @@ IsOfVersion versions packet =
     let version = num (take 4 (drop 1 packet)) in
     (slice_index packet 0 < 0x80) ⊎ (5 ≤ length packet) × (version ≢ 0) × Contains versions version
 
--- The fixed bit is clear, where it must be set (RFC 9000, section 17.2).
+-- The fixed bit is clear although it must be set (RFC 9000, section 17.2).
 pub record LacksFixedBit (flags : ℕ) (versions packet : List ℕ) : Type 0 where
   pub some : packet ≢ []
   pub clear : has_bit 0x40 (slice_index packet 0) ≡ false
   pub asked : has_bit 0x10 flags ≡ false
   pub counts : has_bit 0x20 flags ≡ true → IsOfVersion versions packet
 
--- A Retry has no token, or too few bytes for its tag of 16 bytes (section 17.2.5), where it must have both.
+-- A Retry has no token, or too few bytes for its tag of 16 bytes (section 17.2.5), although it must have both.
 abbrev pub is_partial : ℕ → HeaderPlaces → ℕ → Bool
 is_partial flags x whole =
     (word_of (row x.kind) == 3) && (has_bit 0x40 flags && nat_lt whole (x.header_end + 17))
 
--- The token of an Initial packet is in its header. That of a Retry goes from there to the tag, if there is one.
+-- The token of an Initial packet is in its header. That of a Retry is between the header and the tag, if there is one.
 abbrev pub token_in : HeaderPlaces → ℕ → Place
 token_in x whole =
     if (word_of (row x.kind) == 3) && nat_le (x.header_end + 16) whole
@@ -46,7 +46,7 @@ token_in x whole =
 
 -- ---- what is reported
 
--- what is reported of what was read in so many bytes: where the packet ends, or why it isn't complete
+-- what is reported for what was read in that many bytes: where the packet ends, or why it isn't complete
 abbrev pub outcome_of : ℕ → Result HeaderPlaces ReadError → ℕ → Result ℕ Failure
 outcome_of flags (Ok x) whole =
     if is_partial flags x whole then Err failure.PacketRetry
@@ -57,7 +57,7 @@ outcome_of flags (Err error.SmallPacket) whole = Err failure.PacketSmall
 outcome_of flags (Err error.MalformedCid) whole = Err failure.PacketId
 outcome_of flags (Err error.TokenOutOfBounds) whole = Err failure.PacketToken
 
--- the words for a packet whose header is read up to its ids
+-- the fields for a packet whose header is read up to its ids
 abbrev pub ids_words : List ℕ → ℕ → ℕ → ℕ → ℕ → ℕ → CHeader
 ids_words packet kind version dst_len src_len header_end = record {
   kind = kind;
@@ -72,7 +72,7 @@ ids_words packet kind version dst_len src_len header_end = record {
   len = 0;
 }
 
--- the words for the header at places
+-- the fields for the header at these offsets
 abbrev pub placed_words : List ℕ → HeaderPlaces → CHeader
 placed_words packet x = record {
   kind = word_of (row x.kind);
@@ -87,14 +87,14 @@ placed_words packet x = record {
   len = x.len;
 }
 
--- the words for what was read; they don't change if no header was read
+-- the fields for what was read; they don't change if no header was read
 abbrev pub header_words : ℕ → List ℕ → Result HeaderPlaces ReadError → CHeader → CHeader
 header_words flags packet (Ok x) old = if is_partial flags x (length packet) then old else placed_words packet x
 header_words flags packet (Err (error.UnsupportedVersion version dst_len src_len)) old =
     ids_words packet 6 version dst_len src_len (6 + dst_len + 1 + src_len)
 header_words flags packet _ old = old
 
--- The front of the bytes was read, and is reported by the outcome and the words.
+-- The front of the bytes was read, and is reported by the outcome and the fields.
 pub record Reported (flags id_len : ℕ) (versions packet : List ℕ) (old : CHeader) (outcome : Result ℕ Failure)
     (new : CHeader) : Type 0 where
   pub read : Result HeaderPlaces ReadError
@@ -104,10 +104,10 @@ pub record Reported (flags id_len : ℕ) (versions packet : List ℕ) (old : CHe
   pub outcome_is : outcome ≡ outcome_of flags read (length packet)
   pub words : new ≡ header_words flags packet read old
 
--- ---- the receiver's id alone
+-- ---- only the receiver's id
 
 -- Where the receiver's id is in a packet of any version, and how many bytes it has: in a long header after the version
--- and its length (RFC 8999, section 5.1), in a short one after the first byte, with as many bytes as the receiver's ids
+-- and its length (RFC 8999, section 5.1); in a short one after the first byte, with as many bytes as the receiver's ids
 -- have (section 5.2).
 pub record IsReceiverAt (id_len : ℕ) (packet : List ℕ) (place len : ℕ) : Type 0 where
   pub some : 0 < length packet
@@ -121,7 +121,7 @@ pub record IsReceiverAt (id_len : ℕ) (packet : List ℕ) (place len : ℕ) : T
 abbrev pub IsNegotiation : List ℕ → List ℕ → List ℕ → List ℕ → Type 0
 IsNegotiation bytes dst src rest = AnyVersion bytes 0 dst src rest
 
--- what is reported of a packet with these ids
+-- what is reported for a packet with these ids
 abbrev pub negotiation_words : List ℕ → List ℕ → List ℕ → CHeader
 negotiation_words packet dst src =
     ids_words packet 5 0 (length dst) (length src) (7 + length dst + length src)
@@ -130,8 +130,8 @@ negotiation_words packet dst src =
 abbrev pub version_bytes : List ℕ → List ℕ
 version_bytes = flat_map (bytes_of 4)
 
--- a packet: its header, whose first byte has the fixed bit and no other of its seven low bits, but where the flags turn
--- them, and versions
+-- a packet: its header and the versions; of the first byte's seven low bits only the fixed bit is set, except that the
+-- flags invert them
 abbrev pub negotiation_bytes : ℕ → List ℕ → List ℕ → List ℕ → List ℕ
 negotiation_bytes flags dst src versions =
     header_bytes (header.VersionNegotiate (bit_xor 0x40 (flags % 0x80)) src dst) ++ version_bytes versions

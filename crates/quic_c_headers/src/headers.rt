@@ -18,7 +18,7 @@ use quic_header_decode::places::{
 use quic_results::laws::distinct;
 use quic_results::results::{Failure, returned};
 
-// The word for a kind.
+// The number of a kind, as C sees it.
 #[inline(always)]
 fn kind_word(kind: HeaderKind) -> u8
     ensures { result ≡ word_of (row kind) }
@@ -33,7 +33,7 @@ fn kind_word(kind: HeaderKind) -> u8
     }
 }
 
-// Whether a Retry lacks its token or its tag, if the flags ask for both.
+// Whether a Retry lacks its token or its tag, if the flags require both.
 #[inline(always)]
 fn is_partial(flags: u32, places: &HeaderPlaces, whole: usize) -> bool
     requires placed { ArePlacesWithin places.now.kind places.now whole }
@@ -61,7 +61,7 @@ fn token_in(places: &HeaderPlaces, whole: usize) -> Place
     places.token
 }
 
-// Stores the words of a header, and gives where its packet ends, if it is complete.
+// Stores the fields of a header, and returns where its packet ends, if it is complete.
 #[inline(always)]
 fn show_header(
     packet: &[u8],
@@ -100,7 +100,7 @@ fn show_header(
     outcome
 }
 
-// Stores what was read in words, and gives where the packet ends, or why it isn't complete.
+// Stores what was read in `head`, and returns where the packet ends, or why it isn't complete.
 #[inline(always)]
 fn show(
     packet: &[u8],
@@ -145,7 +145,7 @@ fn show(
     }
 }
 
-// Stores a long header in words. It is a function of its own, so that a short header's caller saves no registers.
+// Stores a long header in `head`. It is a separate function, so that no registers are saved for a short header.
 #[inline(never)]
 fn show_long(packet: &[u8], first: u8, versions: &[u32], flags: u32, head: &mut CHeader) -> i64
     requires whole { length packet.now < 2 ^ 32 }
@@ -192,7 +192,7 @@ fn is_of_version(packet: &[u8], versions: &[u32]) -> bool
     }
 }
 
-// Whether the fixed bit of the first byte is clear, where it must be set.
+// Whether the fixed bit of the first byte is clear although it must be set.
 #[inline(always)]
 fn lacks_fixed_bit(packet: &[u8], versions: &[u32], flags: u32) -> bool
     ensures { IsTrue result ↔ LacksFixedBit flags versions.now packet.now }
@@ -205,17 +205,18 @@ fn lacks_fixed_bit(packet: &[u8], versions: &[u32], flags: u32) -> bool
     }
 }
 
-/// Reads the header of the packet at the front of the bytes, whether the packet is complete or ends after its header.
-/// Ids of short headers have `id_len` bytes; of versions other than `versions` only the ids are read. It returns where
-/// the packet ends, with its header; `PacketCut` with the header of a packet that is cut off; `PacketVersion` with the
-/// version and the ids, of up to 255 bytes (RFC 8999, section 5.1), if the version isn't known; `PacketFixedBit` if the
-/// fixed bit is clear; `PacketEnd`, `PacketSmall`, `PacketId` or `PacketToken` if the bytes don't begin with a header, by
-/// the first field that can't be read; `PacketRetry` for a Retry that isn't whole; `Length` exactly if there are 2^32
-/// bytes or more, or `id_len` is above 20. `head` changes only with the first three.
+/// Reads the header of the packet at the front of the bytes, whether the packet is complete or ends after its header
+/// (RFC 9000, section 17). Ids of short headers have `id_len` bytes. For versions other than `versions` only the ids
+/// are read. It returns the offset at which the packet ends, with its header; `PacketCut`, with the header of a packet
+/// that is cut off; `PacketVersion`, with the version and the ids, of up to 255 bytes (RFC 8999, section 5.1), if the
+/// version isn't known; `PacketFixedBit` if the fixed bit is clear; `PacketEnd`, `PacketSmall`, `PacketId` or
+/// `PacketToken` if the bytes don't begin with a header, by the first field that can't be read; `PacketRetry` for a
+/// Retry that isn't complete; `Length` exactly when there are 2^32 bytes or more, or `id_len` is above 20. `head`
+/// changes only with the first three.
 ///
-/// `flags` of 0 read as quinn-proto does. 0x10 takes packets whose fixed bit is clear (RFC 9287); 0x20 those of other
-/// versions than `versions`, and version negotiations, in which clients ignore that bit (RFC 9000, section 17.2.1); 0x40
-/// asks that a Retry have a token and a tag of 16 bytes (section 17.2.5). Other bits aren't looked at.
+/// With `flags` of 0 it reads as quinn-proto does. 0x10 accepts packets whose fixed bit is clear (RFC 9287). 0x20
+/// ignores that bit in packets of versions other than `versions`, and in version negotiations, as clients do (RFC 9000,
+/// section 17.2.1). 0x40 requires a token and a tag of 16 bytes in a Retry (section 17.2.5). Other bits are ignored.
 #[unsafe(no_mangle)]
 pub extern "C" fn quic_wire_header_read_(
     packet: &[u8],
@@ -231,7 +232,7 @@ pub extern "C" fn quic_wire_header_read_(
         ⊎ ((outcome : Result ℕ Failure) × (result ≡ returned outcome)
         × Reported flags id_len versions.now packet.now head.old outcome head.new) }
     ensures same { (result ≡ failed Failure.Length) ⊎ (result ≡ failed Failure.PacketFixedBit) → head.new ≡ head.old }
-    // Only one outcome with its words is right.
+    // There is exactly one right outcome, with its fields.
     ensures one { (result ≡ failed Failure.Length) ⊎ (result ≡ failed Failure.PacketFixedBit)
         ⊎ ((outcome : Result ℕ Failure) (words : CHeader)
         → Reported flags id_len versions.now packet.now head.old outcome words
@@ -263,9 +264,9 @@ pub extern "C" fn quic_wire_header_read_(
     ))
 }
 
-/// Where the short header at the front of a packet ends, whose id has `id_len` bytes (RFC 9000, section 17.3); 0
-/// exactly if there is none: there is no byte or the first byte of a long header, the bytes end within the id, or
-/// `id_len` is above 20. The fixed bit isn't looked at.
+/// The offset at which the short header at the front of a packet ends, with an id of `id_len` bytes (RFC 9000, section
+/// 17.3). It is 0 exactly when there is none: the packet is empty or begins with a long header, it ends within the id,
+/// or `id_len` is above 20. The fixed bit is ignored.
 #[unsafe(no_mangle)]
 pub extern "C" fn quic_wire_short_read_(packet: &[u8], id_len: u32) -> usize
     ensures read { 0 < result → (h : ProtectedHeader)
@@ -292,9 +293,9 @@ pub extern "C" fn quic_wire_short_read_(packet: &[u8], id_len: u32) -> usize
     }
 }
 
-/// Where the receiver's id begins in a packet of any version, for who passes packets on (RFC 8999, section 5), and in
-/// `len` how many bytes it has: a short header's has `id_len`. 0 exactly if the packet ends before the id's end, and then
-/// `len` doesn't change. The fixed bit isn't looked at.
+/// The offset of the receiver's id in a packet of any version, and in `len` its length in bytes (RFC 8999, section 5).
+/// A short header's id has `id_len` bytes. It is meant for forwarding packets. It returns 0 exactly when the packet
+/// ends before the id does; `len` doesn't change then. The fixed bit is ignored.
 #[unsafe(no_mangle)]
 pub extern "C" fn quic_wire_dcid_read_(packet: &[u8], id_len: usize, len: &mut usize) -> usize
     ensures found { 0 < result → IsReceiverAt id_len packet.now result len.new }

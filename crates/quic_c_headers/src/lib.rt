@@ -1,4 +1,4 @@
-//! Functions exported to C: packet headers, read, with their protection taken off and put on, and written. Every
+//! Functions exported to C: reading and writing packet headers, and removing and applying their protection. Every
 //! function is safe with any argument values.
 #![tactic(auto)]
 

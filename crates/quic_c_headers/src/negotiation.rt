@@ -41,11 +41,11 @@ fn ids_of(packet: &[u8]) -> Option<(&[u8], &[u8])>
     Some((dst, src))
 }
 
-/// Reads the header of the version negotiation at the front of a packet, whose ids have up to 255 bytes; the versions
-/// are the bytes after the header, up to the packet's end. It returns where the packet ends, which is where the bytes
-/// do, with the header; `Kind` exactly if there is none: the highest bit of the first byte is clear, the version isn't
-/// 0, or the bytes end within the ids; `Length` exactly if there are 2^32 bytes or more. `head` changes only with the
-/// first. If both ids have at most 20 bytes, the header is the one that `quic_wire_header_read_` gives.
+/// Reads the header of the version negotiation at the front of a packet. Its ids have up to 255 bytes (RFC 8999,
+/// section 6). The versions are the bytes after the header, up to the packet's end. It returns the packet's length,
+/// with the header; `Kind` exactly when there is no such header: the highest bit of the first byte is clear, the
+/// version isn't 0, or the bytes end within the ids; `Length` exactly when there are 2^32 bytes or more. `head` changes
+/// only with the first. If both ids have at most 20 bytes, the header is the one that `quic_wire_header_read_` returns.
 #[unsafe(no_mangle)]
 pub extern "C" fn quic_wire_negotiation_read_(packet: &[u8], head: &mut CHeader) -> i64
     ensures returns { (result ≡ pos (length packet.now)) ⊎ (result ≡ failed Failure.Kind)
@@ -84,7 +84,7 @@ pub extern "C" fn quic_wire_negotiation_read_(packet: &[u8], head: &mut CHeader)
     packet.len() as i64
 }
 
-// Stores an id after its length, and answers where it ends.
+// Stores an id after its length, and returns the offset at which it ends.
 #[inline(always)]
 fn store_id(dest: &mut [u8], at: usize, id: &[u8]) -> usize
     requires few { length id.now ≤ 255 }
@@ -100,7 +100,7 @@ fn store_id(dest: &mut [u8], at: usize, id: &[u8]) -> usize
     end
 }
 
-// Stores versions at a place, and answers where they end.
+// Stores versions from `at` on, and returns the offset at which they end.
 #[inline(always)]
 #[tactic(auto, unfolding(quic_base::specs::Number::bytes_of))]
 fn store_versions(dest: &mut [u8], at: usize, versions: &[u32]) -> usize
@@ -117,7 +117,7 @@ fn store_versions(dest: &mut [u8], at: usize, versions: &[u32]) -> usize
     at
 }
 
-// Stores the packet at the front, and answers how many bytes it has.
+// Stores the packet at the front, and returns how many bytes it has.
 #[inline(always)]
 fn store_packet(flags: u8, dst: &[u8], src: &[u8], versions: &[u32], dest: &mut [u8]) -> usize
     requires dst_few { length dst.now ≤ 255 }
@@ -133,11 +133,11 @@ fn store_packet(flags: u8, dst: &[u8], src: &[u8], versions: &[u32], dest: &mut 
     store_versions(dest, at, versions)
 }
 
-/// Writes a version negotiation at the front of `dest`: the first byte 0xc0, but for the seven low bits that `flags` has,
-/// version 0, the ids of the receiver and of the sender, each after its length, and the versions. It returns 0 with how
-/// many bytes were written, and bytes after those don't change; `NoRoom` with how many are needed, if `dest` has fewer;
-/// `Length` exactly if an id has more than 255 bytes. `dest` changes only with 0, and `written` doesn't change with
-/// `Length`.
+/// Writes a version negotiation at the front of `dest` (RFC 9000, section 17.2.1): the first byte 0xc0, in which
+/// `flags` inverts the seven low bits; version 0; the ids of the receiver and of the sender, each after its length; and
+/// the versions. It returns 0 and how many bytes were written, and the bytes after those don't change; `NoRoom` and how
+/// many are needed, if `dest` has fewer; `Length` exactly when an id has more than 255 bytes. `dest` changes only with
+/// 0, and `written` doesn't change with `Length`.
 #[unsafe(no_mangle)]
 pub extern "C" fn quic_wire_negotiation_write_(
     flags: u8,

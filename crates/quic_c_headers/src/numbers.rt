@@ -1,4 +1,4 @@
-//! Numbers of variable length, and packet numbers.
+//! Varints and packet numbers.
 ghost use Rattle.std.specs.Prelude.{◌≡◌, ◌+◌, ◌-◌, ◌*◌, ◌%◌, ◌^◌, ◌<◌, ◌≤◌, ◌⊎◌, ◌↔◌, ◌++◌, List, ℕ, length, take, drop, pos};
 ghost use Rattle.quic_base.specs.Codec.{NoFront, Takes};
 ghost use Rattle.quic_base.specs.Varint.{Encodes, size};
@@ -13,8 +13,8 @@ use quic_crypto::packet_number::PacketNumber;
 use quic_header_encode::fields::store_low;
 use quic_results::results::Failure;
 
-/// Reads the number at the front of the bytes (RFC 9000, section 16), and answers how many bytes it takes; 0 exactly if
-/// the bytes end within it, and then `value` doesn't change.
+/// Reads the varint at the front of the bytes (RFC 9000, section 16), and returns how many bytes it has; 0 exactly when
+/// the bytes end within it. `value` doesn't change then.
 #[unsafe(no_mangle)]
 pub extern "C" fn quic_wire_varint_read_(bytes: &[u8], value: &mut u64) -> usize
     ensures read { 0 < result → Takes (Encodes value.new) bytes.now (drop result bytes.now) }
@@ -30,8 +30,8 @@ pub extern "C" fn quic_wire_varint_read_(bytes: &[u8], value: &mut u64) -> usize
     }
 }
 
-/// How many bytes the shortest encoding of a number has: 1, 2, 4 or 8 (RFC 9000, section 16); 0 exactly if the number is
-/// 2^62 or more, which has no encoding.
+/// How many bytes the shortest encoding of a number has: 1, 2, 4 or 8 (RFC 9000, section 16). It is 0 exactly when the
+/// number is 2^62 or more, which has no encoding.
 #[unsafe(no_mangle)]
 pub extern "C" fn quic_wire_varint_len_(value: u64) -> usize
     ensures { (2 ^ 62 ≤ value) × (result ≡ 0) ⊎ (value < 2 ^ 62) × (result ≡ size value) }
@@ -61,9 +61,10 @@ fn store_encoding(value: u64, width: usize, dest: &mut [u8]) -> usize
     }
 }
 
-/// Writes a number at the front of `dest` in `width` bytes, 1, 2, 4 or 8, or in as few as it needs if `width` is 0 (RFC
-/// 9000, section 16), and answers how many; bytes after those don't change. It answers 0 exactly if there is no such
-/// width, the number doesn't fit in it, as any number from 2^62 on, or `dest` has fewer bytes; then nothing changes.
+/// Writes a number at the front of `dest` in `width` bytes, 1, 2, 4 or 8, or in as few as possible if `width` is 0 (RFC
+/// 9000, section 16), and returns how many; the bytes after those don't change. It returns 0 exactly when there is no
+/// such width, the number doesn't fit in it, the number is 2^62 or more, or `dest` has fewer bytes. Nothing changes
+/// then.
 #[unsafe(no_mangle)]
 pub extern "C" fn quic_wire_varint_write_(value: u64, width: u32, dest: &mut [u8]) -> usize
     ensures wrote { (result ≡ 0)
@@ -80,10 +81,10 @@ pub extern "C" fn quic_wire_varint_write_(value: u64, width: u32, dest: &mut [u8
     store_encoding(value, width, dest)
 }
 
-/// In how many bytes a packet number is written to a receiver that has acknowledged `largest_acked`, chosen as
-/// quinn-proto does: 1 to 4, as twice the distance is below 2^8, 2^16, 2^24 or 2^32. A receiver that expects a number
-/// from `largest_acked` up to the one after `number` finds `number` then (RFC 9000, appendix A.3). It returns `Number`
-/// exactly if `largest_acked` is above `number`, or 2^31 or more below it.
+/// How many bytes of a packet number to write for a receiver that has acknowledged `largest_acked`, chosen as
+/// quinn-proto does: the least of 1 to 4 for which twice the distance is below 2^8, 2^16, 2^24 or 2^32. A receiver that
+/// expects a number from `largest_acked` up to `number` + 1 then finds `number` (RFC 9000, appendix A.3). It returns
+/// `Number` exactly when `largest_acked` is above `number`, or 2^31 or more below it.
 #[unsafe(no_mangle)]
 pub extern "C" fn quic_wire_number_len_(number: u64, largest_acked: u64) -> i32
     ensures invalid { (result ≡ failed Failure.Number) ↔ ((number < largest_acked) ⊎ (largest_acked + 2 ^ 31 ≤ number)) }
@@ -98,7 +99,7 @@ pub extern "C" fn quic_wire_number_len_(number: u64, largest_acked: u64) -> i32
     PacketNumber::new(number, largest_acked).len() as i32
 }
 
-// What is written of a packet number, as a number.
+// The part of a packet number that is written, as a number.
 #[inline(always)]
 fn low_part(written: PacketNumber) -> u64
     ensures { result ≡ low_part written }
@@ -110,9 +111,9 @@ fn low_part(written: PacketNumber) -> u64
     }
 }
 
-/// Reads what is written of a packet number in `len` bytes at the front of the bytes, the highest first (RFC 9000, section
-/// 17.1), and returns `len`. It returns `Length` if `len` isn't 1 to 4, else `PacketEnd` if there are fewer bytes; then
-/// `number` doesn't change.
+/// Reads a truncated packet number of `len` bytes at the front of the bytes, the highest first (RFC 9000, section
+/// 17.1), and returns `len`. It returns `Length` if `len` isn't 1 to 4, else `PacketEnd` if there are fewer bytes;
+/// `number` doesn't change then.
 #[unsafe(no_mangle)]
 pub extern "C" fn quic_wire_number_read_(bytes: &[u8], len: u32, number: &mut u64) -> i32
     ensures { (result ≡ pos len) × IsNumberLen len × ((rest : List ℕ) × Takes (IsNumber len number.new) bytes.now rest)
@@ -130,9 +131,9 @@ pub extern "C" fn quic_wire_number_read_(bytes: &[u8], len: u32, number: &mut u6
     len as i32
 }
 
-/// Writes the low `len` bytes of a packet number at the front of `dest`, the highest of them first (RFC 9000, section
-/// 17.1), and returns `len`; bytes after those don't change. It returns `Length` if `len` isn't 1 to 4, else `NoRoom` if
-/// `dest` has fewer bytes; then nothing changes.
+/// Writes the low `len` bytes of a packet number at the front of `dest`, the highest first (RFC 9000, section 17.1),
+/// and returns `len`; the bytes after those don't change. It returns `Length` if `len` isn't 1 to 4, else `NoRoom` if
+/// `dest` has fewer bytes; nothing changes then.
 #[unsafe(no_mangle)]
 pub extern "C" fn quic_wire_number_write_(number: u64, len: u32, dest: &mut [u8]) -> i32
     ensures { (result ≡ pos len) × IsNumberLen len × (dest.new ≡ bytes_of len number ++ drop len dest.old)
@@ -148,9 +149,9 @@ pub extern "C" fn quic_wire_number_write_(number: u64, len: u32, dest: &mut [u8]
     store_low(dest, 0, number, len as usize) as i32
 }
 
-/// The whole packet number whose low `count` bytes, 1 to 4, are `low`, found from the one that is expected next (RFC
-/// 9000, appendix A.3); `u64::MAX` exactly if `count` isn't 1 to 4, `low` takes more bytes, or `expected` is 2^62 or
-/// more. As with `PacketNumber::expand`, the number may be 2^62 or more where appendix A.3 gives one below.
+/// The whole packet number whose low `count` bytes, 1 to 4, are `low`, from the one that is expected next (RFC 9000,
+/// appendix A.3). It is `u64::MAX` exactly when `count` isn't 1 to 4, `low` has more bytes, or `expected` is 2^62 or
+/// more. As with `PacketNumber::expand`, the result may be 2^62 or more when that of appendix A.3 is below.
 #[unsafe(no_mangle)]
 pub extern "C" fn quic_wire_number_expand_(low: u64, count: u32, expected: u64) -> u64
     ensures expanded { CanExpand low count expected

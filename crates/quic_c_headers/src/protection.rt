@@ -1,4 +1,4 @@
-//! Puts protection on headers and takes it off, by masks that the caller makes (RFC 9001, section 5.4).
+//! Applies and removes header protection, with masks that the caller makes (RFC 9001, section 5.4).
 ghost use Rattle.std.specs.Prelude.{◌≡◌, ◌⊎◌, ◌↔◌, ◌<◌, ◌≤◌, ◌+◌, ◌^◌, ◌++◌, ℕ, pos, length, take, drop, slice_index, slice_set, IsTrue};
 ghost use Rattle.quic_crypto.specs.Keys.{number_len};
 ghost use Rattle.quic_crypto.specs.PacketNumbers.{number_size};
@@ -28,7 +28,7 @@ fn mask_first(packet: &mut [u8], mask: &[u8; 5]) -> u8
     first
 }
 
-// Applies a mask to the bytes of the number, which begins at a place.
+// Applies a mask to the bytes of the number, which begins at `at`.
 #[inline(always)]
 fn mask_number(packet: &mut [u8], at: usize, mask: &[u8; 5], count: usize)
     requires inside { at + 4 ≤ length packet.old }
@@ -49,7 +49,7 @@ fn mask_number(packet: &mut [u8], at: usize, mask: &[u8; 5], count: usize)
     }
 }
 
-// Takes the protection off the header of a packet whose number begins at a place, and answers the truncated number.
+// Removes the header protection of a packet whose number begins at `at`, and returns the truncated number.
 #[inline(always)]
 fn unmask(packet: &mut [u8], at: usize, mask: &[u8; 5]) -> PacketNumber
     requires { HasNumber at (length packet.old) }
@@ -66,7 +66,7 @@ fn unmask(packet: &mut [u8], at: usize, mask: &[u8; 5]) -> PacketNumber
     written
 }
 
-// Whether a number of up to four bytes can begin at a place after the first byte.
+// Whether a number of up to four bytes can begin at an offset after the first byte.
 #[inline(always)]
 fn has_number(packet: &[u8], place: usize) -> bool
     ensures { IsTrue result ↔ HasNumber place (length packet.now) }
@@ -74,8 +74,8 @@ fn has_number(packet: &[u8], place: usize) -> bool
     packet.len() >= 4 && place != 0 && place <= packet.len() - 4
 }
 
-// Takes the protection off the header of a packet whose number begins at a place, gives the whole number, and returns
-// how many bytes it has.
+// Removes the header protection of a packet whose number begins at `place`, stores the whole number, and returns how
+// many bytes it has.
 #[inline(always)]
 fn open_header(
     packet: &mut [u8],
@@ -94,12 +94,12 @@ fn open_header(
     written.len() as i32
 }
 
-/// Takes the protection off the header of a packet whose number begins at `place`, by the mask that the caller made
-/// from the sample (RFC 9001, section 5.4.1), and gives the whole number, found from the `expected` one (RFC 9000,
-/// appendix A.3). It returns how many bytes the number has: the payload begins after them. It returns `Number` exactly if
-/// `expected` is 2^62 or more; `PacketSmall` exactly if it isn't and the place is 0 or fewer than four bytes follow it.
-/// Nothing changes then; otherwise only the low bits of the first byte, five in a short header and four in a long one,
-/// and the number's bytes change.
+/// Removes the header protection of a packet whose number begins at `place`, with the mask that the caller made from
+/// the sample (RFC 9001, section 5.4.1). It stores the whole number, which follows from the `expected` one (RFC 9000,
+/// appendix A.3), and returns how many bytes the number has: the payload begins after them. It returns `Number` exactly
+/// when `expected` is 2^62 or more; else `PacketSmall` exactly when `place` is 0 or the packet has fewer than four
+/// bytes from there on. Nothing changes then. Otherwise only the low bits of the first byte, five in a short header and
+/// four in a long one, and the number's bytes change.
 #[unsafe(no_mangle)]
 pub extern "C" fn quic_wire_unprotect_(
     packet: &mut [u8],
@@ -124,9 +124,9 @@ pub extern "C" fn quic_wire_unprotect_(
     open_header(packet, place, mask, expected, number)
 }
 
-/// The same of a packet that doesn't change: its bytes up to the place and the four after it are written to the front of
-/// `dest`, and the protection is taken off there. It returns `NoRoom` exactly if `dest` has fewer bytes than these, and
-/// `quic_wire_unprotect_` would return none of its failures; then and with those nothing changes.
+/// The same for a packet that doesn't change. The bytes before `place` and the four from there on are copied to the
+/// front of `dest`, and the protection is removed there. It fails as `quic_wire_unprotect_` does; else it returns
+/// `NoRoom` exactly when `dest` has fewer than these bytes. Nothing changes after a failure.
 #[unsafe(no_mangle)]
 pub extern "C" fn quic_wire_unprotect_copy_(
     packet: &[u8],
@@ -161,10 +161,10 @@ pub extern "C" fn quic_wire_unprotect_copy_(
     open_header(dest, place, mask, expected, number)
 }
 
-/// Puts the protection on the header of a packet whose payload is sealed and whose number begins at `place`, by the
-/// mask that the caller made from the sample (RFC 9001, section 5.4.1), and returns how many bytes the number has. It
-/// returns `PacketSmall` exactly if the place is 0 or fewer than four bytes follow it, and then nothing changes. Taking
-/// the protection off by the same mask gives the bytes that were there.
+/// Applies header protection to a packet whose payload is sealed and whose number begins at `place`, with the mask that
+/// the caller made from the sample (RFC 9001, section 5.4.1), and returns how many bytes the number has. It returns
+/// `PacketSmall` exactly when `place` is 0 or the packet has fewer than four bytes from there on; nothing changes then.
+/// Removing the protection with the same mask restores the bytes.
 #[unsafe(no_mangle)]
 pub extern "C" fn quic_wire_protect_(packet: &mut [u8], place: usize, mask: &[u8; 5]) -> i32
     ensures answers { (result ≡ failed Failure.PacketSmall) ⊎ (result ≡ pos (number_len (slice_index packet.old 0))) }
@@ -182,9 +182,10 @@ pub extern "C" fn quic_wire_protect_(packet: &mut [u8], place: usize, mask: &[u8
     count as i32
 }
 
-/// Sets the length in the header of a packet whose number begins at `place` to the count of bytes from there on. The
-/// length is in the `length_len` bytes before the place, 1, 2, 4 or 8 (RFC 9000, section 17.2). It returns 0; `Length`
-/// exactly if `length_len` is another number, there is no such place, or the count doesn't fit, and then nothing changes.
+/// Sets the length in the header of a packet whose number begins at `place` to the count of bytes from there on (RFC
+/// 9000, section 17.2). The length is in the `length_len` bytes before `place`: 1, 2, 4 or 8. It returns 0, or `Length`
+/// exactly when `length_len` is another number, the packet has no such offset, or the count doesn't fit. Nothing
+/// changes then.
 #[unsafe(no_mangle)]
 pub extern "C" fn quic_wire_set_len_(packet: &mut [u8], place: usize, length_len: u32) -> i32
     ensures answers { (result ≡ pos 0) ⊎ (result ≡ failed Failure.Length) }

@@ -1,4 +1,4 @@
-//! Writes headers from words into the caller's bytes.
+//! Writes headers into the caller's bytes.
 ghost use Rattle.std.specs.Prelude.{◌≡◌, ◌≢◌, ◌+◌, ◌-◌, ◌*◌, ◌/◌, ◌%◌, ◌^◌, ◌<◌, ◌≤◌, ◌⊎◌, ◌↔◌, ◌++◌, ℕ, [], IsTrue, length, take, drop, replicate};
 ghost use Rattle.quic_base.specs.Number.{bytes_of};
 ghost use Rattle.quic_crypto.specs.PacketNumbers.{IsInRange};
@@ -21,7 +21,7 @@ use quic_header_encode::store::{
 };
 use quic_results::results::Failure;
 
-// Whether a number can have so many bytes (RFC 9000, section 16).
+// Whether a varint can have that many bytes (RFC 9000, section 16).
 #[inline(always)]
 fn is_width(len: u8) -> bool
     ensures { IsTrue result ↔ IsWidth len }
@@ -50,7 +50,7 @@ fn are_parts(kind: u8, dst: &[u8], src: &[u8], token: &[u8]) -> bool
     dst.len() <= 20 && (kind == 4 || src.len() <= 20) && (kind != 0 || token.len() < 1 << 62)
 }
 
-// Whether a header of the kind can have these words, ids and token.
+// Whether a header of the kind can have these fields, ids and token.
 #[inline(always)]
 fn is_shaped(words: &HeaderFields, dst: &[u8], src: &[u8], token: &[u8]) -> bool
     ensures { IsTrue result ↔ IsShaped words.now dst.now src.now token.now }
@@ -61,7 +61,7 @@ fn is_shaped(words: &HeaderFields, dst: &[u8], src: &[u8], token: &[u8]) -> bool
         && are_parts(words.kind, dst, src, token)
 }
 
-// Whether the version and the number are possible in a header of the kind, if it has them.
+// Whether the version and the packet number are possible in a header of the kind, if it has them.
 fn has_possible_numbers(words: &HeaderFields) -> bool
     requires { words.now.kind ≤ 5 }
     ensures { IsTrue result ↔ HasPossibleNumbers words.now }
@@ -70,7 +70,7 @@ fn has_possible_numbers(words: &HeaderFields) -> bool
         && (words.kind == 3 || words.kind == 5 || words.number < 1 << 62)
 }
 
-// Why no header with these words can be written, if none can.
+// Why no header with these fields can be written, if none can.
 #[inline(never)]
 fn why_not(words: &HeaderFields) -> Failure
     ensures { IsReason words.now result }
@@ -130,7 +130,7 @@ pub(crate) fn first_word(kind: HeaderKind, flags: u8) -> u8
     }
 }
 
-// How many bytes the length takes, if the header has one.
+// How many bytes the length has, if the header has one.
 #[inline(always)]
 fn stored_length_len(words: &HeaderFields) -> usize
     ensures known { IsWidth result }
@@ -143,8 +143,8 @@ fn stored_length_len(words: &HeaderFields) -> usize
     }
 }
 
-// The first byte of a short header. All its flags are taken over at once, and the fixed bit, which is clear if its flag
-// is set, is turned by a sum: so this takes few instructions.
+// The first byte of a short header. To save instructions, all its flags are copied at once, and the fixed bit, which is
+// clear if its flag is set, is inverted by an addition.
 #[inline(always)]
 #[tactic(auto, using(crate::proofs::Writing::clear_is, crate::proofs::Writing::spin_is, crate::proofs::Writing::phase_is))]
 fn short_first(flags: u8, number_len: u8) -> u8
@@ -156,7 +156,7 @@ fn short_first(flags: u8, number_len: u8) -> u8
     (64 + bits) % 128 + (number_len - 1)
 }
 
-// Stores a short header at the front, field after field, and answers where it ends.
+// Stores a short header at the front, field after field, and returns the offset at which it ends.
 #[inline(never)]
 fn store_short_parts(words: &HeaderFields, dst: &[u8], dest: &mut [u8]) -> usize
     requires fits { HasShortRoom words.now dst.now (length dest.old) }
@@ -167,8 +167,8 @@ fn store_short_parts(words: &HeaderFields, dst: &[u8], dest: &mut [u8]) -> usize
     store_low(dest, at, words.number, words.number_len as usize)
 }
 
-// The same for a header of more than four bytes: the number's lowest four bytes are stored, however many it has, and
-// then the id, over those that are too many.
+// The same for a header of more than four bytes. The number's lowest four bytes are stored, whatever its length, and
+// then the id overwrites those that are too many.
 #[inline(always)]
 fn store_short_covered(words: &HeaderFields, dst: &[u8], dest: &mut [u8]) -> usize
     requires fits { HasShortRoom words.now dst.now (length dest.old) }
@@ -183,8 +183,8 @@ fn store_short_covered(words: &HeaderFields, dst: &[u8], dest: &mut [u8]) -> usi
     behind_first + 1
 }
 
-/// Writes the short header that the words describe, with the receiver's id, at the front of `dest`, as
-/// `quic_wire_header_write_` does but in fewer instructions. It returns `Kind` for another kind, and then nothing changes.
+/// Writes the short header that `words` describes, with the receiver's id, at the front of `dest`, as
+/// `quic_wire_header_write_` does but in fewer instructions. It returns `Kind` for another kind; nothing changes then.
 #[unsafe(no_mangle)]
 pub extern "C" fn quic_wire_short_write_(words: &HeaderFields, dst: &[u8], dest: &mut [u8]) -> i64
     ensures short { words.now.kind ≡ 4 → WritesHeader words.now dst.now [] [] dest.old result dest.new }
@@ -206,7 +206,7 @@ pub extern "C" fn quic_wire_short_write_(words: &HeaderFields, dst: &[u8], dest:
     store_short_covered(words, dst, dest) as i64
 }
 
-// Stores a long header up to its ids' end at the front.
+// Stores a long header up to the end of its ids at the front.
 #[inline(always)]
 fn store_front(
     kind: HeaderKind,
@@ -250,7 +250,7 @@ fn store_own_token(kind: HeaderKind, dest: &mut [u8], at: usize, token: &[u8]) -
     }
 }
 
-// Stores the length, which is 0, and the number.
+// Stores the length, which is zeros, and the number.
 #[inline(always)]
 fn store_end(words: &HeaderFields, dest: &mut [u8], at: usize) -> usize
     requires known { IsWidth words.now.length_len }
@@ -334,14 +334,15 @@ fn write_as(
     }
 }
 
-/// Writes the header that the words describe, with the ids of the receiver and of the sender and the token,
-/// unprotected, at the front of `dest` (RFC 9000, section 17), and returns how many bytes it has; a number is at their
-/// end. The length of an Initial, 0-RTT or Handshake packet is 0, until `quic_wire_set_len_`. What the kind lacks isn't
-/// looked at. Bytes after the header don't change. It returns `NoRoom` if `dest` has fewer bytes; `Kind` for a kind above
-/// 5; `Number` for a number of 2^62 or more, or version 0 in an Initial, 0-RTT, Handshake or Retry header, which would be
-/// a version negotiation (RFC 9000, section 17.2.1); `Length` for an id of more than 20 bytes, a number that isn't
-/// written in 1 to 4 bytes, a length of other than 1, 2, 4 or 8 bytes, or a token of 2^62 bytes or more. Nothing changes then.
-/// With flags of 0 the first byte is what RFC 9000 has.
+/// Writes the header that `words` describes, with the ids of the receiver and of the sender and the token, unprotected,
+/// at the front of `dest` (RFC 9000, section 17). It returns how many bytes the header has; the packet number, if there
+/// is one, is at their end. The length of an Initial, 0-RTT or Handshake packet is zeros until `quic_wire_set_len_`.
+/// Fields that the kind doesn't have are ignored. The bytes after the header don't change. It returns `NoRoom` if
+/// `dest` has fewer bytes; `Kind` for a kind above 5; `Number` for a packet number of 2^62 or more, or version 0 in an
+/// Initial, 0-RTT, Handshake or Retry header, which would be a version negotiation (RFC 9000, section 17.2.1); `Length`
+/// for an id of more than 20 bytes, a packet number that isn't written in 1 to 4 bytes, a length of other than 1, 2, 4
+/// or 8 bytes, or a token of 2^62 bytes or more. Nothing changes then. With flags of 0 the first byte is that of RFC
+/// 9000.
 #[unsafe(no_mangle)]
 pub extern "C" fn quic_wire_header_write_(
     words: &HeaderFields,

@@ -22,7 +22,7 @@ pub moved_none : (old : List CRange) (at from to : ℕ) → to ≤ from → old 
 moved_none old at from to le =
     let none : to - from ≡ 0 = omega (arith, le) in rw none (paste_none old at (drop from old))
 
--- the runs from `to` on were moved after those that take the place of others, and these were written
+-- the runs from `to` on were moved after those that replace others, and these were written
 module _ (old ys new vs : List CRange) (before from to after : ℕ) (some : before ≤ length old) (ordered : from ≤ to) (within : to ≤ before)
     (count : after ≡ from + length vs + (before - to)) (room : after ≤ length old)
     (moved : ys ≡ copy_within old to before (from + length vs))
@@ -124,7 +124,7 @@ made old ys new before after more change some fits more_is count room moved is =
       behind = moved_behind old ys new vs before change.from change.to after some ordered within count' room moved' is;
     }
 
--- ---- what the calls answer
+-- ---- what the calls return
 
 pub becomes : (test : ℕ → Bool) (old new : List CRange) (before after : ℕ) (change : Splice) → IsSet old before
     → Plans test (take before old) change

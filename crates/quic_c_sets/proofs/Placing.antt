@@ -1,4 +1,4 @@
--- Whether words are runs, and where a number falls among them.
+-- Whether entries are runs, and where a number is among them.
 use Rattle.std.proofs.Common.{◌≡◌, ℕ, zero, suc, ◌+◌, ◌-◌, ◌<◌, ◌≤◌, ◌⊎◌, inl, inr, true, false, ltb, leb, List, [], ◌∷◌, length, drop, get_or, refl, sym, ap, subst, ◌∙◌, arith}
 use Rattle.std.proofs.Math.ListN.{get_or-map}
 use Rattle.std.proofs.Math.Seq.{drop-cons}
@@ -23,9 +23,9 @@ run_at words k = get_or-map range_of words k nowhere
 pub many : (words : List CRange) → length (runs_of words) ≡ length words
 many words = length-map words range_of
 
--- ---- whether words are runs
+-- ---- whether entries are runs
 
--- the words are maximal runs just where those from a place on are, after a run with this end
+-- the entries are maximal runs exactly when those from an index on are, after a run with this end
 pub record LooksOn (words : List CRange) (end at : ℕ) : Type 0 where
   pub further : IsMaximalRuns (runs_of words) → RunsFrom (end + 1) (runs_of (drop at words))
   pub back : RunsFrom (end + 1) (runs_of (drop at words)) → IsMaximalRuns (runs_of words)
@@ -47,7 +47,7 @@ pub all_runs : (words : List CRange) (end at : ℕ) → length words ≤ at → 
 all_runs words end at le l =
     l.back (subst (λ (l : List CRange). RunsFrom (end + 1) (runs_of l)) (sym (drop_all at words le)) tt)
 
--- ---- where a number falls
+-- ---- where a number is
 
 pub ends_place : (x i : ℕ) (words : List CRange) → i ≤ length words
     → IsPartitionPoint (λ (w : CRange). ltb w.end x ≡ true) (λ w. ltb w.end x ≡ false) words i

@@ -37,7 +37,7 @@ plans test words s fits runs =
 abbrev IsCovered : List (Range ℕ) → Range ℕ → ℕ → Range ℕ → Type 0
 IsCovered rs x at d = (at < length rs) × ((get_or rs at d).start ≤ x.start) × (x.end ≤ (get_or rs at d).end)
 
--- where a union with the range changes nothing, the range is inside a run
+-- if a union with the range changes nothing, the range is inside a run
 same_covered : (rs : List (Range ℕ)) (x d : Range ℕ) → IsMaximalRuns rs → x.start < x.end → IsRunsOf (in_union rs x) rs
     → IsCovered rs x (ends_below rs x.start) d
 same_covered rs x d h lt same =

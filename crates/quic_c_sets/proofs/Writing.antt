@@ -1,4 +1,4 @@
--- The runs that words say, as an ACK has them.
+-- The runs that entries describe, as an ACK has them.
 use Rattle.std.proofs.Common.{◌≡◌, ℕ, zero, suc, ◌+◌, ◌-◌, ◌<◌, ◌≤◌, ◌^◌, Bool, true, ◌⊎◌, inl, inr, List, [], ◌∷◌, ◌++◌, length, take, get_or, refl, sym, ap, ◌∙◌, append_assoc, arith}
 use Rattle.std.proofs.lemmas.Bool.Decides.{nat_tests}
 use Rattle.std.proofs.lemmas.List.{append-nil, length-append, length-take, map_more, take_all}
@@ -54,7 +54,7 @@ numbers_counted (a ∷ b ∷ c ∷ d ∷ counts) three =
 
 -- ---- the runs below another one
 
--- the last of the first words
+-- the last of the first entries
 pub last_run : (words : List CRange) (left : ℕ) → left < length words
     → runs_of (take (left + 1) words) ≡ runs_of (take left words) ++ range_of (get_or words left nowhere) ∷ []
 last_run words left lt = map_more range_of words left nowhere lt
@@ -71,7 +71,7 @@ one_run above run runs left e some =
     ∙ ap (shortest_below above.start) (ranges_in-last runs run) in
     one ∙ rw gap (simp (append_assoc, append-nil))
 
--- the first words are still to be written below a run
+-- the first entries are still to be written below a run
 pub record AreBelow (words : List CRange) (left : ℕ) (above : CRange) : Type 0 where
   pub within : left ≤ length words
   pub maximal : IsMaximalRuns (runs_of (take left words) ++ range_of above ∷ [])
@@ -116,7 +116,7 @@ size_least : (n : ℕ) → size n ≤ n + 1
 unfolding size
 size_least n = grind (arith, nat_tests)
 
--- so many bytes of all were counted, and all are no more than the numbers below
+-- len of all the bytes were counted, and all are no more than the numbers below
 pub record CountedBelow (words : List CRange) (first : CRange) (len left : ℕ) (above : CRange) : Type 0 where
   pub below : AreBelow words left above
   pub counted : length (bytes_below words (length words) first) ≡ len + length (bytes_below words left above)

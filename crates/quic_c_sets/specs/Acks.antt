@@ -1,4 +1,4 @@
--- ACKs of the sets that words describe (RFC 9000, section 19.3).
+-- ACKs of the sets that entries describe (RFC 9000, section 19.3).
 use Rattle.std.specs.Prelude.{◌≡◌, ℕ, ◌<◌, ◌^◌, ◌⊎◌, ◌≢◌, ℤ, true, List, [], ◌∷◌, length, Option, Some, None}
 use Rattle.quic_ranges.specs.Runs.{member}
 use Rattle.quic_frame_fields.specs.declared.frame.ack.EcnCounts.{EcnCounts}
@@ -14,8 +14,8 @@ abbrev pub counts_in : List ℕ → Option EcnCounts
 counts_in (ect0 ∷ ect1 ∷ ce ∷ []) = Some (record { ect0 = ect0; ect1 = ect1; ce = ce })
 counts_in counts = None
 
--- The first words of an array are a set that has a number, and there is an ACK of it: its numbers, the delay and
--- three counts or none have encodings.
+-- The first entries of an array are a nonempty set, and there is an ACK of it: its numbers, the delay and three counts,
+-- or none, have encodings.
 pub record DescribesSetAck (delay : ℕ) (words : List CRange) (count : ℕ) (counts : List ℕ) : Type 0 where
   pub set : IsSet words count
   pub some : 0 < count
@@ -24,8 +24,8 @@ pub record DescribesSetAck (delay : ℕ) (words : List CRange) (count : ℕ) (co
   pub three : (length counts ≡ 0) ⊎ (length counts ≡ 3)
   pub counted : AreNumeric counts
 
--- What is reported where no ACK is described: the runs, if they are no set or an empty one; else how many counts there
--- are, if that isn't possible; else that a number has no encoding.
+-- What is reported if no ACK is described: the runs, if they aren't a set or are an empty one; else the number of
+-- counts, if that is impossible; else that a number has no encoding.
 abbrev pub IsReason : List CRange → ℕ → List ℕ → Failure → Type 0
 IsReason words count counts why =
     (IsSet words count × (0 < count) → ⊥) × (why ≡ failure.Ranges)

@@ -7,7 +7,7 @@ use Rattle.quic_c_sets.specs.declared.change.Substitute.{Substitute}
 use Rattle.quic_c_sets.specs.declared.change.Substitute.TheVariants.{Nothing, One, Two}
 use Rattle.quic_c_sets.specs.Sets.{runs_of}
 
--- the runs that take the place of others
+-- the runs that replace others
 abbrev pub words_of : Substitute → List CRange
 words_of Nothing = []
 words_of (One run) = run ∷ []
@@ -23,7 +23,7 @@ pub record FitsRoom (words : List CRange) (s : Splice) : Type 0 where
   pub within : s.to ≤ length words
   pub one_more : length (words_of s.by) ≤ s.to - s.from + 1
 
--- The change makes of the runs those of the numbers that pass the test, which is another set.
+-- The change turns the runs into those of the numbers that pass the test, which are another set.
 pub record Plans (test : ℕ → Bool) (words : List CRange) (s : Splice) : Type 0 where
   pub fits : FitsRoom words s
   pub runs : BecomesRunsOf test (runs_of words) (runs_of (after_change words s))
@@ -34,7 +34,7 @@ pub record Made (old : List CRange) (before : ℕ) (change : Splice) (new : List
   pub within : after ≤ length new
   pub behind : drop after new ≡ drop after old
 
--- The array is full, and the change asks for one run more.
+-- The array is full, and the change needs one more run.
 pub record SetNeedsMore (old : List CRange) (before : ℕ) (change : Splice) : Type 0 where
   pub full : before ≡ length old
   pub more : length (after_change (take before old) change) ≡ before + 1

@@ -1,4 +1,4 @@
--- Sets of packet numbers, as the words of a caller's array describe them.
+-- Sets of packet numbers, as the entries of a caller's array describe them.
 use Rattle.std.specs.Prelude.{◌≡◌, ℕ, ◌+◌, ◌≤◌, Bool, List, length, take, drop, map}
 use Rattle.std.specs.declared.ops.Range.{Range}
 use Rattle.quic_ranges.specs.Runs.{IsMaximalRuns, IsRunsOf}
@@ -9,24 +9,24 @@ use Rattle.quic_c_sets.specs.declared.words.CRange.{CRange}
 abbrev pub span : ℕ → ℕ → Range ℕ
 span start end = record { start = start; end = end }
 
--- the range that the words of a run describe
+-- the range that an entry describes
 abbrev pub range_of : CRange → Range ℕ
 range_of words = record { start = words.start; end = words.end }
 
 abbrev pub runs_of : List CRange → List (Range ℕ)
 runs_of words = map range_of words
 
--- the ranges that the first words of an array describe, so many
+-- the ranges that the first entries of an array describe
 abbrev pub first_runs : ℕ → List CRange → List (Range ℕ)
 first_runs count words = runs_of (take count words)
 
--- The first words of an array, so many, are the maximal runs of a set.
+-- The first count entries of an array are the maximal runs of a set.
 pub record IsSet (words : List CRange) (count : ℕ) : Type 0 where
   pub within : count ≤ length words
   pub maximal : IsMaximalRuns (first_runs count words)
 
--- The first words were a set, and now the first are the set of the numbers that pass the test, which is another; the
--- words after these didn't change.
+-- The first entries were a set, and now the first are the set of the numbers that pass the test, which is another; the
+-- entries after these didn't change.
 pub record Becomes (test : ℕ → Bool) (old : List CRange) (before : ℕ) (new : List CRange) (after : ℕ) : Type 0 where
   pub set : IsSet old before
   pub runs : BecomesRunsOf test (first_runs before old) (first_runs after new)
@@ -38,7 +38,7 @@ pub record Stays (test : ℕ → Bool) (words : List CRange) (count : ℕ) : Typ
   pub set : IsSet words count
   pub runs : IsRunsOf test (first_runs count words)
 
--- They are a set and fill the array, and the set of the numbers that pass the test has one run more.
+-- They are a set and fill the array, and the set of the numbers that pass the test has one more run.
 pub record LacksRoom (test : ℕ → Bool) (words : List CRange) (count : ℕ) : Type 0 where
   pub set : IsSet words count
   pub full : count ≡ length words

@@ -28,7 +28,7 @@ fn are_numeric(numbers: &[u64]) -> bool
     true
 }
 
-// Whether the words describe an ACK.
+// Whether the arguments describe an ACK.
 fn describes_ack(delay: u64, runs: &[CRange], count: usize, counts: &[u64]) -> bool
     ensures { IsTrue result ↔ DescribesSetAck delay runs.now count counts.now }
 {
@@ -45,7 +45,7 @@ fn describes_ack(delay: u64, runs: &[CRange], count: usize, counts: &[u64]) -> b
     if few == 3 { are_numeric(counts) } else { false }
 }
 
-// Why the words describe no ACK, if they don't.
+// Why the arguments describe no ACK, if they don't.
 #[inline(never)]
 fn why_not(runs: &[CRange], count: usize, counts: &[u64]) -> Failure
     ensures { IsReason runs.now count counts.now result }
@@ -59,7 +59,7 @@ fn why_not(runs: &[CRange], count: usize, counts: &[u64]) -> Failure
     }
 }
 
-// The type of an ACK with these counts or with none.
+// The type of an ACK with these counts, or without.
 #[inline(always)]
 fn type_of(counts: &[u64]) -> u64
     requires { (length counts.now ≡ 0) ⊎ (length counts.now ≡ 3) }
@@ -69,8 +69,8 @@ fn type_of(counts: &[u64]) -> u64
     if few == 0 { 0x02 } else { 0x03 }
 }
 
-// How many bytes the runs below another one have, of which each is written as the numbers between it and the one above
-// it, less one, and its own numbers, less one.
+// How many bytes the runs below another one have. Each is written as how many numbers are between it and the one above
+// it, minus one, and how many it has, minus one.
 fn below_len(above: CRange, runs: &[CRange]) -> usize
     requires runs { IsMaximalRuns (runs_of runs.now ++ range_of above ∷ []) }
     requires bound { above.start < 2 ^ 62 }
@@ -91,7 +91,8 @@ fn below_len(above: CRange, runs: &[CRange]) -> usize
     len
 }
 
-// Stores the runs below another one, the greatest first, over the bytes at a place, and answers where they end.
+// Stores the runs below another one, the greatest first, over the bytes from `at` on, and returns the offset at which
+// they end.
 fn store_below(dest: &mut [u8], at: usize, above: CRange, runs: &[CRange]) -> usize
     requires runs { IsMaximalRuns (runs_of runs.now ++ range_of above ∷ []) }
     requires bound { above.start < 2 ^ 62 }
@@ -113,7 +114,7 @@ fn store_below(dest: &mut [u8], at: usize, above: CRange, runs: &[CRange]) -> us
     at
 }
 
-// Stores the ACK that the words describe at the front of the bytes.
+// Stores the ACK that the arguments describe at the front of the bytes.
 fn store_ack(
     delay: u64,
     runs: &[CRange],
@@ -148,11 +149,11 @@ fn store_ack(
     Ok(numbers_at(dest, at, counts))
 }
 
-/// Writes an ACK of the set that the first `count` entries are, in its shortest form, at the front of `dest`.
-/// `counts` has the numbers of packets marked ECT(0), ECT(1) and ECN-CE, or nothing. It returns 0 with how many bytes
-/// were written, and the bytes after them don't change; `NoRoom` with how many are needed if `dest` has fewer; `Ranges`
-/// exactly if the entries are no runs, as for `quic_wire_set_insert_`, or there are none; else `Length` exactly if
-/// `counts` has another length; else `Number` exactly if a number in the runs, the delay or a count is 2^62 or more.
+/// Writes an ACK of the set in the first `count` entries, in its shortest form, at the front of `dest` (RFC 9000,
+/// section 19.3). `counts` has the ECT(0), ECT(1) and ECN-CE counts, or is empty. It returns 0 and how many bytes were
+/// written, and the bytes after them don't change; `NoRoom` and how many are needed if `dest` has fewer; `Ranges`
+/// exactly when the entries aren't runs, as for `quic_wire_set_insert_`, or there are none; else `Length` exactly when
+/// `counts` has another length; else `Number` exactly when a number in the runs, the delay or a count is 2^62 or more.
 /// `dest` changes only with 0, and `written` only with 0 and `NoRoom`.
 #[unsafe(no_mangle)]
 pub extern "C" fn quic_wire_ack_write_(

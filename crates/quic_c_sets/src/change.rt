@@ -1,4 +1,4 @@
-//! What a change does to the runs of a set: which of them are removed, and which take their place.
+//! What a change does to the runs of a set: which of them are removed, and which replace them.
 ghost use Rattle.std.specs.Prelude.{◌≡◌, ◌≤◌, ◌<◌, ◌+◌, ◌++◌, length, take, drop, true, false, IfSome, IfNone};
 ghost use Rattle.quic_ranges.specs.Intersections.{as_runs};
 ghost use Rattle.quic_ranges.specs.Runs.{IsMaximalRuns, IsRunsOf, in_union, in_difference};
@@ -8,7 +8,7 @@ ghost use Rattle.quic_c_sets.specs.Changes.{FitsRoom, Made, SetNeedsMore, Plans,
 use crate::places::{count_ends_below, count_starts_upto};
 use crate::words::CRange;
 
-// The runs that take the place of others.
+// The runs that replace others.
 #[derive(Clone, Copy)]
 pub(crate) enum Substitute {
     Nothing,
@@ -129,8 +129,8 @@ pub(crate) fn removal(runs: &[CRange], x: CRange) -> Option<Splice>
     })
 }
 
-// Makes a change of the set in the first words, and counts its runs anew, if there is room for them. The runs after the
-// change are moved together.
+// Makes a change to the set in the first entries, and updates the count of its runs, if there is room for them. The
+// runs after the change are moved together.
 #[inline(always)]
 pub(crate) fn make(runs: &mut [CRange], count: &mut usize, change: Splice) -> bool
     requires within { count.old ≤ length runs.old }

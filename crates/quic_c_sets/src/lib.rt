@@ -1,5 +1,5 @@
-//! Functions exported to C: sets of packet numbers in an array that the caller owns, and ACKs of such sets.
-//! Every argument may have every value: no function has a precondition.
+//! Functions exported to C: sets of packet numbers in an array that the caller owns, and ACKs of such sets. Every
+//! argument may have any value: no function has a precondition.
 #![tactic(auto)]
 
 mod acks;

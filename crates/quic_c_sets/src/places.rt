@@ -1,5 +1,5 @@
-//! Whether words are the runs of a set, and where a number is among runs. Each place is found by binary search, after a
-//! look at the last run, where most changes are.
+//! Whether entries are the runs of a set, and where a number is among runs. The last run is checked first, since most
+//! changes are there; then the index is found by binary search.
 ghost use Rattle.std.specs.Prelude.{◌≡◌, ◌≤◌, ◌↔◌, length, IsTrue};
 ghost use Rattle.quic_ranges.specs.Runs.{IsMaximalRuns, member};
 ghost use Rattle.quic_ranges.specs.Places.{ends_below, starts_upto};
@@ -7,7 +7,7 @@ ghost use Rattle.quic_c_sets.specs.Sets.{IsSet, runs_of};
 
 use crate::words::CRange;
 
-// Whether the words are maximal runs.
+// Whether the entries are maximal runs.
 fn are_runs(runs: &[CRange]) -> bool
     ensures { IsTrue result ↔ IsMaximalRuns (runs_of runs.now) }
 {
@@ -31,7 +31,7 @@ fn are_runs(runs: &[CRange]) -> bool
     true
 }
 
-// Whether the first `count` words of an array are the runs of a set.
+// Whether the first `count` entries of an array are the runs of a set.
 #[inline(always)]
 pub(crate) fn is_set(words: &[CRange], count: usize) -> bool
     ensures { IsTrue result ↔ IsSet words.now count }

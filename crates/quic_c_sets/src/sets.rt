@@ -9,11 +9,11 @@ use crate::places::{contains, is_set};
 use crate::words::CRange;
 use quic_results::results::Failure;
 
-/// Puts the numbers from `start` to below `end` into the set of the first `count` entries: sorted runs, none empty,
-/// none touching another. An empty or reversed range puts in nothing. It returns 1 if the set changed, with its number
-/// of runs in `count`, and the entries after them don't change; 0 if all the numbers were in it; `NoRoom` exactly if one
-/// run more is needed than there are entries; `Ranges` exactly if `count` is above the number of entries or they are no
-/// such runs. Nothing changes except with 1.
+/// Inserts the numbers from `start` to below `end` into the set in the first `count` entries: sorted runs, none empty,
+/// none touching another. An empty or reversed range inserts nothing. It returns 1 if the set changed, with its number
+/// of runs in `count`, and the entries after them don't change; 0 if all the numbers were in it; `NoRoom` exactly when
+/// the set then needs one more run than there are entries; `Ranges` exactly when `count` is above the number of
+/// entries, or the first `count` aren't such runs. Nothing changes except with 1.
 #[unsafe(no_mangle)]
 pub extern "C" fn quic_wire_set_insert_(
     runs: &mut [CRange],
@@ -45,8 +45,8 @@ pub extern "C" fn quic_wire_set_insert_(
     }
 }
 
-/// Takes the numbers from `start` to below `end` out of the set, and returns what `quic_wire_set_insert_` does: 0 if none
-/// of them was in it; `NoRoom` exactly if a run is split in two and there is no entry for one more.
+/// Removes the numbers from `start` to below `end` from the set, and returns what `quic_wire_set_insert_` does: 0 if
+/// none of them was in it; `NoRoom` exactly when a run would be split in two and there is no entry for one more.
 #[unsafe(no_mangle)]
 pub extern "C" fn quic_wire_set_remove_(
     runs: &mut [CRange],
@@ -79,8 +79,8 @@ pub extern "C" fn quic_wire_set_remove_(
     }
 }
 
-/// Whether a number is in the set of the first `count` entries. It returns 1 if it is, 0 if it isn't, and `Ranges`
-/// exactly if they are no such runs, as for `quic_wire_set_insert_`.
+/// Whether a number is in the set in the first `count` entries. It returns 1 if it is, 0 if it isn't, and `Ranges`
+/// exactly when they aren't such runs, as for `quic_wire_set_insert_`.
 #[unsafe(no_mangle)]
 pub extern "C" fn quic_wire_set_contains_(runs: &[CRange], count: usize, number: u64) -> i32
     ensures returns { (result ≡ pos 1) ⊎ (result ≡ pos 0) ⊎ (result ≡ failed Failure.Ranges) }

@@ -26,7 +26,7 @@ pub length-slice_range : (payload : List ℕ) (start stop : ℕ) → start ≤ s
 length-slice_range payload start stop le within =
     omega (arith, length-take (stop - start) (drop start payload), length-drop start payload, le, within)
 
--- the first bytes, and those up to a later place
+-- the first bytes, and those up to a later offset
 pub take_on : (payload : List ℕ) (start stop : ℕ) → start ≤ stop → stop ≤ length payload
     → take start payload ++ slice_range payload start stop ≡ take stop payload
 take_on payload start stop le within =

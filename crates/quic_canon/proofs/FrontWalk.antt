@@ -50,7 +50,7 @@ front_walk_begins payload state first = record {
   in_front = λ found s. front_begins payload state found first (frames_first false payload state found first s) s;
 }
 
--- the frames that are left where all before are in their shortest encodings
+-- the frames that are left if all before are in their shortest encodings
 all_so_far : (payload : List ℕ) (n : ℕ) (state : IterState) (found : List TypedFrame)
     → (f : InFront payload n state found) → n ≡ state.offset
     → f.rest ≡ f.others
@@ -225,7 +225,7 @@ pub stays_at : (payload : List ℕ) (front start stop : ℕ) (old new : IterStat
 stays_at payload front start stop old new frame differs w f at =
     subst (λ (n : ℕ). FrontWalk payload front n new) (sym at) (front_stays payload front start old new frame differs w f)
 
--- by another name of the place
+-- with another name for the offset
 pub front_is : (payload : List ℕ) (front same start : ℕ) (state : IterState) → same ≡ front
     → FrontWalk payload front start state
     → FrontWalk payload same start state

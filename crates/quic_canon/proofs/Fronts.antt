@@ -59,7 +59,7 @@ itself_least payload n has f e =
     ∙ take-append-drop n payload in
     subst (λ (l : List ℕ). IsLeast l payload) all (front_whole payload n has f none)
 
--- A part that isn't all of it makes the least payload shorter.
+-- If the front isn't the whole payload, the least payload is shorter.
 pub is_shorter : (payload least : List ℕ) (n : ℕ) → HasLeast → IsFront payload n → n ≢ length payload
     → IsLeast least payload → length least < length payload
 is_shorter payload least n has f differs l =
@@ -85,7 +85,7 @@ pub is_not_itself : (payload : List ℕ) (n : ℕ) → HasLeast → IsFront payl
     → IsLeast payload payload → ⊥
 is_not_itself payload n has f differs l = let lt = is_shorter payload payload n has f differs l in omega (arith, lt)
 
--- ---- what is refused has none
+-- ---- what is rejected has none
 
 pub wrong_has_none : (payload least : List ℕ) (e : CanonError) → AreBytes payload
     → ((found : List TypedFrame) (least payload : List ℕ) (type : Option ℕ) (reason : Fault) → AreBytes payload

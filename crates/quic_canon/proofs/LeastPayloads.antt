@@ -30,7 +30,7 @@ Written = (frames : List Meaning) → map frame_in (all_written frames) ≡ fram
 
 -- ---- meaning the same
 
--- the frames of one payload, where those of the other are given
+-- the frames of one payload, given those of the other
 along : (payload other : List ℕ) (found : List TypedFrame) → OneReading → IsSame payload other
     → AreFrames false found other
     → (frames : List TypedFrame) × AreFrames false frames payload × (map frame_in frames ≡ map frame_in found)
@@ -139,7 +139,7 @@ same_if_equal payload other least least' one l k e =
 pub least_of_least : (payload least : List ℕ) → OneReading → IsLeast least payload → IsLeast least least
 least_of_least payload least one l = least_along least payload least one l (flip least payload l.same)
 
--- Its types are in their least widths.
+-- Its types are in their shortest encodings.
 pub least_is_strict : (payload least : List ℕ) → OneReading → Shortest → Encoded → Written → IsLeast least payload
     → (found : List TypedFrame) × AreFrames true found least × AreFrames false found least
 least_is_strict payload least one shortest encoded written l =

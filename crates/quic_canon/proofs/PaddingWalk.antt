@@ -15,7 +15,7 @@ use Rattle.quic_canon.proofs.Steps.{BeginsNone, OneShortest, small_at}
 abbrev EachPads : ℕ → IterState → Type 0
 EachPads count old = (k : ℕ) → k < count → Finds (behind k old) frames.Padding (behind (suc k) old)
 
--- the place after one more
+-- the state after one more
 behind_at : (payload : List ℕ) (front start k : ℕ) (old : IterState) → FrontWalk payload front start old
     → start + suc k ≡ (behind (suc k) old).offset
 behind_at payload front start k old w = let is = w.walks.start_is in omega (arith, is)
@@ -68,7 +68,7 @@ padding_stays payload front stop later count old new differs w p at =
     (all_stay payload front stop count count old differs w p.each (omega arith)) in
     subst (λ (n : ℕ). FrontWalk payload front n new) (sym passed.walks.start_is ∙ sym at) passed
 
--- while a payload is written anew, each stands as it is
+-- while a payload is rewritten, each stays as it is
 all_kept : (old new : Vec ℕ Global) (payload : List ℕ) (from start count k : ℕ) (state : IterState) → BeginsNone
     → OneShortest
     → RewriteWalk old new payload from start state → EachPads count state → k ≤ count
@@ -96,7 +96,7 @@ padding_kept old new payload from stop later count state next begins one w p at 
     (all_kept old new payload from stop count count state begins one w p.each (omega arith)) in
     subst (λ (n : ℕ). RewriteWalk old new payload from n next) (sym passed.walks.start_is ∙ sym at) passed
 
--- the place by another name, after PADDING and where none is passed
+-- the offset by another name, after PADDING and if none is skipped
 pub passed_as : (old out : Vec ℕ Global) (payload : List ℕ) (from stop later count : ℕ) (state next there : IterState)
     → BeginsNone → OneShortest → RewriteWalk old out payload from stop state → PassesPadding state count next
     → there ≡ next

@@ -1,4 +1,4 @@
--- A walk that writes a payload anew.
+-- A walk that rewrites a payload.
 use Rattle.std.proofs.Common.{◌≡◌, ℕ, ◌+◌, ◌≤◌, eqb, Bool, true, false, List, [], ◌∷◌, ◌++◌, length, map, drop, Some, Result, Err, refl, sym, ap, subst, ◌∙◌, append_assoc, arith}
 use Rattle.std.specs.Prelude.{slice_range, Vec, vec_len, vec_capacity}
 use Rattle.std.specs.declared.alloc.Global.{Global}
@@ -17,7 +17,7 @@ use Rattle.quic_canon.proofs.LeastPayloads.{Shortest}
 use Rattle.quic_canon.proofs.Cuts.{slice_on, slice_none}
 use Rattle.quic_canon.proofs.Steps.{BeginsNone, OneShortest, Walks, walk_on, next_frame, at_most, span_of, Tested, frame_length, shortest_there, shortest_next, walk_begins, spent_at, fails_err}
 
--- What was written, and the bytes from a place on that stand as they are, are what the frames so far become.
+-- What was written, followed by the bytes from an offset on that stay as they are, is what the frames so far become.
 pub record Rewrites (old new : Vec ℕ Global) (payload : List ℕ) (from start : ℕ) (state : IterState)
     (found : List TypedFrame) : Type 0 where
   pub rest : List TypedFrame
@@ -140,7 +140,7 @@ walk_as old new out payload from place start state out-is place-is w =
     subst (λ (n : ℕ). RewriteWalk old out payload n start state) (sym place-is)
     (subst (λ (v : Vec ℕ Global). RewriteWalk old v payload from start state) (sym out-is) w)
 
--- the frame that was found stands as it is
+-- the frame that was found stays as it is
 pub rewrite_keeps : (old new : Vec ℕ Global) (payload : List ℕ) (from start stop : ℕ) (state next : IterState) (frame : Frame) (b : Bool)
     → BeginsNone
     → OneShortest → RewriteWalk old new payload from start state → Finds state frame next → stop ≡ next.offset

@@ -1,4 +1,4 @@
--- Frames of payloads that say the same are the same.
+-- Frames of payloads that mean the same are the same.
 use Rattle.std.proofs.Common.{◌≡◌, ℕ, ◌≤◌, eqb, Bool, true, false, List, [], ◌∷◌, ◌++◌, map, drop, Some, refl, sym, ap, subst, ◌∙◌, append_assoc, inl, inr}
 use Rattle.std.specs.Prelude.{⊤, ◌⊎◌, ◌||◌, ◌&&◌, not, if◌then◌else◌}
 use Rattle.std.specs.Map.{lookup}
@@ -208,7 +208,7 @@ ack_fields fields values bytes s =
 
 -- ---- frames that are encoded
 
--- what is known of a frame that is encoded
+-- what is known about a frame that is encoded
 record IsKnown (frame : Meaning) : Type 0 where
   down : AreDown frame.values
   acks : is_ack frame.name ≡ true → IsAckOf frame.values

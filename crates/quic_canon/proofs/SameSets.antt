@@ -39,7 +39,7 @@ others_apart : (range : ℕ × ℕ) (ranges : List (ℕ × ℕ)) → AreApart (r
 others_apart range [] h = tt
 others_apart range (below ∷ ranges) h = h.2
 
--- numbers in ranges below one are below its least number, less one
+-- numbers in ranges below one are below its least number minus one
 in_others : (range : ℕ × ℕ) (ranges : List (ℕ × ℕ)) (n : ℕ) → AreApart (range ∷ ranges) → is_in ranges n ≡ true
     → n + 2 ≤ range.0
 in_others range [] n h e = absurd cc

@@ -19,7 +19,7 @@ use Rattle.quic_frames.proofs.Turns.{HasRead, has_read_none, has_read_more, find
 use Rattle.quic_errors.specs.declared.invalid_frame.InvalidFrame.{InvalidFrame}
 use Rattle.quic_canon.proofs.Cuts.{cut_there, length-slice_range, split_front, cases_bool}
 
--- what is used of the laws of payloads, beside those
+-- what is used of the laws of payloads, besides those
 abbrev pub BeginsNone : Type 0
 BeginsNone =
     (one other : TypedFrame) (bytes longer rest : List ℕ) → is_open one.type ≡ false → IsFrame false one bytes
@@ -229,7 +229,7 @@ span_of payload start size old new frame len w f =
       last = λ e. at_end new.offset size (h.opens e ∙ sym len);
     }
 
--- what a test of lengths says of the frame that was found
+-- what comparing lengths says about the frame that was found
 abbrev pub Tested : Bool → Frame → ℕ → ℕ → ℕ → Type 0
 Tested b frame start stop size = b ≡ eqb (length (shortest_frame (eqb stop size) (meaning_of frame))) (stop - start)
 
@@ -284,7 +284,7 @@ pub spent_at : (payload : List ℕ) (start : ℕ) (state : IterState) → Walks 
 spent_at payload start state w (inl broken) = absurd (cc (broken, w.read.goes_on))
 spent_at payload start state w (inr end) = sym w.start_is ∙ end ∙ ap length w.read.same_payload
 
--- ---- what a step gave
+-- ---- what a step returned
 
 pub finds_ok : (old new : IterState) (item : Result Frame InvalidFrame) (frame : Frame) → item ≡ Ok frame
     → Advances old (Some item) new → Finds old frame new

@@ -1,4 +1,4 @@
--- What is written of frames.
+-- What is written for frames.
 use Rattle.std.specs.Prelude.{◌≡◌, ◌≢◌, ℕ, List, [], ◌∷◌, length, map, Bool}
 use Rattle.std.proofs.Common.{inl, inr, sym, ap, arith, length-append}
 use Rattle.quic_frame_fields.specs.Payload.{Meaning, TypedFrame, AreFrames}
@@ -17,7 +17,7 @@ found_some strict [] frames bytes are same none = sym same
 found_some strict (found ∷ others) frames bytes are same none =
     absurd (omega (arith, none, frame_some strict found are.0 are.3, ap length are.2, length-append are.0 are.1))
 
--- frames take a byte
+-- frames have at least one byte
 pub payload_some : (strict : Bool) (found : List TypedFrame) (frames : List Meaning) (bytes : List ℕ)
     → AreFrames strict found bytes → map frame_in found ≡ frames → frames ≢ [] → bytes ≢ []
 payload_some strict found frames bytes are same some none =

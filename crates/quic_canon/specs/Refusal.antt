@@ -1,4 +1,4 @@
--- What is reported where there is no canonical payload.
+-- What is reported if there is no canonical payload.
 use Rattle.std.specs.Prelude.{◌≡◌, ◌≢◌, ℕ, List, [], ◌++◌, ◌⊎◌, Option, None, false}
 use Rattle.quic_frame_fields.specs.declared.frame.fault.Fault.{Fault}
 use Rattle.quic_frame_fields.specs.Payload.{TypedFrame, AreFrames, IsBroken}
@@ -8,7 +8,7 @@ use Rattle.quic_canon.specs.declared.canonical.CanonError.{CanonError}
 use Rattle.quic_canon.specs.declared.canonical.CanonError.TheVariants.{Empty, Invalid, OutOfMemory}
 use Rattle.quic_canon.specs.Least.{IsLeast, HasMeaning}
 
--- The payload is refused: it is empty, or has this invalid frame, or is valid but memory ran out.
+-- There is no canonical payload: the payload is empty, or has this invalid frame, or is valid but an allocation failed.
 abbrev pub IsRefused : List ℕ → CanonError → Type 0
 IsRefused payload Empty = payload ≡ []
 IsRefused payload (Invalid i) =
@@ -16,11 +16,11 @@ IsRefused payload (Invalid i) =
     × (invalid_of i ≡ invalid type reason)
 IsRefused payload OutOfMemory = (payload ≢ []) × (found : List TypedFrame) × AreFrames false found payload
 
--- It is refused because it is empty or invalid, and not for want of memory.
+-- The payload is rejected because it is empty or invalid, not because an allocation failed.
 abbrev pub IsWrong : List ℕ → CanonError → Type 0
 IsWrong payload e = IsRefused payload e × (e ≢ OutOfMemory)
 
--- The first of two payloads is refused, or the second where the first isn't.
+-- The first of two payloads is rejected, or the second if the first isn't.
 abbrev pub IsEitherRefused : List ℕ → List ℕ → CanonError → Type 0
 IsEitherRefused payload other e = IsRefused payload e ⊎ (HasMeaning payload × IsRefused other e)
 

@@ -1,4 +1,5 @@
--- Payloads that mean the same: equal frames in equal order, ACKs by their delays, their counts and the numbers in them.
+-- Payloads that mean the same: equal frames in the same order. ACKs are compared by their delays, their ECN counts and
+-- the numbers in them.
 use Rattle.std.specs.Prelude.{◌≡◌, ◌≢◌, ℕ, List, [], ◌∷◌, drop, map, Bool, true, false, if◌then◌else◌}
 use Rattle.std.specs.List.{AllZip}
 use Rattle.quic_frame_fields.specs.Field.{Value, Ranges}
@@ -16,7 +17,8 @@ abbrev pub is_ack : Name → Bool
 is_ack Ack = true
 is_ack name = false
 
--- The values in which frames are compared: of an ACK all but the first, its greatest number, which its ranges have too.
+-- The values by which frames are compared: for an ACK, all except the first, its greatest number, which its ranges
+-- determine.
 abbrev pub compared_values : Meaning → List Value
 compared_values frame = if is_ack frame.name then drop 1 frame.values else frame.values
 

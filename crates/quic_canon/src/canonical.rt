@@ -25,12 +25,12 @@ pub enum CanonError {
     /// The payload has an invalid frame.
     #[error("{0}")]
     Invalid(InvalidFrame),
-    /// The vector could not grow.
+    /// The vector couldn't grow.
     #[error("out of memory")]
     OutOfMemory,
 }
 
-// Reads a whole payload, and answers how many bytes at its front are frames in their shortest encodings.
+// Reads a whole payload, and returns how many bytes at its front are frames in their shortest encodings.
 fn shortest_front(payload: &[u8]) -> Result<usize, CanonError>
     ensures ok { IfOk result (λ n. IsFront payload.now n) }
     ensures err { IfErr result (λ e. IsWrong payload.now e) }
@@ -53,7 +53,7 @@ fn shortest_front(payload: &[u8]) -> Result<usize, CanonError>
         if front == start && is_shortest(&frame, is_last, stop - start) {
             front = stop;
         }
-        // After a frame of one byte, as PADDING is, all PADDING that follows is skipped at once.
+        // After a frame of one byte, such as PADDING, all PADDING that follows is skipped at once.
         if stop - start == 1 {
             iter.pass_padding();
             start = iter.offset();
@@ -67,8 +67,8 @@ fn shortest_front(payload: &[u8]) -> Result<usize, CanonError>
     Ok(front)
 }
 
-// Whether the frame takes this many bytes in its shortest encoding, which has no more. One byte always is the shortest,
-// as for each byte of PADDING.
+// Whether the frame's shortest encoding has `len` bytes; it never has more. A frame of one byte, like PADDING, is
+// always the shortest.
 #[inline(always)]
 #[tactic(auto, using(crate::proofs::Spans::one_byte))]
 fn is_shortest(frame: &Frame<'_>, last: bool, len: usize) -> bool
@@ -102,8 +102,8 @@ fn write(frame: &Frame<'_>, last: bool, out: &mut Vec<u8>)
     };
 }
 
-// Appends the frames of a payload in their shortest encodings, for which there is room. Frames that are in their
-// shortest encodings already are copied, as many at once as follow each other.
+// Appends the frames of a payload in their shortest encodings, for which there is room. Consecutive frames that are
+// already in their shortest encodings are copied together.
 fn rewrite(payload: &[u8], out: &mut Vec<u8>)
     requires some { payload.now ≢ [] }
     requires whole { (found : List TypedFrame) × AreFrames false found payload.now }
@@ -128,7 +128,7 @@ fn rewrite(payload: &[u8], out: &mut Vec<u8>)
             write(&frame, is_last, out);
             from = stop;
         }
-        // After a frame of one byte, as PADDING is, all PADDING that follows is skipped at once.
+        // After a frame of one byte, such as PADDING, all PADDING that follows is skipped at once.
         if stop - start == 1 {
             iter.pass_padding();
         }
@@ -137,7 +137,7 @@ fn rewrite(payload: &[u8], out: &mut Vec<u8>)
     copy(&payload[from..], out);
 }
 
-// Appends the shortest payload, for which there is room. The caller knows how many of the first bytes are copied.
+// Appends the shortest payload, for which there is room. The caller gives how many of the first bytes are copied.
 fn write_least(payload: &[u8], front: usize, out: &mut Vec<u8>)
     requires front { IsFront payload.now front }
     requires room { vec_len out.old + length payload.now ≤ vec_capacity out.old }
@@ -151,9 +151,9 @@ fn write_least(payload: &[u8], front: usize, out: &mut Vec<u8>)
     }
 }
 
-/// Appends the shortest payload with the same meaning as the payload. The payload is read first; then room for as many
-/// bytes is reserved at once. If that fails, or the payload is invalid, `out` doesn't change. For an invalid
-/// payload no memory is allocated.
+/// Appends the shortest payload with the same meaning. The payload is read first; then room for that many bytes is
+/// reserved at once. If that fails, or if the payload is empty or invalid, `out` doesn't change. It doesn't allocate
+/// for an invalid payload.
 pub fn canonical(payload: &[u8], out: &mut Vec<u8>) -> Result<(), CanonError>
     ensures ok { OnOk result (AppendsLeast out.old.items out.new.items payload.now) }
     ensures err { IfErr result (λ e. IsRefused payload.now e) }
@@ -179,7 +179,7 @@ pub fn canonical(payload: &[u8], out: &mut Vec<u8>) -> Result<(), CanonError>
 pub enum CanonBytes<'a> {
     /// The payload itself.
     Same(&'a [u8]),
-    /// Another one, which is shorter.
+    /// A shorter one.
     Rewritten(Vec<u8>),
 }
 
@@ -197,8 +197,8 @@ impl CanonBytes<'_> {
     }
 }
 
-// The shortest payload in a vector of its own, for which room for the payload's length is reserved at once. The caller
-// knows how many of the first bytes are copied. It isn't inlined, since a payload that is canonical doesn't need it.
+// The shortest payload in a new vector, in which room for the payload's length is reserved at once. The caller gives
+// how many of the first bytes are copied. It isn't inlined, since a payload that is canonical doesn't need it.
 #[inline(never)]
 fn rewritten(alloc: Global, payload: &[u8], front: usize) -> Result<Vec<u8>, AllocError>
     requires { IsFront payload.now front }
@@ -210,8 +210,8 @@ fn rewritten(alloc: Global, payload: &[u8], front: usize) -> Result<Vec<u8>, All
     Ok(out)
 }
 
-/// The same as `canonical` appends, without a copy if that is the payload itself: then it allocates no memory. Else
-/// room for the payload's length is reserved at once.
+/// Returns what `canonical` appends, without a copy and without an allocation if that is the payload itself. Otherwise
+/// it reserves room for the payload's length at once. The errors are those of `canonical`.
 pub fn canonical_of<'a>(alloc: Global, payload: &'a [u8]) -> Result<CanonBytes<'a>, CanonError>
     ensures ok { IfOk result (λ bytes. GivesLeast payload.now bytes) }
     ensures err { IfErr result (λ e. IsRefused payload.now e) }

@@ -13,28 +13,28 @@ ghost use Rattle.quic_canon.specs.Least.{IsLeast};
 
 use quic_frames::laws::{least_encoding, one_reading};
 
-/// Each valid payload has one shortest payload of the same meaning, and no other payload has one.
+/// Each valid payload has one shortest payload with the same meaning, and no other payload has one.
 pub fn one_least()
     ensures exists { (found : List TypedFrame) (payload : List ℕ) → payload ≢ [] → AreFrames false found payload
         → IsLeast (shortest_frames (map frame_in found)) payload }
     ensures none { (found : List TypedFrame) (least payload : List ℕ) (type : Option ℕ) (reason : Fault)
         → AreBytes payload → IsBroken false None found payload type reason → IsLeast least payload → ⊥ }
     ensures unique { (one other payload : List ℕ) → IsLeast one payload → IsLeast other payload → one ≡ other }
-    // Two payloads mean the same exactly if their shortest payloads are equal,
+    // Two payloads mean the same exactly when their shortest payloads are equal,
     ensures same { (payload other least least' : List ℕ) → IsLeast least payload → IsLeast least' other
         → (IsSame payload other ↔ (least ≡ least')) }
     // the shortest payload of a shortest payload is itself,
     ensures again { (payload least : List ℕ) → IsLeast least payload → IsLeast least least }
-    // and each other payload of that meaning is longer.
+    // and each other payload with that meaning is longer.
     ensures longer { (payload other least : List ℕ) → IsLeast least payload → IsSame other payload → other ≢ least
         → length least < length other }
-    // Its types are in their least widths, so the strict reading is the same.
+    // Its types are in their shortest encodings, so the strict reading is the same.
     ensures strict { (payload least : List ℕ) → IsLeast least payload
         → (found : List TypedFrame) × AreFrames true found least × AreFrames false found least }
     // An ACK has one list of ranges: lists of ranges that never touch are equal if they have the same numbers.
     ensures ranges { (some others : List (ℕ × ℕ)) → AreApart some → AreApart others
         → ((n : ℕ) → is_in some n ≡ is_in others n) → some ≡ others }
-    // So payloads mean the same exactly if their frames have the same values.
+    // So payloads mean the same exactly when their frames have the same values.
     ensures values { (found others : List TypedFrame) (payload other : List ℕ) → AreFrames false found payload
         → AreFrames false others other → AllZip IsSameFrame (map frame_in found) (map frame_in others)
         → map frame_in found ≡ map frame_in others }

@@ -1,4 +1,4 @@
-//! Codes and types of frames by their numbers, as bytes give them.
+//! Codes and types of frames, read from the bytes of their numbers.
 
 use quic_base::coding::{BufMutExt, Codec};
 use quic_base::varint::VarInt;

@@ -1,4 +1,4 @@
-//! Counted checks for the tests of all layers. A test reports the first that failed.
+//! Counted checks for the tests of all layers. A test reports the first one that failed.
 #![tactic(auto)]
 
 ghost use Rattle.std.specs.Prelude.{◌≡◌, ◌||◌, false, not, is_err, OnOk, IsTrue};
@@ -9,11 +9,11 @@ use std::alloc::Global;
 use std::fmt::{Debug, Display};
 use std::test::Fail;
 
-/// The checks of a test. A failed one is kept until the test asks for its verdict, so that a test has one end and
-/// no branch for each check.
+/// The checks of a test. A failure is recorded until the test asks for its verdict, so that a test has one end and no
+/// branch for each check.
 #[derive(Drop)]
 pub struct Checks {
-    /// How many checks came, modulo 2^64.
+    /// How many checks were made, modulo 2^64.
     pub count: u64,
     /// Whether one of them failed.
     pub has_failed: bool,
@@ -33,7 +33,7 @@ impl Checks {
         }
     }
 
-    // Counts a check, and keeps its message if it is the first that failed.
+    // Counts a check, and records its message if it is the first that failed.
     fn check(&mut self, is_so: bool, says: impl Display + Drop)
         ensures { self.new.has_failed ≡ (self.old.has_failed || not is_so) }
     {
@@ -41,7 +41,7 @@ impl Checks {
         if !is_so && !self.has_failed {
             self.has_failed = true;
             let count = self.count;
-            // If there is no memory for the message, the test fails nevertheless.
+            // If the allocation for the message fails, the test still fails.
             let _ = write!(self.why, "check {count}: {says}");
         }
     }
@@ -99,7 +99,7 @@ impl Checks {
         Ok(())
     }
 
-    /// The end of a test: a failure if a check failed, which says which of them and why.
+    /// The end of a test: an error if a check failed, which says which check and why.
     pub fn verdict(self) -> Result<(), Fail>
         ensures { is_err result ≡ self.has_failed }
     {

@@ -1,11 +1,11 @@
--- Results that are returned alike are the same.
+-- Results with the same number are equal.
 use Rattle.std.proofs.Common.{◌≡◌, ℕ, Result, Ok, Err, refl, sym, ap, ◌∙◌}
 use Rattle.std.specs.Prelude.{◌==◌, if◌then◌else◌, ℤ, pos, negsuc}
 use Rattle.quic_results.specs.declared.results.Failure.{Failure}
 use Rattle.quic_results.specs.declared.results.Failure.TheVariants as failure
 use Rattle.quic_results.specs.Results.{returned}
 
--- the result that is returned so
+-- the result with this number
 abbrev back : ℤ → Result ℕ Failure
 back (pos n) = Ok n
 back (negsuc n) =

@@ -9,7 +9,7 @@ abbrev chosen : Bool → Bool → Bool → Bool → Failure
 chosen one two three four = if one then failure.FrameEnd else if two then failure.FrameType
     else if three then failure.FrameLongType else if four then failure.FrameLimit else failure.FrameMalformed
 
--- something that is not said of the five numbers is not said of what is chosen
+-- what doesn't hold for any of the five numbers doesn't hold for the chosen one
 five : (P : ℤ → Type 0) (one two three four : Bool) → (P (failed failure.FrameEnd) → ⊥) → (P (failed failure.FrameType) → ⊥)
     → (P (failed failure.FrameLongType) → ⊥) → (P (failed failure.FrameLimit) → ⊥)
     → (P (failed failure.FrameMalformed) → ⊥) → P (failed (chosen one two three four)) → ⊥

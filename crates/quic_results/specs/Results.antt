@@ -31,11 +31,11 @@ number_of failure.PacketRetry = 47
 number_of failure.ParametersMalformed = 60
 number_of failure.ParametersIllegal = 61
 
--- what a failure is returned as
+-- the number that a failure is returned as
 abbrev pub failed : Failure → ℤ
 failed f = negsuc (number_of f - 1)
 
--- what a result is returned as
+-- the number that a result is returned as
 abbrev pub returned : Result ℕ Failure → ℤ
 returned (Ok count) = pos count
 returned (Err f) = failed f

@@ -4,7 +4,7 @@ ghost use Rattle.quic_results.specs.Results.{returned};
 
 use crate::results::Failure;
 
-/// Results that are returned alike are the same: a number says which failure it is, and a count that it is none.
+/// Results with the same number are equal: a number says which failure it is, and a count isn't one.
 #[tactic(auto, using(crate::proofs::Distinct::distinct))]
 pub fn distinct()
     ensures { (one other : Result ℕ Failure) → returned one ≡ returned other → one ≡ other }

@@ -7,17 +7,17 @@ ghost use Rattle.quic_results.specs.Results.{code_of, failed, frame_failure, ret
 pub enum Failure {
     /// The arguments describe nothing that the function can write.
     Argument,
-    /// A place is outside of the bytes, or what is there isn't what the function reads.
+    /// An offset is outside the bytes, or the function can't read what is there.
     Place,
-    /// There is no such kind, or not for this function.
+    /// There is no such kind, or this function doesn't accept it.
     Kind,
-    /// A number is too large for its field, or 0 where that isn't possible.
+    /// A number is too large for its field, or is 0 although it mustn't be.
     Number,
-    /// A length or width isn't possible in its field.
+    /// A length or width is impossible for its field.
     Length,
-    /// The ranges are none, or aren't sorted with a number between any two.
+    /// There are no ranges, or they aren't sorted with a number between any two.
     Ranges,
-    /// A transport parameter is one that the peer would refuse.
+    /// A transport parameter is one that the peer would reject.
     Parameter,
     /// The buffer has less room than is needed.
     NoRoom,
@@ -27,11 +27,11 @@ pub enum Failure {
     FrameEnd,
     /// The type of a frame is unknown.
     FrameType,
-    /// A field of a frame has no value of its kind.
+    /// A field of a frame has an invalid value.
     FrameMalformed,
     /// The type of a frame isn't in its shortest encoding (RFC 9000, section 12.4).
     FrameLongType,
-    /// Data go past 2^62 - 1, or there are more than 2^60 streams (RFC 9000, sections 19.6, 19.8, 19.11 and 19.14).
+    /// Data ends past 2^62 - 1, or there are more than 2^60 streams (RFC 9000, sections 19.6, 19.8, 19.11 and 19.14).
     FrameLimit,
     /// The bytes end within a packet's header.
     PacketEnd,
@@ -49,9 +49,9 @@ pub enum Failure {
     PacketCut,
     /// A Retry has no token, or no room for its tag (RFC 9000, section 17.2.5).
     PacketRetry,
-    /// A transport parameter is cut off, has no value of its kind, or is there twice.
+    /// A transport parameter is cut off, has an invalid value, or occurs twice.
     ParametersMalformed,
-    /// A transport parameter has a value out of range, or may not come from that side.
+    /// A transport parameter has a value out of range, or that side may not send it.
     ParametersIllegal,
 }
 
@@ -90,10 +90,10 @@ impl Failure {
     }
 }
 
-/// The code with which an endpoint closes the connection because of a failure with this number (RFC 9000, section 20.1):
-/// `FRAME_ENCODING_ERROR`, `PROTOCOL_VIOLATION` or `TRANSPORT_PARAMETER_ERROR` if its peer broke a rule,
-/// `INTERNAL_ERROR` if the caller passed impossible arguments, and `NO_ERROR`, 0, if nothing is closed: a packet that
-/// can't be read is dropped, and other numbers are no failures.
+/// The code with which an endpoint closes the connection after the failure with this number (RFC 9000, section 20.1):
+/// `FRAME_ENCODING_ERROR`, `PROTOCOL_VIOLATION` or `TRANSPORT_PARAMETER_ERROR` if its peer broke a rule;
+/// `INTERNAL_ERROR` if the caller passed impossible arguments; and `NO_ERROR`, 0, if nothing is closed, because a
+/// packet that can't be read is dropped, and other numbers aren't failures.
 pub fn close_code(number: i32) -> u32
     ensures failure { (f : Failure) → number ≡ failed f → result ≡ code_of f }
     ensures success { (count : ℕ) → number ≡ pos count → result ≡ 0x00 }
@@ -107,7 +107,7 @@ pub fn close_code(number: i32) -> u32
     }
 }
 
-/// What C sees of a result: the count, or the number of the failure.
+/// A result as C sees it: the count, or the number of the failure.
 #[inline(always)]
 pub fn returned(outcome: Result<u32, Failure>) -> i64
     ensures { result ≡ returned outcome }
@@ -118,7 +118,7 @@ pub fn returned(outcome: Result<u32, Failure>) -> i64
     }
 }
 
-/// What is returned for the reason why a frame is invalid.
+/// The failure for the reason why a frame is invalid.
 pub fn frame_failure(reason: &str) -> Failure
     ensures { result ≡ frame_failure reason.now }
 {

@@ -1,4 +1,4 @@
--- There is one outcome, and a packet that is reported to be whole is cut at its end.
+-- There is one outcome, and a packet that is reported as complete is cut at its end.
 use Rattle.std.proofs.Common.{◌≡◌, ◌∙◌, ap, sym, inr, Ok, rules, to_z, of_z, w64}
 use Rattle.quic_results.specs.Results.{returned}
 use Rattle.quic_c_headers.specs.Reading.{Reported}

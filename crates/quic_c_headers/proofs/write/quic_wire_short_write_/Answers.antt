@@ -1,4 +1,4 @@
--- The bytes written for a short header are the header that its words describe.
+-- The bytes written for a short header are the header that its fields describe.
 use Rattle.std.proofs.Common.{◌≡◌, ◌≤◌, ℕ, List, [], length, length-append, ap, refl, inl, inr, arith, rules, to_z, w64}
 use Rattle.std.specs.Prelude.{pos}
 use Rattle.quic_base.specs.Number.{bytes_of}

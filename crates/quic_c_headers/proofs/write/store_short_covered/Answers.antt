@@ -1,4 +1,4 @@
--- Four bytes of a number are stored at its end, and the id over those that are too many.
+-- Four bytes of a number are stored at its end, and the id overwrites those that are too many.
 use Rattle.std.proofs.Common.{◌≡◌, ◌+◌, ◌-◌, ◌≤◌, ◌∷◌, ◌++◌, ◌∙◌, ℕ, List, [], length, ap, arith, rules}
 use Rattle.std.specs.Prelude.{drop, take}
 use Rattle.quic_base.specs.Number.{bytes_of}

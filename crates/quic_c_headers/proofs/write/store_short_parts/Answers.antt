@@ -1,4 +1,4 @@
--- A short header is stored part behind part.
+-- A short header is stored part after part.
 use Rattle.std.proofs.Common.{◌≡◌, ◌+◌, ◌∙◌, ℕ, List, length, take, arith, rules}
 use Rattle.quic_header_encode.proofs.Stores.{stays}
 use Rattle.quic_c_headers.proofs.Writing.{short_fields, short_stored}

@@ -1,4 +1,4 @@
--- Words without the shape of a header describe none, and a header that they describe is written as its bytes.
+-- Fields without the shape of a header describe none, and a header that they describe is written as its bytes.
 use Rattle.std.proofs.Common.{◌≡◌, ◌≤◌, ◌<◌, ◌∙◌, ℕ, List, length, IsTrue, ap, inl, inr, refl, arith, rules, to_z, w64}
 use Rattle.std.proofs.lemmas.Bool.{cases_lt}
 use Rattle.std.specs.Prelude.{pos, replicate, take, drop}

@@ -1,4 +1,4 @@
-//! ACKs that are written: `DELAY A..B,C..D`, perhaps with the three counts.
+//! ACKs that are written: `DELAY A..B,C..D`, optionally followed by the three ECN counts.
 ghost use Rattle.std.specs.Prelude.{IsTrue};
 ghost use Rattle.std.specs.Option.{option_copied};
 ghost use Rattle.quic_frames.specs.InRange.{AreCounts};
@@ -58,7 +58,7 @@ fn write_ack(
     Ok(())
 }
 
-// The ACK of the words of a line. The set is empty before.
+// The ACK for the words of a line. The set is empty before.
 fn write_runs(
     out: &mut Vec<u8>,
     set: &mut ArrayRangeSet,

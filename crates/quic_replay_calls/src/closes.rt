@@ -15,7 +15,7 @@ pub(crate) fn replay(rt: &HostRuntime, line: &str) -> Result<(), Fail> {
     print_digits(rt, out.as_slice())
 }
 
-// A close of the transport in so much room, which is enough for it.
+// A close by the transport in that much room, which is enough.
 fn write_connection(
     out: &mut Vec<u8>,
     error_code: Code,
@@ -38,7 +38,7 @@ fn write_connection(
     Ok(())
 }
 
-// One of the application.
+// A close by the application.
 fn write_application(
     out: &mut Vec<u8>,
     error_code: VarInt,
@@ -56,7 +56,7 @@ fn write_application(
     Ok(())
 }
 
-// The same of the words of a line. The reason phrase is read last, since an early return would have to drop it.
+// The same for the words of a line. The reason phrase is read last, since an early return would have to drop it.
 fn connection_of(
     out: &mut Vec<u8>,
     alloc: Global,

@@ -10,10 +10,10 @@ use std::alloc::Global;
 use std::ops::Range;
 use std::test::Fail;
 
-// Most functions here borrow the bytes that they fill, so that they have nothing to drop where they return. They answer
-// the size that is given beforehand, if the frame can be asked for that.
+// Most functions here borrow the bytes that they fill, so that they have nothing to drop when they return. They return
+// the size that the frame's `size` predicted, if it has that method.
 
-// Writes the bytes of a line's frame, and its size if it can be asked for that.
+// Writes the bytes of a line's frame, and its size if the frame has `size`.
 pub(crate) fn replay(rt: &HostRuntime, line: &str) -> Result<(), Fail> {
     let mut out = Vec::new(rt.alloc());
     let size = write_line(&mut out, rt.alloc(), line)?;
@@ -144,7 +144,7 @@ fn frame_type(out: &mut Vec<u8>, alloc: Global, fields: &[&str]) -> Result<Optio
     Ok(None)
 }
 
-// The same of the words after the frame's name. In these functions owners of bytes are made last.
+// The same for the words after the frame's name. These functions create owners of bytes last.
 fn crypto_of(out: &mut Vec<u8>, alloc: Global, fields: &[&str]) -> Result<Option<usize>, Fail> {
     let [offset, bytes] = fields else {
         return Err("two fields".into());

@@ -1,7 +1,6 @@
-//! Replays stored lists of single calls, and writes what the library answers, which the gate compares. The lists are in
-//! `data/`, a call on each line, and `stdout` is what must come of them, one after another: the answers of the Rust
-//! crate quinn-proto 0.11.19, by its own code, to the same calls. They are seeded random calls, at every width and at
-//! the bounds of numbers.
+//! Replays stored lists of single calls, and writes what the library returns. The lists are in `data/`, a call on each
+//! line. `stdout` is the expected output, one list after another: what quinn-proto 0.11.19 returned for the same calls.
+//! The gate compares it. The calls are seeded random ones, at every width and at the bounds of numbers.
 #![tactic(auto)]
 
 mod acks;
@@ -15,7 +14,7 @@ mod words;
 use std::fs;
 use std::test::Fail;
 
-// What the lines of a list are.
+// What the lines of a list hold.
 #[derive(Clone, Copy)]
 enum Kind {
     Acks,
@@ -26,7 +25,7 @@ enum Kind {
     Texts,
 }
 
-// The lists whose lines are replayed each by itself.
+// The lists whose lines are replayed one by one.
 const LISTS: [(&str, Kind); 6] = [
     ("ack-encode.in", Kind::Acks),
     ("close-encode.in", Kind::Closes),

@@ -1,6 +1,6 @@
-//! Scripts of calls on both sets. A script begins at `new`; a call is what is called and its numbers. The
-//! last number of `replace` is how many of the given ranges are taken; the letters of `iter` and `elts` take the next
-//! run or member from the front (`F`) or the back (`B`).
+//! Scripts of calls on both sets. A script begins at `new`; a call is what is called and its numbers. The last number
+//! of `replace` is how many of the returned ranges are read; the letters of `iter` and `elts` take the next run or
+//! member from the front (`F`) or the back (`B`).
 mod answers;
 mod printing;
 mod set_calls;
@@ -14,7 +14,7 @@ use std::test::Fail;
 // Most functions here borrow the sets, and the text that they fill, so that an early return has nothing to
 // drop. A text is empty before.
 
-// Writes what each call answers on either set, and the runs that the set then has.
+// Writes what each call returns on either set, and the runs of the set after it.
 pub(crate) fn replay(rt: &HostRuntime, lines: &str) -> Result<(), Fail> {
     let mut set = RangeSet::new(rt.alloc());
     let mut array = ArrayRangeSet::new(rt.alloc());
@@ -130,7 +130,7 @@ fn answer_of_set(
     of_range_set_alone(text, alloc, set, name, words, numbers)
 }
 
-// The array set answers `-` to a call that it lacks.
+// The array set has `-` for a call that it lacks.
 fn answer_of_array(
     text: &mut String,
     alloc: Global,

@@ -1,4 +1,4 @@
-//! Texts of codes, types, ids, closes and errors: what is shown, and its fields.
+//! Texts of codes, types, ids, closes and errors: what is printed, and its fields.
 use crate::words::{bytes_of, numbered, type_of, varint};
 use quic_base::coding::BufMutExt;
 use quic_base::ids::{ConnectionId, EcnCodepoint, MAX_CID_SIZE, StreamId};
@@ -9,7 +9,7 @@ use std::test::Fail;
 
 // Most functions here borrow the text that they fill, so that an early return has nothing to drop.
 
-// Writes the text of a line's value, and for some the bytes that are written of it.
+// Writes the text of a line's value, and for some values its encoded bytes.
 pub(crate) fn replay(rt: &HostRuntime, line: &str) -> Result<(), Fail> {
     let mut text = String::new(rt.alloc());
     show_line(&mut text, rt.alloc(), line)?;

@@ -27,7 +27,7 @@ fn read<T: Codec + Drop>(bytes: &[u8]) -> Result<T, Fail> {
     Ok(T::decode(&mut left)?)
 }
 
-// What is read from the shortest encoding of a number, as codes and types of frames are.
+// A value that is read from the shortest encoding of a number, such as a code or a frame type.
 pub(crate) fn numbered<T: Codec + Drop>(alloc: Global, word: &str) -> Result<T, Fail> {
     let number = varint(word)?;
     let mut bytes = Vec::new(alloc);
@@ -43,7 +43,7 @@ pub(crate) fn type_of(alloc: Global, word: &str) -> Result<Option<FrameType>, Fa
     Ok(Some(numbered(alloc, word)?))
 }
 
-// Prints bytes on a line of their own, in hexadecimal.
+// Prints bytes in hexadecimal, on their own line.
 pub(crate) fn print_digits(rt: &HostRuntime, bytes: &[u8]) -> Result<(), Fail> {
     let digits = hex::encode(rt.alloc(), bytes)?;
     println!(rt; "{digits}")?;

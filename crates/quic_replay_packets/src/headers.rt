@@ -9,9 +9,9 @@ use quic_packets::packet::{Header, InitialHeader, LongType, PartialEncode};
 use std::alloc::Global;
 use std::test::Fail;
 
-// Most functions here borrow the bytes that they fill, so that their ways out have nothing to drop.
+// Most functions here borrow the bytes that they fill, so that an early return has nothing to drop.
 
-// Writes each line's packet: its header alone if it has no number, otherwise with its payload, sealed.
+// Writes each line's packet: only its header if it has no number, otherwise with its payload, sealed.
 pub(crate) fn replay(rt: &HostRuntime, lines: &str) -> Result<(), Fail> {
     for line in lines.lines() {
         replay_line(rt, line)?;
@@ -112,8 +112,7 @@ fn finish(partial: PartialEncode, whole: u64, packet: &mut [u8]) -> Result<(), F
     Ok(())
 }
 
-// The header that the words describe. Each kind is read by a function of its own, which takes apart what follows its
-// name.
+// The header that the words describe. Each kind has its own function, which reads the words after its name.
 fn header_of(alloc: Global, words: &[&str]) -> Result<Header, Fail>
     ensures { IfOk result IsWritable }
 {

@@ -1,8 +1,7 @@
-//! Replays stored lists of packet numbers and headers, and writes what the library answers, which the gate compares.
-//! The lists are in `data/`, a call on each line, and `stdout` is what must come of them: the answers of the Rust crate
-//! quinn-proto 0.11.19, by its own code, to the same calls, except for the first bytes of version 2's headers, which it
-//! doesn't know: these come from a plain model. They are seeded random calls, at every width and at the bounds of
-//! numbers.
+//! Replays stored lists of packet numbers and headers, and writes what the library returns. The lists are in `data/`, a
+//! call on each line. `stdout` is the expected output: what quinn-proto 0.11.19 returned for the same calls, except for
+//! the first bytes of version 2's headers, which it doesn't know and which come from a plain model. The gate compares
+//! it. The calls are seeded random ones, at every width and at the bounds of numbers.
 #![tactic(auto)]
 
 mod headers;

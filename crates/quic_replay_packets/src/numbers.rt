@@ -1,4 +1,4 @@
-//! Packet numbers that are made, expanded and read.
+//! Packet numbers that are truncated, expanded and read.
 ghost use Rattle.std.specs.Prelude.{IfOk};
 ghost use Rattle.quic_crypto.specs.PacketNumbers.{IsInRange};
 
@@ -6,7 +6,7 @@ use crate::words::{bytes_of, number};
 use quic_packets::packet::{PacketDecodeError, PacketNumber};
 use std::test::Fail;
 
-// The packet number of each line's number, by the one that is acknowledged, and its bytes.
+// The truncated packet number for each line's number and acknowledged number, and its bytes.
 pub(crate) fn replay_new(rt: &HostRuntime, lines: &str) -> Result<(), Fail> {
     for line in lines.lines() {
         print_made(rt, made(line)?)?;
@@ -28,7 +28,7 @@ fn print_bytes(rt: &HostRuntime, number: PacketNumber, bytes: &[u8]) -> Result<(
     Ok(())
 }
 
-// A number and the one that is acknowledged.
+// A number, and the one that is acknowledged.
 fn made(line: &str) -> Result<PacketNumber, Fail>
     ensures { IfOk result IsInRange }
 {
@@ -47,7 +47,7 @@ fn made_near(n: u64, acked: u64) -> Result<PacketNumber, Fail>
     Ok(PacketNumber::new(n, acked))
 }
 
-// The whole number for each line's packet number, found from the one that is expected.
+// The whole number for each line's truncated packet number and expected number.
 pub(crate) fn replay_expand(rt: &HostRuntime, lines: &str) -> Result<(), Fail> {
     for line in lines.lines() {
         print_whole(rt, expanded(line)?)?;
@@ -80,7 +80,7 @@ fn expanded_by(number: PacketNumber, expected: u64) -> Result<u64, Fail>
     Ok(number.expand(expected))
 }
 
-// The packet number of so many bytes that each line's bytes begin with, or the refusal.
+// The packet number, of that many bytes, at the front of each line's bytes, or the error.
 pub(crate) fn replay_decode(rt: &HostRuntime, lines: &str) -> Result<(), Fail> {
     for line in lines.lines() {
         replay_line(rt, line)?;

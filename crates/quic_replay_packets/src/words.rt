@@ -22,7 +22,7 @@ pub(crate) fn id(alloc: Global, word: &str) -> Result<ConnectionId, Fail> {
     Ok(ConnectionId::new(bytes.as_slice()))
 }
 
-// A packet number as it is written: its kind and its value.
+// A truncated packet number: its kind and its value.
 pub(crate) fn number(kind: &str, low: &str) -> Result<PacketNumber, Fail>
     ensures { IfOk result IsInRange }
 {

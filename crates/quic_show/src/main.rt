@@ -23,7 +23,7 @@ fn main(rt: HostRuntime) -> ExitCode {
     })
 }
 
-// The mode that the arguments ask for. A word that isn't UTF-8 is a wrong argument.
+// The mode that the arguments select. An argument that isn't UTF-8 is wrong.
 fn asked_mode(rt: &HostRuntime) -> Result<Option<Mode>, AllocError> {
     let args = match env::args(rt) {
         Ok(args) => args,
@@ -38,14 +38,14 @@ fn asked_mode(rt: &HostRuntime) -> Result<Option<Mode>, AllocError> {
     Ok(mode_of(words.as_slice()))
 }
 
-// Runs a mode over the standard streams.
+// Runs a mode on the standard streams.
 fn show(rt: &HostRuntime, mode: Mode) -> u8 {
     let mut source = FromRead::new(rt.stdin());
     let mut sink = ToWrite::new(rt.stdout());
     report(rt, run(rt.alloc(), mode, &mut source, &mut sink))
 }
 
-// Prints why a run failed, and answers its exit status.
+// Prints why a run failed, and returns its exit status.
 fn report(rt: &HostRuntime, outcome: Result<bool, RunError>) -> u8
     ensures { result ≡ status_of outcome }
 {

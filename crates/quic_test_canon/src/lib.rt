@@ -1,4 +1,4 @@
-//! Tests of shortest payloads, and of the readers that refuse a frame type longer than its shortest encoding.
+//! Tests of shortest payloads, and of the readers that reject a frame type longer than its shortest encoding.
 #![tactic(auto)]
 
 #[cfg(test)]

@@ -1,4 +1,4 @@
-//! Tests of headers, of the cutting of datagrams, and of what `quic-show datagram` prints.
+//! Tests of headers, of cutting datagrams into packets, and of what `quic-show datagram` prints.
 #![tactic(auto)]
 
 #[cfg(test)]

@@ -1,4 +1,4 @@
-//! A packet key that keeps the laws and counts what it opens.
+//! A packet key that fulfils the laws and counts what it opens.
 ghost use Rattle.quic_crypto.specs.Toy.{toy_seal, toy_open};
 ghost use Rattle.quic_crypto.specs.ToyLaws.{toy_sealed_len, toy_opens};
 
@@ -65,7 +65,7 @@ pub fn all_counting() -> SpaceKeys<ToyHeaderKey, CountingKey> {
     }
 }
 
-/// How many payloads these keys have opened. No clause speaks of it: only tests look at it.
+/// How many payloads these keys have opened. No clause mentions it: only tests use it.
 pub fn opened_by(keys: &SpaceKeys<ToyHeaderKey, CountingKey>) -> usize {
     let initial = keys.initial.packet.count.get();
     let handshake = keys.handshake.packet.count.get();

@@ -1,4 +1,4 @@
-//! Worked rows, odd keys, and each growth refused in turn.
+//! Worked rows, unusual keys, and each allocation failing in turn.
 
 mod client;
 mod headers;

@@ -1,4 +1,4 @@
-//! Tests of transport parameters, and of the mode of the program that prints them.
+//! Tests of transport parameters, and of the program's mode that prints them.
 #![tactic(auto)]
 
 #[cfg(test)]

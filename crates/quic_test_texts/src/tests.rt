@@ -1,4 +1,4 @@
-//! Worked rows, answers of the Rust crate, and what no clause says.
+//! Worked rows, results of quinn-proto, and what no clause says.
 
 mod beginnings;
 mod beginnings_answers;

@@ -1,4 +1,4 @@
-//! Tests of the calls that stand beside the laws: each gives its answer, and not that memory ran out.
+//! Tests of the calls next to the laws: each returns its result, and not that an allocation failed.
 #![tactic(auto)]
 
 #[cfg(test)]

@@ -1,4 +1,4 @@
-//! The answer of each call, which is written to a text.
+//! The result of each call, written to a text.
 use super::printing::{or_none, push_flag, push_number, push_option_run, push_run, push_size};
 use super::set_calls::SetCalls;
 use quic_ranges::range_set::{ArrayRangeSet, RangeSet, Replace};
@@ -61,7 +61,7 @@ fn pop_min<S: SetCalls>(text: &mut String, set: &mut S) -> Result<(), Fail> {
     Ok(push_option_run(text, set.pop())?)
 }
 
-// The answer of a call that changes either set. At another call nothing is done, and it is `false`.
+// The result of a call that changes either set. For another call nothing is done, and it is `false`.
 fn changed<S: SetCalls>(
     text: &mut String,
     alloc: Global,
@@ -81,7 +81,7 @@ fn changed<S: SetCalls>(
     Ok(true)
 }
 
-// The answer of a call that only looks at either set and has no number, `false` at another call.
+// The result of a call that only reads either set and has no number; `false` for another call.
 fn reported_alone<S: SetCalls>(text: &mut String, set: &S, name: &str) -> Result<bool, Fail> {
     let done = match name {
         "min" => push_number(text, set.ends().0),
@@ -95,7 +95,7 @@ fn reported_alone<S: SetCalls>(text: &mut String, set: &S, name: &str) -> Result
     Ok(true)
 }
 
-// The same of a call with one word more.
+// The same for a call with one more word.
 fn reported_of<S: SetCalls>(
     text: &mut String,
     set: &S,
@@ -123,7 +123,7 @@ fn reported<S: SetCalls>(
     }
 }
 
-// What a set answers to a call that both have, `false` at another call.
+// The result of a call that both sets have; `false` for another call.
 pub(super) fn answer<S: SetCalls>(
     text: &mut String,
     alloc: Global,
@@ -138,7 +138,7 @@ pub(super) fn answer<S: SetCalls>(
     reported(text, set, name, words)
 }
 
-// The ranges that `replace` gives, at most `limit`.
+// The ranges that `replace` returns, at most `limit`.
 fn take(text: &mut String, pieces: &mut Replace<'_>, limit: u64) -> Result<(), AllocError> {
     for _ in 0..limit {
         let Some(piece) = pieces.next() else {
@@ -149,7 +149,7 @@ fn take(text: &mut String, pieces: &mut Replace<'_>, limit: u64) -> Result<(), A
     or_none(text)
 }
 
-// A third number is how many ranges are taken.
+// A third number is how many ranges are read.
 fn replace(text: &mut String, set: &mut RangeSet, numbers: &[u64]) -> Result<(), Fail> {
     let limit = match numbers {
         [_, _, limit] => *limit,
@@ -175,7 +175,7 @@ fn peek_min(text: &mut String, set: &RangeSet) -> Result<(), Fail> {
     Ok(push_option_run(text, set.peek_min())?)
 }
 
-// The members that `next` and `next_back` give, by the letters `F` and `B`.
+// The members that `next` and `next_back` return, by the letters `F` and `B`.
 fn members_from(text: &mut String, set: &RangeSet, ends: &str) -> Result<(), Fail> {
     let mut members = set.elts();
     for end in ends.chars() {
@@ -188,7 +188,7 @@ fn members_from(text: &mut String, set: &RangeSet, ends: &str) -> Result<(), Fai
     Ok(())
 }
 
-// The answer of a call that `RangeSet` alone has.
+// The result of a call that only `RangeSet` has.
 pub(super) fn of_range_set_alone(
     text: &mut String,
     alloc: Global,
@@ -206,7 +206,7 @@ pub(super) fn of_range_set_alone(
     }
 }
 
-// Brings the array set in step with a call that it lacks.
+// Applies a call that the array set lacks to that set too.
 pub(super) fn follow(set: &mut ArrayRangeSet, name: &str, numbers: &[u64]) -> Result<(), Fail> {
     match name {
         "replace" => {

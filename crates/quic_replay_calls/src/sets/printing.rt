@@ -1,4 +1,4 @@
-//! Runs, numbers and flags of an answer, each after those that the text has.
+//! Runs, numbers and flags of a result, each appended to the text.
 use std::alloc::AllocError;
 use std::ops::Range;
 

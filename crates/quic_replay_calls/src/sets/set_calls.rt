@@ -32,7 +32,7 @@ pub(super) trait SetCalls: Sized + Drop {
     // The first 64 members.
     fn members(&self, text: &mut String) -> Result<(), AllocError>;
 
-    // The runs that `next` and `next_back` give, by the letters `F` and `B`.
+    // The runs that `next` and `next_back` return, by the letters `F` and `B`.
     fn runs_from(&self, text: &mut String, ends: &str) -> Result<(), AllocError>;
 
     fn all_runs(&self, text: &mut String) -> Result<(), AllocError>;

@@ -8,7 +8,7 @@ use quic_frames::transport_error::Error;
 use std::alloc::Global;
 use std::test::Fail;
 
-// Helpers that read frames return whether every fact held: so no test returns early while its `Checks` are alive.
+// Helpers that read frames return whether every fact held, so that no test returns early while its `Checks` is alive.
 
 // Whether an acknowledgement has exactly these ranges, in this order.
 pub fn has_ranges(ack: &Ack<'_>, ranges: &[(u64, u64)]) -> bool {
@@ -73,7 +73,7 @@ fn blocks_as_they_were_read(rt: HostRuntime) -> Result<(), Fail> {
     checks.verdict()
 }
 
-// Blocks below 5, and why they are refused.
+// Blocks below 5, and why they are rejected.
 const REFUSED_BLOCKS: &[(&[u8], AckError)] = &[
     (b"\x00\x00\x05", AckError::Malformed),
     (b"\x00\x04", AckError::Malformed),
@@ -324,7 +324,7 @@ fn a_new_connection_id_and_an_ack_frequency(rt: HostRuntime) -> Result<(), Fail>
     checks.verdict()
 }
 
-// A conversion, called through its bound.
+// A conversion, called through its trait bound.
 fn converted<T: Copy, U: From<T>>(value: &T) -> U
     ensures { U.from_gives value.now result }
 {

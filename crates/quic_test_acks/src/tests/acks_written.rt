@@ -35,7 +35,7 @@ fn are_small(counts: Option<&EcnCounts>) -> bool
     }
 }
 
-// Writes the ACK of a set; `false` if memory runs out.
+// Writes the ACK of a set; `false` if an allocation fails.
 fn encode(out: &mut Vec<u8>, delay: u64, set: &ArrayRangeSet, counts: Option<&EcnCounts>) -> bool {
     let Some(greatest) = set.max() else {
         return false;
@@ -46,7 +46,7 @@ fn encode(out: &mut Vec<u8>, delay: u64, set: &ArrayRangeSet, counts: Option<&Ec
     Ack::encode(delay, set, counts, out).is_ok()
 }
 
-// The same of a set whose ranges are in a vector.
+// The same for a set whose ranges are in a vector.
 fn encode_from(out: &mut Vec<u8>, delay: u64, set: &RangeSet, counts: Option<&EcnCounts>) -> bool {
     let Some(greatest) = set.max() else {
         return false;
@@ -108,7 +108,7 @@ fn is_written(out: &mut Vec<u8>, set: &mut ArrayRangeSet, alloc: Global, row: &A
         && out.as_slice() == bytes
 }
 
-// The same of a set and a vector that are new.
+// The same for a new set and a new vector.
 fn is_written_anew(alloc: Global, row: &AckRow) -> bool {
     let set = &mut ArrayRangeSet::new(alloc);
     is_written(&mut Vec::new(alloc), set, alloc, row)

@@ -1,4 +1,4 @@
-//! Errors, rooms and clients of buffers.
+//! Errors of buffers, their room, and callers that use them.
 use crate::tests::shared::{debugs, displays};
 use bytes::{Buf, BufMut, BytesMut};
 use quic_base::coding::{BufExt, BufMutExt, NoRoom, UnexpectedEnd};
@@ -107,7 +107,7 @@ fn are_two(bytes: &[u8]) -> bool {
     read_two::<u16, &[u8]>(&mut left) == Ok((0x0102, 0x0304))
 }
 
-// Each buffer that the codecs are used on, and the clients.
+// Each kind of buffer that the codecs are used on, and the callers.
 #[test]
 fn buffers_and_clients(rt: HostRuntime) -> Result<(), Fail> {
     let mut checks = Checks::new(rt.alloc());

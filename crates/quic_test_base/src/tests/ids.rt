@@ -92,7 +92,7 @@ fn spaces(rt: HostRuntime) -> Result<(), Fail> {
     checks.verdict()
 }
 
-// Bytes of headers of IP, and the codepoints in them.
+// Bytes of IP headers, and the codepoints in them.
 const CODEPOINTS: &[(u8, Option<EcnCodepoint>)] = &[
     (0xfe, Some(EcnCodepoint::Ect0)),
     (0xff, Some(EcnCodepoint::Ce)),
@@ -262,7 +262,7 @@ fn tokens_and_limits(rt: HostRuntime) -> Result<(), Fail> {
     checks.verdict()
 }
 
-// The same of the list of texts: streams with their text and bytes.
+// The same for texts: streams with their text and bytes.
 const STREAMS: &[(u64, &str, &[u8])] = &[
     (24, "client bidirectional stream 6", b"\x18"),
     (1694, "client unidirectional stream 423", b"\x46\x9e"),

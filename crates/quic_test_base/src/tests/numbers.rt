@@ -39,7 +39,7 @@ fn shortest_encodings(rt: HostRuntime) -> Result<(), Fail> {
     checks.verdict()
 }
 
-// Worked rows: encodings that are no shortest ones, and others.
+// Worked rows: encodings that aren't the shortest, and others.
 const WIDTHS: &[(&[u8], u64)] = &[
     (b"\x25", 37),
     (b"\x40\x25", 37),

@@ -1,7 +1,7 @@
 //! What the tests of numbers, ids and buffers share.
 //!
-//! Helpers return whether every fact held, and `false` if memory runs out: so no test returns early while its `Checks`
-//! are alive.
+//! Helpers return whether every fact held, and `false` if an allocation fails, so that no test returns early while its
+//! `Checks` is alive.
 use quic_base::coding::{self, BufMutExt, Codec};
 use std::alloc::Global;
 use std::fmt::{Debug, Display};
@@ -26,7 +26,7 @@ pub(crate) fn is_written<T: Codec + Drop>(alloc: Global, x: T, bytes: &[u8]) -> 
     out.write(x).is_ok() && out.as_slice() == bytes
 }
 
-// What a decoder answers, and how many bytes it leaves.
+// What a decoder returns, and how many bytes it leaves.
 pub(crate) fn read<T: Codec>(bytes: &[u8]) -> (coding::Result<T>, usize) {
     let mut left = bytes;
     let value = T::decode(&mut left);

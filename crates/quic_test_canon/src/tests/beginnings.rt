@@ -116,8 +116,8 @@ fn beginnings_of_what_says_its_end(rt: HostRuntime) -> Result<(), Fail> {
     checks.verdict()
 }
 
-// Frames that go on to the end of the payload, each with its type and how many bytes come before the data: with
-// these it is whole, however many bytes of the data follow (RFC 9000, section 19.8; RFC 9221, section 4).
+// Frames that extend to the end of the payload, each with its type and how many bytes come before the data. With these
+// it is whole, however many bytes of data follow (RFC 9000, section 19.8; RFC 9221, section 4).
 const OPEN: &[(u8, usize, &[u8])] = &[
     (0x08, 2, b"\x08\x04hi"),
     (0x09, 3, b"\x09\x44\x00hi"),
@@ -144,8 +144,8 @@ fn beginnings_of_what_goes_on_to_the_end(rt: HostRuntime) -> Result<(), Fail> {
     checks.verdict()
 }
 
-// NEW_CONNECTION_ID with a forbidden field: one that retires its own number, an id of no bytes, and one of 21. From so
-// many bytes on it is malformed, whatever is cut off after them; with fewer, it ends early (RFC 9000, section 19.15).
+// NEW_CONNECTION_ID with a forbidden field: one that retires its own number, an id of no bytes, and one of 21. With at
+// least that many bytes it is malformed, wherever it is cut off; with fewer, it ends early (RFC 9000, section 19.15).
 const MALFORMED: &[(usize, &[u8])] = &[
     (3, b"\x18\x01\x02\x02\xaa\xbb0123456789abcdef"),
     (5, b"\x18\x40\x02\x00\x000123456789abcdef"),
@@ -172,8 +172,9 @@ fn beginnings_of_an_id_that_cannot_be(rt: HostRuntime) -> Result<(), Fail> {
     checks.verdict()
 }
 
-// A payload that is read without an error has a shortest payload. That is no longer, is its own shortest payload, and
-// is read by `strict` too. Any other payload has the same error when it is read and when its shortest is asked for.
+// A payload that is read without an error has a shortest payload. That isn't longer, is its own shortest payload, and
+// is read by `strict` too. Any other payload causes the same error when it is read and when its shortest payload is
+// requested.
 fn is_reported_alike(alloc: Global, payload: &[u8]) -> bool {
     match &canonical_of(alloc, payload) {
         Ok(bytes) => is_whole(false, payload) && is_least(alloc, bytes.bytes(), payload.len()),

@@ -1,4 +1,4 @@
-//! The calls that give shortest payloads.
+//! The calls that return shortest payloads.
 use super::growth_refused::{ROWS, is_not_appended, is_refused, is_same};
 use quic_canon::canonical::{CanonError, canonical, canonical_of};
 use quic_canon::client::mean_the_same;
@@ -36,7 +36,7 @@ fn what_is_appended(rt: HostRuntime) -> Result<(), Fail> {
     checks.verdict()
 }
 
-// Whether both calls refuse the payload with this error, and don't change the vector.
+// Whether both calls reject the payload with this error, and don't change the vector.
 fn refuse(alloc: Global, payload: &[u8], error: &CanonError) -> Result<bool, Fail> {
     let mut out = Vec::new(alloc);
     out.push(7)?;
@@ -63,7 +63,7 @@ fn what_is_refused(rt: HostRuntime) -> Result<(), Fail> {
     checks.verdict()
 }
 
-// Whether the answer is `same`.
+// Whether the result is `same`.
 fn is_reported(answer: &Result<bool, CanonError>, same: bool) -> bool {
     match answer {
         Ok(reported) => *reported == same,
@@ -71,7 +71,7 @@ fn is_reported(answer: &Result<bool, CanonError>, same: bool) -> bool {
     }
 }
 
-// Whether the answer is the error of a payload with no frame.
+// Whether the result is the error for a payload without a frame.
 fn is_empty(answer: &Result<bool, CanonError>) -> bool {
     match answer {
         Ok(_) => false,

@@ -1,5 +1,5 @@
-//! What remains if an allocation fails. Each test passes whichever one allocation of its run fails, and where
-//! none does: `rt try --test --fail-alloc N` lets the Nth fail.
+//! What remains if an allocation fails. Each test passes whichever one allocation of its run fails, and if none does:
+//! `rt try --test --fail-alloc N` lets the Nth fail.
 use quic_canon::canonical::{CanonBytes, CanonError, canonical, canonical_of};
 use quic_checks::Checks;
 use quic_frames::frame::{FrameType, InvalidFrame};
@@ -23,7 +23,7 @@ pub fn is_same(bytes: &CanonBytes<'_>) -> bool {
     }
 }
 
-// Whether the payload was refused with this error.
+// Whether the payload was rejected with this error.
 pub fn is_refused(answer: &Result<CanonBytes<'_>, CanonError>, error: &CanonError) -> bool {
     match answer {
         Ok(_) => false,
@@ -31,7 +31,7 @@ pub fn is_refused(answer: &Result<CanonBytes<'_>, CanonError>, error: &CanonErro
     }
 }
 
-// The same of a payload that was to be appended.
+// The same for a payload that was to be appended.
 pub fn is_not_appended(answer: &Result<(), CanonError>, error: &CanonError) -> bool {
     match answer {
         Ok(()) => false,
@@ -39,7 +39,7 @@ pub fn is_not_appended(answer: &Result<(), CanonError>, error: &CanonError) -> b
     }
 }
 
-// Whether these bytes were given, as the payload itself or not.
+// Whether these bytes were returned, as the payload itself or not.
 fn is_given(answer: &Result<CanonBytes<'_>, CanonError>, least: &[u8], same: bool) -> bool {
     match answer {
         Ok(bytes) => is_same(bytes) == same && bytes.bytes() == least,
@@ -84,7 +84,7 @@ fn a_refused_growth_leaves_the_vector(rt: HostRuntime) -> Result<(), Fail> {
             checks.holds(is_not_appended(&answer, &CanonError::OutOfMemory));
             checks.holds(out.is_empty());
         }
-        // Where there is room, nothing can be refused.
+        // With enough room, no allocation can fail.
         if let Ok(mut out) = Vec::with_capacity(rt.alloc(), 64) {
             checks.holds(canonical(payload, &mut out).is_ok());
             checks.holds(out.as_slice() == least);

@@ -4,7 +4,7 @@ use quic_checks::Checks;
 use quic_text::{Mode, mode_of, run, status};
 use std::test::Fail;
 
-// A line, and what `canon` prints of it.
+// A line, and what `canon` prints for it.
 pub const CANON: &[(&str, &str)] = &[
     ("40000a000161", "00080061\n"),
     ("0a0000", "0800\n"),
@@ -24,7 +24,7 @@ pub const CANON: &[(&str, &str)] = &[
     ("0", "error not hexadecimal\n"),
 ];
 
-// The same of `strict`.
+// The same for `strict`.
 pub const STRICT: &[(&str, &str)] = &[
     (
         "40000a000161",

@@ -1,4 +1,4 @@
-//! Readers that refuse a frame type longer than its shortest encoding.
+//! Readers that reject a frame type longer than its shortest encoding.
 use quic_checks::Checks;
 use quic_frames::frame::{Frame, FrameType, InvalidFrame, Iter};
 use quic_frames::transport_error::Code;

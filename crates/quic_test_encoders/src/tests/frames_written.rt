@@ -1,4 +1,4 @@
-//! Frames of every kind, written at their place in a payload.
+//! Frames of every kind, written as the last of a payload or not.
 use super::frames_written_refused::is_counted;
 use quic_base::coding::NoRoom;
 use quic_callers::frames::written_and_read;
@@ -7,8 +7,8 @@ use quic_frames::frame::{Frame, Iter};
 use std::alloc::Global;
 use std::test::Fail;
 
-// Frames in their shortest encodings, which are the same at each place: one of each kind but STREAM and
-// DATAGRAM, and numbers of each width.
+// Frames in their shortest encodings, which are the same for the last frame of a payload and for others: one of each
+// kind except STREAM and DATAGRAM, and numbers of each width.
 const SHORTEST: &str = "\
 00
 01
@@ -49,8 +49,8 @@ const SHORTEST: &str = "\
 1f
 40af2a148000c35001";
 
-// What is read, and what is written of it before other frames and as the last: STREAM and DATAGRAM, and
-// encodings that are no shortest ones.
+// What is read, and what is written for it before other frames and as the last: STREAM and DATAGRAM, and encodings that
+// aren't the shortest.
 const OTHERS: &str = "\
 0f0410026162 0f0410026162 0d04106162
 0d0440106162 0f0410026162 0d04106162
@@ -116,7 +116,7 @@ const OTHERS: &str = "\
 8000001f 1f 1f
 800000af402a4014c00000000000c3504001 40af2a148000c35001 40af2a148000c35001";
 
-// Writes a frame, and answers whether it has as many bytes as `encoded_len` gives.
+// Writes a frame, and returns whether it has as many bytes as `encoded_len` returns.
 fn write(out: &mut Vec<u8>, frame: &Frame<'_>, last: bool) -> bool {
     if !frame.in_range() || !is_counted(frame) {
         return false;
@@ -174,7 +174,7 @@ fn is_written_as(out: &mut Vec<u8>, frame: &Frame<'_>, last: bool, wanted: &[u8]
     write(out, frame, last) && out.as_slice() == wanted
 }
 
-// The same of bytes in hexadecimal.
+// The same for bytes in hexadecimal.
 fn is_written(alloc: Global, frame: &Frame<'_>, last: bool, digits: &str) -> bool {
     match hex::decode(alloc, digits.as_bytes()) {
         Ok(wanted) => is_written_as(&mut Vec::new(alloc), frame, last, wanted.as_slice()),
@@ -195,7 +195,7 @@ fn is_one_frame(alloc: Global, payload: &[u8], counted: &str, open: &str) -> boo
         && is_written(alloc, &frame, true, open)
 }
 
-// The same of a payload in hexadecimal.
+// The same for a payload in hexadecimal.
 fn is_rewritten(alloc: Global, payload: &str, counted: &str, open: &str) -> bool {
     match hex::decode(alloc, payload.as_bytes()) {
         Ok(payload) => is_one_frame(alloc, payload.as_slice(), counted, open),
@@ -203,7 +203,7 @@ fn is_rewritten(alloc: Global, payload: &str, counted: &str, open: &str) -> bool
     }
 }
 
-// Whether the first frame of a payload is read back from what is written of it.
+// Whether the first frame of a payload is read back from what is written for it.
 fn first_comes_back(alloc: Global, payload: &[u8]) -> bool {
     let Some(mut iter) = Iter::new(payload).ok() else {
         return false;
@@ -215,7 +215,7 @@ fn first_comes_back(alloc: Global, payload: &[u8]) -> bool {
         && is_read_back(&mut Vec::new(alloc), alloc, &frame, true)
 }
 
-// The same of a payload in hexadecimal.
+// The same for a payload in hexadecimal.
 fn comes_back(alloc: Global, payload: &str) -> bool {
     match hex::decode(alloc, payload.as_bytes()) {
         Ok(payload) => first_comes_back(alloc, payload.as_slice()),
@@ -237,7 +237,7 @@ fn line_is_rewritten(alloc: Global, line: &str) -> bool {
     is_rewritten(alloc, payload, counted, open)
 }
 
-// An acknowledgement shows its blocks as they are encoded.
+// The Debug of an acknowledgement has its blocks as they are encoded.
 fn line_comes_back(alloc: Global, line: &str) -> bool {
     let Some((payload, counted, open)) = words(line) else {
         return false;

@@ -1,5 +1,5 @@
-//! What encoders leave where a growth is refused. Each test passes whichever one allocation of its run
-//! fails, and where none does: `rt try --test --fail-alloc N` lets the Nth fail.
+//! What encoders leave if an allocation fails. Each test passes whichever one allocation of its run fails, and if none
+//! does: `rt try --test --fail-alloc N` lets the Nth fail.
 ghost use Rattle.std.specs.Prelude.{◌<◌, ◌≤◌, ◌^◌, length, IsTrue};
 ghost use Rattle.quic_frames.specs.InRange.{open_data};
 ghost use Rattle.quic_frames.specs.Shortest.{close_reason, least_room};
@@ -28,7 +28,7 @@ pub fn is_counted(frame: &Frame<'_>) -> bool
     }
 }
 
-// A call that writes. Where a call can't be made it answers `NoRoom` though there is room, by which its test fails.
+// A call that writes. If a call can't be made, it returns `NoRoom` although there is room, so that its test fails.
 #[derive(Clone, Copy)]
 enum Call<'a> {
     Reset,
@@ -71,7 +71,7 @@ fn is_begun(answer: Result<(), NoRoom>, out: &[u8], whole: &[u8]) -> bool {
     }
 }
 
-// The same of a call on a vector that grows.
+// The same for a call on a vector that grows.
 fn begins(out: &mut Vec<u8>, call: &Call<'_>, whole: &[u8]) -> bool {
     let answer = made(out, call);
     is_begun(answer, out.as_slice(), whole)
@@ -81,7 +81,7 @@ fn is_made(out: &mut Vec<u8>, call: &Call<'_>, whole: &[u8]) -> bool {
     made(out, call) == Ok(()) && out.as_slice() == whole
 }
 
-// Whether all bytes are written to a vector with room, where no growth can be refused.
+// Whether all bytes are written to a vector with room, for which no allocation is needed.
 fn fits(alloc: Global, call: &Call<'_>, whole: &[u8]) -> bool {
     match Vec::with_capacity(alloc, 64) {
         Ok(mut out) => is_made(&mut out, call, whole),
@@ -300,7 +300,7 @@ fn stands_alone(alloc: Global, with_length: bool, whole: &[u8]) -> bool {
     }
 }
 
-// Whether it is appended to the buffer's contents, and written alone where nothing can be refused.
+// Whether it is appended to the buffer's contents, and written by itself to a buffer with room.
 fn writes_datagram(alloc: Global, with_length: bool, whole: &[u8]) -> bool {
     let Some((_, datagram)) = whole.split_first() else {
         return false;
@@ -365,7 +365,7 @@ fn has_two_runs(set: &mut ArrayRangeSet) -> bool {
     set.insert(1..4).is_ok() && set.insert(100..101).is_ok()
 }
 
-// The acknowledgement of a set whose two runs take no memory.
+// The acknowledgement of a set whose two runs need no allocation.
 #[test]
 fn an_acknowledgement_of_a_set(rt: HostRuntime) -> Result<(), Fail> {
     let mut checks = Checks::new(rt.alloc());

@@ -7,7 +7,7 @@ use quic_checks::Checks;
 use quic_frames::frame::{Datagram, Frame, Iter, Stream, StreamMeta, StreamMetaVec};
 use std::test::Fail;
 
-// Where the data begin and end, whether they are the last, whether their length is written, and the head.
+// Where the data begins and ends, whether it is the stream's last, whether its length is written, and the header.
 type HeaderRow = (u64, u64, bool, bool, &'static [u8]);
 
 const HEADS: &[HeaderRow] = &[
@@ -113,7 +113,7 @@ fn holds_one_header(metas: &mut StreamMetaVec) -> bool {
     metas.push(StreamMeta::default()).is_ok() && is_one_header(metas.as_slice())
 }
 
-// One header is held without memory.
+// One header is held without an allocation.
 #[test]
 fn one_header_is_held(rt: HostRuntime) -> Result<(), Fail> {
     let mut checks = Checks::new(rt.alloc());
@@ -121,7 +121,7 @@ fn one_header_is_held(rt: HostRuntime) -> Result<(), Fail> {
     checks.verdict()
 }
 
-// Appends a datagram of two bytes, and answers whether it is there then.
+// Appends a datagram of two bytes, and returns whether it is there then.
 fn appends(out: &mut Vec<u8>, with_length: bool, whole: &[u8]) -> bool {
     let datagram = Datagram { bytes: b"hi" };
     datagram.encode(with_length, out).is_ok() && out.as_slice() == whole

@@ -14,7 +14,7 @@ use quic_frames::transport_error::{Code, Error};
 use std::alloc::Global;
 use std::test::Fail;
 
-// Whether a close of the transport is written so in so much room, which is enough for it.
+// Whether a close by the transport is written so in that much room, which is enough.
 fn fits(out: &mut Vec<u8>, close: &ConnectionClose<'_>, room: usize, wanted: &[u8]) -> bool {
     if close.reason.len() as u64 >= 1 << 62 || close.min_len() > room {
         return false;
@@ -39,7 +39,7 @@ fn application_fits(out: &mut Vec<u8>, code: u32, room: usize, wanted: &[u8]) ->
     close.encode(out, room).is_ok() && out.as_slice() == wanted
 }
 
-// The same of the transport.
+// The same by the transport.
 fn connection_fits(out: &mut Vec<u8>, error_code: Code, room: usize, wanted: &[u8]) -> bool {
     let close = ConnectionClose {
         error_code,

@@ -6,15 +6,14 @@ use quic_frames::transport_error::{Code, Error, Reason};
 use std::alloc::Global;
 use std::test::Fail;
 
-// Helpers that read frames return whether every fact held: so no test returns early while its `Checks` are alive.
+// Helpers that read frames return whether every fact held, so that no test returns early while its `Checks` is alive.
 
 fn type_of(number: &[u8]) -> Option<FrameType> {
     let mut left = number;
     FrameType::decode(&mut left).ok()
 }
 
-// A payload of one STREAM, the type that the frame has by the number in its first byte (never with the bit for the
-// length), and the frame.
+// A payload of one STREAM, the number of the type that names the frame (never with the LEN bit), and the frame.
 type StreamRow = (&'static [u8], u8, u64, u64, bool, &'static [u8]);
 
 const STREAMS: &[StreamRow] = &[
@@ -27,7 +26,7 @@ const STREAMS: &[StreamRow] = &[
     (b"\x0d\x09\x07x", 0x0d, 9, 7, true, b"x"),
     (b"\x0e\x09\x07\x01x", 0x0c, 9, 7, false, b"x"),
     (b"\x0f\x09\x07\x01x", 0x0d, 9, 7, true, b"x"),
-    // A written offset of zero is not in the type.
+    // An offset of zero that is written doesn't set the OFF bit.
     (b"\x0d\x00\x00a", 0x09, 0, 0, true, b"a"),
 ];
 
@@ -120,7 +119,7 @@ fn one_error_and_then_nothing(rt: HostRuntime) -> Result<(), Fail> {
     checks.verdict()
 }
 
-// Whether the next frame is refused, with this type and this reason.
+// Whether the next frame is rejected, with this type and this reason.
 fn refuses(iter: Option<Iter<'_>>, ty: FrameType, reason: &str) -> bool {
     let Some(mut iter) = iter else {
         return false;
@@ -177,7 +176,7 @@ fn an_iterator_that_goes_on(rt: HostRuntime) -> Result<(), Fail> {
     checks.verdict()
 }
 
-// Whether exactly so much PADDING is passed, and the iterator is at this offset then.
+// Whether exactly that much PADDING is skipped, and the iterator is at this offset then.
 fn passes(iter: &mut Iter<'_>, count: usize, offset: usize) -> bool {
     iter.pass_padding() == count && iter.offset() == offset
 }
@@ -264,7 +263,7 @@ fn an_owned_reason(rt: HostRuntime) -> Result<(), Fail> {
     checks.verdict()
 }
 
-// The types of one byte with a name of their own; limits and frames about blocked limits are listed separately.
+// The types of one byte with their own name; frames about limits are listed separately.
 fn named(number: u8) -> Option<(FrameType, &'static str)> {
     Some(match number {
         0x00 => (FrameType::PADDING, "PADDING"),
@@ -324,7 +323,7 @@ fn check_names(checks: &mut Checks, alloc: Global) -> Result<(), Fail> {
     Ok(())
 }
 
-// Types without a constant, but for the first, and both their texts.
+// Types without a constant, except the first, and both their texts.
 const TEXTS: &[(&[u8], &str, &str)] = &[
     (b"\x40\xaf", "ACK_FREQUENCY", "ACK_FREQUENCY"),
     (b"\x0b", "STREAM", "Type(0b)"),

@@ -1,4 +1,4 @@
-//! Frames that just keep what RFC 9000 has a receiver check, and frames that break it.
+//! Frames that just pass what RFC 9000 requires a receiver to check, and frames that don't.
 use quic_checks::Checks;
 use quic_frames::frame::{FrameType, Iter, Rules};
 use std::test::Fail;
@@ -97,7 +97,7 @@ const BROKEN: &[(&[u8], Rules, u8, &str)] = &[
     ),
 ];
 
-// Whether all of the payload is read by these rules.
+// Whether all of the payload is read with these rules.
 fn is_read(payload: &[u8], rules: Rules) -> bool {
     let Some(mut frames) = Iter::with_rules(payload, rules).ok() else {
         return false;
@@ -107,7 +107,7 @@ fn is_read(payload: &[u8], rules: Rules) -> bool {
         && frames.next().is_none()
 }
 
-// Whether the payload is refused by these rules, with this type and reason, and nothing is given after that.
+// Whether the payload is rejected with these rules, with this type and reason, and nothing is returned after that.
 fn is_refused(payload: &[u8], rules: Rules, ty: u8, reason: &str) -> bool {
     let Some(mut frames) = Iter::with_rules(payload, rules).ok() else {
         return false;

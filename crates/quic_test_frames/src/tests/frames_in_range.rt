@@ -1,4 +1,4 @@
-//! Which frames can be written, and how long they are at most.
+//! Which frames can be written, and their greatest length.
 use quic_base::ids::{ConnectionId, Dir, ResetToken, StreamId};
 use quic_base::varint::VarInt;
 use quic_checks::Checks;
@@ -193,7 +193,7 @@ fn closes_in_range(rt: HostRuntime) -> Result<(), Fail> {
     checks.verdict()
 }
 
-// What always can be written.
+// What can always be written.
 fn check_all_others(checks: &mut Checks) -> bool {
     let Some(mut iter) = Iter::new(b"\x01").ok() else {
         return false;

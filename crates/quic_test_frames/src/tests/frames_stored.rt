@@ -16,7 +16,7 @@ fn can_be_stored(frame: &Frame<'_>) -> bool
     }
 }
 
-// Whether these bytes are written at the front and no others.
+// Whether these bytes are written at the front, and no others.
 fn is_whole(frame: &Frame<'_>, last: bool, wanted: &[u8]) -> bool
     requires { CanStand last frame.now }
 {
@@ -40,7 +40,7 @@ fn is_untouched(room: &[u8]) -> bool {
     true
 }
 
-// Whether nothing is written where there is room for one byte less.
+// Whether nothing is written if there is room for one byte less.
 fn is_refused(frame: &Frame<'_>, last: bool, len: usize) -> bool
     requires { CanStand last frame.now }
 {
@@ -65,7 +65,7 @@ fn is_stored(payload: &[u8], last: bool, wanted: &[u8]) -> bool {
     is_whole(&frame, last, wanted) && is_refused(&frame, last, wanted.len())
 }
 
-// What is read, and what is written of it before other frames and as the last.
+// What is read, and what is written for it before other frames and as the last.
 const ROWS: &[(&[u8], &[u8], &[u8])] = &[
     (b"\x01", b"\x01", b"\x01"),
     (b"\x40\x0a\x40\x00\x40\x01a", b"\x0a\x00\x01a", b"\x08\x00a"),

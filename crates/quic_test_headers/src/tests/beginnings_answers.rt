@@ -1,5 +1,5 @@
-//! Every beginning of every worked line's bytes, and what is printed of each. The answers come from a plain model
-//! that was written from the tables of headers by itself; it agrees on every line that `quic_replay` replays.
+//! Every beginning of every worked line's bytes, and what is printed for each. The expected output comes from a
+//! separate plain model that was written from the RFC's headers; it agrees on every line that `quic_replay` replays.
 
 pub(super) const LINES: &str =
     "\nc0\nc000\nc00000\nc0000000\nc000000001\nc00000000108\nc0000000010806\nc0000000010806b8\nc0000000010806b858\n\

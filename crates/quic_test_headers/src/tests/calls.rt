@@ -1,4 +1,4 @@
-//! Each public call once, with ample memory.
+//! Each public call once; no allocation fails.
 use bytes::{Buf, BytesMut};
 use quic_base::coding::Cursor;
 use quic_base::ids::{ConnectionId, SpaceId};
@@ -80,7 +80,7 @@ fn a_cut(rt: HostRuntime) -> Result<(), Fail> {
     checks.verdict()
 }
 
-// A type, and the first byte of its headers under versions 1 and 2.
+// A type, and the first byte of its headers in versions 1 and 2.
 const TYPES: &[(LongHeaderType, u8, u8)] = &[
     (LongHeaderType::Initial, 0xc0, 0xd0),
     (LongHeaderType::Standard(LongType::ZeroRtt), 0xd0, 0xe0),

@@ -1,4 +1,4 @@
-//! Headers and cuts where memory is refused: each test holds whichever allocation fails, and where none does.
+//! Headers and cuts with failing allocations: each test passes whichever allocation fails, and if none does.
 use bytes::BytesMut;
 use quic_base::coding::Cursor;
 use quic_bench::FailAt;
@@ -11,7 +11,7 @@ use std::test::Fail;
 // A Handshake packet of ten bytes, and one byte after it.
 const DATAGRAM: &[u8] = b"\xe0\x00\x00\x00\x01\x00\x00\x02\xaa\xbb\x41";
 
-// Reading a header allocates no memory.
+// Reading a header doesn't allocate.
 #[test]
 fn a_header_takes_no_memory(rt: HostRuntime) -> Result<(), Fail> {
     let mut checks = Checks::new(rt.alloc());
@@ -41,7 +41,7 @@ fn one_packet_takes_no_memory(rt: HostRuntime) -> Result<(), Fail> {
     checks.verdict()
 }
 
-// nor a refusal.
+// nor does an error.
 #[test]
 fn a_refusal_takes_no_memory(rt: HostRuntime) -> Result<(), Fail> {
     let mut checks = Checks::new(rt.alloc());
@@ -55,7 +55,7 @@ fn a_refusal_takes_no_memory(rt: HostRuntime) -> Result<(), Fail> {
     checks.verdict()
 }
 
-// What follows is split off, or memory ran out.
+// What follows is split off, or an allocation failed.
 #[test]
 fn what_follows_may_take_memory(rt: HostRuntime) -> Result<(), Fail> {
     let mut checks = Checks::new(rt.alloc());
@@ -86,7 +86,7 @@ fn a_run_ends_for_want_of_memory(rt: HostRuntime) -> Result<(), Fail> {
             checks.holds(clean);
             checks.same(sink.output(), text.as_slice());
         }
-        // A sink over memory takes some itself.
+        // A sink in memory allocates too.
         Err(e) => checks.holds(matches!(e, RunError::OutOfMemory | RunError::Write)),
     }
     checks.verdict()

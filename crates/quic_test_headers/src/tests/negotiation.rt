@@ -6,7 +6,7 @@ use quic_packets::packet::{PacketDecodeError, PartialDecode, ProtectedHeader};
 use std::alloc::Global;
 use std::test::Fail;
 
-// Why no packet begins here; no text where one does.
+// Why no packet begins here; no text if one does.
 fn refusal(alloc: Global, datagram: &[u8], grease: bool) -> Option<&'static str> {
     let Ok(bytes) = BytesMut::copy_from_slice(alloc, datagram) else {
         return Some("no memory for the datagram");
@@ -18,7 +18,7 @@ fn refusal(alloc: Global, datagram: &[u8], grease: bool) -> Option<&'static str>
     }
 }
 
-// Every prefix of a version negotiation without ids, and why it isn't one where the fixed bit may be clear.
+// Every prefix of a version negotiation without ids, and why it isn't one, if the fixed bit may be clear.
 const BEGINNINGS: &[(&[u8], Option<&str>)] = &[
     (b"", Some("unexpected end of packet")),
     (b"\x80", Some("unexpected end of packet")),
@@ -39,7 +39,7 @@ fn beginnings_where_the_fixed_bit_may_be_clear(rt: HostRuntime) -> Result<(), Fa
     checks.verdict()
 }
 
-// The first byte says enough.
+// The first byte is enough.
 #[test]
 fn beginnings_where_the_fixed_bit_is_fixed(rt: HostRuntime) -> Result<(), Fail> {
     let mut checks = Checks::new(rt.alloc());
@@ -99,7 +99,7 @@ const ROWS: &[Row] = &[
     ),
 ];
 
-// All bits of the first byte but the highest are random, the fixed bit among them.
+// All bits of the first byte except the highest are random, also the fixed bit.
 #[test]
 fn random_bits(rt: HostRuntime) -> Result<(), Fail> {
     let mut checks = Checks::new(rt.alloc());

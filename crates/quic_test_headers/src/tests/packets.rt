@@ -1,4 +1,4 @@
-//! Packets whose headers' protection is off, as values.
+//! Packets whose header protection was removed, as values.
 use bytes::{Bytes, BytesMut};
 use quic_base::ids::ConnectionId;
 use quic_checks::Checks;
@@ -6,7 +6,7 @@ use quic_packets::packet::{Header, InitialHeader, InitialPacket, Packet, PacketN
 use std::alloc::Global;
 use std::test::Fail;
 
-// An Initial packet with these bytes as its header's, whatever they are, and as its payload.
+// An Initial packet with any bytes as its header's, and these as its payload.
 fn initial(head: &'static [u8], payload: BytesMut) -> InitialPacket {
     InitialPacket {
         header: InitialHeader {

@@ -1,4 +1,4 @@
-//! Parsers of ids of several kinds, and the flag that lets the fixed bit be clear.
+//! Parsers of ids of several kinds, and the flag that allows a clear fixed bit.
 use bytes::BytesMut;
 use quic_bench::parsers::{LongIds, NoIds, SelfSized};
 use quic_checks::Checks;
@@ -23,7 +23,7 @@ fn is_for<P: ConnectionIdParser>(
     Ok(())
 }
 
-// The datagram is refused for this reason.
+// The datagram is rejected for this reason.
 fn is_refused<P: ConnectionIdParser>(
     checks: &mut Checks,
     alloc: Global,

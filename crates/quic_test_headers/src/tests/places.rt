@@ -1,12 +1,12 @@
-//! Places that `read_header` finds in the bytes of worked lines.
+//! Offsets that `read_header` finds in the bytes of worked lines.
 use quic_checks::Checks;
 use quic_header_decode::places::{HeaderKind, ReadError, read_header};
 use std::test::Fail;
 
 const VERSIONS: &[u32] = &[1, 0x6b33_43cf];
 
-// How many bytes ids of short headers have, a datagram, and of its first packet the kind, the ids, the version, the
-// token's place and the end.
+// How many bytes ids of short headers have; a datagram; and the kind, the ids, the version, the token's byte range and
+// the end of its first packet.
 type Row = (
     usize,
     &'static [u8],
@@ -150,7 +150,7 @@ fn cut_off(rt: HostRuntime) -> Result<(), Fail> {
     checks.verdict()
 }
 
-// Bytes that begin with no header, where ids of short headers have so many bytes, and why.
+// How many bytes ids of short headers have, bytes that then don't begin with a header, and why.
 const REFUSED: &[(usize, &[u8], ReadError)] = &[
     (
         0,

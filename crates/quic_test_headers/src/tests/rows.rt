@@ -4,7 +4,7 @@ use quic_checks::Checks;
 use quic_text::{Mode, mode_of, run, status};
 use std::test::Fail;
 
-// A line, and what is printed of it where ids of short headers have no bytes.
+// A line, and what is printed for it if ids of short headers have no bytes.
 const ROWS: &[(&str, &str)] = &[
     (
         "c0000000010806b858ec6f80452b0002aabb400301020341",
@@ -107,7 +107,7 @@ fn ids_of_one_byte(rt: HostRuntime) -> Result<(), Fail> {
     checks.verdict()
 }
 
-// The words that ask for a mode, and whether they do.
+// Arguments for a mode, and whether they are valid.
 const WORDS: &[(&[&str], bool)] = &[
     (&["datagram", "0"], true),
     (&["datagram", "05"], true),

@@ -1,4 +1,4 @@
-//! Texts of errors, and what is printed of headers for debugging.
+//! Texts of errors, and the Debug of headers.
 use quic_base::coding::UnexpectedEnd;
 use quic_base::ids::ConnectionId;
 use quic_checks::Checks;

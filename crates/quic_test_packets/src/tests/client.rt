@@ -1,4 +1,4 @@
-//! The client that seals two packets in one datagram and opens them again.
+//! The caller that seals two packets in one datagram and opens them again.
 use crate::worked::{ALL_ZERO, all_toy, handshake, short};
 use quic_bench::parsers::NoIds;
 use quic_bench::two_packets::{Failure, Outgoing, sealed_and_opened};

@@ -1,4 +1,4 @@
-//! Headers as they are written, into a vector with just their room and into one with more.
+//! Headers, written to a vector with exactly enough room and to one with more.
 ghost use Rattle.quic_header_encode.specs.Writing.{IsWritable};
 
 use crate::worked::{handshake, initial, short};

@@ -1,4 +1,4 @@
-//! Headers and packet numbers written while memory is refused: each test holds whichever allocation fails, and also if
+//! Headers and packet numbers written with failing allocations: each test passes whichever allocation fails, and if
 //! none does.
 ghost use Rattle.quic_crypto.specs.PacketNumbers.{IsInRange};
 ghost use Rattle.quic_header_encode.specs.Writing.{IsWritable};
@@ -14,7 +14,7 @@ use std::test::Fail;
 // The bytes before the header or number that is written.
 const BEFORE: &[u8] = b"before";
 
-// Whether these bytes follow those.
+// Whether these bytes follow `BEFORE`.
 fn are_behind(out: &[u8], bytes: &[u8]) -> bool {
     let Some((before, behind)) = out.split_at_checked(BEFORE.len()) else {
         return false;

@@ -42,7 +42,7 @@ fn is_read(number: PacketNumber, bytes: &[u8]) -> bool {
     PacketNumber::decode(number.len(), &mut rest) == Ok(number) && rest.is_empty()
 }
 
-// Whether nothing is read of one byte less, and that is left.
+// Whether nothing is read from one byte less, and these bytes are left.
 fn is_refused_of_less(number: PacketNumber, bytes: &[u8]) -> bool {
     let Some((_, few)) = bytes.split_first() else {
         return false;
@@ -86,7 +86,7 @@ fn wide_numbers_written_and_read(rt: HostRuntime) -> Result<(), Fail> {
     checks.verdict()
 }
 
-// A truncated number stands for another, by the one that is expected.
+// A truncated number means another whole number for another expected number.
 #[test]
 fn expanded(rt: HostRuntime) -> Result<(), Fail> {
     let mut checks = Checks::new(rt.alloc());
@@ -119,7 +119,7 @@ fn refused_for_want_of_room(rt: HostRuntime) -> Result<(), Fail> {
     checks.verdict()
 }
 
-// First bytes of headers, and how many bytes a number takes after them: one more than their lowest two bits.
+// First bytes of headers, and how many bytes a packet number has then: one more than their lowest two bits.
 const LENGTHS: &[(u8, usize)] = &[
     (0x00, 1),
     (0x01, 2),

@@ -1,4 +1,4 @@
-//! Keys of other kinds through all calls: without sample and tag, and ones that change each byte.
+//! Other kinds of keys in all calls: without sample and tag, and ones that change each byte.
 use crate::worked::short;
 use bytes::BytesMut;
 use quic_bench::add::AddKey;

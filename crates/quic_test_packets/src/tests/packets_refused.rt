@@ -1,4 +1,4 @@
-//! Sealing and opening while memory is refused: each test holds whichever allocation fails, and also if none does.
+//! Sealing and opening with failing allocations: each test passes whichever allocation fails, and if none does.
 use crate::counting::{CountingKey, all_counting, opened_by};
 use crate::worked::{ALL_ZERO, all_toy, handshake, short, toy};
 use bytes::BytesMut;
@@ -54,7 +54,7 @@ fn are_both_sealed(out: &mut Vec<u8>) -> bool {
     seal_handshake(out) == Ok(30) && seal_short(out) == Ok(22) && out.as_slice() == WHOLE.as_slice()
 }
 
-// If there is room, sealing takes no memory.
+// If there is room, sealing doesn't allocate.
 #[test]
 fn sealing_where_there_is_room(rt: HostRuntime) -> Result<(), Fail> {
     let mut out = Vec::new(rt.alloc());
@@ -77,7 +77,7 @@ fn is_opened_or_refused(bytes: BytesMut) -> bool {
     }
 }
 
-// A packet is opened, or memory ran out.
+// A packet is opened, or an allocation failed.
 #[test]
 fn opening_takes_memory(rt: HostRuntime) -> Result<(), Fail> {
     let Ok(bytes) = BytesMut::copy_from_slice(rt.alloc(), &WHOLE) else {
@@ -114,7 +114,7 @@ fn are_first(opened: &[Opened]) -> bool {
     true
 }
 
-// After memory ran out for a packet, the packets before it are there.
+// After an allocation failed for a packet, the packets before it are there.
 #[test]
 fn first_packets_stand(rt: HostRuntime) -> Result<(), Fail> {
     let Ok(bytes) = BytesMut::copy_from_slice(rt.alloc(), &WHOLE) else {
@@ -127,7 +127,7 @@ fn first_packets_stand(rt: HostRuntime) -> Result<(), Fail> {
     checks.verdict()
 }
 
-// Whether there are as many packets as the keys have opened payloads, and both if nothing was refused.
+// Whether there are as many packets as the keys have opened payloads, and both if no allocation failed.
 fn are_all_that_were_opened(
     opened: &mut Vec<Opened>,
     keys: &SpaceKeys<ToyHeaderKey, CountingKey>,
@@ -145,7 +145,7 @@ fn are_all_that_were_opened(
     opened.len() == opened_by(keys) && done.is_ok() == (opened.len() == 2)
 }
 
-// Every packet that the keys opened is there afterwards: a key with a limit of uses is not used in vain.
+// Every packet that the keys opened is there afterwards: a key with a limit on its use isn't used in vain.
 #[test]
 fn what_is_opened_stands(rt: HostRuntime) -> Result<(), Fail> {
     let Ok(bytes) = BytesMut::copy_from_slice(rt.alloc(), &WHOLE) else {

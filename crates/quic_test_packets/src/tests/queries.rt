@@ -1,4 +1,4 @@
-//! What headers answer about their packets.
+//! What headers say about their packets.
 use bytes::Bytes;
 use quic_base::ids::ConnectionId;
 use quic_checks::Checks;
@@ -50,7 +50,7 @@ fn negotiation() -> Header {
     }
 }
 
-// Whether this is the header's number. Just packets with a number have frames.
+// Whether this is the header's number. Only packets with a number have frames.
 fn has_number(head: &Header, number: Option<PacketNumber>) -> bool {
     head.number() == number && head.has_frames() == number.is_some()
 }

@@ -1,5 +1,4 @@
-//! The sixty bytes of two worked packets: cut off anywhere, in the other order, under version 2, and with a tag that
-//! was changed.
+//! The sixty bytes of two worked packets: cut off anywhere, in the other order, in version 2, and with a changed tag.
 use super::sealed::{
     WHOLE, are_ack_and_stream_sealed, are_first_packets, is_packet, seal_handshake,
 };
@@ -39,9 +38,9 @@ fn refused(text: &'static str) -> Result<(), OpenError> {
     Err(OpenError::Decode(PacketDecodeError::InvalidHeader(text)))
 }
 
-// What is answered to the first bytes of the row, and how many packets there are then. The Handshake packet takes 30 of
-// them: its version ends at 5, its ids at 8, its length at 10. The 1-RTT packet has its id up to 32; four bytes and the
-// sample, which has 16, follow that up to 52, and its own tag ends at 60.
+// The result for the first bytes of the row, and how many packets there are then. The Handshake packet has 30 of them:
+// its version ends at 5, its ids at 8, its length at 10. The 1-RTT packet's id ends at 32; four bytes and the sample of
+// 16 bytes end at 52, and its own tag ends at 60.
 fn wanted(len: usize) -> (Result<(), OpenError>, usize) {
     match len {
         0..=4 => (refused("unexpected end of packet"), 0),
@@ -89,7 +88,7 @@ fn is_sealed_short_first(out: &mut Vec<u8>) -> bool {
         && out.as_slice() == SHORT_FIRST.as_slice()
 }
 
-// Whether one packet takes all of it.
+// Whether all of it is one packet.
 fn is_one_packet(alloc: Global, datagram: &[u8]) -> bool {
     let Ok(bytes) = BytesMut::copy_from_slice(alloc, datagram) else {
         return false;
@@ -109,7 +108,7 @@ fn is_not_opened(opened: &mut Vec<Opened>, alloc: Global, datagram: &[u8]) -> bo
     open(opened, alloc, datagram, &[1]) == Err(OpenError::Unsealed) && opened.is_empty()
 }
 
-// A packet with a short header has no length, so that the tag is looked for at the end of the other one.
+// A packet with a short header has no length, so the tag is expected at the end of the other one.
 #[test]
 fn the_same_packets_short_first(rt: HostRuntime) -> Result<(), Fail> {
     let mut checks = Checks::new(rt.alloc());
@@ -121,7 +120,7 @@ fn the_same_packets_short_first(rt: HostRuntime) -> Result<(), Fail> {
     checks.verdict()
 }
 
-// The same packets, the Handshake packet under version 2, whose headers have other types (RFC 9369, section 3.2).
+// The same packets, the Handshake packet in version 2, whose headers have other types (RFC 9369, section 3.2).
 const OF_VERSION_2: [u8; 60] =
     *b"\xf0\x6b\x33\x43\xcf\x01\xaa\0\x40\x14\0\x01\0\0\0\0\0\0\0\0\0\0\0\0\0\0\0\0\0\0\x40\xaa\x05\x02\x03\0\x01\0\0\x01\x08\0hi\0\0\0\0\0\0\0\x05\0\0\0\0\0\0\0\0";
 
@@ -166,7 +165,7 @@ fn is_opened_under_version_2(opened: &mut Vec<Opened>, alloc: Global) -> bool {
         && are_those_of_version_2(opened.as_slice())
 }
 
-// Whether the datagram is refused where version 1 is the only one.
+// Whether the datagram is rejected if version 1 is the only known one.
 fn is_unsupported(opened: &mut Vec<Opened>, alloc: Global) -> bool {
     let unsupported = PacketDecodeError::UnsupportedVersion {
         src_cid: ConnectionId::new(b""),
@@ -210,7 +209,7 @@ fn changed_at(at: usize) -> [u8; 60] {
     changed
 }
 
-// The tag is the last 16 bytes of the first packet. `OutOfMemory` is not reported while there is memory.
+// The tag is the last 16 bytes of the first packet. `OutOfMemory` isn't reported unless an allocation fails.
 #[test]
 fn a_changed_tag(rt: HostRuntime) -> Result<(), Fail> {
     let mut checks = Checks::new(rt.alloc());
@@ -252,8 +251,8 @@ fn is_second_next(packets: &mut Packets) -> bool {
     }
 }
 
-// What follows a packet that isn't opened is opened all the same, since RFC 9000, section 12.2, demands it. Nothing can
-// follow bytes that begin with no packet, since nobody knows where that packet would end.
+// What follows a packet that isn't opened is still opened, as RFC 9000, section 12.2, requires. Nothing can follow
+// bytes that don't begin with a packet, since its end isn't known.
 #[test]
 fn what_is_left_after_an_error(rt: HostRuntime) -> Result<(), Fail> {
     let mut checks = Checks::new(rt.alloc());

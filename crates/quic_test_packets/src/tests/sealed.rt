@@ -1,4 +1,4 @@
-//! Datagrams of the worked rows, sealed and opened by keys that protect nothing.
+//! Datagrams of the worked rows, sealed and opened with keys that protect nothing.
 use crate::worked::{ALL_ZERO, all_toy, handshake, short, toy};
 use bytes::{Bytes, BytesMut};
 use quic_base::ids::{ConnectionId, Dir, Side, StreamId};
@@ -13,8 +13,8 @@ use quic_packets::packet::{
 use std::alloc::Global;
 use std::test::Fail;
 
-// Most functions here borrow the bytes that they seal into, and answer whether all was as it has to be: a test holds
-// nothing but its checks and these bytes.
+// Most functions here borrow the bytes that they seal into, and return whether every fact held: a test owns only its
+// checks and these bytes.
 
 // Appends PING, PADDING, PADDING in a Handshake packet.
 pub fn seal_handshake(out: &mut Vec<u8>, version: u32) -> Result<usize, SealError> {
@@ -23,7 +23,7 @@ pub fn seal_handshake(out: &mut Vec<u8>, version: u32) -> Result<usize, SealErro
     seal_packet(&header, 0, &frames, &toy(), out)
 }
 
-// Opens a datagram whose first packet gets its id, while there is no memory for the id of the second.
+// Opens a datagram whose first packet gets its id, while the allocation for the id of the second fails.
 fn first_stands(opened: &mut Vec<Opened>, datagram: BytesMut) -> bool {
     let done = open_datagram(
         datagram,
@@ -42,7 +42,7 @@ fn first_stands(opened: &mut Vec<Opened>, datagram: BytesMut) -> bool {
         && first.payload.as_slice() == b"\x01\0\0".as_slice()
 }
 
-// A packet that was opened is there if memory runs out at the next one.
+// A packet that was opened is there if an allocation fails for the next one.
 #[test]
 fn opened_packet_stands(rt: HostRuntime) -> Result<(), Fail> {
     let datagram = BytesMut::copy_from_slice(rt.alloc(), &WHOLE)?;
@@ -144,7 +144,7 @@ fn is_nothing_opened(opened: &mut Vec<Opened>, datagram: Vec<u8>) -> bool {
     open_all(opened, datagram) == Err(OpenError::Unsealed) && opened.is_empty()
 }
 
-// A packet with a short header has no length, and takes what follows it.
+// A packet with a short header has no length, so what follows belongs to it.
 #[test]
 fn short_packet_first(rt: HostRuntime) -> Result<(), Fail> {
     let mut out = Vec::new(rt.alloc());
@@ -219,7 +219,7 @@ fn seal_number_300(out: &mut Vec<u8>) -> Result<usize, SealError> {
     seal_packet(&header, 300, &frames, &toy(), out)
 }
 
-// The number that a datagram's packet is opened with, where this one is expected.
+// The number that a datagram's packet is opened with, if this one is expected.
 fn opened_number(datagram: Vec<u8>, app: u32) -> Result<Option<u64>, OpenError> {
     let expected = Expected {
         initial: 0,
@@ -240,7 +240,7 @@ fn opened_number(datagram: Vec<u8>, app: u32) -> Result<Option<u64>, OpenError> 
     }
 }
 
-// The answer to a packet with the number 300; no number if it is not sealed.
+// The result for a packet with the number 300; no number if it isn't sealed.
 fn opens_300(alloc: Global, app: u32) -> Result<Option<u64>, OpenError> {
     let mut out = Vec::new(alloc);
     if seal_number_300(&mut out).is_err() {
@@ -320,7 +320,7 @@ fn initial_header(rt: HostRuntime) -> Result<(), Fail> {
     checks.verdict()
 }
 
-// Bytes that were not sealed, and the payload or the text of the refusal.
+// Bytes that weren't sealed, and the payload or the text of the error.
 const NOT_SEALED: &[(&[u8], Result<&[u8], &str>)] = &[
     (b"\xf0\0\0\0\x01\0\0\xab", Ok(b"\xab")),
     (b"\xc0\0\0\0\0\0\0\0\0\0\x01", Ok(b"\0\0\0\x01")),

@@ -6,7 +6,7 @@ use quic_checks::Checks;
 use quic_text::{Mode, mode_of, run, status};
 use std::test::Fail;
 
-// A line, and what is printed of it for a server.
+// A line, and what is printed for it as a server reads it.
 pub const SERVER: &[(&str, &str)] = &[
     ("", "ok\n"),
     ("1b020102", "ok\n"),

@@ -1,4 +1,4 @@
-//! Lists as quinn-proto and as RFC 9000 have them read.
+//! Lists that quinn-proto and RFC 9000 read differently.
 use quic_base::ids::Side;
 use quic_checks::Checks;
 use quic_params::transport_parameters::{ReadOptions, TransportParameters};

@@ -46,7 +46,7 @@ fn beginnings_of_two_limits(rt: HostRuntime) -> Result<(), Fail> {
     checks.verdict()
 }
 
-// What is read of each beginning of each row is written, and read again as itself.
+// What is read from each beginning of each row is written, and read back unchanged.
 #[test]
 fn each_beginning_of_each_row(rt: HostRuntime) -> Result<(), Fail> {
     let mut checks = Checks::new(rt.alloc());

@@ -1,4 +1,4 @@
-//! What a client that remembers parameters asks of new ones, and how many ids are issued.
+//! What a client that remembers parameters requires of new ones, and how many ids are issued.
 use super::whole;
 use quic_base::varint::VarInt;
 use quic_checks::Checks;

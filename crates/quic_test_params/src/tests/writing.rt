@@ -1,4 +1,4 @@
-//! What is written of records.
+//! What is written for records.
 use super::{DOWNWARD, WHOLE, preferred, two_limits, whole};
 use quic_base::ids::Side;
 use quic_checks::Checks;
@@ -122,7 +122,7 @@ fn is_stored(params: &TransportParameters, bytes: &[u8]) -> bool {
     params.write_into(&mut room) == Ok(bytes.len()) && is_front(&room, bytes)
 }
 
-// The same where there is room for exactly them.
+// The same if there is room for exactly them.
 fn is_stored_in_its_room(params: &TransportParameters, bytes: &[u8]) -> bool {
     let mut room = [0xff; 90];
     let Some(just) = room.get_mut(..bytes.len()) else {
@@ -131,7 +131,7 @@ fn is_stored_in_its_room(params: &TransportParameters, bytes: &[u8]) -> bool {
     params.write_into(just) == Ok(bytes.len()) && is_front(&room, bytes)
 }
 
-// Whether nothing is written where there is room for one byte less, and their number is reported.
+// Whether nothing is written if there is room for one byte less, and the needed room is reported.
 fn is_refused(params: &TransportParameters, bytes: &[u8]) -> bool {
     let mut room = [0xff; 90];
     let Some(little) = room.get_mut(..bytes.len().saturating_sub(1)) else {

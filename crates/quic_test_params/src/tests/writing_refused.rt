@@ -1,5 +1,5 @@
-//! What writing leaves where a growth is refused. Each test passes whichever one allocation of its run fails, and
-//! where none does: `rt try --test --fail-alloc N` lets the Nth fail.
+//! What writing leaves if an allocation fails. Each test passes whichever one allocation of its run fails, and if none
+//! does: `rt try --test --fail-alloc N` lets the Nth fail.
 use super::{DOWNWARD, WHOLE, preferred, whole};
 use quic_base::coding::NoRoom;
 use quic_checks::Checks;
@@ -8,7 +8,7 @@ use quic_params::transport_parameters::{
 };
 use std::test::Fail;
 
-// Whether the whole is there, or a part of it where there was no room.
+// Whether the whole is there, or a part of it if there was no room.
 fn is_begun(answer: Result<(), NoRoom>, out: &[u8], whole: &[u8]) -> bool {
     match answer {
         Ok(()) => out == whole,

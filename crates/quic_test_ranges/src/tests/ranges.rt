@@ -1,4 +1,4 @@
-//! Calls on sets with memory at hand: worked rows, and what the Rust crate answers.
+//! Calls on sets without failing allocations: worked rows, and what quinn-proto returns.
 use super::shared::{
     Call, Runs, array_is, gives_replaced, insert_all, insert_all_in_array, made, made_in_array,
     on_a_set, on_an_array, on_two_arrays, on_two_sets, set_is,
@@ -23,7 +23,7 @@ fn adds(rt: HostRuntime) -> Result<(), Fail> {
     on_two_sets(rt.alloc(), add)
 }
 
-// Whether a clone has these runs, and what it is a clone of has them still.
+// Whether a clone has these runs, and its original still has them.
 fn copy_is(set: &RangeSet, runs: Runs) -> bool {
     let Some(copy) = set.try_clone().ok() else {
         return false;
@@ -71,7 +71,7 @@ fn clones_array_sets(rt: HostRuntime) -> Result<(), Fail> {
     on_two_arrays(rt.alloc(), clone_arrays)
 }
 
-// Ranges, others that are taken from them, and what is left.
+// Ranges, others that are subtracted from them, and what is left.
 const SUBTRACTED: (Runs, Runs, Runs) = (
     &[(0, 100), (200, 210)],
     &[(50, 60), (150, 300)],
@@ -110,7 +110,7 @@ fn subtracts_from_array_sets(rt: HostRuntime) -> Result<(), Fail> {
     on_two_arrays(rt.alloc(), subtract_array)
 }
 
-// From which end an element of 0..3 and 5..7 is taken, and which one it is.
+// From which end an element of 0..3 and 5..7 is read, and which one it is.
 const ELEMENTS: &[(bool, Option<u64>)] = &[
     (false, Some(0)),
     (true, Some(6)),
@@ -265,7 +265,7 @@ fn has_ends_in_array(set: &mut ArrayRangeSet) -> bool {
         && array_is(set, &[(6, 9)])
 }
 
-// What new sets answer, and then with these runs.
+// What new sets return, and then sets with these runs.
 fn answer(checks: &mut Checks, set: &mut RangeSet) -> Result<(), NoRoom> {
     checks.holds(set.is_empty());
     insert_all(set, &[(2, 4), (6, 9)])?;
@@ -312,7 +312,7 @@ fn answers_when_empty(rt: HostRuntime) -> Result<(), Fail> {
     on_a_set(rt.alloc(), answer_when_emptied)
 }
 
-// Whether the set of two runs shows itself as this.
+// Whether the set of two runs is printed as this.
 fn shows(alloc: Global, set: &mut RangeSet, text: &str) -> Result<bool, Fail> {
     insert_all(set, &[(1, 3), (5, 7)])?;
     Ok(format!(in alloc; "{set:?}")?.as_str() == text)

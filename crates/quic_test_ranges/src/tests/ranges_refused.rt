@@ -8,7 +8,7 @@ use quic_ranges::range_set::{ArrayRangeSet, RangeSet, Replace};
 use std::ops::Range;
 use std::test::Fail;
 
-// Enough runs for both sets to grow some times.
+// Enough runs for both sets to grow several times.
 const COUNT: u64 = 40;
 
 // Where the solid range ends that removals cut into runs.
@@ -25,7 +25,7 @@ fn gap(index: u64) -> Range<u64> {
     start + 5..start + 10
 }
 
-// Calls again if an allocation failed, after a look at the set.
+// Calls again if an allocation failed, after checking the set.
 macro_rules! twice {
     ($checks:ident, $call:expr, $is_kept:expr) => {
         match $call {
@@ -38,7 +38,7 @@ macro_rules! twice {
     };
 }
 
-// Whether the set has the first runs alone.
+// Whether the set has only the first runs.
 fn set_has(set: &RangeSet, count: u64) -> bool {
     let mut rest = set.iter();
     for index in 0..count {
@@ -80,7 +80,7 @@ fn array_is_cut(set: &ArrayRangeSet, count: u64) -> bool {
     rest.next() == Some(run(count).start..END) && rest.next().is_none()
 }
 
-// Whether the set has the first even numbers alone.
+// Whether the set has only the first even numbers.
 fn set_has_even(set: &RangeSet, count: u64) -> bool {
     let mut rest = set.elts();
     for index in 0..count {
@@ -110,7 +110,7 @@ fn is_begun_difference(set: &RangeSet) -> bool {
     (0..COUNT + 1).any(|count| set_is_cut(set, count))
 }
 
-// Puts the first runs in, one after the other.
+// Inserts the first runs, one after the other.
 fn fill(checks: &mut Checks, set: &mut RangeSet) -> Result<(), NoRoom> {
     for index in 0..COUNT {
         let changed = twice!(checks, set.insert(run(index)), set_has(set, index));
@@ -127,7 +127,7 @@ fn fill_array(checks: &mut Checks, set: &mut ArrayRangeSet) -> Result<(), NoRoom
     Ok(())
 }
 
-// Puts the gaps between them in.
+// Inserts the gaps between them.
 fn fill_gaps(checks: &mut Checks, set: &mut RangeSet) -> Result<(), NoRoom> {
     for index in 0..COUNT {
         let _ = twice!(checks, set.insert(gap(index)), set.len() as u64 == index);
@@ -148,7 +148,7 @@ fn refused_insertions(rt: HostRuntime) -> Result<(), Fail> {
     on_an_array(rt.alloc(), fill_array)
 }
 
-// Puts even numbers in, one after the other.
+// Inserts even numbers, one after the other.
 fn fill_even(checks: &mut Checks, set: &mut RangeSet) -> Result<(), NoRoom> {
     for index in 0..COUNT {
         let changed = twice!(checks, set.insert_one(2 * index), set_has_even(set, index));
@@ -175,7 +175,7 @@ fn refused_single_insertions(rt: HostRuntime) -> Result<(), Fail> {
     on_an_array(rt.alloc(), fill_even_in_array)
 }
 
-// Puts the solid range in.
+// Inserts the solid range.
 fn make_solid(checks: &mut Checks, set: &mut RangeSet) -> Result<(), NoRoom> {
     let changed = twice!(checks, set.insert(0..END), set.is_empty());
     checks.holds(changed);
@@ -188,7 +188,7 @@ fn make_solid_array(checks: &mut Checks, set: &mut ArrayRangeSet) -> Result<(), 
     Ok(())
 }
 
-// Takes the gaps out of the solid range, one after the other.
+// Removes the gaps from the solid range, one after the other.
 fn cut(checks: &mut Checks, set: &mut RangeSet) -> Result<(), NoRoom> {
     make_solid(checks, set)?;
     for index in 0..COUNT {
@@ -213,7 +213,7 @@ fn refused_removals(rt: HostRuntime) -> Result<(), Fail> {
     on_an_array(rt.alloc(), cut_array)
 }
 
-// Puts the first runs in by `replace`. Without a piece, the set alone grows.
+// Inserts the first runs with `replace`. Without a piece, only the set grows.
 fn replace_nothing(checks: &mut Checks, set: &mut RangeSet) -> Result<(), NoRoom> {
     for index in 0..COUNT {
         let call = set.replace(run(index)).map(|_| ());
@@ -226,7 +226,7 @@ fn replace_nothing(checks: &mut Checks, set: &mut RangeSet) -> Result<(), NoRoom
     Ok(())
 }
 
-// Whether the first runs come, and no more.
+// Whether the first runs are returned, and no more.
 fn gives_runs(pieces: Replace<'_>) -> bool {
     let mut rest = pieces;
     for index in 0..COUNT {
@@ -248,7 +248,7 @@ fn is_solid(set: &RangeSet) -> bool {
     set.iter().next() == Some(0..END) && set.len() == 1
 }
 
-// Puts the solid range in by `replace` after that. With many pieces, their list grows.
+// Inserts the solid range with `replace` after that. With many pieces, their list grows.
 fn replace_all(checks: &mut Checks, set: &mut RangeSet) -> Result<(), NoRoom> {
     replace_nothing(checks, set)?;
     if set.replace(0..END).is_err() {
@@ -306,7 +306,7 @@ fn refused_array_subtractions(rt: HostRuntime) -> Result<(), Fail> {
     on_two_arrays(rt.alloc(), subtract_array)
 }
 
-// Whether a copy, where there is room for one, has the first runs.
+// Whether a copy, if it can be allocated, has the first runs.
 fn copy_has(set: &RangeSet, count: u64) -> Result<bool, NoRoom> {
     Ok(set_has(&set.try_clone()?, count))
 }
@@ -335,7 +335,7 @@ fn refused_clones(rt: HostRuntime) -> Result<(), Fail> {
     on_an_array(rt.alloc(), clone_array)
 }
 
-// Makes calls that take no memory, and checks whether they change the set.
+// Makes calls that don't allocate, and checks whether they change the set.
 fn change(checks: &mut Checks, set: &mut RangeSet, calls: &[(Call, bool)]) {
     for &(call, changes) in calls {
         checks.holds(made(set, call) == Ok(changes));
@@ -348,7 +348,7 @@ fn change_array(checks: &mut Checks, set: &mut ArrayRangeSet, calls: &[(Call, bo
     }
 }
 
-// No call here takes memory, so each answers Ok whichever growth is refused.
+// No call here allocates, so each returns Ok whichever allocation fails.
 const AT_FIRST: &[(Call, bool)] = &[(Call::Insert(0, 100), true), (Call::Insert(200, 210), true)];
 
 const TAKEN: &[(Call, bool)] = &[(Call::Insert(50, 60), true), (Call::Insert(150, 300), true)];

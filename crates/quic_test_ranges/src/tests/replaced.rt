@@ -1,4 +1,4 @@
-//! `replace`: the ranges that it gives, and the set after it.
+//! `replace`: the ranges that it returns, and the set after it.
 ghost use Rattle.std.specs.Prelude.{OnOk};
 ghost use Rattle.quic_ranges.specs.Runs.{IsRunsOf, in_union};
 
@@ -10,7 +10,7 @@ use std::alloc::Global;
 use std::ops::Range;
 use std::test::Fail;
 
-// By its contract the set is the union, whether none, one or all of the ranges that `replace` gives are taken.
+// By its contract the set is the union, whether none, one or all of the ranges that `replace` returns are read.
 fn replace_unseen(set: &mut RangeSet, x: Range<u64>) -> Result<(), NoRoom>
     ensures { OnOk result (IsRunsOf (in_union set.old x) set.new) }
 {
@@ -36,7 +36,7 @@ fn count_replaced(set: &mut RangeSet, x: Range<u64>) -> Result<u64, NoRoom>
     Ok(count)
 }
 
-// The runs of a set, a range that is put into it, the ranges that `replace` gives, and the runs of the set after.
+// The runs of a set, a range that is inserted, the ranges that `replace` returns, and the runs of the set after it.
 type ReplaceRow = (Runs, (u64, u64), Runs, Runs);
 
 const REPLACE_ROWS: &[ReplaceRow] = &[
@@ -56,13 +56,13 @@ const REPLACE_ROWS: &[ReplaceRow] = &[
     (&[(0, 10)], (5, 2), &[], &[(0, 10)]),
 ];
 
-// Puts the row's runs into an empty set: whether `replace` then gives and leaves what the row has.
+// Inserts the row's runs into an empty set. Whether `replace` then returns and leaves what the row has.
 fn is_replaced(set: &mut RangeSet, row: &ReplaceRow) -> bool {
     let &(before, (start, end), pieces, after) = row;
     insert_all(set, before).is_ok() && gives_replaced(set, start..end, pieces) && set_is(set, after)
 }
 
-// The same where the `Replace` is dropped before its first `next`, and, below, after it.
+// The same if the `Replace` is dropped before its first `next` and, below, after it.
 fn is_same_unseen(set: &mut RangeSet, row: &ReplaceRow) -> bool {
     let &(before, (start, end), _, after) = row;
     insert_all(set, before).is_ok() && replace_unseen(set, start..end).is_ok() && set_is(set, after)
@@ -99,7 +99,7 @@ fn replaces(rt: HostRuntime) -> Result<(), Fail> {
     checks.verdict()
 }
 
-// Ranges that are put in one after the other, and what each call gives.
+// Ranges that are inserted one after the other, and what each call returns.
 const REPLACE_SCRIPT: &[((u64, u64), Runs)] = &[
     ((3, 3), &[]),
     ((6, 10), &[]),

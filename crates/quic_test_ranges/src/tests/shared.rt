@@ -1,7 +1,7 @@
 //! What the tests of sets share.
 //!
-//! Helpers borrow their sets and return whether every fact held, `false` if memory runs out: so no test returns early
-//! while it owns a set.
+//! Helpers borrow their sets and return whether every fact held, `false` if an allocation fails, so that no test
+//! returns early while it owns a set.
 use quic_base::coding::NoRoom;
 use quic_checks::Checks;
 use quic_ranges::range_set::{ArrayRangeSet, RangeSet, Replace};
@@ -20,7 +20,7 @@ pub(super) enum Call {
     Remove(u64, u64),
 }
 
-// Makes the call, and answers whether it changes the set.
+// Makes the call, and returns whether it changes the set.
 pub(super) fn made(set: &mut RangeSet, call: Call) -> Result<bool, NoRoom> {
     match call {
         Call::Insert(start, end) => set.insert(start..end),
@@ -39,7 +39,7 @@ pub(super) fn made_in_array(set: &mut ArrayRangeSet, call: Call) -> Result<bool,
     }
 }
 
-// Runs a check on a new set; it fails if memory runs out.
+// Runs a check on a new set; it fails if an allocation fails.
 pub(super) fn on_a_set<F: FnOnce(&mut Checks, &mut RangeSet) -> Result<(), NoRoom>>(
     alloc: Global,
     check: F,
@@ -127,7 +127,7 @@ pub(super) fn array_is(set: &ArrayRangeSet, runs: &[(u64, u64)]) -> bool {
     rest.next().is_none() && set.len() == runs.len()
 }
 
-// Whether exactly these ranges are given.
+// Whether exactly these ranges are returned.
 fn gives(pieces: Replace<'_>, want: &[(u64, u64)]) -> bool {
     let mut rest = pieces;
     for &(start, end) in want {

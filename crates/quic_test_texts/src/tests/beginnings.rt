@@ -22,7 +22,7 @@ fn is_printed(alloc: Global, wanted: &mut String, row: &str) -> bool {
     join_parts(wanted, parts) && is_row(alloc, bytes, wanted.as_str())
 }
 
-// A frame that is cut off within its fields ends unexpectedly, unless it goes on to the end of the payload.
+// A frame that is cut off within its fields is an unexpected end, unless it extends to the end of the payload.
 #[test]
 fn every_beginning(rt: HostRuntime) -> Result<(), Fail> {
     let mut checks = Checks::new(rt.alloc());

@@ -1,6 +1,6 @@
-//! Every beginning of the bytes of every worked payload, and the lines that are printed of it, all parted by bars. The
-//! answers come from a plain model that was written from the tables of frames (RFC 9000, section 19; RFC 9221, section
-//! 4) by itself; on the payloads that `quic_show` prints it agrees with the Rust crate.
+//! Every beginning of the bytes of every worked payload, and the lines that are printed for it, separated by bars. The
+//! expected output comes from a separate plain model that was written from the RFCs' frames (RFC 9000, section 19; RFC
+//! 9221, section 4). On the payloads that `quic_show` prints it agrees with quinn-proto.
 
 pub(super) const BEGINNINGS: &str = "|error packet payload is empty\n\
 40|error unexpected end\n\

@@ -1,4 +1,4 @@
-//! Runs over a source and a sink in memory: text in several writes, ends, and failures at each call.
+//! Runs with a source and a sink in memory: text in several writes, ends of input, and failures at each call.
 use quic_bench::FailAt;
 use quic_checks::Checks;
 use quic_text::{FromRead, Mode, RunError, ToWrite, mode_of, run, status};
@@ -14,7 +14,7 @@ const TEXT: &[u8] =
     b"0..1 PADDING\n1..2 PING\nerror packet payload is empty\nerror not hexadecimal\nerror unexpected end\n\
     0..1 PING\n1..2 PADDING\n";
 
-// Words of a mode, lines that it reads, and what it prints of them.
+// The arguments of a mode, lines that it reads, and what it prints for them.
 type ModeRow = (&'static [&'static str], &'static [u8], &'static [u8]);
 
 const EACH_MODE: &[ModeRow] = &[
@@ -44,7 +44,7 @@ const EACH_MODE: &[ModeRow] = &[
 
 // Helpers own their sources and sinks, and return whether every fact held.
 
-// Whether a run over such a source and that sink ends so, with the sink's text then.
+// Whether a run with such a source and that sink ends so, and the sink then has this text.
 fn prints(
     alloc: Global,
     input: &[u8],
@@ -136,7 +136,7 @@ fn ends_at_the_read(alloc: Global, mode: Mode, lines: &[u8], calls_before: u64) 
         && source.calls() == calls_before.wrapping_add(1)
 }
 
-// Whether so many reads are all that come.
+// Whether there are exactly that many reads.
 fn ends_behind_reads(alloc: Global, mode: Mode, lines: &[u8], text: &[u8], reads: u64) -> bool {
     let source = &mut FailAt::new(alloc, lines, 1, reads);
     let sink = &mut FailAt::new(alloc, b"", 1, NEVER);
@@ -181,7 +181,7 @@ fn ends_at_the_write(
         && sink.output().len() == text.len().min(calls_before.saturating_mul(10))
 }
 
-// Whether so many writes and flushes are all that come.
+// Whether there are exactly that many writes and flushes.
 fn ends_behind_calls(alloc: Global, mode: Mode, lines: &[u8], calls: u64) -> bool {
     let source = &mut FailAt::new(alloc, lines, 1, NEVER);
     let sink = &mut FailAt::new(alloc, b"", 10, calls);
@@ -202,7 +202,7 @@ fn fails_at_each_write(alloc: Global, row: &ModeRow) -> bool {
     ends_behind_calls(alloc, mode, lines, writes as u64 + 1)
 }
 
-// Ten bytes a call: as many writes as that takes, and one flush, which is the last call.
+// Ten bytes a call: as many writes as needed, and one flush, which is the last call.
 #[test]
 fn each_write_and_the_flush_fail_in_turn(rt: HostRuntime) -> Result<(), Fail> {
     let mut checks = Checks::new(rt.alloc());
@@ -243,7 +243,7 @@ fn is_filled(alloc: Global, room: usize) -> bool {
     is_too_little(alloc, place) && TEXT.starts_with(place)
 }
 
-// A writer that takes nothing more has failed.
+// A writer that accepts nothing more has failed.
 #[test]
 fn a_full_writer_is_a_failed_write(rt: HostRuntime) -> Result<(), Fail> {
     let mut checks = Checks::new(rt.alloc());
@@ -253,7 +253,7 @@ fn a_full_writer_is_a_failed_write(rt: HostRuntime) -> Result<(), Fail> {
     checks.verdict()
 }
 
-// Words of no mode.
+// Arguments that select no mode.
 const NO_MODES: &[&[&str]] = &[
     &[],
     &["frames", "frames"],

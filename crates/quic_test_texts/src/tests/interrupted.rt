@@ -1,5 +1,5 @@
-//! Readers and writers of std whose calls are interrupted once. Each error is a failure, that of an interrupted call
-//! too: the run ends there, and no call is made again.
+//! Readers and writers of std whose calls are interrupted once. Every error is a failure, also that of an interrupted
+//! call: the run ends there, and no call is repeated.
 use quic_bench::FailAt;
 use quic_checks::Checks;
 use quic_text::{FromRead, Mode, RunError, ToWrite, run};
@@ -11,7 +11,7 @@ const LINES: &[u8] = b"0001\n01\n";
 
 const TEXT: &[u8] = b"0..1 PADDING\n1..2 PING\n0..1 PING\n";
 
-// Gives or takes one byte with each call, and is interrupted once, after so many calls.
+// Reads or writes one byte with each call, and is interrupted once, after that many calls.
 #[derive(Drop)]
 struct Interrupted<T> {
     inner: T,
@@ -58,7 +58,7 @@ impl<T: Write> Write for Interrupted<T> {
     }
 }
 
-// What a run over the reader answers.
+// What a run with the reader returns.
 fn read_by(
     alloc: Global,
     reader: &mut Interrupted<&[u8]>,
@@ -95,14 +95,14 @@ fn an_interrupted_read_is_a_failure(rt: HostRuntime) -> Result<(), Fail> {
     checks.verdict()
 }
 
-// What a run over the writer answers.
+// What a run with the writer returns.
 fn written_by(alloc: Global, writer: &mut Interrupted<&mut Vec<u8>>) -> Result<bool, RunError> {
     let mut source = FailAt::new(alloc, LINES, usize::MAX, u64::MAX);
     let mut sink = ToWrite::new(writer);
     run(alloc, Mode::Frames, &mut source, &mut sink)
 }
 
-// The bytes of the calls before it are kept.
+// The bytes of the calls before it are still there.
 fn is_not_written_again(alloc: Global, out: &mut Vec<u8>, calls_before: usize) -> bool {
     let mut writer = Interrupted::new(out, calls_before as u64);
     let outcome = written_by(alloc, &mut writer);

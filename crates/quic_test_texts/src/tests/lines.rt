@@ -5,7 +5,7 @@ use quic_text::{Mode, run, status};
 use std::alloc::Global;
 use std::test::Fail;
 
-// A line, and what is printed of it.
+// A line, and what is printed for it.
 const ROWS: &[(&str, &str)] = &[
     ("40000a000161", "0..2 PADDING\n2..6 STREAM\n"),
     ("80000001", "0..4 PING\n"),
@@ -59,7 +59,7 @@ const ROWS: &[(&str, &str)] = &[
     ("18050202aa", "error unexpected end in NEW_CONNECTION_ID\n"),
 ];
 
-// Whether a run over such a source prints this, moved at most so many bytes a call.
+// Whether a run with such a source prints this, with at most that many bytes per call.
 fn is_printed(alloc: Global, input: &[u8], most: usize, clean: bool, text: &[u8]) -> bool {
     let source = &mut FailAt::new(alloc, input, most, u64::MAX);
     let sink = &mut FailAt::new(alloc, b"", most, u64::MAX);
@@ -85,7 +85,7 @@ fn each_row_by_itself(rt: HostRuntime) -> Result<(), Fail> {
     checks.verdict()
 }
 
-// Puts all lines together.
+// Joins all lines.
 fn join_lines(input: &mut String) -> bool {
     for &(line, _) in ROWS {
         if writeln!(input, "{line}").is_err() {

@@ -44,7 +44,7 @@ fn closes_display_text(alloc: Global) -> bool {
     }
 }
 
-// Bytes that are no text are displayed as one sign each.
+// Bytes that aren't text are displayed as one character each.
 fn closes_display_what_is_no_text(alloc: Global) -> bool {
     match "\u{fffd}".repeat(alloc, 2000) {
         Ok(signs) => closes_display(alloc, &[0xff; 2000], signs.as_str()),

@@ -10,7 +10,7 @@ use std::alloc::Global;
 use std::fmt::Display;
 use std::test::Fail;
 
-// Helpers return whether every fact held: so few tests return early while their `Checks` are alive.
+// Helpers return whether every fact held, so that few tests return early while their `Checks` is alive.
 
 pub fn displays<T: Display>(alloc: Global, value: &T, text: &str) -> bool {
     match format!(in alloc; "{value}") {

@@ -1,5 +1,5 @@
-//! Answers of the Rust crate quinn-proto 0.11.19, by its own code, on texts of codes, types, closes and
-//! errors. Each is a list of lines whose parts are parted by bars.
+//! What quinn-proto 0.11.19 prints for codes, types, closes and errors. Each is a list of lines whose parts are
+//! separated by bars.
 
 /// Codes: the number, the Debug, the Display.
 pub const CODES: &str =

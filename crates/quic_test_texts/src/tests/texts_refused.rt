@@ -1,4 +1,4 @@
-//! Errors where memory is refused: each test holds whichever allocation fails.
+//! Errors with failing allocations: each test passes whichever allocation fails.
 use quic_base::coding::NoRoom;
 use quic_checks::Checks;
 use quic_frames::transport_error::{Code, Error};
@@ -10,7 +10,7 @@ fn is(error: &Error, code: Code, reason: &str) -> bool {
     error.code == code && error.reason.as_str() == reason
 }
 
-// Whether the copy is equal, or was refused.
+// Whether the copy is equal, or failed.
 fn is_same_or_none(copied: &Result<Error, NoRoom>, error: &Error) -> bool {
     match copied {
         Ok(copy) => copy == error,
@@ -24,7 +24,7 @@ fn is_left(error: &Error) -> bool {
     is(error, Code::NO_VIABLE_PATH, "a text of its own") && is_same_or_none(&copied, error)
 }
 
-// The same of an error that is made first, where there is memory for it.
+// The same for an error that is made first, if it can be allocated.
 fn is_left_where_made(alloc: Global) -> bool {
     match Error::with_text(alloc, Code::NO_VIABLE_PATH, "a text of its own") {
         Ok(error) => is_left(&error),
@@ -42,7 +42,7 @@ fn is_copied(error: &Error) -> bool {
 fn a_refused_copy_leaves_the_error(rt: HostRuntime) -> Result<(), Fail> {
     let mut checks = Checks::new(rt.alloc());
     checks.holds(is_left_where_made(rt.alloc()));
-    // A text that is static is copied without memory.
+    // A static text is copied without an allocation.
     checks.holds(is_copied(&Error::NO_VIABLE_PATH("static")));
     checks.verdict()
 }

@@ -136,7 +136,7 @@ begun_second = codecs.begun_second
 pub on_err : {T E P : Type 0} (r : Result T E) → P → OnErr r P
 on_err = codecs.on_err
 
--- decoding an encoding gives the value and leaves the rest
+-- decoding an encoding returns the value and leaves the rest
 pub reads_back : {T E : Type 0} (K : T → List ℕ → Type 0) (r : Result T E) (x : T) (old b rest new : List ℕ)
     → IsPrefixFree K → K x b → old ≡ b ++ rest
     → IfOk r (λ v. Takes (K v) old new) → OnErr r ((v : T) → NoFront (K v) old) → (r ≡ Ok x) × (new ≡ rest)

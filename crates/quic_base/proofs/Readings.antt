@@ -109,7 +109,7 @@ no_number_in bytes (Some x) e fits none =
 pub no_number : (bytes : List ℕ) → AreBytes bytes → ((v : ℕ) → NoFront (Encodes v) bytes) → number_at bytes ≡ None
 no_number bytes fits none = no_number_in bytes (number_at bytes) refl fits none
 
--- and where it finds none, no front is one
+-- and if it finds none, no front is one
 pub none_found : (bytes : List ℕ) → number_at bytes ≡ None → (v : ℕ) → NoFront (Encodes v) bytes
 none_found bytes e v b s split p =
     absurd (let h = number_again v b s p in let g : number_at (b ++ s) ≡ None = ap number_at (sym split) ∙ e in cc)

@@ -1,5 +1,5 @@
 -- Connection ids: RFC 9000, sections 5.1 and 17.2. A connection id is a list of at most 20 bytes. Proofs are here
--- because an implementation proves its trait's laws from definitions alone.
+-- because an implementation proves its trait's laws only from definitions.
 use Rattle.std.specs.Prelude.{◌≡◌, ℕ, ◌-◌, ◌/◌, ◌%◌, ◌≤◌, false, List, [], ◌∷◌, ◌++◌, take, drop, length, replicate}
 use Rattle.std.specs.List.{flat_map}
 use Rattle.std.specs.Fmt.{digit_glyph}

@@ -1,5 +1,5 @@
--- How connection ids compare: by length, then by bytes; and the laws that an order must keep. Their proofs are here
--- because an implementation proves its trait's laws from definitions alone.
+-- How connection ids compare: by length, then by bytes; and the laws of an order. Their proofs are here because an
+-- implementation proves its trait's laws only from definitions.
 use Rattle.std.specs.Prelude.{◌≡◌, ◌<◌, ℕ, List, length, nat_eq}
 use Rattle.std.specs.declared.cmp.Ordering.{Ordering}
 use Rattle.std.specs.declared.cmp.Ordering.TheVariants.{Less, Equal, Greater}

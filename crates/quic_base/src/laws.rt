@@ -12,8 +12,8 @@ ghost use Rattle.quic_base.specs.declared.ids.Side.{Side};
 use crate::ids::ConnectionId;
 use std::hash::Hash;
 
-/// Encodings of numbers below 2^62 (RFC 9000, section 16). That decoding the shortest one gives the
-/// number and consumes exactly its bytes is a clause of `VarInt::decode`.
+/// Encodings of numbers below 2^62 (RFC 9000, section 16). A clause of `VarInt::decode` says that decoding the shortest
+/// one returns the number and consumes exactly its bytes.
 pub fn encodings()
     // The shortest encoding is an encoding, of the stated length.
     ensures shortest { (v : ℕ) → v < 2 ^ 62 → Encodes v (shortest_varint v) }

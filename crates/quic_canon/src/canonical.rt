@@ -137,7 +137,7 @@ fn rewrite(payload: &[u8], out: &mut Vec<u8>)
     copy(&payload[from..], out);
 }
 
-// Appends the shortest payload, for which there is room. The caller gives how many of the first bytes are copied.
+// Appends the shortest payload, for which there is room. The caller passes how many of the first bytes are copied.
 fn write_least(payload: &[u8], front: usize, out: &mut Vec<u8>)
     requires front { IsFront payload.now front }
     requires room { vec_len out.old + length payload.now ≤ vec_capacity out.old }
@@ -197,7 +197,7 @@ impl CanonBytes<'_> {
     }
 }
 
-// The shortest payload in a new vector, in which room for the payload's length is reserved at once. The caller gives
+// The shortest payload in a new vector, in which room for the payload's length is reserved at once. The caller passes
 // how many of the first bytes are copied. It isn't inlined, since a payload that is canonical doesn't need it.
 #[inline(never)]
 fn rewritten(alloc: Global, payload: &[u8], front: usize) -> Result<Vec<u8>, AllocError>

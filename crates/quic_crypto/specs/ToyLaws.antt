@@ -1,5 +1,5 @@
--- The laws of the keys that protect nothing. Proofs are here because an implementation proves its trait's laws
--- from definitions alone.
+-- The laws of the keys that protect nothing. Proofs are here because an implementation proves its trait's laws only
+-- from definitions.
 use Rattle.std.specs.Prelude.{◌≡◌, ℕ, ◌+◌, ◌-◌, List, ◌++◌, length, take, drop, nat_le, nat_eq, Some, None, ◌&&◌, refl}
 use Rattle.std.specs.Cmp.Lexicographic.{pointwise, nat_list_eq_equiv}
 use Rattle.std.proofs.Common.{cond, true, ap, ◌∙◌, arith, length-append}

@@ -38,7 +38,7 @@ stream_parts_as true fin id offset bytes counted e =
 stream_parts_as false fin id offset bytes counted e =
     ap (λ (n : Option ℕ). stream_header id offset fin n ++ bytes) e ∙ stream_parts false fin id offset bytes
 
--- ---- how many bytes they take
+-- ---- how many bytes they have
 
 open_type : (has_no_offset ends : Bool) → size (0x08 + (if has_no_offset then 0 else 4) + (if ends then 1 else 0)) ≡ 1
 unfolding size

@@ -40,7 +40,7 @@ gap_reason low bytes e h =
       | inr second ↦ record { either = inr (large_or (ltb low (second.0.0 + 2)) (low - (second.0.0 + 2), second.0.1) e second.2) }
     ]
 
--- a block and a gap take bytes
+-- a block and a gap have bytes
 pub block_shorter : (greatest : ℕ) (bytes : List ℕ) (x : ℕ × List ℕ) → AreBytes bytes → block_at greatest bytes ≡ Ok x
     → length x.1 < length bytes
 block_shorter greatest bytes x fits e =

@@ -1,4 +1,4 @@
--- Steps of an iterator by rules.
+-- Steps of an iterator under rules.
 use Rattle.std.proofs.Common.{◌≡◌, ℕ, List, Bool, true, Option, Some, None, refl, sym, ap, subst, ◌∙◌, inr}
 use Rattle.quic_frame_fields.specs.Reading.{Invalid}
 use Rattle.quic_frames.specs.declared.frame.Frame.{Frame}

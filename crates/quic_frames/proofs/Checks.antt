@@ -1,4 +1,4 @@
--- A payload has one reading by rules.
+-- A payload has one reading under rules.
 use Rattle.std.proofs.Common.{◌≡◌, ℕ, ◌+◌, ◌≤◌, List, [], ◌∷◌, ◌++◌, length, Bool, false, Option, Some, None, refl, sym, ap, subst, ◌∙◌, inl, inr, arith}
 use Rattle.std.specs.Prelude.{◌⊎◌, All}
 use Rattle.std.proofs.lemmas.List.{length-append}
@@ -96,7 +96,7 @@ same_start rules (found ∷ before) broken others breach (found' ∷ before') br
     (All-tail (Keeps rules) found before kept) (All-tail (Keeps rules) found' before' kept') breaks breaks' in
     record { fronts = cc (heads, rest.fronts); brokens = rest.brokens }
 
--- ---- one reading by rules
+-- ---- one reading under rules
 
 same_checked : (a b : Checked) → a.frames ≡ b.frames → a.error ≡ b.error → a ≡ b
 same_checked a b frames error =

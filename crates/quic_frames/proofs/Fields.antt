@@ -267,7 +267,7 @@ fields_take (field ∷ fields) before bytes x fits e =
       opens = nothing_left (is_rest field) (list_any is_rest fields) a.0.1 u.front x.1 u.parts (rest_takes_all field before bytes a.0 a.1) u.opens;
     }
 
--- a field that takes all that is left comes last only
+-- a field that takes all that is left is always the last
 abbrev pub is_well : List Field → Bool
 is_well [] = true
 is_well (field ∷ []) = true

@@ -65,7 +65,7 @@ apart_first : (range : ℕ × ℕ) (ranges : List (ℕ × ℕ)) → AreApart (ra
 apart_first range [] a = a
 apart_first range (below ∷ ranges) a = a.0
 
--- each range takes two numbers below the one above it
+-- each range uses up two numbers below the one above it
 apart_few : (range : ℕ × ℕ) (ranges : List (ℕ × ℕ)) → AreApart (range ∷ ranges) → length ranges * 2 ≤ range.0
 apart_few range [] a = omega arith
 apart_few range (below ∷ ranges) a = omega (arith, apart_few below ranges a.2, apart_first below ranges a.2, a.1)

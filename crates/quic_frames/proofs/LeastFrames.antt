@@ -1,4 +1,4 @@
--- The shortest encoding of each frame at its place: it is one, and no other is as short.
+-- The shortest encoding of each frame, as the last of its payload or not: it is one, and no other is as short.
 use Rattle.std.proofs.Common.{◌≡◌, ℕ, ◌+◌, ◌^◌, ◌<◌, ◌≤◌, Bool, true, false, eqb, cond, List, [], ◌∷◌, ◌++◌, length, Option, Some, refl, sym, ap, subst, ◌∙◌, inl, inr, arith}
 use Rattle.std.specs.Prelude.{⊤, ◌⊎◌, not}
 use Rattle.std.specs.Map.{lookup}

@@ -9,7 +9,7 @@ use Rattle.quic_frames.proofs.Items.{frame_some}
 use Rattle.quic_frames.proofs.LeastFields.{both_least}
 use Rattle.quic_frames.proofs.LeastFrames.{FitsRow, frame_encoded, frame_least}
 
--- Each frame fits the row of its type at its place.
+-- Each frame fits the row of its type, as the last or not.
 abbrev pub FitRows : List Meaning → Type 0
 FitRows [] = ⊤
 FitRows (frame ∷ frames) =

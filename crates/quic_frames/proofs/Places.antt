@@ -83,7 +83,7 @@ all_end_in (field ∷ fields) before after bytes last s e =
           ]
     ]
 
--- ---- places
+-- ---- offsets
 
 middle_is : (a b c : List ℕ) (start stop : ℕ) → length a ≡ start → length a + length b ≡ stop
     → slice_range (a ++ (b ++ c)) start stop ≡ b

@@ -1,4 +1,4 @@
--- The shortest encodings of frames keep their bounds.
+-- The shortest encodings of frames are within their bounds.
 use Rattle.std.proofs.Common.{◌≡◌, ℕ, Bool, true, false, List, [], ◌∷◌, ◌++◌, length, ◌+◌, ◌*◌, ◌≤◌, refl, eqb, ap, arith}
 use Rattle.std.specs.Prelude.{if◌then◌else◌}
 use Rattle.std.proofs.lemmas.List.{length-append}

@@ -21,8 +21,8 @@ abbrev pub HasItsBlocks : Frame → List ℕ → List ℕ → Type 0
 HasItsBlocks (frames.Ack a) bytes left = ReadsBlocks (parts_of a) bytes left
 HasItsBlocks frame bytes left = ⊤
 
--- The reader of a frame's fields returned what reading these bytes gives, no frame type of a close is 0, and an ACK has
--- the bytes of its blocks.
+-- The reader of a frame's fields returned what reading these bytes returns, no frame type of a close is 0, and an ACK
+-- has the bytes of its blocks.
 abbrev pub GivesFrame : {R : Type 0} → (R → List ℕ) → List ℕ → Result (Frame × R) Fault
     → Result (Meaning × List ℕ) Fault → Type 0
 GivesFrame left bytes result read =

@@ -1,4 +1,5 @@
--- What RFC 9000 requires a receiver to check in frames besides their encoding, and a payload's reading by such rules.
+-- What RFC 9000 requires a receiver to check in frames besides their encoding, and a payload's reading under such
+-- rules.
 use Rattle.std.specs.Prelude.{◌≡◌, ◌⊎◌, ℕ, ◌+◌, ◌-◌, ◌^◌, List, [], ◌∷◌, ◌++◌, length, All, Option, Some, None, Bool, false, nat_lt, ◌&&◌, ◌==◌, codes, if◌then◌else◌}
 use Rattle.quic_frames.specs.declared.frame.rules.Rules.{Rules}
 use Rattle.quic_frames.specs.declared.frame.rules.Breach.{Breach}
@@ -53,7 +54,7 @@ invalid_by found breach = record { type = Some found.type; reason = breach_text 
 abbrev pub Keeps : Rules → TypedFrame → Type 0
 Keeps rules found = breach_of rules found.frame ≡ None
 
--- What a payload is read as by rules: frames, and an error after them, if there is one.
+-- What a payload is read as under rules: frames, and an error after them, if there is one.
 pub record Checked : Type 0 where
   pub frames : List TypedFrame
   pub error : Option Invalid
@@ -73,18 +74,18 @@ pub record StopsAtBreach (rules : Rules) (frames : List TypedFrame) (checked : C
   pub breaks : breach_of rules broken.frame ≡ Some breach
   pub reported : checked.error ≡ Some (invalid_by broken breach)
 
--- What a reading becomes by rules: itself if no frame breaks a rule; else it ends at the first that does.
+-- What a reading becomes under rules: itself if no frame breaks a rule; else it ends at the first that does.
 abbrev pub IsCheckedReading : Rules → Reading → Checked → Type 0
 IsCheckedReading rules reading checked =
     (All (Keeps rules) (unchecked reading).frames × (checked ≡ unchecked reading))
     ⊎ StopsAtBreach rules (unchecked reading).frames checked
 
--- This is the reading of the bytes by rules, after a frame of the given type.
+-- This is the reading of the bytes under rules, after a frame of the given type.
 abbrev pub IsCheckedAfter : Rules → Option ℕ → List ℕ → Checked → Type 0
 IsCheckedAfter rules before bytes checked =
     (reading : Reading) × IsReadingAfter rules.short_types before bytes reading × IsCheckedReading rules reading checked
 
--- This is the reading of a payload by rules.
+-- This is the reading of a payload under rules.
 abbrev pub IsCheckedOf : Rules → List ℕ → Checked → Type 0
 IsCheckedOf rules bytes checked = IsCheckedAfter rules None bytes checked
 

@@ -157,7 +157,7 @@ pub fn retire_connection_id_is_bounded()
         (meaning_of (frames.RetireConnectionId sequence))) ≤ RETIRE_CONNECTION_ID_SIZE_BOUND }
 {}
 
-/// By rules, too, a payload has one reading. If no frame is checked, as by `Rules::default()`, it is that of the
+/// Under rules, too, a payload has one reading. If no frame is checked, as with `Rules::default()`, it is that of the
 /// iterator without rules.
 pub fn checked_readings()
     ensures one { (rules : Rules) (before : Option ℕ) (bytes : List ℕ) → AreBytes bytes

@@ -1,4 +1,4 @@
--- Where the packet ends whose header was read as places.
+-- Where the packet ends whose header was read as offsets.
 use Rattle.std.specs.Prelude.{◌≡◌, ℕ, ◌+◌, ◌<◌, ◌≤◌, List, length, drop, Option, None, Some, MatchOption, nat_lt, codes}
 use Rattle.std.proofs.Common.{sym, arith, refl, cond, inl, inr, length-drop}
 use Rattle.std.proofs.lemmas.Bool.Decides.{nat_tests}

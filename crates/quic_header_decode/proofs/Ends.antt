@@ -276,7 +276,7 @@ text_size NoMemory = 1
 abbrev past_token : Refusal
 past_token = Invalid (codes "token out of bounds")
 
--- a refusal that bytes after it may change
+-- an error that later bytes may change
 abbrev IsPlain : Refusal → Type 0
 IsPlain e = (e ≡ at_end) ⊎ (e ≡ bad_id) ⊎ (e ≡ past_token)
 

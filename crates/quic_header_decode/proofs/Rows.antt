@@ -188,7 +188,7 @@ field_found options ShortId before values bytes rest fits takes e =
       ),
     )
 
--- a field that can't be read has this refusal
+-- a field that can't be read has this error
 field_reported : (options : DecodeOptions) (field : HeaderField) (before : List HeaderValue) (bytes : List ℕ) (e : Refusal)
     → field_at options field before bytes ≡ Err e → IsRefusal options field before bytes e
 field_reported options Version before bytes e h = elim (step (word_at bytes) at_end _ e h) [

@@ -1,4 +1,4 @@
--- Steps of readers: what a field, a test or a refusal makes of what follows.
+-- Steps of readers: what follows a field, a test or an error.
 use Rattle.std.specs.Prelude.{◌≡◌, ℕ, ◌⊎◌, Bool, true, false, List, ◌++◌, length, take, drop, Option, Some, None, Result, Ok, Err, MatchResult}
 use Rattle.std.proofs.Common.{sym, ap, subst, ◌∙◌, refl, cond, inl, inr}
 use Rattle.std.specs.Option.{ok_or}

@@ -421,7 +421,7 @@ sole id_len versions bytes (Err NoMemory) (Err (Invalid text)) fits e agrees a =
     sym agrees ∙ refused_again (any_fixed id_len versions) (length bytes) bytes (Invalid text) fits a.0
 sole id_len versions bytes (Err NoMemory) (Err NoMemory) fits e agrees a = refl
 
--- bytes begin with one header, the ids of one unknown version, or one refusal
+-- bytes begin with one header or with the ids of one unknown version, or have one error
 pub read_sole : (id_len : ℕ) (versions bytes : List ℕ) (one other : Read) → AreBytes bytes
     → ReadAnswer (any_fixed id_len versions) bytes one → ReadAnswer (any_fixed id_len versions) bytes other
     → one ≡ other

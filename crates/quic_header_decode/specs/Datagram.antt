@@ -34,7 +34,7 @@ pub record PlacedPacket : Type 0 where
   pub header : ProtectedHeader
 
 -- The bytes that begin at start are these packets, one after another up to their end; or these, and then bytes from
--- which no packet can be cut, with their refusal.
+-- which no packet can be cut, with their error.
 pub data ArePackets (options : DecodeOptions) : ℕ → List ℕ → List PlacedPacket → Option Refusal → Type 0 where
   last : (start : ℕ) (bytes : List ℕ) (h : ProtectedHeader) (p : ℕ) → Cut options bytes h p (length bytes)
       → ArePackets options start bytes (record { start = start; stop = start + length bytes; header = h } ∷ []) None
@@ -60,6 +60,6 @@ unfoldable pub packets_from : DecodeOptions → ℕ → ℕ → List ℕ → Lis
 packets_from options zero start bytes = ([], None)
 packets_from options (suc n) start bytes = and_then (packets_from options n) start bytes (cut_at options bytes)
 
--- the packets of a datagram, and the refusal of what is left, if anything is refused
+-- the packets of a datagram, and the error for what is left, if there is one
 unfoldable pub packets_in : DecodeOptions → List ℕ → List PlacedPacket × Option Refusal
 packets_in options bytes = packets_from options (suc (length bytes)) 0 bytes

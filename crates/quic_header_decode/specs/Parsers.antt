@@ -1,5 +1,5 @@
--- Parsers of the ids of short headers. A proof is here because an implementation proves its trait's laws from
--- definitions alone.
+-- Parsers of the ids of short headers. A proof is here because an implementation proves its trait's laws only from
+-- definitions.
 use Rattle.std.specs.Prelude.{◌≡◌, ◌≢◌, ℕ, ◌≤◌, List, length, take, Result, Ok, Err, MatchResult, nat_lt, if◌then◌else◌, codes}
 use Rattle.std.proofs.Common.{cond, Bool, true, false, arith, refl}
 use Rattle.std.proofs.lemmas.Bool.Decides.{nat_tests}

@@ -41,7 +41,7 @@ impl PartialDecode {
     /// too short to contain payload length")`. `OutOfMemory` comes only from a parser that allocates, or if bytes
     /// follow the packet.
     ///
-    /// So without `grease` a version negotiation whose fixed bit is clear is rejected, though clients ignore that bit
+    /// Without `grease` a version negotiation whose fixed bit is clear is rejected, although clients ignore that bit
     /// (RFC 9000, section 17.2.1).
     #[inline(always)]
     pub fn new<P: ConnectionIdParser>(
@@ -168,7 +168,7 @@ impl PartialDecode {
         }
     }
 
-    /// Whether the header is long: any but a short one.
+    /// Whether the header is long.
     pub fn has_long_header(&self) -> bool
         ensures { IsTrue result ↔ (IsShort self.now.head → ⊥) }
     {

@@ -22,7 +22,7 @@ impl PartialDecode {
     /// packet number (RFC 9001, section 5.4). The error is `InvalidHeader("packet too short to extract header
     /// protection sample")` exactly when there are fewer than four bytes and the sample from the number on; any other
     /// error is `OutOfMemory`. A Retry or version negotiation has no protection: it needs no key, and is returned
-    /// unchanged. The caller must give a key for other packets, which are those with a `space()`.
+    /// unchanged. The caller must pass a key for other packets, which are those with a `space()`.
     pub fn finish<H: HeaderKey>(self, key: Option<&H>) -> Result<Packet, PacketDecodeError>
         requires { IsTrue (is_protected self.head) → IsSome key }
         ensures opened { IfOk result

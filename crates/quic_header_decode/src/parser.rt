@@ -11,7 +11,7 @@ use quic_base::ids::ConnectionId;
 pub trait ConnectionIdParser {
     ghost use Rattle.quic_base.specs.Cursor.{unread};
 
-    // What the remaining bytes begin with: an id and how many bytes it takes, or an error.
+    // What the remaining bytes begin with: an id and how many bytes it has, or an error.
     ghost parsed: { Self → List ℕ → Result (List ℕ × ℕ) Refusal };
 
     // It allocates, so an allocation may fail.

@@ -81,7 +81,7 @@ impl ProtectedHeader {
     /// bytes don't change. For versions other than `versions` only the ids are read. With `grease` the fixed bit may be
     /// clear (RFC 9287). `OutOfMemory` comes only from a parser that allocates.
     ///
-    /// Without `grease` every header whose fixed bit is clear is rejected, as in quinn-proto, though clients ignore
+    /// Without `grease` every header whose fixed bit is clear is rejected, as in quinn-proto, although clients ignore
     /// that bit in a version negotiation (RFC 9000, section 17.2.1), and a version that isn't known may use it for
     /// anything (RFC 8999, section 5.1).
     #[inline(always)]

@@ -123,7 +123,7 @@ impl LongHeaderType {
     pub fn from_byte(first: u8, version: u32) -> Self
         ensures { result ≡ long_type version first }
     {
-        // Initial is compared first, since servers read it most often; a table of four cases takes longer.
+        // Initial is compared first, since servers read it most often; a table of four cases is slower.
         if version != VERSION_2 && first % 64 < 16 {
             return Self::Initial;
         }

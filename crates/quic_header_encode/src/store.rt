@@ -178,7 +178,7 @@ pub fn store_token<const SHORT: bool>(out: &mut [u8], at: usize, token: &[u8]) -
     }
 }
 
-// Stores a token whose length takes one byte.
+// Stores a token whose length has one byte.
 #[inline(always)]
 #[tactic(auto, using(crate::proofs::Stores::size_small))]
 fn store_short_token<const SHORT: bool>(out: &mut [u8], at: usize, token: &[u8]) -> usize
@@ -216,7 +216,7 @@ fn store_some<const SHORT: bool>(out: &mut [u8], at: usize, bytes: &[u8]) -> usi
     }
 }
 
-// Stores a token whose length takes more than a byte.
+// Stores a token whose length has more than one byte.
 #[inline(never)]
 fn store_long_token(out: &mut [u8], at: usize, token: &[u8]) -> usize
     requires large { 2 ^ 6 ≤ length token.now }

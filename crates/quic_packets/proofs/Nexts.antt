@@ -74,7 +74,7 @@ reached_all {X} {opening} {before} {bytes} {now} {left} x it is =
     let all : All opening before bytes now = subst (ReachedAt opening before bytes now) is it.is in
     record { opened = all.opened; refused = tt; sealed = all.returned }
 
--- the next packet is refused
+-- the next packet isn't opened
 pub reached_refused : {X : Type 0} {opening : Opening} {before : List Opened} {bytes : List ℕ} {now room : List Opened}
     {result : Result Opened OpenError} {old : Option Filled} (left : Option Filled) {next : Filled} {e : OpenError}
     → Reached opening before bytes now old → old ≡ Some next → room ≡ now

@@ -109,7 +109,7 @@ number_there number first front body at at_is size valid =
       text = subst (NumberAt number) (sym text) (number_encoded number valid);
     }
 
--- two ways to cut a list at one place
+-- two ways to cut a list at one offset
 pub cut_same : (a b c d : List ℕ) → a ++ b ≡ c ++ d → length a ≡ length c → (a ≡ c) × (b ≡ d)
 cut_same a b c d same long = (
   sym (take_front a b (length c) long) ∙ ap (take (length c)) same ∙ take_front c d (length c) refl,

@@ -205,7 +205,7 @@ IsRunsOf-apart rs x i j h lt ei ej le =
     let fewer : starts_upto rs (x.end - 1) ≤ ends_below rs (suc x.start) = omega arith in
     difference_at rs rs x h lt (ap (removed rs x.start) (sym one) ∙ removed-none 0 x.start (x.end - 1) rs h (omega arith) fewer)
 
--- what takes the place of runs is at most two
+-- at most two runs replace others
 substitutes_most : (by : Substitute) → length (substitutes by) ≤ 2
 substitutes_most Nothing = omega arith
 substitutes_most (One r) = omega arith

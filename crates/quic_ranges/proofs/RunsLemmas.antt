@@ -192,7 +192,7 @@ RunsFrom-unique n (r ∷ rs) (s ∷ ss) h k same =
 pub IsRunsOf-unique : (p : ℕ → Bool) (rs ss : List (Range ℕ)) → IsRunsOf p rs → IsRunsOf p ss → rs ≡ ss
 IsRunsOf-unique p rs ss h k = RunsFrom-unique 0 rs ss h.0 k.0 (λ y. h.1 y ∙ sym (k.1 y))
 
--- the intersections lie where the runs do
+-- the intersections have the lower bound of the runs
 pub RunsFrom-intersections : (n : ℕ) (x : Range ℕ) (rs : List (Range ℕ)) → RunsFrom n rs
     → RunsFrom n (intersections rs x)
 RunsFrom-intersections n x [] h = tt

@@ -66,7 +66,7 @@ Holds-drain xs ys f t g le le' is =
 pub Holds-same : {X : Type 0} (xs ys : List X) (f t g : ℕ) → g ≡ t → ys ≡ xs → Holds xs ys f t g
 Holds-same xs ys f t g e is = rw (is, e) (record { before = refl; after = refl })
 
--- what is then written from f to below g takes the place of what was from f to below t
+-- what is then written from f to below g replaces what was from f to below t
 pub spliced : {X : Type 0} (xs ys ws vs : List X) (f t g : ℕ) → Holds xs ys f t g → ws ≡ take f ys ++ (vs ++ drop g ys)
     → ws ≡ take f xs ++ (vs ++ drop t xs)
 spliced xs ys ws vs f t g h e = e ∙ ap (λ l. l ++ (vs ++ drop g ys)) h.before ∙ ap (λ l. take f xs ++ (vs ++ l)) h.after

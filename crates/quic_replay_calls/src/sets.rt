@@ -1,5 +1,5 @@
 //! Scripts of calls on both sets. A script begins at `new`; a call is what is called and its numbers. The last number
-//! of `replace` is how many of the returned ranges are read; the letters of `iter` and `elts` take the next run or
+//! of `replace` is how many of the returned ranges are read; the letters of `iter` and `elts` read the next run or
 //! member from the front (`F`) or the back (`B`).
 mod answers;
 mod printing;

@@ -65,7 +65,8 @@ impl<'a> Ack<'a> {
         }
     }
 
-    /// The same if the caller knows that the blocks encode ranges below the greatest number.
+    /// The same without a check. The caller must ensure that the blocks encode ranges whose greatest number is
+    /// `largest`.
     #[tactic(auto, using(crate::proofs::Blocks::read_again))]
     pub fn of_blocks(largest: u64, delay: u64, blocks: &'a [u8], ecn: Option<EcnCounts>) -> Self
         requires { (ranges : List (ℕ × ℕ)) × AreBlocks largest ranges blocks.now }

@@ -71,8 +71,8 @@ pub fn id_and_bytes<B: BufMut>(out: &mut B, id: &ConnectionId, tail: &[u8]) -> R
     bytes(out, tail)
 }
 
-/// Appends the numbers that the bytes encode, in their shortest encodings, in the same way. The caller must give the
-/// length `len` of these; if the given bytes have it, they are the shortest already and are copied.
+/// Appends the numbers that the bytes encode, in their shortest encodings, in the same way. `len` must be the length of
+/// these; if it is that of the given bytes, they are the shortest already and are copied.
 pub fn shortened<B: BufMut>(out: &mut B, encoded: &[u8], len: u64) -> Result<(), NoRoom>
     requires { (ns : List ℕ) → AreEncoded ns encoded.now → len ≡ length (shortest_varints ns) }
     ensures { (ns : List ℕ) → AreEncoded ns encoded.now

@@ -11,7 +11,8 @@ use super::{Frame, InvalidFrame, Iter};
 use crate::transport_error::Error;
 use std::marker::Model;
 
-/// Reads a payload frame by frame, and checks each frame by rules. Contracts see the rules and the iterator's state.
+/// Reads a payload frame by frame, and checks each frame against rules. Contracts see the rules and the iterator's
+/// state.
 #[derive(Drop)]
 pub struct Checked<'a> {
     rules: Rules,
@@ -27,15 +28,15 @@ impl<'a> Model for Checked<'a> {
 }
 
 impl<'a> Iter<'a> {
-    /// The frames of a payload, each checked by `rules`. The first that breaks a rule is an error, with its type and
-    /// `limit exceeded`, `malformed` or `invalid frame ID`; nothing follows it. An empty payload is the error
+    /// The frames of a payload, each checked against `rules`. The first that breaks a rule is an error, with its type
+    /// and `limit exceeded`, `malformed` or `invalid frame ID`; nothing follows it. An empty payload is the error
     /// `PROTOCOL_VIOLATION` (RFC 9000, section 12.4). It doesn't allocate.
     pub fn with_rules(payload: &'a [u8], rules: Rules) -> Result<Checked<'a>, Error>
         ensures empty { IsErr result ↔ (payload.now ≡ []) }
         ensures refusal { IfErr result (λ e. IsError e protocol_violation (codes "packet payload is empty")) }
         ensures first { IfOk result (λ it. it ≡ checked_first rules payload.now) }
 
-        // Each payload has one reading by rules: the one without rules, up to the first frame that breaks one.
+        // Each payload has one reading under given rules: the one without rules, up to the first frame that breaks one.
         ensures one { ExactlyOne (IsCheckedOf rules payload.now) }
 
         // That is what the iterator returns,

@@ -24,7 +24,7 @@ pub trait FrameStruct {
 
     ghost content: { Self → List ℕ };
 
-    /// The bound, which the frame keeps.
+    /// The bound, which holds for this frame.
     fn bound(&self) -> usize
         ensures value { result ≡ most }
         ensures bounds { length (shortest_frame false (says self.now)) ≤ most + length (content self.now) };

@@ -1,4 +1,4 @@
-//! Runs in a vector, from which the first can be taken without moving the others.
+//! Runs in a vector, from which the first can be removed without moving the others.
 ghost use Rattle.std.specs.Prelude.{◌≡◌, [], ◌∷◌, ◌++◌, ◌+◌, ◌≤◌, ◌<◌, length, IfSome, IfNone, IfOk, OnOk, OnErr};
 ghost use Rattle.std.specs.declared.ops.Range.{Range};
 ghost use Rattle.quic_ranges.specs.Runs.{IsMaximalRuns};
@@ -10,8 +10,8 @@ use std::alloc::Global;
 use std::marker::Model;
 use std::ops::Range;
 
-// Runs, from whose front some were taken. The slots of those are freed together, once they are more than half of all,
-// so that a run is moved at most once for each one that is taken.
+// Runs, from whose front some were removed. The slots of those are freed together, once they are more than half of all,
+// so that a run is moved at most once for each one that is removed.
 #[derive(Drop)]
 pub(crate) struct RunVec {
     items: Vec<Range<u64>>,

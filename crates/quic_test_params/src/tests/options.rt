@@ -4,7 +4,7 @@ use quic_checks::Checks;
 use quic_params::transport_parameters::{ReadOptions, TransportParameters};
 use std::test::Fail;
 
-// An initial_max_data of 9 in two bytes (RFC 9000, section 16), behind another.
+// An initial_max_data of 9 in two bytes (RFC 9000, section 16), after another parameter.
 const WIDE: &[u8] = b"\x05\x01\x00\x04\x02\x40\x09";
 
 // Twice a grease_quic_bit (section 7.4).

@@ -1,38 +1,44 @@
 /* SPDX-License-Identifier: MIT OR Apache-2.0 */
 /*
- * quic_wire: the wire layer of QUIC versions 1 and 2 for C and C++: frames (RFC
- * 9000, section 19), packet headers and the packets of a datagram (sections
- * 12.2 and 17), header protection (RFC 9001, section 5.4), transport parameters
- * (RFC 9000, section 18), sets of packet numbers; with DATAGRAM of RFC 9221 and
- * the ACK frequency extension.  Ciphers are the caller's.
+ * quic_wire.h: the wire layer of QUIC versions 1 and 2, for C99 and C++
  *
- * No call takes memory or keeps anything: what is kept between calls is a
- * struct of the caller's, and the bytes are given anew with each call.  What a
- * packet or a frame holds is reported by its offset and length in these bytes.
- * No call is made back, and no error is global, so each function may be called
- * from several threads at once on different structs.
+ * This library reads and writes frames, packet headers, header protection,
+ * transport parameters and sets of packet numbers (RFC 9000, RFC 9001, RFC
+ * 9369, DATAGRAM of RFC 9221, and the ACK frequency extension).  You bring the
+ * ciphers.  A section without an RFC is one of RFC 9000.
  *
- * The caller must ensure what is so anywhere in C: each pointer that isn't
- * NULL leads to as many items as the length beside it says (or to one
- * struct), and what a call may write overlaps nothing else that it is given.
- * All else is checked: NULL, lengths, places outside the bytes, numbers that
- * can't be encoded, unknown kinds, structs of any words.
+ * Memory: nothing allocates.  State lives in structs that you own, and you pass
+ * the bytes again with each call.  What is found in them is returned as an
+ * offset and a length, both in bytes.
  *
- * The frames of a payload are read so:
+ * Threads: there is no global state, and there are no callbacks.  Calls on
+ * different structs may run at the same time.
+ *
+ * Your part: a pointer that isn't NULL points to as many items as the length
+ * beside it says, or to one struct.  What a call writes must not overlap
+ * anything else that you pass to it.  Everything else is checked: NULL,
+ * lengths, offsets, numbers that can't be encoded, unknown kinds, and any field
+ * values.
+ *
+ * Results: an error is below 0, and quic_wire_strerror describes it.
+ *
+ * Read the frames of a payload:
  *
  *   quic_wire_frame_iter frames;
  *   quic_wire_frame frame;
- *   int answer = quic_wire_frames_init(&frames, payload, len);
+ *   int answer =
+ *       quic_wire_frames_init(&frames, payload, len, QUIC_WIRE_READ_RFC);
  *   while (answer >= 0 &&
  *          (answer = quic_wire_frames_next(&frames, payload, len, &frame)) ==
  *              QUIC_WIRE_ITEM)
  *     if (frame.kind == QUIC_WIRE_FRAME_STREAM)
  *       deliver(frame.stream.stream_id, frame.stream.offset,
  *               payload + frame.data, frame.datalen);
- *   // 0: all are read; below 0: the payload is refused from frames.offset on
+ *   // 0: all frames were read.  Below 0: frames.offset is the end of the last
+ *   // valid frame, and quic_wire_close_code(answer) the code to close with.
  *
- * The packets of a datagram are opened so, where make_mask and open_payload are
- * the caller's cipher:
+ * Open the packets of a datagram.  make_mask and open_payload are your cipher;
+ * |expected| is the packet number that you expect next, below 2^62:
  *
  *   while (len != 0 &&
  *          quic_wire_header_read(packet, len, cidlen, versions, nversions,
@@ -52,7 +58,7 @@
  *     len -= header.end;
  *   }
  *
- * And a packet is sealed so, with room for a tag of 16 bytes after it:
+ * Seal a packet.  |room| includes the 16 bytes of the cipher's tag:
  *
  *   quic_wire_header_fields fields = {0};
  *   fields.kind = QUIC_WIRE_PACKET_HANDSHAKE;
@@ -62,7 +68,7 @@
  *   fields.lengthlen = 2;
  *   int64_t begin = quic_wire_header_write(&fields, dcid, dcidlen, scid,
  *                                          scidlen, NULL, 0, packet, room);
- *   size_t place = (size_t)begin - fields.numberlen; // where the number is
+ *   size_t place = (size_t)begin - fields.numberlen; // of the packet number
  *   quic_wire_frame_write(&frame, data, datalen, 1, packet + begin,
  *                         room - 16 - (size_t)begin, &payloadlen);
  *   size_t end = (size_t)begin + payloadlen + 16;
@@ -71,12 +77,13 @@
  *   make_mask(mask, quic_wire_sample(packet, end, place, 16));
  *   int sealed = quic_wire_protect(packet, end, place, mask); // above 0
  *
- * A payload of fewer than 4 - numberlen bytes is padded before it is sealed, so
- * that there is a sample (RFC 9001, section 5.4.2).
+ * Packet number and payload together need at least 4 bytes, or there is no
+ * sample to make the mask from (RFC 9001, section 5.4.2).  Add PADDING before
+ * you seal.
  */
 /*
- * All of it is in one file, to copy and to read.  Each section begins with four
- * dashes.  Words and structs come first:
+ * Each section of this file begins with four dashes.  Constants and structs
+ * come first:
  *
  *   Results
  *   Flags of readers
@@ -86,16 +93,16 @@
  *
  * Functions follow:
  *
- *   The library that is linked
- *   Frames, read
- *   The ranges of an ACK, read
- *   Frames, written
- *   Payloads in their shortest form
- *   Headers of packets, read
- *   The protection of headers
- *   Numbers of packets, and of variable length
- *   Headers of packets, written
- *   Transport parameters, read and written
+ *   The linked library
+ *   Reading frames
+ *   Reading the ranges of an ACK
+ *   Writing frames
+ *   Shortest payloads
+ *   Reading packet headers
+ *   Header protection
+ *   Packet numbers and varints
+ *   Writing packet headers
+ *   Reading and writing transport parameters
  *   Sets of packet numbers, and ACKs of them
  *   Texts
  */
@@ -105,7 +112,7 @@
 #include <stddef.h>
 #include <stdint.h>
 
-/** The version of this header: a byte each of major, minor and patch. */
+/** The version of this header: one byte each for major, minor and patch. */
 #define QUIC_WIRE_LIB_MAJOR 0
 #define QUIC_WIRE_LIB_MINOR 1
 #define QUIC_WIRE_LIB_PATCH 0
@@ -114,39 +121,39 @@
               QUIC_WIRE_LIB_PATCH))
 #define QUIC_WIRE_LIB_TEXT "0.1.0"
 
-/* Each function is a symbol of both libraries, the archive and the shared one,
- * unless QUIC_WIRE_INLINE is defined before this header by who is linked with
- * the archive: then the C compiler inlines what the functions do before and
- * after the calls of the proved library. */
+/* Each function is a symbol of the archive and of the shared library.  If you
+ * link the archive, you may define QUIC_WIRE_INLINE before you include this
+ * header: then the C compiler inlines what the functions do before and after
+ * they call the proved library. */
 #ifdef QUIC_WIRE_INLINE
 #define QUIC_WIRE_API static inline
 #else
 #define QUIC_WIRE_API extern
 #endif
 
-/* Compilers warn where a result that may be an error isn't looked at. */
+/* Compilers warn if a result that may be an error is ignored. */
 #if defined(__GNUC__)
 #define QUIC_WIRE_CHECKED __attribute__((warn_unused_result))
 #else
 #define QUIC_WIRE_CHECKED
 #endif
 
-/* gcc and clang have unnamed members in C99 too. */
+/* gcc and clang accept anonymous unions in C99 too. */
 #if defined(__GNUC__) && !defined(__cplusplus)
 #define QUIC_WIRE_EXTENSION __extension__
 #else
 #define QUIC_WIRE_EXTENSION
 #endif
 
-/* Structs lie at multiples of 8 bytes, also on machines of 32 bits that are
- * content with 4. */
+/* Structs are aligned to 8 bytes, also on 32-bit machines that align uint64_t
+ * to 4. */
 #if defined(__GNUC__) && (defined(__i386__) || defined(__m68k__))
 #define QUIC_WIRE_ALIGNED __attribute__((aligned(8)))
 #else
 #define QUIC_WIRE_ALIGNED
 #endif
 
-/* A length or place in a struct: of 64 bits on each machine. */
+/* A length or offset in a struct: 64 bits on each machine. */
 #if (defined(__SIZEOF_SIZE_T__) && __SIZEOF_SIZE_T__ < 8) ||                   \
     (defined(SIZE_MAX) && SIZE_MAX <= 0xffffffff)
 typedef uint64_t quic_wire_size;
@@ -160,54 +167,62 @@ extern "C" {
 
 /* ---- Results */
 
-/** What functions return.  Below 0 it is an error, which quic_wire_strerror()
- * names; from 0 on a count, a length, or one of the first three.  The numbers
- * never change; new ones may be added. */
+/** What functions return.  Below 0 it is an error, which quic_wire_strerror
+ * describes; from 0 on it is a count, a length or one of the first three.  The
+ * numbers never change; new ones may be added. */
 typedef enum quic_wire_result {
-  QUIC_WIRE_OK = 0,   /* nothing is left to be read, or something was written */
+  QUIC_WIRE_OK = 0,   /* reading is complete, or something was written */
   QUIC_WIRE_ITEM = 1, /* an item was read */
   QUIC_WIRE_CHANGED = 1, /* the set changed */
 
   /* The caller's mistakes. */
   QUIC_WIRE_ERR_ARGUMENT = -1, /* a pointer is NULL, or the arguments describe
                                   nothing that can be written */
-  QUIC_WIRE_ERR_PLACE = -2,    /* a place is outside of the bytes, or what is
-                                  there isn't what the function reads */
-  QUIC_WIRE_ERR_KIND = -3, /* no such kind or side, or not for this function */
-  QUIC_WIRE_ERR_NUMBER = -5,   /* a number is too large for its field, or 0 */
-  QUIC_WIRE_ERR_LENGTH = -6,   /* a length or width that its field can't have */
-  QUIC_WIRE_ERR_RANGES = -7,   /* none, not sorted, or two of them touch */
-  QUIC_WIRE_ERR_PARAM = -8,    /* parameters that the peer would refuse */
-  QUIC_WIRE_ERR_NOBUF = -9,    /* the buffer has less room than is needed */
-  QUIC_WIRE_ERR_LIBRARY = -10, /* the library that is linked is another one */
+  QUIC_WIRE_ERR_PLACE = -2,    /* an offset is outside the bytes, or the
+                                  function can't read what is there */
+  QUIC_WIRE_ERR_KIND = -3, /* there is no such kind or side, or the function
+                              doesn't accept it */
+  QUIC_WIRE_ERR_NUMBER = -5,   /* a number is too large for its field, or is 0
+                                  although it mustn't be */
+  QUIC_WIRE_ERR_LENGTH = -6,   /* a length or width is impossible for its
+                                  field */
+  QUIC_WIRE_ERR_RANGES = -7,   /* there are no ranges, or they aren't sorted, or
+                                  two of them touch */
+  QUIC_WIRE_ERR_PARAM = -8,    /* the peer would reject the transport
+                                  parameters */
+  QUIC_WIRE_ERR_NOBUF = -9,    /* the buffer is too small */
+  QUIC_WIRE_ERR_LIBRARY = -10, /* the linked library doesn't fit this header */
 
-  /* A payload is refused (RFC 9000, sections 12.4 and 19). */
+  /* A payload is rejected (RFC 9000, sections 12.4 and 19). */
   QUIC_WIRE_ERR_PAYLOAD_EMPTY = -20,
   QUIC_WIRE_ERR_FRAME_END = -21,       /* the bytes end within a frame */
   QUIC_WIRE_ERR_FRAME_TYPE = -22,      /* the type is unknown */
-  QUIC_WIRE_ERR_FRAME_MALFORMED = -23, /* a field has no value of its kind */
+  QUIC_WIRE_ERR_FRAME_MALFORMED = -23, /* a field has an invalid value */
   QUIC_WIRE_ERR_FRAME_LONG_TYPE = -24, /* the type isn't in its shortest
-                                          encoding, and must be:
+                                          encoding:
                                           QUIC_WIRE_READ_SHORT_TYPES */
-  QUIC_WIRE_ERR_FRAME_LIMIT = -25, /* data end past 2^62 - 1, or more than 2^60
-                                      streams: QUIC_WIRE_READ_DATA_LIMIT,
+  QUIC_WIRE_ERR_FRAME_LIMIT = -25, /* data ends past 2^62 - 1, or there are more
+                                      than 2^60 streams:
+                                      QUIC_WIRE_READ_DATA_LIMIT,
                                       QUIC_WIRE_READ_STREAM_LIMIT */
 
   /* A packet is dropped (section 5.2). */
   QUIC_WIRE_ERR_PACKET_END = -40,       /* the bytes end within the header */
   QUIC_WIRE_ERR_PACKET_FIXED_BIT = -41, /* the fixed bit is clear */
-  QUIC_WIRE_ERR_PACKET_SMALL = -42,   /* too short for the id, or the number */
-  QUIC_WIRE_ERR_PACKET_CID = -43,     /* an id isn't complete, or too long */
+  QUIC_WIRE_ERR_PACKET_SMALL = -42,   /* too short for the id, or for the packet
+                                         number */
+  QUIC_WIRE_ERR_PACKET_CID = -43,     /* an id is cut off, or too long */
   QUIC_WIRE_ERR_PACKET_TOKEN = -44,   /* the bytes end within the token */
-  QUIC_WIRE_ERR_PACKET_VERSION = -45, /* none of the versions given */
-  QUIC_WIRE_ERR_PACKET_CUT = -46,     /* the bytes end after the header */
+  QUIC_WIRE_ERR_PACKET_VERSION = -45, /* not one of the given versions */
+  QUIC_WIRE_ERR_PACKET_CUT = -46,     /* the bytes end within the packet, after
+                                         its header */
   QUIC_WIRE_ERR_PACKET_RETRY = -47,   /* a Retry without a token or a tag */
 
-  /* A list of transport parameters is refused (section 7.4). */
-  QUIC_WIRE_ERR_PARAMS_MALFORMED = -60, /* cut off, no value of its kind, or
-                                           a repeat */
-  QUIC_WIRE_ERR_PARAMS_ILLEGAL = -61    /* a value is out of range, or may not
-                                           come from that side */
+  /* A list of transport parameters is rejected (section 7.4). */
+  QUIC_WIRE_ERR_PARAMS_MALFORMED = -60, /* a parameter is cut off, has an
+                                           invalid value, or occurs twice */
+  QUIC_WIRE_ERR_PARAMS_ILLEGAL = -61    /* a value is out of range, or that side
+                                           may not send it */
 } quic_wire_result;
 
 /** The codes of a CONNECTION_CLOSE (RFC 9000, section 20.1). */
@@ -229,28 +244,29 @@ typedef enum quic_wire_code {
   QUIC_WIRE_CODE_KEY_UPDATE_ERROR = 0x0e,
   QUIC_WIRE_CODE_AEAD_LIMIT_REACHED = 0x0f,
   QUIC_WIRE_CODE_NO_VIABLE_PATH = 0x10,
-  QUIC_WIRE_CODE_CRYPTO_ERROR = 0x100 /* plus the alert of TLS */
+  QUIC_WIRE_CODE_CRYPTO_ERROR = 0x100 /* plus the TLS alert */
 } quic_wire_code;
 
 /* ---- Flags of readers */
 
-/** What functions that read check.  With 0 they read as quinn-proto does.  Each
- * function looks at its own flags alone, so one value serves all. */
+/** What reading functions check.  With 0 they read as quinn-proto does.  Each
+ * function ignores the flags of the others, so one value serves all. */
 
-/* Payloads: what is refused too. */
-#define QUIC_WIRE_READ_SHORT_TYPES 0x001u /* a frame's type that isn't in its
-                                             shortest encoding (section 12.4) */
-#define QUIC_WIRE_READ_DATA_LIMIT 0x002u /* data of CRYPTO or STREAM that end
-                                            past 2^62 - 1 (19.6, 19.8) */
-#define QUIC_WIRE_READ_STREAM_LIMIT 0x004u /* MAX_STREAMS or STREAMS_BLOCKED of
-                                              more than 2^60 (19.11, 19.14) */
+/* Payloads: what else is an error. */
+#define QUIC_WIRE_READ_SHORT_TYPES 0x001u /* a frame type that isn't in its
+                                             shortest encoding (12.4) */
+#define QUIC_WIRE_READ_DATA_LIMIT 0x002u /* CRYPTO or STREAM data that ends past
+                                            2^62 - 1 (19.6, 19.8) */
+#define QUIC_WIRE_READ_STREAM_LIMIT 0x004u /* more than 2^60 streams in
+                                              MAX_STREAMS or STREAMS_BLOCKED
+                                              (19.11, 19.14) */
 #define QUIC_WIRE_READ_NO_ACK_FREQUENCY 0x008u /* ACK_FREQUENCY, IMMEDIATE_ACK:
                                                   their extension wasn't
                                                   negotiated (12.4) */
-#define QUIC_WIRE_READ_TOKENS 0x200u /* a NEW_TOKEN without a token (19.7) */
+#define QUIC_WIRE_READ_TOKENS 0x200u /* an empty token in NEW_TOKEN (19.7) */
 
-/* Packets: when the fixed bit may be clear, and what is refused too. */
-#define QUIC_WIRE_READ_GREASED_BIT 0x010u /* always, as was agreed (RFC 9287) */
+/* Packets: when the fixed bit may be clear, and what else is an error. */
+#define QUIC_WIRE_READ_GREASED_BIT 0x010u /* in every packet (RFC 9287) */
 #define QUIC_WIRE_READ_ANY_VERSION 0x020u /* in version negotiations (17.2.1),
                                              and in versions that aren't given
                                              (RFC 8999) */
@@ -260,17 +276,17 @@ typedef enum quic_wire_code {
 /* Lists of transport parameters. */
 #define QUIC_WIRE_READ_ANY_WIDTH 0x080u /* integers may be in any encoding
                                            (section 16) */
-#define QUIC_WIRE_READ_NO_REPEATS 0x100u /* no parameter may be there twice
+#define QUIC_WIRE_READ_NO_REPEATS 0x100u /* no parameter may occur twice
                                             (7.4) */
 
-/** All that RFC 9000 asks of a receiver that has negotiated no extension: each
- * flag but QUIC_WIRE_READ_GREASED_BIT. */
+/** All that RFC 9000 requires of a receiver that has negotiated no extension:
+ * each flag except QUIC_WIRE_READ_GREASED_BIT. */
 #define QUIC_WIRE_READ_RFC 0x3efu
 
 /* ---- Frames (RFC 9000, section 19) */
 
-/** The kinds of frames: the type, and one kind for all types of STREAM, of ACK
- * and of DATAGRAM. */
+/** The kinds of frames: the frame's type, with one kind for all types of
+ * STREAM, one for ACK and one for DATAGRAM. */
 typedef enum quic_wire_frame_kind {
   QUIC_WIRE_FRAME_PADDING = 0x00,
   QUIC_WIRE_FRAME_PING = 0x01,
@@ -301,34 +317,34 @@ typedef enum quic_wire_frame_kind {
 } quic_wire_frame_kind;
 
 /** Flags of a frame. */
-#define QUIC_WIRE_FLAG_FIN 1 /* STREAM: the data end the stream */
+#define QUIC_WIRE_FLAG_FIN 1 /* STREAM: the data ends the stream */
 #define QUIC_WIRE_FLAG_ECN 2 /* ACK: counts of marked packets are there */
 #define QUIC_WIRE_FLAG_MORE 4 /* ACK: of quic_wire_frame_read, which had no
                                  room for all ranges */
 
-/** What RFC 9000, section 12.4, table 3 says of a kind of frame, in the bits of
- * quic_wire_frame_rules: in which kinds of packets it may be, as
- * QUIC_WIRE_RULE_IN(QUIC_WIRE_PACKET_1RTT) and so on, and more. */
+/** The rules of RFC 9000, section 12.4, table 3 for a kind of frame, as the
+ * bits of quic_wire_frame_rules: the kinds of packets in which it may be, such
+ * as QUIC_WIRE_RULE_IN(QUIC_WIRE_PACKET_1RTT), and the table's column Spec. */
 #define QUIC_WIRE_RULE_IN(packet) (1u << (packet))
-#define QUIC_WIRE_RULE_NOT_ELICITING 0x100u /* N: it elicits no ACK */
-#define QUIC_WIRE_RULE_NOT_COUNTED 0x200u /* C: it isn't counted in flight */
-#define QUIC_WIRE_RULE_PROBING 0x400u     /* P: it probes a path */
-#define QUIC_WIRE_RULE_FLOW_CONTROLLED 0x800u /* F */
+#define QUIC_WIRE_RULE_NOT_ELICITING 0x100u /* N: not ack-eliciting */
+#define QUIC_WIRE_RULE_NOT_COUNTED 0x200u /* C: isn't counted in flight */
+#define QUIC_WIRE_RULE_PROBING 0x400u     /* P: probes a path */
+#define QUIC_WIRE_RULE_FLOW_CONTROLLED 0x800u /* F: flow controlled */
 
-/** The value of a type where there is none. */
+/** The value for a frame type if there is none. */
 #define QUIC_WIRE_NO_TYPE UINT64_MAX
 
-/** How far an iterator over a payload has come.  A struct of any other words is
- * harmless, and reads from |offset| on. */
+/** How far a payload was read.  Any field values are safe: reading goes on at
+ * |offset|. */
 typedef struct quic_wire_frame_iter {
   quic_wire_size offset; /* the end of the last whole frame, in bytes */
   uint64_t last_type;    /* its type as in the payload, or QUIC_WIRE_NO_TYPE */
-  uint32_t ended;        /* not 0 once a frame was refused */
-  uint32_t flags;        /* QUIC_WIRE_READ_SHORT_TYPES and so on, which may
-                            change between calls */
+  uint32_t ended;        /* not 0 after an invalid frame */
+  uint32_t flags;        /* QUIC_WIRE_READ_..., which may change between
+                            calls */
 } QUIC_WIRE_ALIGNED quic_wire_frame_iter;
 
-/** What the kinds of frames say in numbers: the fields of a frame's union. */
+/** The numbers of each kind of frame: the members of a frame's union. */
 typedef struct quic_wire_ack {
   uint64_t largest; /* the greatest packet number */
   uint64_t delay;   /* in microseconds, shifted right by the sender's
@@ -349,8 +365,8 @@ typedef struct quic_wire_crypto {
   uint64_t offset;   /* bytes */
 } QUIC_WIRE_ALIGNED quic_wire_crypto;
 typedef struct quic_wire_limit { /* MAX_DATA to STREAMS_BLOCKED_UNI */
-  uint64_t stream_id; /* MAX_STREAM_DATA, STREAM_DATA_BLOCKED; of others 0 */
-  uint64_t limit;     /* bytes; of MAX_STREAMS, STREAMS_BLOCKED: streams */
+  uint64_t stream_id; /* MAX_STREAM_DATA, STREAM_DATA_BLOCKED; else 0 */
+  uint64_t limit;     /* bytes; for MAX_STREAMS and STREAMS_BLOCKED streams */
 } QUIC_WIRE_ALIGNED quic_wire_limit;
 typedef struct quic_wire_new_connection_id {
   uint64_t sequence, retire_prior_to;
@@ -364,8 +380,8 @@ typedef struct quic_wire_path { /* PATH_CHALLENGE and PATH_RESPONSE */
 } QUIC_WIRE_ALIGNED quic_wire_path;
 typedef struct quic_wire_close {
   uint64_t error_code;
-  uint64_t frame_type; /* of CONNECTION_CLOSE alone; 0: none is known, so that
-                          PADDING, whose type is 0, can't be named */
+  uint64_t frame_type; /* only for CONNECTION_CLOSE; 0 if none is known, so
+                          PADDING (0) can't be named */
 } QUIC_WIRE_ALIGNED quic_wire_close;
 typedef struct quic_wire_ack_frequency {
   uint64_t sequence;
@@ -374,26 +390,26 @@ typedef struct quic_wire_ack_frequency {
   uint64_t reordering_threshold;    /* packets */
 } QUIC_WIRE_ALIGNED quic_wire_ack_frequency;
 
-/** A frame.  Each number of the union that |kind| doesn't name is 0, as
- * quic_wire_frame_write asks.  Numbers that were read are below 2^62, but
- * for those of paths.  Where data end, how many streams a limit allows, and
- * whether a token is empty, is looked at by the flags of those names.  For
- * languages without unions, as Go by cgo, QUIC_WIRE_PLAIN leaves |numbers|
- * alone, in the order of the structs above. */
+/** A frame.  Numbers of the union that its kind doesn't have are 0;
+ * quic_wire_frame_write requires that too.  Numbers that were read are below
+ * 2^62, except |path.data|.  Where data ends, how many streams a limit allows
+ * and whether a token is empty is checked only with the flags for that
+ * (QUIC_WIRE_READ_...).  For languages without unions, such as Go with cgo,
+ * QUIC_WIRE_PLAIN leaves only |numbers|, in the order of the structs above. */
 typedef struct quic_wire_frame {
   uint16_t kind;  /* QUIC_WIRE_FRAME_PADDING and so on */
   uint16_t type;  /* the type as it is in the payload: 0x08 to 0x0f of a
                      STREAM, 0x02 and 0x03 of an ACK, 0x30 and 0x31 of a
-                     DATAGRAM, of others |kind|.  What writes a frame doesn't
-                     look at it */
+                     DATAGRAM, of others |kind|.  Ignored when the frame is
+                     written */
   uint32_t flags; /* QUIC_WIRE_FLAG_FIN, QUIC_WIRE_FLAG_ECN */
   quic_wire_size begin;   /* where the frame begins in the payload, in bytes */
   quic_wire_size end;     /* where it ends */
-  quic_wire_size data;    /* where its data begin in the payload: of CRYPTO,
-                             NEW_TOKEN, STREAM and DATAGRAM; the reason phrase of
-                             a close; the id of a NEW_CONNECTION_ID, with its
-                             token after it */
-  quic_wire_size datalen; /* how many bytes these are, without that token */
+  quic_wire_size data;    /* where its data begins in the payload: that of
+                             CRYPTO, NEW_TOKEN, STREAM and DATAGRAM; the reason
+                             phrase of a close; the id of a NEW_CONNECTION_ID,
+                             which its token follows */
+  quic_wire_size datalen; /* how many bytes the data has, without that token */
 #ifdef QUIC_WIRE_PLAIN
   uint64_t numbers[5];
 #else
@@ -421,7 +437,7 @@ typedef struct quic_wire_range {
 
 /** A range of an ACK below another one, as it is encoded (RFC 9000, section
  * 19.3.1): how many packet numbers are between the two, and how many it has,
- * both less one. */
+ * both minus one. */
 typedef struct quic_wire_gap {
   uint64_t gap, len;
 } QUIC_WIRE_ALIGNED quic_wire_gap;
@@ -432,12 +448,11 @@ typedef struct quic_wire_range_iter {
   uint64_t largest;          /* the greatest number of the next range */
 } QUIC_WIRE_ALIGNED quic_wire_range_iter;
 
-/** The length of a payload's shortest form, or the type because of which it has
- * none. */
+/** The length of a payload's shortest form, or the type of an invalid frame. */
 typedef struct quic_wire_canon {
   quic_wire_size len; /* how many bytes the shortest form has */
-  uint64_t last_type; /* of an invalid frame: the last type that was read, its
-                         own included, or QUIC_WIRE_NO_TYPE */
+  uint64_t last_type; /* for an invalid frame: the last type that was read,
+                         which may be its own, or QUIC_WIRE_NO_TYPE */
 } QUIC_WIRE_ALIGNED quic_wire_canon;
 
 /* ---- Packets (RFC 9000, section 17) */
@@ -450,54 +465,57 @@ typedef enum quic_wire_packet_kind {
   QUIC_WIRE_PACKET_RETRY = 3,
   QUIC_WIRE_PACKET_1RTT = 4,
   QUIC_WIRE_PACKET_VERSION_NEGOTIATION = 5,
-  QUIC_WIRE_PACKET_UNKNOWN_VERSION = 6 /* a long header of a version that is
-                                          none of those given */
+  QUIC_WIRE_PACKET_UNKNOWN_VERSION = 6 /* a long header of a version that isn't
+                                          given */
 } quic_wire_packet_kind;
 
 /** Bits of a first byte. */
-#define QUIC_WIRE_BIT_LONG 0x80 /* set in all headers but those of 1-RTT */
-#define QUIC_WIRE_BIT_FIXED 0x40 /* set, but where it is greased (RFC 9287) */
-#define QUIC_WIRE_BIT_SPIN 0x20  /* of 1-RTT */
-#define QUIC_WIRE_BIT_KEY_PHASE 0x04 /* of 1-RTT, under protection */
-#define QUIC_WIRE_BITS_RESERVED 0x18 /* must be 0, under protection */
-#define QUIC_WIRE_BITS_RESERVED_LONG 0x0c /* of Initial, 0-RTT and Handshake */
+#define QUIC_WIRE_BIT_LONG 0x80 /* set in all headers except those of 1-RTT */
+#define QUIC_WIRE_BIT_FIXED 0x40 /* set, unless it is greased (RFC 9287) */
+#define QUIC_WIRE_BIT_SPIN 0x20  /* 1-RTT */
+#define QUIC_WIRE_BIT_KEY_PHASE 0x04 /* 1-RTT; protected */
+#define QUIC_WIRE_BITS_RESERVED 0x18 /* 1-RTT; must be 0; protected */
+#define QUIC_WIRE_BITS_RESERVED_LONG 0x0c /* Initial, 0-RTT and Handshake;
+                                             likewise */
 
 /** Versions of QUIC. */
 #define QUIC_WIRE_VERSION_1 0x00000001u /* RFC 9000 */
 #define QUIC_WIRE_VERSION_2 0x6b3343cfu /* RFC 9369 */
 
-/** The header of a packet, with its protection still on.  Every place is one in
- * the packet, in bytes from its front; fields that its kind lacks are 0. */
+/** A packet header, still protected.  Offsets are in bytes from the front of
+ * the packet; fields that the kind doesn't have are 0. */
 typedef struct quic_wire_header {
   uint8_t kind;    /* QUIC_WIRE_PACKET_INITIAL and so on */
-  uint8_t first;   /* the first byte, before protection is taken off */
+  uint8_t first;   /* the first byte, still protected */
   uint8_t dcidlen; /* the receiver's id: quic_wire_dcid */
   uint8_t scidlen; /* the sender's id: quic_wire_scid */
   uint32_t version;
-  uint32_t header_end; /* where the number begins, if the packet has one */
-  uint32_t end;      /* where the packet ends, or its bytes if it is cut off */
-  uint32_t token, tokenlen; /* the token of an Initial packet; of a Retry that
-                               has at least the 16 bytes of its tag, which come
-                               after its token and end the packet */
-  uint64_t len; /* how many bytes an Initial, Handshake or 0-RTT packet has
-                   from |header_end| on, as its header says */
+  uint32_t header_end; /* where the packet number begins, or where the header
+                          ends if there is none */
+  uint32_t end;      /* where the packet ends, or the bytes if it is cut off */
+  uint32_t token, tokenlen; /* the token of an Initial packet, or of a Retry
+                               that has at least the 16 bytes of its tag, which
+                               follow the token and end the packet */
+  uint64_t len; /* how many bytes an Initial, 0-RTT or Handshake packet has from
+                   |header_end| on, as its header says */
 } QUIC_WIRE_ALIGNED quic_wire_header;
 
-/** In the flags of a header that is written: its fixed bit is clear (RFC
+/** A flag of quic_wire_header_fields: the fixed bit is written clear (RFC
  * 9287). */
 #define QUIC_WIRE_CLEAR_FIXED_BIT 0x40
 
-/** What a header says that is written, beside its ids and its token.  What its
- * kind lacks isn't looked at. */
+/** Fields of a header to be written, other than its ids and its token.  Fields
+ * that the kind doesn't have are ignored. */
 typedef struct quic_wire_header_fields {
   uint8_t kind;      /* QUIC_WIRE_PACKET_INITIAL and so on */
-  uint8_t flags;     /* 0: the first byte is what RFC 9000 has.
-                        QUIC_WIRE_CLEAR_FIXED_BIT; of 1-RTT
-                        QUIC_WIRE_BIT_SPIN and QUIC_WIRE_BIT_KEY_PHASE; of a
-                        version negotiation each bit but the highest is turned */
-  uint8_t numberlen; /* how many bytes of the number are written, 1 to 4 */
-  uint8_t lengthlen; /* how many bytes the packet's length has: 1, 2, 4 or 8.
-                        quic_wire_varint_len() of the length is the fewest */
+  uint8_t flags;     /* 0: the first byte is that of RFC 9000.
+                        QUIC_WIRE_CLEAR_FIXED_BIT; for 1-RTT also
+                        QUIC_WIRE_BIT_SPIN and QUIC_WIRE_BIT_KEY_PHASE; for a
+                        version negotiation the bits to invert, except the
+                        highest */
+  uint8_t numberlen; /* how many bytes of the number are written: 1 to 4 */
+  uint8_t lengthlen; /* how many bytes the Length field has: 1, 2, 4 or 8, at
+                        least quic_wire_varint_len(length) */
   uint32_t version;
   uint64_t number; /* the packet number */
 } QUIC_WIRE_ALIGNED quic_wire_header_fields;
@@ -510,7 +528,7 @@ typedef enum quic_wire_side {
   QUIC_WIRE_SIDE_SERVER = 1
 } quic_wire_side;
 
-/** What is there of what can be absent. */
+/** Bits of |present|: which optional parameters are there. */
 #define QUIC_WIRE_HAS_STATELESS_RESET_TOKEN 0x001
 #define QUIC_WIRE_HAS_DISABLE_ACTIVE_MIGRATION 0x002
 #define QUIC_WIRE_HAS_MAX_DATAGRAM_FRAME_SIZE 0x004
@@ -523,15 +541,15 @@ typedef enum quic_wire_side {
 #define QUIC_WIRE_HAS_GREASE_QUIC_BIT 0x200
 #define QUIC_WIRE_HAS_MIN_ACK_DELAY 0x400
 
-/** Transport parameters.  What is absent is 0 in all of its words and bytes,
- * but for the numbers that have a default: these hold it then.  Ids are at the
- * front of their bytes, followed by zeros. */
+/** Transport parameters.  If a parameter is absent, all its fields are 0, or
+ * hold its default if it has one.  Ids are at the front of their bytes,
+ * followed by zeros. */
 typedef struct quic_wire_params {
   uint32_t present;  /* QUIC_WIRE_HAS_STATELESS_RESET_TOKEN and so on */
   uint32_t reserved; /* 0 */
-  uint64_t max_idle_timeout;     /* milliseconds; 0, the default: for ever */
+  uint64_t max_idle_timeout;     /* milliseconds; default 0: no timeout */
   uint64_t max_udp_payload_size; /* bytes, at least 1200; default 65527 */
-  uint64_t initial_max_data;     /* bytes; default 0, as of the next five */
+  uint64_t initial_max_data;     /* bytes; default 0, also for the next five */
   uint64_t initial_max_stream_data_bidi_local;  /* bytes */
   uint64_t initial_max_stream_data_bidi_remote; /* bytes */
   uint64_t initial_max_stream_data_uni;         /* bytes */
@@ -545,50 +563,52 @@ typedef struct quic_wire_params {
   uint32_t original_dst_cidlen; /* the lengths of ids: at most 20 bytes */
   uint32_t initial_src_cidlen;
   uint32_t retry_src_cidlen;
-  uint32_t preferred_cidlen; /* 1 to 20, where there is a preferred address */
-  uint16_t preferred_v4_port; /* in the order of the machine */
+  uint32_t preferred_cidlen; /* 1 to 20 if there is a preferred address */
+  uint16_t preferred_v4_port; /* in the machine's byte order */
   uint16_t preferred_v6_port;
-  uint8_t original_dst_cid[20]; /* what the client's first packet was sent to */
-  uint8_t initial_src_cid[20];  /* what the sender's first packet came from */
-  uint8_t retry_src_cid[20];    /* what the server's Retry came from */
+  uint8_t original_dst_cid[20]; /* of the client's first packet, its
+                                   destination */
+  uint8_t initial_src_cid[20];  /* of the sender's first packet, its source */
+  uint8_t retry_src_cid[20];    /* of the server's Retry, its source */
   uint8_t preferred_cid[20];    /* the id at the preferred address */
   uint8_t stateless_reset_token[16];
-  uint8_t preferred_token[16]; /* the token of the id at that address */
+  uint8_t preferred_token[16]; /* that id's stateless reset token */
   uint8_t preferred_v6[16];    /* the highest byte first */
   uint8_t preferred_v4[4];
 } QUIC_WIRE_ALIGNED quic_wire_params;
 
 /** An entry of a list of transport parameters (RFC 9000, section 18). */
 typedef struct quic_wire_param {
-  uint64_t id;             /* its number, below 2^62 */
-  quic_wire_size value;   /* the place of its value in the list that was read */
-  quic_wire_size valuelen; /* how many bytes it has; the next entry begins after
-                              them */
+  uint64_t id;             /* below 2^62 */
+  quic_wire_size value;   /* the offset of its value in the list that was
+                             read */
+  quic_wire_size valuelen; /* how many bytes the value has; the next entry
+                              follows it */
 } QUIC_WIRE_ALIGNED quic_wire_param;
 
-/** Where a list of transport parameters is refused. */
+/** Which entry of a list of transport parameters is rejected. */
 typedef struct quic_wire_refusal {
-  uint64_t id;           /* the number of the parameter, or QUIC_WIRE_NO_PARAM
-                            where the list ends within that */
-  quic_wire_size offset; /* where its entry begins in the list */
+  uint64_t id;           /* the parameter's id, or QUIC_WIRE_NO_PARAM if the
+                            list ends within that */
+  quic_wire_size offset; /* the offset of its entry in the list */
 } QUIC_WIRE_ALIGNED quic_wire_refusal;
 
-/** The value of a parameter's number where there is none. */
+/** The value for a parameter's id if there is none. */
 #define QUIC_WIRE_NO_PARAM UINT64_MAX
 
-/** Numbers of parameters that quic_wire_params has no field for: the versions
- * of RFC 9368, and the |n|th of those that have no meaning and that each peer
- * passes (RFC 9000, section 18.1). */
+/** Ids of parameters that quic_wire_params has no field for: the versions of
+ * RFC 9368, and the |n|th reserved one, which each peer ignores (RFC 9000,
+ * section 18.1). */
 #define QUIC_WIRE_PARAM_VERSION_INFORMATION 0x11
 #define QUIC_WIRE_PARAM_RESERVED(n) (31 * (uint64_t)(n) + 27)
 
-/** How many rows the table has in which quic_wire_params_write_with numbers the
- * parameters that quic_wire_params has. */
+/** How many rows the list in quic_wire_params_write_with has, which numbers the
+ * parameters of quic_wire_params. */
 #define QUIC_WIRE_PARAM_ROWS 21
 
-/* ---- The library that is linked */
+/* ---- The linked library */
 
-/* What the library asserts of its own structs. */
+/* The layout of the structs, on which the library relies. */
 #if defined(__cplusplus) && __cplusplus >= 201103L
 #define QUIC_WIRE_ASSERT(so, why) static_assert(so, why)
 #elif defined(__STDC_VERSION__) && __STDC_VERSION__ >= 201112L
@@ -634,33 +654,30 @@ QUIC_WIRE_ASSERT(offsetof(quic_wire_refusal, offset) == 8, "64-bit words");
 #undef QUIC_WIRE_ASSERT
 #endif
 
-/** QUIC_WIRE_LIB and QUIC_WIRE_LIB_TEXT of the library that is linked. */
+/** The QUIC_WIRE_LIB and QUIC_WIRE_LIB_TEXT of the linked library. */
 extern uint32_t quic_wire_lib(void);
 extern const char *quic_wire_lib_text(void);
 
-/**
- * Whether the library that is linked serves this header, which a program asks
- * once, at its start, as quic_wire_check(QUIC_WIRE_LIB).  Returns 0 if it has
- * the same major version, and the same minor version or a later one, as the
- * name of the shared library says; otherwise QUIC_WIRE_ERR_LIBRARY.
- */
+/** Checks that the linked library fits this header.  Call it once, at the
+ * start of the program, as quic_wire_check(QUIC_WIRE_LIB).  Returns 0 if the
+ * library has the same major version, and the same or a later minor version;
+ * otherwise QUIC_WIRE_ERR_LIBRARY. */
 QUIC_WIRE_CHECKED extern int quic_wire_check(uint32_t header);
 
 /**
- * The code with which an endpoint closes the connection because of a |result|:
- * FRAME_ENCODING_ERROR, PROTOCOL_VIOLATION or TRANSPORT_PARAMETER_ERROR where
- * its peer broke a rule, INTERNAL_ERROR for the caller's mistakes; NO_ERROR, 0,
- * where nothing is closed: from 0 on, and for packets, which are dropped.
+ * The code with which an endpoint closes the connection after |result|:
+ * FRAME_ENCODING_ERROR, PROTOCOL_VIOLATION or TRANSPORT_PARAMETER_ERROR if its
+ * peer broke a rule; INTERNAL_ERROR for the caller's mistakes; NO_ERROR, 0, if
+ * nothing is closed, that is for results from 0 on, and for packets, which are
+ * dropped.
  */
 QUIC_WIRE_API uint32_t quic_wire_close_code(int result);
 
-/* ---- Frames, read */
+/* ---- Reading frames */
 
-/**
- * Begins at the front of a |payload| of |payloadlen| bytes, which is read by
- * |flags|, QUIC_WIRE_READ_...  Returns 0, or QUIC_WIRE_ERR_PAYLOAD_EMPTY,
- * QUIC_WIRE_ERR_ARGUMENT for NULL.
- */
+/** Begins to read a |payload| of |payloadlen| bytes.  |flags| are
+ * QUIC_WIRE_READ_... Returns 0, QUIC_WIRE_ERR_PAYLOAD_EMPTY, or
+ * QUIC_WIRE_ERR_ARGUMENT for NULL. */
 QUIC_WIRE_API int quic_wire_frames_init(quic_wire_frame_iter *frames,
                                         const uint8_t *payload,
                                         size_t payloadlen, uint32_t flags);
@@ -668,13 +685,16 @@ QUIC_WIRE_API int quic_wire_frames_init(quic_wire_frame_iter *frames,
 /**
  * Reads the next frame.  |payload| is the one that |frames| began with.
  *
- * Returns QUIC_WIRE_ITEM and the frame; 0 where none remains;
- * QUIC_WIRE_ERR_FRAME_END and so on, once, where the next frame is invalid or
- * refused by |frames->flags|, with its type in |frame| (quic_wire_error_type),
- * and then 0;
- * QUIC_WIRE_ERR_PLACE where |frames->offset| is above |payloadlen|;
- * QUIC_WIRE_ERR_ARGUMENT for NULL. |frame| changes only with QUIC_WIRE_ITEM and
- * QUIC_WIRE_ERR_FRAME_...
+ * Returns:
+ *  - QUIC_WIRE_ITEM, and the frame
+ *  - 0 if no frame is left
+ *  - QUIC_WIRE_ERR_FRAME_..., once, if the next frame is invalid or rejected by
+ *    |frames->flags|, with its type in |frame| (quic_wire_error_type); later
+ *    calls return 0
+ *  - QUIC_WIRE_ERR_PLACE if |frames->offset| is above |payloadlen|
+ *  - QUIC_WIRE_ERR_ARGUMENT for NULL
+ *
+ * |frame| changes only with QUIC_WIRE_ITEM and QUIC_WIRE_ERR_FRAME_...
  */
 QUIC_WIRE_API int quic_wire_frames_next(quic_wire_frame_iter *frames,
                                         const uint8_t *payload,
@@ -682,20 +702,24 @@ QUIC_WIRE_API int quic_wire_frames_next(quic_wire_frame_iter *frames,
                                         quic_wire_frame *frame);
 
 /**
- * Reads the next frames, as many as the |room| entries of |out| hold, with one
- * call.  |payload| is the one that |frames| began with.  A PADDING frame and
- * all the zero bytes after it are one entry: quic_wire_padding_count.
+ * Reads the next frames with one call, as many as the |room| entries of |out|
+ * hold.  |payload| is the one that |frames| began with.  A PADDING frame and
+ * all zero bytes after it are one entry (quic_wire_padding_count).
  *
- * Returns QUIC_WIRE_ITEM, and in |*count| how many entries were filled, one at
- * least; 0 where no frame remains; QUIC_WIRE_ERR_FRAME_END and so on, once,
- * where the next frame is invalid or refused by |frames->flags|, with its type
- * in |out[0]| (quic_wire_error_type), and then 0; QUIC_WIRE_ERR_NOBUF where
- * |room| is 0; QUIC_WIRE_ERR_PLACE where |frames->offset| is above
- * |payloadlen|; QUIC_WIRE_ERR_ARGUMENT for NULL.  Frames before an invalid one
- * are given first, and the next call reports it.  Entries after those that were
- * filled don't change, and |*count| changes only with QUIC_WIRE_ITEM.  Once
- * |frames->offset| is |payloadlen| no frame remains, and no call is needed to
- * learn that.
+ * Returns:
+ *  - QUIC_WIRE_ITEM, and in |*count| how many entries were filled, at least one
+ *  - 0 if no frame is left
+ *  - QUIC_WIRE_ERR_FRAME_..., once, if the next frame is invalid or rejected by
+ *    |frames->flags|, with its type in |out[0]| (quic_wire_error_type); later
+ *    calls return 0
+ *  - QUIC_WIRE_ERR_NOBUF if |room| is 0
+ *  - QUIC_WIRE_ERR_PLACE if |frames->offset| is above |payloadlen|
+ *  - QUIC_WIRE_ERR_ARGUMENT for NULL
+ *
+ * Frames before an invalid one are returned first, and the next call reports
+ * it.  Entries after those that were filled don't change, and |*count| changes
+ * only with QUIC_WIRE_ITEM.  Once |frames->offset| is |payloadlen|, no frame
+ * is left, and you need no call to learn that.
  */
 QUIC_WIRE_API int quic_wire_frames_fill(quic_wire_frame_iter *frames,
                                         const uint8_t *payload,
@@ -703,17 +727,21 @@ QUIC_WIRE_API int quic_wire_frames_fill(quic_wire_frame_iter *frames,
                                         size_t room, size_t *count);
 
 /**
- * Begins at the front of a |payload| and reads its first frames, as many as the
- * |room| entries of |out| hold: what quic_wire_frames_init and then
- * quic_wire_frames_fill do, with one call.  quic_wire_frames_fill goes on where
- * |frames->offset| is below |payloadlen|.
+ * Begins to read a |payload| and reads its first frames, as many as the |room|
+ * entries of |out| hold.  One call does what quic_wire_frames_init and then
+ * quic_wire_frames_fill do.  If |frames->offset| is below |payloadlen|
+ * afterwards, go on with quic_wire_frames_fill.
  *
- * Returns QUIC_WIRE_ITEM, and in |*count| how many entries were filled, one at
- * least; QUIC_WIRE_ERR_PAYLOAD_EMPTY; QUIC_WIRE_ERR_FRAME_END and so on, with
- * the type in |out[0]|, if the payload doesn't begin with a valid frame, or with
- * one that |flags| refuse; QUIC_WIRE_ERR_NOBUF where |room| is 0;
- * QUIC_WIRE_ERR_ARGUMENT for NULL.  |*count| changes only with QUIC_WIRE_ITEM,
- * and nothing changes but with that and QUIC_WIRE_ERR_FRAME_...
+ * Returns:
+ *  - QUIC_WIRE_ITEM, and in |*count| how many entries were filled, at least one
+ *  - QUIC_WIRE_ERR_PAYLOAD_EMPTY
+ *  - QUIC_WIRE_ERR_FRAME_... if the first frame is invalid or rejected by
+ *    |flags|, with its type in |out[0]|
+ *  - QUIC_WIRE_ERR_NOBUF if |room| is 0
+ *  - QUIC_WIRE_ERR_ARGUMENT for NULL
+ *
+ * |*count| changes only with QUIC_WIRE_ITEM.  Nothing else changes, except
+ * with QUIC_WIRE_ITEM and QUIC_WIRE_ERR_FRAME_...
  */
 QUIC_WIRE_API int quic_wire_frames_first(quic_wire_frame_iter *frames,
                                          const uint8_t *payload,
@@ -722,9 +750,9 @@ QUIC_WIRE_API int quic_wire_frames_first(quic_wire_frame_iter *frames,
                                          size_t *count);
 
 /**
- * Reads the frame at the front of the rest of a payload, without an iterator:
- * the caller goes on where it ends, which is returned, until no byte remains.
- * |frame|'s places count from |payload|.  A PADDING frame and the bytes of 0
+ * Reads the frame at the front of |payload|, the rest of a payload, without an
+ * iterator.  Go on where it ends, which is returned, until no byte remains.
+ * Offsets in |frame| count from |payload|.  A PADDING frame and the zero bytes
  * after it are one frame.  |flags| are QUIC_WIRE_READ_...
  *
  * Of an ACK |frame->datalen| is its first range, less one, the ranges below it
@@ -733,11 +761,12 @@ QUIC_WIRE_API int quic_wire_frames_first(quic_wire_frame_iter *frames,
  * set, and quic_wire_ack_ranges_init gives all.  For other frames |gaps|
  * doesn't change.
  *
- * Returns where the frame ends, which is above 0; QUIC_WIRE_ERR_PAYLOAD_EMPTY
- * where no byte remains; QUIC_WIRE_ERR_FRAME_END and so on, with the type in
- * |frame|, if the bytes don't begin with a valid frame (the type is
- * QUIC_WIRE_NO_TYPE if they end within that), or with one that |flags| refuse;
- * QUIC_WIRE_ERR_ARGUMENT for NULL.
+ * Returns:
+ *  - where the frame ends, which is above 0
+ *  - QUIC_WIRE_ERR_PAYLOAD_EMPTY if no byte remains
+ *  - QUIC_WIRE_ERR_FRAME_... if the frame is invalid or rejected by |flags|,
+ *    with its type in |frame| (QUIC_WIRE_NO_TYPE if the bytes end within that)
+ *  - QUIC_WIRE_ERR_ARGUMENT for NULL
  */
 QUIC_WIRE_API int64_t quic_wire_frame_read(const uint8_t *payload,
                                            size_t payloadlen, uint32_t flags,
@@ -745,39 +774,39 @@ QUIC_WIRE_API int64_t quic_wire_frame_read(const uint8_t *payload,
                                            quic_wire_gap *gaps, size_t room);
 
 /** How many PADDING frames an entry of quic_wire_frames_fill has that was read
- * from this payload: one whose type may be encoded in up to 8 bytes, and one
- * for each byte after it.  0 for other kinds, and where there is no such place.
- */
+ * from this payload: one whose type may have up to 8 bytes, and one for each
+ * byte after it. 0 for other kinds, and if an offset is outside the payload. */
 QUIC_WIRE_API size_t quic_wire_padding_count(const uint8_t *payload,
                                              size_t payloadlen,
                                              const quic_wire_frame *frame);
 
-/** The 16 bytes of the token for stateless resets of a NEW_CONNECTION_ID that
- * was read of this payload (RFC 9000, section 19.15); NULL of other kinds, and
- * where there is no such place. */
+/** The 16 bytes of the stateless reset token of a NEW_CONNECTION_ID that was
+ * read from this payload (RFC 9000, section 19.15).  NULL for other kinds, and
+ * if an offset is outside the payload. */
 QUIC_WIRE_API const uint8_t *
 quic_wire_reset_token(const uint8_t *payload, size_t payloadlen,
                       const quic_wire_frame *frame);
 
-/** The eight bytes of a PATH_CHALLENGE or PATH_RESPONSE that was read of this
- * payload (RFC 9000, sections 19.17 and 19.18), which are |path.data| as a
- * number; NULL of other kinds, and where there is no such place. */
+/** The eight bytes of a PATH_CHALLENGE or PATH_RESPONSE that was read from this
+ * payload (RFC 9000, sections 19.17 and 19.18), which |path.data| holds as a
+ * number.  NULL for other kinds, and if an offset is outside the payload. */
 QUIC_WIRE_API const uint8_t *quic_wire_path_data(const uint8_t *payload,
                                                  size_t payloadlen,
                                                  const quic_wire_frame *frame);
 
-/** What RFC 9000 says of a |kind| of frame, QUIC_WIRE_RULE_..; 0 of what is no
- * kind.  DATAGRAM, ACK_FREQUENCY and IMMEDIATE_ACK may be in 0-RTT and 1-RTT
- * packets (RFC 9221, section 4; as quinn-proto takes them).  A frame in another
- * packet is a PROTOCOL_VIOLATION, which is for the caller to see. */
+/** The rules of RFC 9000 for a |kind| of frame, QUIC_WIRE_RULE_...; 0 if there
+ * is no such kind.  DATAGRAM, ACK_FREQUENCY and IMMEDIATE_ACK may be in 0-RTT
+ * and 1-RTT packets (RFC 9221, section 4; as in quinn-proto).  A frame in
+ * another kind of packet is a PROTOCOL_VIOLATION, which the caller must check.
+ */
 QUIC_WIRE_API uint32_t quic_wire_frame_rules(uint32_t kind);
 
-/** After QUIC_WIRE_ERR_FRAME_...: the last type that was read, the broken
- * frame's own included; QUIC_WIRE_NO_TYPE if none was.  It may be any number
- * below 2^62, and |frame->type| is 0. */
+/** The last type that was read before QUIC_WIRE_ERR_FRAME_..., which may be
+ * that of the invalid frame itself; QUIC_WIRE_NO_TYPE if none was.  It may be
+ * any number below 2^62, and |frame->type| is 0. */
 QUIC_WIRE_API uint64_t quic_wire_error_type(const quic_wire_frame *frame);
 
-/* ---- The ranges of an ACK, read */
+/* ---- Reading the ranges of an ACK */
 
 /**
  * Begins at the greatest range of |frame|, an ACK that was read of this
@@ -826,23 +855,24 @@ QUIC_WIRE_API int quic_wire_ack_ranges_fill(quic_wire_range_iter *ranges,
                                             quic_wire_range *out, size_t room,
                                             size_t *count);
 
-/* ---- Frames, written */
+/* ---- Writing frames */
 
 /**
- * Writes |frame|, any but an ACK, in its shortest form at the front of |dest|:
- * as the last frame of its payload (|last| is not 0), where STREAM and
- * DATAGRAM need no length, or as another one.  Its data are |frame->datalen|
- * bytes at |frame->data| of |data|, followed by the token in a
- * NEW_CONNECTION_ID.  Where |frame->datalen| is 0, as it is of each kind
- * without data, neither |data| nor that place is looked at, so that a PING is
- * written as it was read, with any |data| or NULL.  type, begin and end are
- * not looked at.
+ * Writes |frame|, any kind except ACK, in its shortest form at the front of
+ * |dest|.  |last| is not 0 if it is the last frame of its payload; then STREAM
+ * and DATAGRAM need no length.  Its data is |frame->datalen| bytes at
+ * |frame->data| of |data|; in a NEW_CONNECTION_ID the token follows them.  If
+ * |frame->datalen| is 0, as for each kind without data, |data| and that offset
+ * are ignored, so a PING is written as it was read, with any |data| or NULL.
+ * The frame's type, begin and end are ignored.
  *
- * Returns 0, and in |*written| how many bytes were written;
- * QUIC_WIRE_ERR_NOBUF where |destlen| is less, and in |*written| how many are
- * needed; QUIC_WIRE_ERR_ARGUMENT where |frame| is no frame that can be
- * written.  Bytes of |dest| after those written don't change, and none if
- * nothing was written.
+ * Returns:
+ *  - 0, and in |*written| how many bytes were written
+ *  - QUIC_WIRE_ERR_NOBUF if |destlen| is less, and in |*written| how many are
+ *    needed
+ *  - QUIC_WIRE_ERR_ARGUMENT if |frame| can't be written
+ *
+ * Bytes of |dest| after those written don't change, and none after an error.
  */
 QUIC_WIRE_API int quic_wire_frame_write(const quic_wire_frame *frame,
                                         const uint8_t *data, size_t datalen,
@@ -850,10 +880,10 @@ QUIC_WIRE_API int quic_wire_frame_write(const quic_wire_frame *frame,
                                         size_t *written);
 
 /**
- * Writes |frame|, a STREAM, CRYPTO or DATAGRAM, up to its data, which are
- * |frame->datalen| bytes: the front of what quic_wire_frame_write writes of it,
- * after which the caller puts the data.  type, data, begin and end are not
- * looked at.  What it returns and |dest| are as of quic_wire_frame_write;
+ * Writes |frame|, a STREAM, CRYPTO or DATAGRAM, up to its data, which has
+ * |frame->datalen| bytes.  It is the front of what quic_wire_frame_write
+ * writes; you put the data after it.  The frame's type, data, begin and end
+ * are ignored.  The results and |dest| are as for quic_wire_frame_write;
  * QUIC_WIRE_ERR_ARGUMENT also for other kinds.
  */
 QUIC_WIRE_API int quic_wire_frame_header_write(const quic_wire_frame *frame,
@@ -880,126 +910,144 @@ QUIC_WIRE_API int quic_wire_ack_gaps_write(const quic_wire_frame *ack,
                                            size_t ngaps, uint8_t *dest,
                                            size_t destlen, size_t *written);
 
-/** How many bytes quic_wire_frame_write writes of these: returns 0 with |*len|,
- * or QUIC_WIRE_ERR_ARGUMENT where that does. */
+/** How many bytes quic_wire_frame_write writes for these arguments.  Returns 0
+ * and |*len|, or QUIC_WIRE_ERR_ARGUMENT if that does. */
 QUIC_WIRE_API int quic_wire_frame_len(const quic_wire_frame *frame,
                                       const uint8_t *data, size_t datalen,
                                       int last, size_t *len);
 
-/* ---- Payloads in their shortest form */
+/* ---- Shortest payloads */
 
 /**
- * Writes the one shortest payload with the meaning of |payload| at the front of
- * |dest|: the same frames in the same order, each in its shortest form (RFC
- * 9000, sections 12.4 and 19).  No memory is taken.
+ * Writes the shortest payload with the same meaning as |payload| at the front
+ * of |dest|: the same frames in the same order, each in its shortest form (RFC
+ * 9000, sections 12.4 and 19).  It doesn't allocate.
  *
- * Returns 0, and in |out->len| how many bytes were written, at most
- * |payloadlen|; QUIC_WIRE_ERR_NOBUF where |destlen| is less, and in |out->len|
- * how many are needed; QUIC_WIRE_ERR_PAYLOAD_EMPTY; QUIC_WIRE_ERR_FRAME_END and
- * so on where it has an invalid frame, with its type in |out|;
- * QUIC_WIRE_ERR_ARGUMENT for NULL.  Bytes of |dest| after those written don't
- * change, and none if nothing was written; |out| changes only in the fields
- * that are named here.
+ * Returns:
+ *  - 0, and in |out->len| how many bytes were written, at most |payloadlen|
+ *  - QUIC_WIRE_ERR_NOBUF if |destlen| is less, and in |out->len| how many are
+ *    needed
+ *  - QUIC_WIRE_ERR_PAYLOAD_EMPTY
+ *  - QUIC_WIRE_ERR_FRAME_... if it has an invalid frame, with the type in
+ *    |out->last_type|
+ *  - QUIC_WIRE_ERR_ARGUMENT for NULL
+ *
+ * Bytes of |dest| after those written don't change, and none after an error.
+ * |out| changes only in the fields that are named here.
  */
 QUIC_WIRE_API int quic_wire_canonical(const uint8_t *payload, size_t payloadlen,
                                       uint8_t *dest, size_t destlen,
                                       quic_wire_canon *out);
 
-/* ---- Headers of packets, read */
+/* ---- Reading packet headers */
 
 /**
- * Reads the header of the packet that |bytes| begin with, whether the packet is
- * complete or ends after its header.  Ids of short headers have |cidlen| bytes;
- * of versions that are not among |versions| only the ids are read.  |flags| are
- * QUIC_WIRE_READ_GREASED_BIT, QUIC_WIRE_READ_ANY_VERSION and
- * QUIC_WIRE_READ_WHOLE_RETRY; other bits aren't looked at.
+ * Reads the header of the packet at the front of |bytes|, whether the packet is
+ * complete or cut off after its header.  Ids of short headers have |cidlen|
+ * bytes.  For versions other than |versions| only the ids are read.  |flags|
+ * are QUIC_WIRE_READ_GREASED_BIT, QUIC_WIRE_READ_ANY_VERSION and
+ * QUIC_WIRE_READ_WHOLE_RETRY; other bits are ignored.
  *
- * Returns where the packet ends, 1 or more, which is |header->end|: the next
- * one of the datagram begins there.  QUIC_WIRE_ERR_PACKET_CUT and the header,
- * of a packet that is cut off; QUIC_WIRE_ERR_PACKET_VERSION and of the header
- * its kind, its version and its ids, which may have up to 255 bytes; another
- * QUIC_WIRE_ERR_PACKET_.. where there is no header, where the flags ask for what
- * it lacks, or where a version negotiation has longer ids than 20 bytes, which
- * quic_wire_negotiation_read reads; QUIC_WIRE_ERR_LENGTH where |cidlen| is above 20 or there are 2^32
- * bytes or more; QUIC_WIRE_ERR_ARGUMENT for NULL.  |header| changes only with
- * the first three.
+ * Returns:
+ *  - where the packet ends, 1 or more, which is |header->end|; the next packet
+ *    of the datagram begins there
+ *  - QUIC_WIRE_ERR_PACKET_CUT and the header, if the packet is cut off
+ *  - QUIC_WIRE_ERR_PACKET_VERSION, and the header's kind, version and ids,
+ *    which may have up to 255 bytes (RFC 8999)
+ *  - another QUIC_WIRE_ERR_PACKET_... if there is no header, if |flags| reject
+ *    it, or if an id of a version negotiation has more than 20 bytes, which
+ *    quic_wire_negotiation_read reads
+ *  - QUIC_WIRE_ERR_LENGTH if |cidlen| is above 20, or if there are 2^32 bytes
+ *    or more
+ *  - QUIC_WIRE_ERR_ARGUMENT for NULL
+ *
+ * |header| changes only with the first three.
  */
 QUIC_WIRE_CHECKED QUIC_WIRE_API int64_t quic_wire_header_read(
     const uint8_t *bytes, size_t len, uint32_t cidlen, const uint32_t *versions,
     size_t nversions, uint32_t flags, quic_wire_header *header);
 
-/**
- * Where the short header ends that |packet| begins with, whose id has |cidlen|
- * bytes: where the number begins.  It is what quic_wire_header_read tells of
- * such a packet, and the quickest way to it.  0 where no short header begins
- * there, or |cidlen| is above 20, and for NULL.  The fixed bit isn't looked at.
- */
+/** Where the short header at the front of |packet| ends, which is where the
+ * packet number begins.  Its id has |cidlen| bytes.  It returns what
+ * quic_wire_header_read does, faster.  0 if no short header is there, if
+ * |cidlen| is above 20, and for NULL.  The fixed bit is ignored. */
 QUIC_WIRE_API size_t quic_wire_short_read(const uint8_t *packet,
                                           size_t packetlen, uint32_t cidlen);
 
 /**
- * Reads the header of the version negotiation that |packet| is (RFC 9000,
- * section 17.2.1).  Its ids are those of the packet that it answers, which may
- * be of any version, so they have up to 255 bytes (RFC 8999, section 6).  It is
- * what quic_wire_header_read tells where both have at most 20, which refuses
- * longer ones.  The seven low bits of the first byte aren't looked at.
+ * Reads the header of a version negotiation (RFC 9000, section 17.2.1).  Its
+ * ids are those of the packet that it responds to, which may have any version,
+ * so they have up to 255 bytes (RFC 8999, section 6).  If both have at most
+ * 20, the result is that of quic_wire_header_read, which rejects longer ones.
+ * The seven low bits of the first byte are ignored.
  *
- * Returns |packetlen|, where the packet ends, and the header, after which the
- * versions are, from |header->header_end| to |header->end|, four bytes each,
- * the highest first; QUIC_WIRE_ERR_KIND where none begins there: the highest
- * bit of the first byte is clear, the version isn't 0, or the bytes end within
- * the ids; QUIC_WIRE_ERR_LENGTH where there are 2^32 bytes or more;
- * QUIC_WIRE_ERR_ARGUMENT for NULL.  |header| changes only with the first.
+ * Returns:
+ *  - |packetlen|, where the packet ends, and the header; the versions are from
+ *    |header->header_end| to |header->end|, four bytes each, the highest first
+ *  - QUIC_WIRE_ERR_KIND if there is no such header: the highest bit of the
+ *    first byte is clear, the version isn't 0, or the bytes end within the ids
+ *  - QUIC_WIRE_ERR_LENGTH if there are 2^32 bytes or more
+ *  - QUIC_WIRE_ERR_ARGUMENT for NULL
+ *
+ * |header| changes only with the first.
  */
 QUIC_WIRE_CHECKED QUIC_WIRE_API int64_t quic_wire_negotiation_read(
     const uint8_t *packet, size_t packetlen, quic_wire_header *header);
 
-/** The receiver's id alone, in a packet of any version, for who passes packets
- * on (RFC 8999, section 5): its place in |packet|, and in |*dcidlen| how many
- * bytes it has.  That of a short header has |cidlen|.  NULL where the packet ends
- * before the id's end, and for NULL; |*dcidlen| doesn't change then.  The fixed
- * bit isn't looked at. */
+/**
+ * Finds the receiver's id in a packet of any version, as you need to forward it
+ * (RFC 8999, section 5).  Returns where it begins, and in |*dcidlen| how many
+ * bytes it has.  That of a short header has |cidlen|.  NULL if the packet
+ * ends before the id does, and for NULL; |*dcidlen| doesn't change then.  The
+ * fixed bit is ignored.
+ */
 QUIC_WIRE_API const uint8_t *quic_wire_dcid_read(const uint8_t *packet,
                                                  size_t packetlen,
                                                  size_t cidlen,
                                                  size_t *dcidlen);
 
-/** Where the ids begin in a packet of this header, or NULL for NULL. */
+/** Where the receiver's or the sender's id begins in a packet with this header;
+ * NULL for NULL. */
 QUIC_WIRE_API const uint8_t *quic_wire_dcid(const uint8_t *packet,
                                             const quic_wire_header *header);
 QUIC_WIRE_API const uint8_t *quic_wire_scid(const uint8_t *packet,
                                             const quic_wire_header *header);
 
-/* ---- The protection of headers */
+/* ---- Header protection */
 
-/**
- * The sample of |samplelen| bytes from which the caller makes the mask of the
- * header (RFC 9001, section 5.4.2), in a packet whose number begins at
- * |number|, or NULL where the packet is too short.
- */
+/** The sample of |samplelen| bytes from which you make the mask for header
+ * protection (RFC 9001, section 5.4.2), in a packet whose number begins at
+ * |number|.  NULL if the packet is too short. */
 QUIC_WIRE_API const uint8_t *quic_wire_sample(const uint8_t *packet,
                                               size_t packetlen, size_t number,
                                               size_t samplelen);
 
 /**
- * Takes the protection off the header of a packet whose number begins at
- * |place|, by a mask of five bytes (RFC 9001, section 5.4.1), and says its
- * number by the one that is |expected| next, as quic_wire_number_expand does;
- * with 0 it is what is written.  Returns how many bytes the number has, 1 to 4:
- * the payload begins after them, and packet[0] has the key phase and the
- * reserved bits.  QUIC_WIRE_ERR_NUMBER where |expected| is 2^62 or more, else
- * QUIC_WIRE_ERR_PACKET_SMALL where |place| is 0 or has fewer than four bytes
- * from it on; QUIC_WIRE_ERR_ARGUMENT for NULL.  Nothing changes then.
+ * Removes the header protection of a packet whose number begins at |place|,
+ * with a mask of five bytes (RFC 9001, section 5.4.1).  |*number| is the whole
+ * packet number, from the one that is |expected| next, as
+ * quic_wire_number_expand returns it; with 0 it is the truncated one.
+ *
+ * Returns:
+ *  - how many bytes the number has, 1 to 4; the payload begins after them, and
+ *    packet[0] has the Key Phase and the reserved bits
+ *  - QUIC_WIRE_ERR_NUMBER if |expected| is 2^62 or more
+ *  - QUIC_WIRE_ERR_PACKET_SMALL if |place| is 0, or the packet has fewer than
+ *    four bytes from there on
+ *  - QUIC_WIRE_ERR_ARGUMENT for NULL
+ *
+ * Nothing changes after an error.
  */
 QUIC_WIRE_CHECKED QUIC_WIRE_API int
 quic_wire_unprotect(uint8_t *packet, size_t packetlen, size_t place,
                     const uint8_t *mask, uint64_t expected, uint64_t *number);
 
 /**
- * The same in a copy, so that the packet doesn't change: its bytes up to
- * |place| and the four from there on are written to |dest|, and opened there.
- * Returns what quic_wire_unprotect does; else QUIC_WIRE_ERR_NOBUF where
- * |destlen| is less.  Nothing changes with an error.
+ * The same in a copy of the header, so that the packet doesn't change.  The
+ * bytes before |place| and the four from there on are copied to |dest|, and the
+ * protection is removed there.  Returns what quic_wire_unprotect does, or else
+ * QUIC_WIRE_ERR_NOBUF if |destlen| is less than |place| + 4.  Nothing changes
+ * after an error.
  */
 QUIC_WIRE_CHECKED QUIC_WIRE_API int
 quic_wire_unprotect_copy(const uint8_t *packet, size_t packetlen, size_t place,
@@ -1007,106 +1055,115 @@ quic_wire_unprotect_copy(const uint8_t *packet, size_t packetlen, size_t place,
                          size_t destlen, uint64_t *number);
 
 /**
- * Puts the protection on the header of a packet whose payload is sealed and
- * whose number begins at |place|.  Returns how many bytes the number has;
- * QUIC_WIRE_ERR_PACKET_SMALL where |place| is 0 or has fewer than four bytes
- * from it on; QUIC_WIRE_ERR_ARGUMENT for NULL.  Nothing changes then.
+ * Applies header protection to a packet whose payload is sealed and whose
+ * number begins at |place|, with a mask of five bytes (RFC 9001, section
+ * 5.4.1).  Returns how many bytes the number has; QUIC_WIRE_ERR_PACKET_SMALL
+ * if |place| is 0, or the packet has fewer than four bytes from there on;
+ * QUIC_WIRE_ERR_ARGUMENT for NULL.  Nothing changes after an error.
  */
 QUIC_WIRE_CHECKED QUIC_WIRE_API int quic_wire_protect(uint8_t *packet,
                                                       size_t packetlen,
                                                       size_t place,
                                                       const uint8_t *mask);
 
-/* ---- Numbers of packets, and of variable length */
+/* ---- Packet numbers and varints */
 
-/** In how many bytes |number| is written to a receiver that has acknowledged
- * |largest_acked| (RFC 9000, section 17.1); with 0, where nothing was
- * acknowledged, it is what appendix A.2 has then.  Returns 1 to 4;
- * QUIC_WIRE_ERR_NUMBER where |largest_acked| is above |number|, or 2^31 or more
- * below it. */
+/** How many bytes of |number| to write for a receiver that has acknowledged
+ * |largest_acked| (RFC 9000, section 17.1).  If nothing was acknowledged, pass
+ * 0: the result is that of appendix A.2.  Returns 1 to 4; QUIC_WIRE_ERR_NUMBER
+ * if |largest_acked| is above |number|, or 2^31 or more below it. */
 QUIC_WIRE_API int quic_wire_number_len(uint64_t number, uint64_t largest_acked);
 
-/** The whole number of which the low |numberlen| bytes are written, by the one
- * that is |expected| next (RFC 9000, appendix A.3); UINT64_MAX where
- * |numberlen| isn't 1 to 4, |written| takes more bytes, or |expected| is 2^62
- * or more.  Where |expected| is at most 2^(8 * numberlen - 1) below 2^62 the
- * number may be 2^62 or more, which no packet has; appendix A.3 gives the one
- * that is less by 2^(8 * numberlen) then. */
+/**
+ * The whole packet number whose low |numberlen| bytes are |written|, from the
+ * one that is |expected| next (RFC 9000, appendix A.3).  UINT64_MAX if
+ * |numberlen| isn't 1 to 4, |written| has more bytes, or |expected| is 2^62 or
+ * more.  If |expected| is at most 2^(8 * numberlen - 1) below 2^62, the result
+ * may be 2^62 or more, which no packet number is; appendix A.3 then has the
+ * number that is less by 2^(8 * numberlen).
+ */
 QUIC_WIRE_API uint64_t quic_wire_number_expand(uint64_t written,
                                                uint32_t numberlen,
                                                uint64_t expected);
 
-/** Reads what is written of a packet number in |numberlen| bytes at the front of
- * |bytes|, the highest first (RFC 9000, section 17.1).  Returns |numberlen|;
- * QUIC_WIRE_ERR_LENGTH where that isn't 1 to 4, else QUIC_WIRE_ERR_PACKET_END
- * where they are fewer; QUIC_WIRE_ERR_ARGUMENT for NULL.  |*written| changes
- * only with the first. */
+/**
+ * Reads a truncated packet number of |numberlen| bytes at the front of |bytes|,
+ * the highest first (RFC 9000, section 17.1).  Returns |numberlen|;
+ * QUIC_WIRE_ERR_LENGTH if that isn't 1 to 4, else QUIC_WIRE_ERR_PACKET_END if
+ * |len| is less; QUIC_WIRE_ERR_ARGUMENT for NULL.  |*written| changes only
+ * with the first.
+ */
 QUIC_WIRE_CHECKED QUIC_WIRE_API int quic_wire_number_read(const uint8_t *bytes,
                                                           size_t len,
                                                           uint32_t numberlen,
                                                           uint64_t *written);
 
-/** Writes the low |numberlen| bytes of a packet number at the front of |dest|,
- * the highest of them first.  Returns |numberlen|; QUIC_WIRE_ERR_LENGTH where
- * that isn't 1 to 4, else QUIC_WIRE_ERR_NOBUF where |dest| has fewer;
- * QUIC_WIRE_ERR_ARGUMENT for NULL.  Bytes of |dest| after those written don't
- * change, and none with an error. */
+/**
+ * Writes the low |numberlen| bytes of a packet number at the front of |dest|,
+ * the highest first.  Returns |numberlen|; QUIC_WIRE_ERR_LENGTH if that isn't
+ * 1 to 4, else QUIC_WIRE_ERR_NOBUF if |destlen| is less; QUIC_WIRE_ERR_ARGUMENT
+ * for NULL.  Bytes of |dest| after those written don't change, and none after
+ * an error.
+ */
 QUIC_WIRE_CHECKED QUIC_WIRE_API int quic_wire_number_write(uint64_t number,
                                                            uint32_t numberlen,
                                                            uint8_t *dest,
                                                            size_t destlen);
 
-/** How many bytes the shortest encoding of a number of variable length has: 1, 2,
- * 4 or 8 (RFC 9000, section 16); 0 where it is 2^62 or more. */
+/** How many bytes the shortest encoding of a varint has: 1, 2, 4 or 8 (RFC
+ * 9000, section 16).  0 if the value is 2^62 or more. */
 QUIC_WIRE_API size_t quic_wire_varint_len(uint64_t value);
 
-/** Reads a number of variable length at the front of |bytes|.  Returns how many
- * bytes it has, or 0 where they end within it. */
+/** Reads the varint at the front of |bytes|.  Returns how many bytes it has,
+ * or 0 if they end within it. */
 QUIC_WIRE_API size_t quic_wire_varint_read(const uint8_t *bytes, size_t len,
                                            uint64_t *value);
 
-/** Writes a number of variable length at the front of |dest|, in |width| bytes,
- * 1, 2, 4 or 8, or as few as it takes where that is 0.  Returns how many bytes,
- * or 0 where it doesn't fit, and then |dest| stays. */
+/** Writes a varint at the front of |dest|, in |width| bytes, 1, 2, 4 or 8, or
+ * in as few as possible if |width| is 0.  Returns how many bytes were written,
+ * or 0 if the value doesn't fit; |dest| doesn't change then. */
 QUIC_WIRE_API size_t quic_wire_varint_write(uint64_t value, uint32_t width,
                                             uint8_t *dest, size_t destlen);
 
-/* ---- Headers of packets, written */
+/* ---- Writing packet headers */
 
-/** How many bytes a header has whose token has |tokenlen|; 0 for NULL. */
+/** How many bytes a header has with ids and a token of these lengths; 0 for
+ * NULL. */
 QUIC_WIRE_API size_t quic_wire_header_len(const quic_wire_header_fields *fields,
                                           size_t dcidlen, size_t scidlen,
                                           size_t tokenlen);
 
 /**
- * Writes the header of a packet at the front of |dest|, with no protection on
- * it: what |fields| says, with the receiver's id |dcid|, the sender's id |scid|
- * and the |token|.  The length that an Initial, 0-RTT or Handshake packet has
- * is 0, until quic_wire_set_len.
+ * Writes the header of a packet, unprotected, at the front of |dest|: |fields|
+ * with the receiver's id |dcid|, the sender's id |scid| and the |token|.  The
+ * length of an Initial, 0-RTT or Handshake packet is 0 until quic_wire_set_len.
  *
- * Returns how many bytes were written, the last of which are the number;
- * QUIC_WIRE_ERR_NOBUF where |destlen| is less than quic_wire_header_len;
- * QUIC_WIRE_ERR_KIND where there is no such kind; QUIC_WIRE_ERR_NUMBER where
- * the number is 2^62 or more, or an Initial, 0-RTT, Handshake or Retry packet
- * has version 0, which would be a version negotiation (RFC 9000,
- * section 17.2.1); QUIC_WIRE_ERR_LENGTH where an id is longer than 20 bytes,
- * the number has not 1 to 4 bytes, or the length not 1, 2, 4 or 8;
- * QUIC_WIRE_ERR_ARGUMENT for NULL.  |dest| changes only where a header was
- * written.
+ * Returns:
+ *  - how many bytes were written; the last of them are the packet number
+ *  - QUIC_WIRE_ERR_NOBUF if |destlen| is less than quic_wire_header_len
+ *  - QUIC_WIRE_ERR_KIND if there is no such kind
+ *  - QUIC_WIRE_ERR_NUMBER if the number is 2^62 or more, or if an Initial,
+ *    0-RTT, Handshake or Retry packet has version 0, which would be a version
+ *    negotiation (RFC 9000, section 17.2.1)
+ *  - QUIC_WIRE_ERR_LENGTH if an id has more than 20 bytes, |numberlen| isn't 1
+ *    to 4, or |lengthlen| isn't 1, 2, 4 or 8
+ *  - QUIC_WIRE_ERR_ARGUMENT for NULL
  *
- * What is looked at, and nothing else, so that one |fields| serves all kinds:
+ * |dest| is modified only if a header is written.  What a kind doesn't have is
+ * ignored, so one |fields| serves all kinds.  They have:
  *
- *   Initial          |flags|, |version|, both ids, |token|, |number|,
- *                    |numberlen|, |lengthlen|
- *   0-RTT, Handshake the same but for |token|
- *   Retry            |flags|, |version|, both ids
- *   1-RTT            |flags|, |dcid|, |number|, |numberlen|
- *   negotiation      |flags|, both ids
+ *  - Initial: |flags|, |version|, both ids, |token|, |number|, |numberlen|,
+ *    |lengthlen|
+ *  - 0-RTT and Handshake: the same without |token|
+ *  - Retry: |flags|, |version|, both ids
+ *  - 1-RTT: |flags|, |dcid|, |number|, |numberlen|
+ *  - version negotiation: |flags|, both ids
  *
- * With |flags| of 0 the first byte is what RFC 9000 has, of each kind.
- * QUIC_WIRE_CLEAR_FIXED_BIT clears its fixed bit; with 1-RTT QUIC_WIRE_BIT_SPIN
- * and QUIC_WIRE_BIT_KEY_PHASE set these; with a version negotiation, whose
- * seven low bits are free (section 17.2.1), each of them turns its bit of c0.
+ * With |flags| of 0 the first byte is that of RFC 9000.
+ * QUIC_WIRE_CLEAR_FIXED_BIT clears its fixed bit.  For 1-RTT,
+ * QUIC_WIRE_BIT_SPIN and QUIC_WIRE_BIT_KEY_PHASE set these bits.  For a
+ * version negotiation, whose seven low bits are free (section 17.2.1), |flags|
+ * invert these bits of 0xc0.
  */
 QUIC_WIRE_API int64_t quic_wire_header_write(
     const quic_wire_header_fields *fields, const uint8_t *dcid, size_t dcidlen,
@@ -1114,19 +1171,23 @@ QUIC_WIRE_API int64_t quic_wire_header_write(
     uint8_t *dest, size_t destlen);
 
 /**
- * Writes a version negotiation at the front of |dest|, all of it: the first
- * byte, version 0, the ids, which may have 255 bytes (RFC 8999, section 6), and
- * the versions.  |dcid| is the source id of the packet that it answers, |scid|
+ * Writes a whole version negotiation at the front of |dest|: the first byte,
+ * version 0, the ids, which may have 255 bytes (RFC 8999, section 6), and the
+ * versions.  |dcid| is the source id of the packet that it responds to, |scid|
  * its destination id (RFC 9000, section 17.2.1).  With |flags| of 0 the first
- * byte is c0; each of the seven low bits of |flags| turns its bit, which is
- * free, though that section has the fixed bit set where QUIC may share its port
- * (RFC 7983), and readers that ask for it refuse a packet without it.
+ * byte is 0xc0; |flags| invert its seven low bits, which are free.  But that
+ * section asks for the fixed bit if QUIC may share its port (RFC 7983), and
+ * some readers reject a packet without it.
  *
- * Returns 0, and in |*written| how many bytes were written;
- * QUIC_WIRE_ERR_NOBUF where |destlen| is less, and in |*written| how many are
- * needed; QUIC_WIRE_ERR_LENGTH where an id is longer than 255 bytes, and
- * QUIC_WIRE_ERR_ARGUMENT for NULL, and then |*written| doesn't change.  Bytes
- * of |dest| after those written don't change, and none if nothing was written.
+ * Returns:
+ *  - 0, and in |*written| how many bytes were written
+ *  - QUIC_WIRE_ERR_NOBUF if |destlen| is less, and in |*written| how many are
+ *    needed
+ *  - QUIC_WIRE_ERR_LENGTH if an id has more than 255 bytes
+ *  - QUIC_WIRE_ERR_ARGUMENT for NULL
+ *
+ * |*written| changes only with the first two.  Bytes of |dest| after those
+ * written don't change, and none after an error.
  */
 QUIC_WIRE_API int
 quic_wire_negotiation_write(uint8_t flags, const uint8_t *dcid, size_t dcidlen,
@@ -1135,66 +1196,71 @@ quic_wire_negotiation_write(uint8_t flags, const uint8_t *dcid, size_t dcidlen,
                             uint8_t *dest, size_t destlen, size_t *written);
 
 /**
- * Sets the length in the header of a packet of |packetlen| bytes whose number
- * begins at |place|, to what there is from there on.  |lengthlen| is that of
- * the header.  Returns 0, or QUIC_WIRE_ERR_LENGTH where that isn't 1, 2, 4 or 8,
- * has no place before |place| or can't hold the length; QUIC_WIRE_ERR_ARGUMENT
- * for NULL.  Nothing changes then.
+ * Sets the Length field of a packet of |packetlen| bytes whose number begins at
+ * |place| to the count of bytes from there on.  The field has |lengthlen|
+ * bytes, as in the header.  Returns 0; QUIC_WIRE_ERR_LENGTH if |lengthlen|
+ * isn't 1, 2, 4 or 8, doesn't fit before |place|, or can't hold the length;
+ * QUIC_WIRE_ERR_ARGUMENT for NULL.  Nothing changes after an error.
  */
 QUIC_WIRE_API int quic_wire_set_len(uint8_t *packet, size_t packetlen,
                                     size_t place, uint32_t lengthlen);
 
-/* ---- Transport parameters, read and written, by the |side| that calls. */
+/* ---- Reading and writing transport parameters.  |side| is the side that
+ * calls. */
 
 /**
  * Reads a list of transport parameters to its end (RFC 9000, sections 7.4 and
- * 18), as QUIC_WIRE_SIDE_CLIENT one that a server sent, as
- * QUIC_WIRE_SIDE_SERVER one that a client sent, which must lack what a server
- * alone sends.  The list of no bytes gives each parameter its default.
+ * 18).  |side| is QUIC_WIRE_SIDE_CLIENT for a list that a server sent,
+ * QUIC_WIRE_SIDE_SERVER for one that a client sent, which must not have what
+ * only servers send.  An empty list gives each parameter its default.
  *
  * With 0 in |flags| an integer that has a default must be in its shortest
- * encoding, and grease_quic_bit and min_ack_delay may be there twice, as in
- * quinn-proto.  With QUIC_WIRE_READ_ANY_WIDTH an integer may be in any encoding
- * (section 16), and with QUIC_WIRE_READ_NO_REPEATS no known parameter may be
- * there twice (section 7.4).
+ * encoding, and grease_quic_bit and min_ack_delay may occur twice, as in
+ * quinn-proto.  With QUIC_WIRE_READ_ANY_WIDTH an integer may be in any
+ * encoding (section 16), and with QUIC_WIRE_READ_NO_REPEATS no known parameter
+ * may occur twice (section 7.4).
  *
- * Returns 0 and the parameters; QUIC_WIRE_ERR_PARAMS_MALFORMED or
- * QUIC_WIRE_ERR_PARAMS_ILLEGAL where the list is refused with a
- * TRANSPORT_PARAMETER_ERROR, and in |refusal|, which may be NULL, the entry
- * that is refused first: its number, and where it begins; QUIC_WIRE_ERR_KIND
- * where |side| is neither; QUIC_WIRE_ERR_ARGUMENT for NULL.  |params| changes
- * only with 0, |refusal| only where the list is refused.
+ * Returns:
+ *  - 0, and the parameters
+ *  - QUIC_WIRE_ERR_PARAMS_MALFORMED or QUIC_WIRE_ERR_PARAMS_ILLEGAL if the list
+ *    is a TRANSPORT_PARAMETER_ERROR, and in |refusal|, which may be NULL, the
+ *    first entry that is rejected: its id, and where it begins
+ *  - QUIC_WIRE_ERR_KIND if |side| is neither
+ *  - QUIC_WIRE_ERR_ARGUMENT for NULL
  *
- * |size| is `sizeof *params`, so that the struct can grow at its end in a later
- * version without a change for callers of this one: a size that the library
- * doesn't know is refused with QUIC_WIRE_ERR_LENGTH.
+ * |params| changes only with 0, |refusal| only if the list is rejected.
+ *
+ * |size| is `sizeof *params`, so that a later version can add fields at the end
+ * of the struct without a change for callers of this one.  A size that the
+ * library doesn't know is QUIC_WIRE_ERR_LENGTH.
  */
 QUIC_WIRE_CHECKED QUIC_WIRE_API int
 quic_wire_params_read(uint32_t side, uint32_t flags, const uint8_t *list,
                       size_t listlen, quic_wire_params *params, size_t size,
                       quic_wire_refusal *refusal);
 
-/**
- * Gives each parameter its default, as quic_wire_params_read does for a list of
- * no bytes (RFC 9000, section 18.2).  Returns 0; QUIC_WIRE_ERR_LENGTH for
- * another |size|, QUIC_WIRE_ERR_ARGUMENT for NULL, and then nothing changes.
- */
+/** Gives each parameter its default, as quic_wire_params_read does for an empty
+ * list (RFC 9000, section 18.2).  Returns 0; QUIC_WIRE_ERR_LENGTH for another
+ * |size|; QUIC_WIRE_ERR_ARGUMENT for NULL.  Nothing changes after an error. */
 QUIC_WIRE_API int quic_wire_params_default(quic_wire_params *params,
                                            size_t size);
 
 /**
- * Writes the shortest list of these parameters, as QUIC_WIRE_SIDE_CLIENT or as
- * QUIC_WIRE_SIDE_SERVER sends it: those numbers that differ from their
- * defaults, and what else is there.
+ * Writes the shortest list of these parameters, as the |side| sends it: the
+ * numbers that differ from their defaults, and what else is present.
  *
- * Returns 0 and how many bytes were written; QUIC_WIRE_ERR_NOBUF and how many
- * are needed where |dest| has fewer; QUIC_WIRE_ERR_PARAM where the peer would
- * refuse the parameters, or would not read the same: a number is out of range,
- * something that is absent is not 0, or the preferred address has no address,
- * or one of zeros with port 0; QUIC_WIRE_ERR_KIND where |side| is neither;
- * QUIC_WIRE_ERR_LENGTH for another |size| than `sizeof *params`;
- * QUIC_WIRE_ERR_ARGUMENT for NULL.  |dest| changes only with 0, and then only
- * in the bytes that were written.
+ * Returns:
+ *  - 0, and in |*written| how many bytes were written
+ *  - QUIC_WIRE_ERR_NOBUF if |destlen| is less, and in |*written| how many are
+ *    needed
+ *  - QUIC_WIRE_ERR_PARAM if the peer would reject the parameters, or read
+ *    others: a number is out of range, something that is absent isn't 0, or the
+ *    preferred address has no address, or one of zeros with port 0
+ *  - QUIC_WIRE_ERR_KIND if |side| is neither
+ *  - QUIC_WIRE_ERR_LENGTH for another |size| than `sizeof *params`
+ *  - QUIC_WIRE_ERR_ARGUMENT for NULL
+ *
+ * |dest| changes only with 0, and then only in the bytes that were written.
  */
 QUIC_WIRE_API int quic_wire_params_write(uint32_t side,
                                          const quic_wire_params *params,
@@ -1202,13 +1268,13 @@ QUIC_WIRE_API int quic_wire_params_write(uint32_t side,
                                          size_t destlen, size_t *written);
 
 /**
- * The same with further entries, in an order.  |further| is a list of entries
- * that quic_wire_params has no fields for, none of them twice, at most 235, as
- * quic_wire_param_write writes them one after the other.  The parameters of
- * quic_wire_params are numbered as the rows of this list are, whether they are
- * written or not, and the further entries from QUIC_WIRE_PARAM_ROWS on; |order|
- * has each of these numbers once, or |orderlen| is 0, and then the entries
- * are written in the order of their numbers.
+ * The same with further entries, in an order of your choice.  |further| is a
+ * list of at most 235 entries that quic_wire_params has no fields for, none of
+ * them twice, as quic_wire_param_write writes them one after the other.  The
+ * parameters of quic_wire_params have the numbers of this list, whether they
+ * are written or not; the further entries have numbers from
+ * QUIC_WIRE_PARAM_ROWS on.  |order| has each of these numbers once.  If
+ * |orderlen| is 0, the entries are written in the order of their numbers.
  *
  *  - 0 max_idle_timeout
  *  - 1 max_udp_payload_size
@@ -1232,9 +1298,9 @@ QUIC_WIRE_API int quic_wire_params_write(uint32_t side,
  *  - 19 grease_quic_bit
  *  - 20 min_ack_delay
  *
- * Each entry is written in its least widths, and the peer reads the same
- * |params|.  Returns what quic_wire_params_write does; QUIC_WIRE_ERR_PARAM also
- * where |further| or |order| are none of that.
+ * Each entry is written in its shortest encoding, and the peer reads the same
+ * |params|.  Returns what quic_wire_params_write does; QUIC_WIRE_ERR_PARAM
+ * also if |further| or |order| isn't as described.
  */
 QUIC_WIRE_API int quic_wire_params_write_with(
     uint32_t side, const quic_wire_params *params, size_t size,
@@ -1242,132 +1308,141 @@ QUIC_WIRE_API int quic_wire_params_write_with(
     size_t orderlen, uint8_t *dest, size_t destlen, size_t *written);
 
 /**
- * Reads the entry at the front of a |list| of transport parameters, be it one
- * that quic_wire_params has a field for or another.  Whether the value is one
- * of its kind isn't looked at, nor whether an entry is there twice.
+ * Reads the entry at the front of a |list| of transport parameters, whether
+ * quic_wire_params has a field for it or not.  It doesn't check the value, nor
+ * whether an entry occurs twice.
  *
- * Returns where the entry ends, which is where the next one begins, and the
- * entry; 0 where the list is empty; QUIC_WIRE_ERR_PARAMS_MALFORMED where its
- * first entry is cut off; QUIC_WIRE_ERR_ARGUMENT for NULL.  |param| changes
- * only with the first.
+ * Returns:
+ *  - where the entry ends, which is where the next one begins, and the entry
+ *  - 0 if the list is empty
+ *  - QUIC_WIRE_ERR_PARAMS_MALFORMED if its first entry is cut off
+ *  - QUIC_WIRE_ERR_ARGUMENT for NULL
+ *
+ * |param| changes only with the first.
  */
 QUIC_WIRE_CHECKED QUIC_WIRE_API int64_t quic_wire_param_read(
     const uint8_t *list, size_t listlen, quic_wire_param *param);
 
 /**
- * Writes an entry of a list at the front of |dest| in its least widths.
+ * Writes an entry of a list at the front of |dest|, its id and length in their
+ * shortest encodings.
  *
- * Returns 0 and how many bytes were written; QUIC_WIRE_ERR_NOBUF and how many
- * are needed where |dest| has fewer; QUIC_WIRE_ERR_NUMBER where |id| is 2^62 or
- * more, QUIC_WIRE_ERR_LENGTH where |valuelen| is; QUIC_WIRE_ERR_ARGUMENT for
- * NULL. |dest| changes only with 0, and then only in the bytes that were
- * written.
+ * Returns:
+ *  - 0, and in |*written| how many bytes were written
+ *  - QUIC_WIRE_ERR_NOBUF if |destlen| is less, and in |*written| how many are
+ *    needed
+ *  - QUIC_WIRE_ERR_NUMBER if |id| is 2^62 or more
+ *  - QUIC_WIRE_ERR_LENGTH if |valuelen| is 2^62 or more
+ *  - QUIC_WIRE_ERR_ARGUMENT for NULL
+ *
+ * |dest| changes only with 0, and then only in the bytes that were written.
  */
 QUIC_WIRE_API int quic_wire_param_write(uint64_t id, const uint8_t *value,
                                         size_t valuelen, uint8_t *dest,
                                         size_t destlen, size_t *written);
 
 /**
- * Reads the entry at the front of a |list| as quic_wire_param_read does, whose
- * value must be one integer, in any encoding, and gives that in |value|.
- *
- * Returns what quic_wire_param_read does; QUIC_WIRE_ERR_PARAMS_MALFORMED also
- * where the value is no integer.  |param| and |value| change only where an
- * entry was read.
+ * Reads the entry at the front of a |list| as quic_wire_param_read does, if its
+ * value is one integer, in any encoding, and stores that in |*value|.  Returns
+ * what quic_wire_param_read does; QUIC_WIRE_ERR_PARAMS_MALFORMED also if the
+ * value isn't an integer.  |param| and |value| change only if an entry was
+ * read.
  */
 QUIC_WIRE_CHECKED QUIC_WIRE_API int64_t
 quic_wire_param_read_number(const uint8_t *list, size_t listlen,
                             quic_wire_param *param, uint64_t *value);
 
-/**
- * Writes an entry up to its value of |valuelen| bytes, which the caller puts
- * behind it.  Returns what quic_wire_param_write does, with the length of what
- * comes before the value.
- */
+/** Writes an entry up to its value of |valuelen| bytes, which you put after it.
+ * Returns what quic_wire_param_write does, with the length of what precedes the
+ * value. */
 QUIC_WIRE_API int quic_wire_param_header_write(uint64_t id, size_t valuelen,
                                                uint8_t *dest, size_t destlen,
                                                size_t *written);
 
-/**
- * Writes an entry whose value is an integer in its shortest encoding.  Returns
- * what quic_wire_param_write does, QUIC_WIRE_ERR_NUMBER also where |value| is
- * 2^62 or more.
- */
+/** Writes an entry whose value is an integer in its shortest encoding.
+ * Returns what quic_wire_param_write does; QUIC_WIRE_ERR_NUMBER also if |value|
+ * is 2^62 or more. */
 QUIC_WIRE_API int quic_wire_param_write_number(uint64_t id, uint64_t value,
                                                uint8_t *dest, size_t destlen,
                                                size_t *written);
 
 /**
  * Reads the |value| of a preferred_address, all of its |valuelen| bytes, as a
- * client gets it (RFC 9000, section 18.2).
+ * client receives it (RFC 9000, section 18.2).
  *
- * Returns 0 and |params| with this address and defaults;
- * QUIC_WIRE_ERR_PARAMS_ILLEGAL where it has no address or no connection id,
- * QUIC_WIRE_ERR_PARAMS_MALFORMED where the bytes are no such value;
- * QUIC_WIRE_ERR_LENGTH for another |size| than `sizeof *params`;
- * QUIC_WIRE_ERR_ARGUMENT for NULL.  |params| changes only with 0.
+ * Returns:
+ *  - 0, and |params| with this address and defaults
+ *  - QUIC_WIRE_ERR_PARAMS_ILLEGAL if it has no address or no connection id
+ *  - QUIC_WIRE_ERR_PARAMS_MALFORMED if the bytes aren't such a value
+ *  - QUIC_WIRE_ERR_LENGTH for another |size| than `sizeof *params`
+ *  - QUIC_WIRE_ERR_ARGUMENT for NULL
+ *
+ * |params| changes only with 0.
  */
 QUIC_WIRE_CHECKED QUIC_WIRE_API int
 quic_wire_preferred_address_read(const uint8_t *value, size_t valuelen,
                                  quic_wire_params *params, size_t size);
 
-/**
- * Writes the value of the preferred_address that |params| has.  Returns what
- * quic_wire_params_write does of a server's, QUIC_WIRE_ERR_PARAM also where
- * there is no such address.
- */
+/** Writes the value of the preferred_address in |params|.  Returns what
+ * quic_wire_params_write does for a server; QUIC_WIRE_ERR_PARAM also if there
+ * is no such address. */
 QUIC_WIRE_API int quic_wire_preferred_address_write(
     const quic_wire_params *params, size_t size, uint8_t *dest, size_t destlen,
     size_t *written);
 
-/** Whether quic_wire_params has the parameter of this number: 1 or 0. */
+/** Whether quic_wire_params has a field for the parameter with this id: 1 or 0.
+ */
 QUIC_WIRE_API int quic_wire_param_is_known(uint64_t id);
 
 /* ---- Sets of packet numbers, and ACKs of them.  A set is the first |count|
- * entries of an array of |room|, each a run of numbers, sorted, none empty,
- * none touching the next.  A set of no entries is empty.  Whether the entries
- * are such runs is looked at with each call. */
+ * entries of an array of |room| entries: sorted runs, none empty, none touching
+ * the next.  A set of no entries is empty.  Every call checks the entries. */
 
 /**
- * Puts the numbers from |start| to below |end| into the set; an empty or
- * reversed range puts in nothing.  Returns QUIC_WIRE_CHANGED, and in |*count|
- * how many entries the set then has; 0 where all of them were in it;
- * QUIC_WIRE_ERR_NOBUF where the set needs one entry more than there are;
- * QUIC_WIRE_ERR_RANGES where |*count| is above |room| or the entries
- * are no such runs.  Entries after the set don't change, and nothing
- * changes but with QUIC_WIRE_CHANGED.
+ * Inserts the numbers from |start| to below |end|; an empty or reversed range
+ * inserts nothing.
+ *
+ * Returns:
+ *  - QUIC_WIRE_CHANGED, and in |*count| how many entries the set then has
+ *  - 0 if all of the numbers were in it
+ *  - QUIC_WIRE_ERR_NOBUF if the set would need one more entry than there are
+ *  - QUIC_WIRE_ERR_RANGES if |*count| is above |room|, or the entries aren't
+ *    such runs
+ *
+ * Entries after the set don't change, and nothing changes except with
+ * QUIC_WIRE_CHANGED.
  */
 QUIC_WIRE_API int quic_wire_set_insert(quic_wire_range *runs, size_t room,
                                        size_t *count, uint64_t start,
                                        uint64_t end);
 
-/**
- * Takes the numbers from |start| to below |end| out of the set.  Returns what
- * quic_wire_set_insert does: 0 where none of them was in it, and
- * QUIC_WIRE_ERR_NOBUF where a run falls in two and no entry is left.
- */
+/** Removes the numbers from |start| to below |end|.  Returns what
+ * quic_wire_set_insert does: 0 if none of them was in the set, and
+ * QUIC_WIRE_ERR_NOBUF if a run would be split in two and no entry is left. */
 QUIC_WIRE_API int quic_wire_set_remove(quic_wire_range *runs, size_t room,
                                        size_t *count, uint64_t start,
                                        uint64_t end);
 
-/**
- * Returns 1 where |number| is in the set of the |count| runs, 0 where it isn't,
- * and QUIC_WIRE_ERR_RANGES where they are no such runs.
- */
+/** Whether |number| is in the set of the |count| runs: 1 if it is, 0 if it
+ * isn't, and QUIC_WIRE_ERR_RANGES if they aren't such runs. */
 QUIC_WIRE_API int quic_wire_set_contains(const quic_wire_range *runs,
                                          size_t count, uint64_t number);
 
 /**
- * Writes an ACK (RFC 9000, section 19.3) of the set of the |count| runs in its
- * shortest form at the front of |dest|.  |counts| has three numbers, of packets
- * marked ECT(0), ECT(1) and ECN-CE, or is NULL, and then the ACK has none.
+ * Writes an ACK of the set of the |count| runs in its shortest form at the
+ * front of |dest| (RFC 9000, section 19.3).  |counts| has the ECT(0), ECT(1)
+ * and ECN-CE counts, or is NULL for an ACK without them.
  *
- * Returns 0, and in |*written| how many bytes were written;
- * QUIC_WIRE_ERR_NOBUF where |destlen| is less, and in |*written| how many are
- * needed; QUIC_WIRE_ERR_RANGES where the runs are none or no such runs;
- * QUIC_WIRE_ERR_NUMBER where a number in them, the delay or a count is 2^62 or
- * more; QUIC_WIRE_ERR_ARGUMENT for NULL.  Bytes of |dest| after those written
- * don't change, and none if nothing was written.
+ * Returns:
+ *  - 0, and in |*written| how many bytes were written
+ *  - QUIC_WIRE_ERR_NOBUF if |destlen| is less, and in |*written| how many are
+ *    needed
+ *  - QUIC_WIRE_ERR_RANGES if there are no runs, or they aren't such runs
+ *  - QUIC_WIRE_ERR_NUMBER if a number in them, the delay or a count is 2^62 or
+ *    more
+ *  - QUIC_WIRE_ERR_ARGUMENT for NULL
+ *
+ * Bytes of |dest| after those written don't change, and none after an error.
  */
 QUIC_WIRE_API int quic_wire_ack_write(uint64_t delay,
                                       const quic_wire_range *runs, size_t count,
@@ -1376,11 +1451,11 @@ QUIC_WIRE_API int quic_wire_ack_write(uint64_t delay,
 
 /* ---- Texts */
 
-/** What a result below 0 says, in English; of others "ok".  To that of
- * QUIC_WIRE_ERR_PACKET_VERSION belongs the version's number. */
+/** A description of a result below 0, in English; "ok" for others.  For
+ * QUIC_WIRE_ERR_PACKET_VERSION, add the version's number. */
 extern const char *quic_wire_strerror(int result);
 
-/** The name of a frame type, which is as on the wire, or NULL. */
+/** The name of a frame |type|, as it is on the wire; NULL if it is unknown. */
 extern const char *quic_wire_type_name(uint64_t type);
 
 #ifdef QUIC_WIRE_INLINE

@@ -1,14 +1,14 @@
 /* SPDX-License-Identifier: MIT OR Apache-2.0 */
 /*
- * What the functions of quic_wire.h do: they look at their pointers, and call
- * the proved library with what they were given.  Without a call, each by one
- * expression, are those that give a part of what was read,
- * quic_wire_padding_count and quic_wire_header_len.  quic_wire_frame_len asks
- * for a frame where there is no room, and quic_wire_header_write chooses one of
- * two proved calls of one meaning.  c/tests/abuse/ holds these against the
- * proved calls. quic_wire.h includes this file where QUIC_WIRE_INLINE is
- * defined, and so does the library's own quic_wire.c, which makes symbols of
- * them.
+ * What the functions of quic_wire.h do besides the proved library: they check
+ * their pointers, and call it with their arguments.  Some make no call and are
+ * one expression each: those that return a part of what was read,
+ * quic_wire_padding_count and quic_wire_header_len.  quic_wire_frame_len makes
+ * the call that writes, without room.  quic_wire_header_write chooses one of
+ * two proved calls with the same meaning.  c/tests/abuse/ compares all of these
+ * with the proved calls.  quic_wire.h includes this file if QUIC_WIRE_INLINE is
+ * defined; the library's own quic_wire.c includes it to make symbols of the
+ * functions.
  */
 #ifndef QUIC_WIRE_INLINE_H
 #define QUIC_WIRE_INLINE_H
@@ -105,8 +105,8 @@ int32_t quic_wire_ack_write_(uint64_t, const quic_wire_range *, size_t, size_t,
                              const uint64_t *, size_t, uint8_t *, size_t,
                              size_t *);
 
-/* A place for what has no items, since the proved library takes no NULL.  It is
- * aligned for each kind of item, and nothing is read or written there. */
+/* An address for arrays without items, since the proved library accepts no
+ * NULL.  It is aligned for each kind of item, and never read or written. */
 static inline void *quic_wire_nothing_(void) {
   static uint64_t nothing;
   return &nothing;
@@ -188,7 +188,7 @@ QUIC_WIRE_API int64_t quic_wire_frame_read(const uint8_t *payload,
 QUIC_WIRE_API size_t quic_wire_padding_count(const uint8_t *payload,
                                              size_t payloadlen,
                                              const quic_wire_frame *frame) {
-  /* The first type may have more bytes than one, as its first two bits say. */
+  /* The first type may have more than one byte, as its first two bits say. */
   return payload && frame && frame->kind == QUIC_WIRE_FRAME_PADDING &&
                  frame->end <= payloadlen && frame->begin < frame->end &&
                  (frame->end - frame->begin) >> (payload[frame->begin] >> 6)
@@ -299,7 +299,7 @@ QUIC_WIRE_API int quic_wire_frame_header_write(const quic_wire_frame *frame,
 QUIC_WIRE_API int quic_wire_frame_len(const quic_wire_frame *frame,
                                       const uint8_t *data, size_t datalen,
                                       int last, size_t *len) {
-  /* No frame has no byte, so that none fits where there is no room. */
+  /* Every frame has at least one byte, so none fits without room. */
   int answer =
       len ? quic_wire_frame_write(frame, data, datalen, last, NULL, 0, len)
           : QUIC_WIRE_ERR_ARGUMENT;
@@ -543,7 +543,7 @@ QUIC_WIRE_API int quic_wire_params_write(uint32_t side,
     return QUIC_WIRE_ERR_ARGUMENT;
   if (size != sizeof *params)
     return QUIC_WIRE_ERR_LENGTH;
-  return quic_wire_params_write_(/* it asks for the side that is to read */
+  return quic_wire_params_write_(/* it takes the side that reads */
                                  side ^ 1, params,
                                  dest ? dest : (uint8_t *)quic_wire_nothing_(),
                                  destlen, written);

@@ -1,6 +1,6 @@
 #!/usr/bin/env python3
-"""Prints quic_wire.3, the page of the manual on the library for C, made of c/include/quic_wire.h: which call does what,
-then each with its declaration and what the header says of it.
+"""Prints quic_wire.3, the manual page of the C library, from c/include/quic_wire.h: which call does what, then each call
+with its declaration and its comment.
 
 scripts/lib/manual.py HEADER DATE
 """
@@ -17,7 +17,7 @@ CALLS = re.compile(rf"/\*((?:(?!\*/).)*)\*/\n((?:{DECLARED}[;{{ ]+\n)+)", re.S)
 
 
 def unstarred(comment):
-    """The lines of a comment without what marks it as one."""
+    """The lines of a comment without its markers."""
     return re.sub(r"(?:^|\n) ?\*(?=\s)", "\n", comment).strip()
 
 
@@ -26,7 +26,7 @@ def escaped(text):
 
 
 def marked(text):
-    """A text with what the header has between bars in italics, and names of calls and constants in bold."""
+    """A text with arguments, which the header has between bars, in italics, and names of calls and constants in bold."""
     text = escaped(" ".join(text.split()))
     text = re.sub(r"\|([^|]+)\|", r"\\fI\1\\fR", text)
     return re.sub(r"\b(quic_wire_\w+|QUIC_WIRE_\w+)", r"\\fB\1\\fR", text)
@@ -40,7 +40,7 @@ def calls_of(section):
 
 
 def sections_of(header):
-    """The calls of each section that has some, under its title."""
+    """The title of each section that has calls, with these."""
     parts = SECTION.split(header)
     for title, section in zip(parts[1::2], parts[2::2]):
         calls = list(calls_of(section))
@@ -53,10 +53,10 @@ def first_sentence(text):
 
 
 def laid_out(paragraph):
-    """A paragraph; of a list each entry on a line of its own."""
-    if not paragraph.lstrip().startswith("- "):
-        return marked(paragraph)
-    return "\n.br\n".join(marked(entry) for entry in re.split(r"(?:^|\n)\s*- ", paragraph) if entry)
+    """A paragraph. Each entry of a list has its own line."""
+    before, *entries = re.split(r"(?:^|\n)\s*- ", paragraph)
+    lines = [marked(before)] if before.strip() else []
+    return "\n.br\n".join([*lines, *(f"\\(bu {marked(entry)}" for entry in entries)])
 
 
 def described(call):
@@ -68,13 +68,14 @@ def described(call):
 def page(header, date):
     version = re.search(r'QUIC_WIRE_LIB_TEXT "(.*)"', header)[1]
     opening = unstarred(re.search(r"\n/\*\n(.*?)\*/", header, re.S)[1])
-    before, _, rest = opening.partition("The frames of a payload are read so:")
+    before, _, rest = opening.partition("Read the frames of a payload:")
+    paragraphs = re.split(r"\n\s*\n", before.strip())[1:]
     sections = list(sections_of(header))
     yield f'.TH QUIC_WIRE 3 "{date}" "quic_wire {version}" "Library calls"'
     yield ".SH NAME\nquic_wire \\- the wire layer of QUIC"
     yield ".SH SYNOPSIS\n.nf\n.B #include <quic_wire.h>\n.fi\n.PP\n.B cc program.c $(pkg\\-config \\-\\-cflags \\-\\-libs quic_wire)"
     yield ".SH DESCRIPTION"
-    yield "\n.PP\n".join(marked(re.sub(r"^quic_wire: ", "", part)) for part in re.split(r"\n\s*\n", before.strip()))
+    yield "\n.PP\n".join(map(marked, paragraphs))
     yield ".SH WHICH CALL DOES WHAT"
     for title, calls in sections:
         yield f".SS {escaped(title)}"
@@ -86,7 +87,7 @@ def page(header, date):
         for call in calls:
             yield from described(call)
     example = rest.split("\n\n")[1] if rest else ""
-    yield f".SH EXAMPLES\nThe frames of a payload are read so:\n.PP\n.nf\n.RS\n{escaped(example)}\n.RE\n.fi"
+    yield f".SH EXAMPLES\nRead the frames of a payload:\n.PP\n.nf\n.RS\n{escaped(example)}\n.RE\n.fi"
     yield ".SH SEE ALSO\n.BR quic\\-show (1),\n.BR quic\\-wire (1)\n.PP\nRFC 9000, RFC 9001, RFC 9221, RFC 9369"
 
 

@@ -1,9 +1,10 @@
 /* capture FILE: prints the QUIC packets of a capture file, a line each, and the
- * frames of Initial packets, which anyone can open: their keys come from an id
- * that the client sends (RFC 9001, section 5.2).  datagrams.h says which captures
- * are read.  A datagram is QUIC's if it begins with a long header of version 1 or 2,
- * of version 0 (a version negotiation) or of a reserved one (RFC 9000, section
- * 15), or if one of its flow did.  What can't be read is reported after a colon. */
+ * frames of Initial packets.  Anyone can open these: their keys come from an id
+ * that the client sends (RFC 9001, section 5.2). datagrams.h says which
+ * captures are read.  A datagram is taken for QUIC if it begins with a long
+ * header of version 1, 2, 0 (a version negotiation) or a reserved version (RFC
+ * 9000, section 15), or if an earlier one of its flow did.  What can't be read
+ * is reported after a colon. */
 #define _DEFAULT_SOURCE
 #include <inttypes.h>
 #include <stdio.h>
@@ -18,11 +19,11 @@ enum { MOST = 65535, FLOWS = 4096, ID = 20 }; /* no id of versions 1 and 2 is lo
 
 static const uint32_t versions[] = {QUIC_WIRE_VERSION_1, QUIC_WIRE_VERSION_2};
 
-/* What is kept of a side, QUIC_WIRE_SIDE_CLIENT or QUIC_WIRE_SIDE_SERVER. */
+/* The state of a side, QUIC_WIRE_SIDE_CLIENT or QUIC_WIRE_SIDE_SERVER. */
 typedef struct side {
   endpoint end;
   uint8_t has_id, idlen; /* a long header gave the length of its ids */
-  uint64_t expected; /* the next number of its Initial packets */
+  uint64_t expected; /* the next packet number of its Initial packets */
 } side;
 
 /* The datagrams between two endpoints. */
@@ -80,8 +81,8 @@ static flow *flow_of(const datagram *d, unsigned *from) {
   return *first = f;
 }
 
-/* Opens an Initial packet of a side by the keys of an id.  Returns NULL, or why it
- * can't be opened. */
+/* Opens an Initial packet of a side with the keys from an id.  Returns NULL, or
+ * why it can't be opened. */
 static const char *open_by(const uint8_t *id, size_t idlen, unsigned from, uint64_t expected,
                            const uint8_t *packet, const quic_wire_header *header, opened *out) {
   static uint8_t bare[MOST];
@@ -107,16 +108,17 @@ static const char *open_by(const uint8_t *id, size_t idlen, unsigned from, uint6
   return NULL;
 }
 
-/* Takes the id of a packet for the one that the keys of its flow come from. */
+/* Makes a packet's id the one from which the keys of its flow come. */
 static void take_id(flow *f, const uint8_t *packet, const quic_wire_header *header) {
   f->has_keys = 1;
   f->idlen = header->dcidlen;
   memcpy(f->id, quic_wire_dcid(packet, header), header->dcidlen);
 }
 
-/* Opens an Initial packet by the keys of its flow, or else by those of its own id:
- * then it is a client's first one, or its first one after a Retry, and the keys
- * are the flow's from there on.  Returns NULL, or why it can't be opened. */
+/* Opens an Initial packet with the keys of its flow, or else with those from
+ * its own id.  In that case it is a client's first one, or its first one after
+ * a Retry, and these become the keys of the flow.  Returns NULL, or why it
+ * can't be opened. */
 static const char *open_initial(flow *f, unsigned *from, const uint8_t *packet,
                                 const quic_wire_header *header, opened *out) {
   const char *why = "no first Initial packet of the client";
@@ -143,7 +145,7 @@ static void print_id(const char *name, const uint8_t *id, size_t len) {
     printf("%02x", *id++);
 }
 
-/* A packet's line up to its number. */
+/* A packet's line up to its packet number. */
 static void print_header(const datagram *d, unsigned from, const uint8_t *packet,
                          const quic_wire_header *header) {
   static const char *const kinds[] = {"initial", "0rtt", "handshake", "retry", "short",
@@ -191,7 +193,7 @@ static void print_frame(const uint8_t *payload, size_t len, const quic_wire_fram
   putchar('\n');
 }
 
-/* The lines of a payload's frames, of which a run of PADDING is one. */
+/* The lines of a payload's frames.  A run of PADDING is one line. */
 static void print_frames(const uint8_t *payload, size_t len) {
   quic_wire_frame_iter frames;
   quic_wire_frame frame;
@@ -232,9 +234,9 @@ static void print_packet(const datagram *d, flow *f, unsigned *from, const uint8
     print_frames(o.payload, o.len);
 }
 
-/* Reads the header that |len| bytes begin with, where ids of short headers have |cidlen|
- * bytes, or it isn't known how many (-1).  Returns whether there is one, and through
- * |why| what is wrong with it, or why there is none. */
+/* Reads the header at the front of |len| bytes.  Ids of short headers have
+ * |cidlen| bytes, or an unknown number (-1).  Returns whether there is one, and
+ * in |why| what is wrong with it, or why there is none. */
 static int read_header(const uint8_t *packet, size_t len, int cidlen, quic_wire_header *header,
                        const char **why) {
   int64_t answer = quic_wire_negotiation_read(packet, len, header);
@@ -246,11 +248,13 @@ static int read_header(const uint8_t *packet, size_t len, int cidlen, quic_wire_
                                    QUIC_WIRE_READ_GREASED_BIT, header);
   *why = answer < 0 ? quic_wire_strerror((int)answer) : NULL;
   if (answer == QUIC_WIRE_ERR_PACKET_VERSION)
-    header->end = (uint32_t)len; /* where such a packet ends only its version says */
+    header->end = (uint32_t)len; /* only its version determines where such a
+                                    packet ends */
   return answer > 0 || answer == QUIC_WIRE_ERR_PACKET_VERSION || answer == QUIC_WIRE_ERR_PACKET_CUT;
 }
 
-/* The packets of a datagram, which have one id (RFC 9000, section 12.2). */
+/* The packets of a datagram, which have the same id (RFC 9000, section
+ * 12.2). */
 static void print_datagram(const datagram *d, flow *f, unsigned from) {
   const uint8_t *packet = d->bytes, *const end = d->bytes + d->len, *id = NULL;
   int idlen = f->sides[!from].has_id ? f->sides[!from].idlen : -1;
@@ -270,7 +274,8 @@ static void print_datagram(const datagram *d, flow *f, unsigned from) {
     print_packet(d, f, &from, packet, &header, why);
     id = quic_wire_dcid(packet, &header);
     idlen = header.dcidlen;
-    if (header.kind <= QUIC_WIRE_PACKET_RETRY) { /* a long header, which tells its sender's id */
+    if (header.kind <= QUIC_WIRE_PACKET_RETRY) { /* a long header, which has its
+                                                    sender's id */
       f->sides[from].has_id = 1;
       f->sides[from].idlen = header.scidlen;
     }
@@ -290,11 +295,11 @@ int main(int argc, char **argv) {
     fputs("usage: capture FILE\n", stderr);
     return 2;
   }
-  check(quic_wire_check(QUIC_WIRE_LIB) == 0, "another library is linked");
+  check(quic_wire_check(QUIC_WIRE_LIB) == 0, "the linked library doesn't fit quic_wire.h");
   c = open_capture(argv[1]);
   while (next_datagram(&c, &d))
     if ((f = flow_of(&d, &from)) != NULL)
       print_datagram(&d, f, from);
-  check(fflush(stdout) == 0, "nothing can be printed");
+  check(fflush(stdout) == 0, "can't write to standard output");
   return 0;
 }

@@ -1,8 +1,8 @@
-/* The UDP datagrams of a capture file, pcap or pcapng, which libpcap reads, for the
- * example capture.c: of Ethernet with its tags of VLANs, Linux cooked captures,
- * raw IP and loopback; of IPv4, and of IPv6 without extension headers.  Of a
- * datagram in fragments the first one is reported alone.  The program defines
- * check, which ends it where something isn't so. */
+/* The UDP datagrams of a capture file, pcap or pcapng, read with libpcap, for
+ * the example capture.c.  It reads Ethernet with VLAN tags, Linux cooked
+ * captures, raw IP and loopback; IPv4, and IPv6 without extension headers.  Of
+ * a fragmented datagram only the first fragment is reported.  The program
+ * defines check, which exits if a condition doesn't hold. */
 #ifndef DATAGRAMS_H
 #define DATAGRAMS_H
 
@@ -11,8 +11,8 @@
 #include <stdint.h>
 #include <string.h>
 
-/* Where a datagram comes from or goes to: an address followed by zeros, and a
- * port, as they are in it. */
+/* The source or destination of a datagram: an address followed by zeros, and a
+ * port, as they are in the datagram. */
 typedef struct endpoint {
   uint8_t address[16], port[2];
 } endpoint;
@@ -21,7 +21,8 @@ typedef struct datagram {
   unsigned long frame; /* its number in the capture */
   endpoint from, to;
   const uint8_t *bytes;
-  size_t len, lost; /* how many bytes are there, and how many the capture lacks */
+  size_t len, lost; /* how many bytes there are, and how many the capture
+                       lacks */
 } datagram;
 
 static void check(int is_so, const char *what);
@@ -32,15 +33,15 @@ static uint32_t four_bytes(const uint8_t *at) {
   return (uint32_t)two_bytes(at) << 16 | (uint32_t)two_bytes(at + 2);
 }
 
-/* What comes before the IP packet in each kind of capture: |len| bytes, with an
- * EtherType at |type|, or none where that is |len|. */
+/* What precedes the IP packet in each kind of capture: |len| bytes, with an
+ * EtherType at |type|, or none if that is |len|. */
 typedef struct link_header {
   int link;
   size_t type, len;
 } link_header;
 
-/* Goes past the header of the link and tags of VLANs.  Returns where the IP packet
- * begins, or |len| where none is there. */
+/* Skips the link header and VLAN tags.  Returns where the IP packet begins, or
+ * |len| if there is none. */
 static size_t skip_link(const link_header *link, const uint8_t *bytes,
                         size_t len) {
   size_t type = link->type, end = link->len;
@@ -55,8 +56,8 @@ static size_t skip_link(const link_header *link, const uint8_t *bytes,
   return end;
 }
 
-/* Finds the datagram in an IP packet.  Returns whether it is UDP's, and its
- * first part if it came in fragments. */
+/* Finds the datagram in an IP packet.  Returns whether it is a UDP datagram, or
+ * the first fragment of one. */
 static int read_ip(const uint8_t *ip, size_t len, datagram *out) {
   const int is_4 = len >= 20 && ip[0] >> 4 == 4, is_6 = len >= 40 && ip[0] >> 4 == 6;
   const size_t header = is_4 ? (size_t)(ip[0] & 15) * 4 : 40,
@@ -104,13 +105,13 @@ static capture open_capture(const char *name) {
   check(c.file != NULL, why);
   while (i < count && headers[i].link != pcap_datalink(c.file))
     i++;
-  check(i < count, "links of this kind aren't read");
+  check(i < count, "unsupported link type");
   c.link = headers[i];
   return c;
 }
 
-/* Finds the next datagram.  Returns whether there is one; the file is closed at
- * its end. */
+/* Finds the next datagram.  Returns whether there is one; at the end the file
+ * is closed. */
 static int next_datagram(capture *c, datagram *out) {
   struct pcap_pkthdr *header;
   const uint8_t *bytes;

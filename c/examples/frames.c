@@ -40,8 +40,8 @@ static void print_frames(const uint8_t *payload, size_t len) {
   }
 }
 
-/* Turns the digits of a line into bytes in their place.  Returns whether they
- * are pairs of hexadecimal digits. */
+/* Converts the digits of a line to bytes in place.  Returns whether they are
+ * pairs of hexadecimal digits. */
 static int unhex(char *line, size_t len) {
   size_t i;
   if (len % 2 || strspn(line, "0123456789abcdefABCDEF") != len)

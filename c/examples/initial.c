@@ -1,8 +1,8 @@
-/* initial < initial.hex: opens the Initial packet of a client, given as a line
- * of hexadecimal, prints its frames, and seals it anew, which must give the
+/* initial < initial.hex: opens the Initial packet of a client, a line of
+ * hexadecimal, prints its frames, and seals it again, which must result in the
  * same bytes.  The ciphers are libcrypto's; the keys come from the packet's own
- * id (RFC 9001, section 5.2).  initial.hex beside it is that RFC's example,
- * appendix A.2. */
+ * id (RFC 9001, section 5.2). initial.hex is the example of that RFC's appendix
+ * A.2. */
 #define _POSIX_C_SOURCE 200809L
 #include <inttypes.h>
 #include <stdio.h>
@@ -21,8 +21,8 @@ static void check(int is_so, const char *what) {
   }
 }
 
-/* Opens a packet in its place.  Returns where its payload begins, and its
- * number through |number|. */
+/* Opens a packet in place.  Returns where its payload begins, and in |number|
+ * its packet number. */
 static size_t open_packet(const keys *k, uint8_t *packet,
                           const quic_wire_header *header, uint64_t *number) {
   const uint8_t *sample =
@@ -43,8 +43,8 @@ static size_t open_packet(const keys *k, uint8_t *packet,
   return begin;
 }
 
-/* Seals a payload after the header of these fields.  Returns how long the
- * packet is. */
+/* Seals a payload after a header with these fields.  Returns the length of the
+ * packet. */
 static size_t seal_packet(const keys *k, const quic_wire_header_fields *fields,
                           const uint8_t *dcid, size_t dcidlen,
                           const uint8_t *payload, size_t len, uint8_t *packet,
@@ -66,7 +66,7 @@ static size_t seal_packet(const keys *k, const quic_wire_header_fields *fields,
   return end;
 }
 
-/* The frames, of which a run of PADDING is one line. */
+/* The frames.  A run of PADDING is one line. */
 static void print_frames(const uint8_t *payload, size_t len) {
   quic_wire_frame_iter frames;
   quic_wire_frame frame;
@@ -80,7 +80,7 @@ static void print_frames(const uint8_t *payload, size_t len) {
   check(answer == QUIC_WIRE_OK, quic_wire_strerror(answer));
 }
 
-/* A line of hexadecimal as bytes.  Returns how many. */
+/* Reads a line of hexadecimal.  Returns how many bytes it has. */
 static size_t read_hex(FILE *file, uint8_t *out, size_t room) {
   size_t len = 0;
   unsigned byte;
@@ -101,7 +101,8 @@ int main(void) {
   const int64_t end =
       quic_wire_header_read(packet, len, 0, versions, 1, QUIC_WIRE_READ_RFC,
                             &header);
-  check(quic_wire_check(QUIC_WIRE_LIB) == 0, "another library is linked");
+  check(quic_wire_check(QUIC_WIRE_LIB) == 0,
+        "the linked library doesn't fit quic_wire.h");
   check(end > 0, quic_wire_strerror((int)end));
   check(header.kind == QUIC_WIRE_PACKET_INITIAL &&
             header.scidlen + header.tokenlen == 0,
@@ -126,7 +127,7 @@ int main(void) {
                     header.end - begin - TAG, again,
                     sizeof again) == header.end &&
             !memcmp(again, given, header.end),
-        "sealed anew it is another packet");
-  printf("sealed anew: the same %" PRIu32 " bytes\n", header.end);
+        "sealing it again results in another packet");
+  printf("sealed again: the same %" PRIu32 " bytes\n", header.end);
   return 0;
 }

@@ -1,7 +1,7 @@
 /* The keys of Initial packets of versions 1 and 2 (RFC 9001, section 5.2, and
- * RFC 9369, section 3.3), and what is done by them, with libcrypto's ciphers:
- * for the examples initial.c and capture.c.  Both define check, which ends the
- * program where something isn't so. */
+ * RFC 9369, section 3.3), and sealing and opening with them, with libcrypto's
+ * ciphers, for the examples initial.c and capture.c.  Both define check, which
+ * exits if a condition doesn't hold. */
 #ifndef INITIAL_KEYS_H
 #define INITIAL_KEYS_H
 
@@ -34,7 +34,7 @@ static void expand(const uint8_t secret[32], const char *label, uint8_t *out,
   memcpy(info + 3, "tls13 ", 6);
   memcpy(info + 9, label, labellen);
   info[10 + labellen] =
-      1; /* behind the length of no context: the first block */
+      1; /* after the length of the empty context: the first block */
   hmac(secret, 32, info, 11 + labellen, block);
   memcpy(out, block, len);
 }
@@ -60,7 +60,8 @@ static keys initial_keys(uint32_t version, unsigned side, const uint8_t *dcid,
   return k;
 }
 
-/* The first five bytes of a block that is encrypted: a header's mask. */
+/* The mask for header protection: the first five bytes of an encrypted
+ * block. */
 static void make_mask(const keys *k, const uint8_t *sample, uint8_t mask[5]) {
   EVP_CIPHER_CTX *aes = EVP_CIPHER_CTX_new();
   uint8_t block[32];
@@ -72,9 +73,9 @@ static void make_mask(const keys *k, const uint8_t *sample, uint8_t mask[5]) {
   memcpy(mask, block, 5);
 }
 
-/* Seals |len| bytes after a header of |headerlen| to |out|, which may be their
- * own place, and puts the tag after them; or opens them, of which the tag is
- * then the last.  Returns whether the tag is right. */
+/* Seals |len| bytes after a header of |headerlen| bytes, writes them to |out|,
+ * which may be their own address, and appends the tag; or opens them, with the
+ * tag at their end.  Returns whether the tag is right. */
 static int crypt_payload(const keys *k, int seal, uint64_t number,
                          const uint8_t *header, size_t headerlen,
                          const uint8_t *payload, size_t len, uint8_t *out) {

@@ -1,12 +1,13 @@
-/* The receive path of a stack: datagrams, lines of hexadecimal such as send.c
- * prints, are routed by their id, answered if their version is unknown, opened,
- * and read with the checks of RFC 9000. */
+/* The receive path of a stack. Datagrams, lines of hexadecimal such as send.c
+ * prints, are routed by their id, answered with a version negotiation if their
+ * version is unknown, opened, and read with the checks of RFC 9000. */
 #include "paths.h"
 #include "quic_wire.h"
 
 enum { CIDLEN = 4 };
 static const uint32_t versions[] = {QUIC_WIRE_VERSION_1};
-/* The number that is expected next, by kind of packet: 60,000 of 1-RTT came. */
+/* The packet number that is expected next, by kind of packet: 60,000 1-RTT
+ * packets were received. */
 static uint64_t expected[5] = {0, 0, 0, 0, 60000};
 
 static void handle(const quic_wire_frame *frame, const uint8_t *payload,
@@ -64,7 +65,7 @@ static void read_payload(uint8_t packet, const uint8_t *payload, size_t len) {
     puts("  an ACK is owed");
 }
 
-/* Opens the packet of |header|, and reads its payload. */
+/* Opens the packet with this |header|, and reads its payload. */
 static void read_packet(uint8_t *packet, const quic_wire_header *header) {
   static const char *const names[] = {"initial", "0rtt", "handshake", "retry",
                                       "short"};
@@ -121,7 +122,8 @@ static void read_datagram(uint8_t *bytes, size_t len) {
 int main(void) {
   static uint8_t bytes[4096];
   size_t len;
-  check(quic_wire_check(QUIC_WIRE_LIB) == QUIC_WIRE_OK, "another library");
+  check(quic_wire_check(QUIC_WIRE_LIB) == QUIC_WIRE_OK,
+        "the linked library doesn't fit quic_wire.h");
   while ((len = read_line(stdin, bytes, sizeof bytes)) != SIZE_MAX)
     read_datagram(bytes, len);
   return 0;

@@ -1,6 +1,6 @@
-/* Loss recovery: packet numbers that came are kept as a set and acknowledged;
- * the peer reads the ACK, takes what it acknowledges out of what is in flight,
- * and finds what is lost (RFC 9002, section 6.1.1). */
+/* Loss recovery.  A set holds the packet numbers that were received, and an ACK
+ * acknowledges them.  The peer reads the ACK, removes what it acknowledges from
+ * what is in flight, and finds what is lost (RFC 9002, section 6.1.1). */
 #include "paths.h"
 #include "quic_wire.h"
 
@@ -18,7 +18,7 @@ static void print_set(const char *name, const set *s) {
   putchar('\n');
 }
 
-/* Adds a number.  Where there is no room the least ones are forgotten (RFC 9000,
+/* Adds a number.  If there is no room, the least ones are dropped (RFC 9000,
  * section 13.2.3). */
 static void add(set *s, uint64_t number) {
   if (quic_wire_set_insert(s->runs, ROOM, &s->count, number, number + 1) !=

@@ -1,7 +1,8 @@
 /* The send path of a stack: an Initial packet with an ACK, a CRYPTO and PADDING
  * and a Handshake packet in one datagram, a 1-RTT packet with a
- * NEW_CONNECTION_ID and a STREAM, and an Initial packet of a version that nobody
- * has, sealed and printed as lines of hexadecimal, which receive.c reads. */
+ * NEW_CONNECTION_ID and a STREAM, and an Initial packet of an unknown version.
+ * They are sealed and printed as lines of hexadecimal, which receive.c
+ * reads. */
 #include "paths.h"
 #include "quic_wire.h"
 
@@ -46,7 +47,7 @@ static void add_crypto(uint64_t offset, const char *text) {
   add_frame(&frame, text, strlen(text), 0);
 }
 
-/* An id of eight bytes, followed by the token for stateless resets. */
+/* An id of eight bytes, followed by its stateless reset token. */
 static void add_id(void) {
   static const uint8_t id_and_token[8 + 16] = {9, 0, 0, 0, 0, 0, 0, 0, 0xaa};
   quic_wire_frame frame = {0};
@@ -67,8 +68,8 @@ static void add_stream(void) {
   add_frame(&frame, "hello", 5, 1);
 }
 
-/* Seals the payload in a packet, and begins the next payload.  Returns where the
- * packet ends. */
+/* Seals the payload in a packet, and begins the next payload.  Returns where
+ * the packet ends. */
 static size_t seal_packet(uint8_t kind, uint32_t version, uint64_t number,
                           uint64_t acked, uint8_t *packet, size_t room) {
   quic_wire_header_fields fields = {0};

@@ -1,10 +1,10 @@
-/* A plugin of Wireshark that reads each QUIC payload that Wireshark has
- * decrypted, and adds what the library says of it: quic_wire.verdict, which is
- * "ok" or "refused", how many frames there are, a run of PADDING as one, how
- * many bytes the shortest form has; of what is refused the reason, the type of
- * the frame, where it begins, and the code that closes the connection, as an
- * error for experts too.
- * Types count in their shortest encoding alone (RFC 9000, section 12.4). */
+/* A Wireshark plugin that reads each QUIC payload that Wireshark has decrypted,
+ * and adds the library's result: quic_wire.verdict, which is "ok" or "refused";
+ * how many frames there are, with a run of PADDING as one; and how many bytes
+ * the shortest form has.  For a rejected payload it adds the reason, the type
+ * of the frame, where it begins, and the code that closes the connection, also
+ * as an expert error.  A type must be in its shortest encoding (RFC 9000,
+ * section 12.4). */
 #define WS_BUILD_DLL
 #include <epan/expert.h>
 #include <epan/packet.h>
@@ -29,7 +29,7 @@ static int protocol = -1, verdict = -1, frames_count = -1, shortest = -1;
 static int reason = -1, place = -1, type = -1, code = -1, subtree = -1;
 static expert_field refused = EI_INIT;
 
-/* What is added of a payload, and to what. */
+/* What is added for a payload, and to which tree. */
 typedef struct shown {
   tvbuff_t *bytes;
   packet_info *info;
@@ -38,8 +38,7 @@ typedef struct shown {
   int len;
 } shown;
 
-/* Why a payload is refused, from which byte on, and by which code of an error.
- */
+/* Why a payload is rejected, from which byte on, and with which error code. */
 typedef struct refusal {
   const char *why, *name;
   uint64_t type;
@@ -78,8 +77,8 @@ static void show_refusal(const shown *s, const refusal *r) {
                          r->place);
 }
 
-/* Reads all frames, and counts them, a run of PADDING as one.  Returns how
- * reading ended; an invalid frame is then the first one of |some|. */
+/* Reads all frames, and counts them, with a run of PADDING as one.  Returns the
+ * last result; an invalid frame is then the first of |some|. */
 static int read_frames(const uint8_t *payload, size_t len,
                        quic_wire_frame_iter *frames, quic_wire_frame *some,
                        uint32_t *count) {
@@ -111,13 +110,13 @@ static void show_payload(tvbuff_t *bytes, packet_info *info, proto_tree *tree) {
     return;
   }
   proto_tree_add_string(s.tree, verdict, bytes, 0, len, "ok");
-  /* Without room it answers how much it needs. */
+  /* Without room it returns how much it needs. */
   if (quic_wire_canonical(payload, (size_t)len, NULL, 0, &canon) ==
       QUIC_WIRE_ERR_NOBUF)
     proto_tree_add_uint(s.tree, shortest, bytes, 0, len, (uint32_t)canon.len);
 }
 
-/* Wireshark names what it decrypts so, in the order of the packets. */
+/* Wireshark's name for what it decrypts, in the order of the packets. */
 static int dissect(tvbuff_t *datagram, packet_info *info, proto_tree *tree,
                    void *data) {
   GSList *next;
@@ -161,7 +160,7 @@ static void register_protocol(void) {
   register_postdissector(create_dissector_handle(dissect, protocol));
 }
 
-/* Does nothing where another library is loaded than the header's. */
+/* Does nothing if the loaded library doesn't fit the header. */
 void plugin_register(void) {
   static proto_plugin plugin;
   plugin.register_protoinfo = register_protocol;

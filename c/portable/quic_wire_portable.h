@@ -1,8 +1,8 @@
 /* SPDX-License-Identifier: MIT OR Apache-2.0 */
-/* What quic_wire_proved.c is written in: memory, at addresses of the machine as
- * numbers of 64 bits, and the operations of WebAssembly that C lacks.  Words in
- * memory have the lowest byte first; on other machines the structs of callers
- * are turned at each call. */
+/* What quic_wire_proved.c is written with: memory, whose addresses are the
+ * machine's as 64-bit numbers, and the operations of WebAssembly that C lacks.
+ * Memory is little-endian; on big-endian machines the structs of callers are
+ * byte-swapped at each call. */
 #ifndef QUIC_WIRE_PORTABLE_H
 #define QUIC_WIRE_PORTABLE_H
 
@@ -65,8 +65,9 @@ QW_STORE(i64_store8, 8, u64)
 QW_STORE(i64_store16, 16, u64)
 QW_STORE(i64_store32, 32, u64)
 
-/* gcc for x86-64 fills a length that it knows by an instruction that takes
- * longer to begin than to fill so few bytes: pieces of 64 it stores. */
+/* For a known length, gcc for x86-64 fills memory with an instruction that
+ * takes longer to start than to fill so few bytes.  Pieces of 64 bytes are
+ * filled by stores. */
 #if defined(__GNUC__)
 #define QW_IN_PIECES(len) (__builtin_constant_p(len) && (len) <= 128)
 #else
@@ -83,7 +84,7 @@ static inline void memory_fill(u64 to, u32 byte, u64 len) {
   if (len)
     memset(HERE(to), (int)(byte & 255), (size_t)len);
 }
-/* Whether so many bytes are the same. */
+/* Whether two ranges of |len| bytes are equal. */
 static inline u32 memory_same(u64 a, u64 b, u64 len) {
   return !memcmp(HERE(a), HERE(b), (size_t)len);
 }
@@ -124,10 +125,9 @@ static inline u64 I64_POPCNT(u64 x) {
   return ((x + (x >> 4)) & 0x0f0f0f0f0f0f0f0fu) * 0x0101010101010101u >> 56;
 }
 
-/* ---- What each call from outside has: a stack, whose end has 16 bytes'
- * alignment, as the module takes for granted (it writes p | 4 for p + 4); and
- * places of 64 bits for lengths, where size_t is narrower or the bytes of words
- * are turned. */
+/* ---- What each call from outside needs: a stack whose end is aligned to 16
+ * bytes, as the module assumes (it writes p | 4 for p + 4); and 64-bit
+ * variables for lengths, if size_t is narrower or the machine is big-endian. */
 
 #define STACK(words)                                                           \
   u64 stack_[(words) + 2];                                                     \
@@ -138,8 +138,8 @@ static inline u64 I64_POPCNT(u64 x) {
 #define LENGTH(i) AT(&length##i)
 #define LENGTH_OUT(i) *a##i = (size_t)QW_TURN64(length##i);
 
-/* Structs, whose layout is a text with a letter for each number in them: b, h,
- * l and q of 1, 2, 4 and 8 bytes. */
+/* Structs.  Their layout is a string with a letter for each number in them: b,
+ * h, l and q for 1, 2, 4 and 8 bytes. */
 #if QW_IS_BIG
 static inline void qw_turn(void *to, const void *from, u64 count,
                            const char *layout) {

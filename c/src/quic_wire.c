@@ -3,7 +3,7 @@
 
 #include "quic_wire_inline.h"
 
-/* What the Rust crate asks for by name, so that it isn't linked with a library
- * of another layout.  Its number goes up with each change of a struct or of a
- * function. */
+/* A symbol that the Rust crate references, so that it can't be linked with a
+ * library of another layout.  Its number increases with each change of a struct
+ * or of a function. */
 const unsigned char quic_wire_abi_8 = 8;

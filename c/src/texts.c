@@ -1,5 +1,5 @@
-/* The functions of quic_wire.h that call nothing of the proved library: which
- * library this is, and what numbers are called. */
+/* The functions of quic_wire.h that don't call the proved library: the
+ * library's version, and the texts of results and frame types. */
 #include "quic_wire.h"
 
 uint32_t quic_wire_lib(void) { return QUIC_WIRE_LIB; }

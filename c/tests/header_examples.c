@@ -1,7 +1,7 @@
 /* The examples at the top of quic_wire.h, which scripts/callers cuts out of it
  * as example-1.h to example-3.h: the third seals a packet, the second opens it,
- * and the first reads its frames.  The cipher hides nothing: it turns each
- * bit, and its tag is the packet's number. */
+ * and the first reads its frames.  The cipher hides nothing: it inverts each
+ * bit, and its tag is the packet number. */
 #include <stdio.h>
 #include <stdlib.h>
 #include <string.h>

@@ -1,8 +1,8 @@
 /* seal < payloads > capture: seals each payload, a line of hexadecimal, as the
- * Initial packet with which a client begins a connection of its own, and writes
- * the packets as a capture file, for c/examples/wireshark.c.  The packet of the
- * first line has the source port 20000, and so on: ports below are those of
- * other protocols, for which Wireshark takes some packets. */
+ * first Initial packet of a new connection, and writes the packets as a capture
+ * file, for c/examples/wireshark.c.  The packet of the first line has the
+ * source port 20000, the next 20001, and so on: Wireshark takes some packets
+ * with lower ports for other protocols. */
 #include <stdio.h>
 #include <stdlib.h>
 #include <string.h>
@@ -31,12 +31,12 @@ static void two_bytes(uint8_t *to, size_t value) {
   to[1] = (uint8_t)value;
 }
 
-/* The words of a capture file are those of the machine. */
+/* A capture file has the machine's byte order. */
 static void write_words(const uint32_t *words, size_t count) {
-  check(fwrite(words, 4, count, stdout) == count, "not written");
+  check(fwrite(words, 4, count, stdout) == count, "can't write the capture");
 }
 
-/* Seals a payload of a connection.  Returns how long the packet is. */
+/* Seals a payload of a connection.  Returns the length of the packet. */
 static size_t seal(unsigned connection, const uint8_t *payload, size_t len,
                    uint8_t *packet, size_t room) {
   uint8_t id[ID] = {0x83, 0x94, 0xc8, 0xf0}, mask[5];
@@ -66,7 +66,7 @@ static size_t seal(unsigned connection, const uint8_t *payload, size_t len,
   return end;
 }
 
-/* Writes a packet as UDP's over IPv4, as a record of the capture. */
+/* Writes a packet as a UDP datagram in IPv4, as a record of the capture. */
 static void write_record(unsigned connection, uint8_t *datagram, size_t len) {
   const uint32_t head[] = {connection, 0, (uint32_t)(IP + UDP + len),
                            (uint32_t)(IP + UDP + len)};
@@ -80,7 +80,7 @@ static void write_record(unsigned connection, uint8_t *datagram, size_t len) {
   two_bytes(datagram + IP + 6, 0);
   write_words(head, 4);
   check(fwrite(datagram, 1, IP + UDP + len, stdout) == IP + UDP + len,
-        "not written");
+        "can't write the capture");
 }
 
 int main(void) {
@@ -88,7 +88,8 @@ int main(void) {
   static char line[2 * MOST + 2];
   static uint8_t payload[MOST], datagram[IP + UDP + MOST + 64];
   unsigned connection = 0, byte;
-  check(quic_wire_check(QUIC_WIRE_LIB) == 0, "another library is linked");
+  check(quic_wire_check(QUIC_WIRE_LIB) == 0,
+        "the linked library doesn't fit quic_wire.h");
   write_words(head, 6);
   while (fgets(line, sizeof line, stdin)) {
     size_t len = 0;

@@ -1,8 +1,8 @@
-/* show MODE: all modes of `quic-show` by the calls for C, with the same text,
- * messages and status for each argument and each byte, but that it prints each
- * line before it reads the next: where a read fails, lines before it are
- * printed.  Each line's bytes are in a block of exactly their length, so that a
- * sanitizer or valgrind sees each byte that is read past it. */
+/* show MODE: all modes of `quic-show` with the calls for C, with the same text,
+ * messages and status for all arguments and bytes.  But it prints each line
+ * before it reads the next: if a read fails, the lines before it are printed.
+ * Each line's bytes are in a block of exactly their length, so that a sanitizer
+ * or valgrind sees each byte that is read past it. */
 /* For SIGPIPE. */
 #define _POSIX_C_SOURCE 200809L
 #include <inttypes.h>
@@ -26,8 +26,7 @@ static int digit(int c) {
   return c >= 'a' && c <= 'f' ? c - 'a' + 10 : -1;
 }
 
-/* Turns the digits of a line into bytes in their place.  Returns how many, or
- * -1. */
+/* Converts the digits of a line to bytes in place.  Returns how many, or -1. */
 static ptrdiff_t unhex(char *line, size_t len) {
   uint8_t *bytes = (uint8_t *)line;
   size_t i;
@@ -82,7 +81,7 @@ static int print_frames(const uint8_t *payload, size_t len, int strict) {
   return 0;
 }
 
-/* The shortest form, in a block of just its length. */
+/* The shortest form, in a block of exactly its length. */
 static int print_canonical(const uint8_t *payload, size_t len) {
   quic_wire_canon canon = {0, QUIC_WIRE_NO_TYPE};
   int answer = quic_wire_canonical(payload, len, NULL, 0, &canon);
@@ -110,7 +109,7 @@ static void print_id(const uint8_t *datagram, size_t place, size_t len) {
     printf("%02x", datagram[place + i]);
 }
 
-/* A packet that begins at |begin| of its datagram. */
+/* A packet that begins at |begin| in its datagram. */
 static void print_packet(const uint8_t *packet, size_t begin,
                          const quic_wire_header *header) {
   static const char *const kinds[] = {
@@ -176,7 +175,7 @@ static void print_bytes(const char *name, const uint8_t *bytes, size_t len) {
   putchar('\n');
 }
 
-/* A preferred address as it stands in a list. */
+/* A preferred address as it is in a list. */
 static void print_address(const quic_wire_params *p) {
   printf("preferred_address ");
   print_id(p->preferred_v4, 0, 4);
@@ -235,7 +234,7 @@ static int print_params(const uint8_t *list, size_t len, uint32_t side) {
   return 1;
 }
 
-/* The mode that the arguments ask for: which printer, and its number. */
+/* The mode that the arguments select: a printer, and its number. */
 typedef struct mode {
   enum { FRAMES, STRICT, CANON, DATAGRAM, PARAMS } what;
   uint32_t number; /* the length of ids, or the side */
@@ -249,7 +248,7 @@ static int id_len(const char *word) {
   return atoi(word) <= 20 ? atoi(word) : -1;
 }
 
-/* Returns whether the arguments ask for a mode. */
+/* Returns whether the arguments select a mode. */
 static int read_mode(int argc, char **argv, mode *out) {
   static const char *const plain[] = {"frames", "strict", "canon"};
   int i;
@@ -300,7 +299,7 @@ static int print_line(mode m, char *line, size_t len) {
     puts("error not hexadecimal");
     return 0;
   }
-  if (bytes) { /* For no bytes any pointer serves, NULL too. */
+  if (bytes) { /* Without bytes any pointer is valid, also NULL. */
     block = malloc((size_t)bytes);
     if (!block)
       fail("out of memory");

@@ -18,7 +18,7 @@ const VERSIONS = [1, 0xff00001d, 0xff00001e, 0xff00001f, 0xff000020, 0xff000021,
 const base = Number(wire.__heap_base.value);
 const at = { state: base, out: base + 64, versions: base + 384, bytes: base + 512 };
 
-// Pages are counted by a BigInt, which engines as old as node 20 don't take.
+// The number of pages is a BigInt, which engines as old as node 20 don't accept.
 function grow(pages) {
     try {
         wire.memory.grow(BigInt(pages));
@@ -28,7 +28,7 @@ function grow(pages) {
     }
 }
 
-// Copies bytes to where a line's stand, with room for as many behind them, and gives a view of all memory.
+// Copies a line's bytes into memory, with room for as many after them, and returns a view of all memory.
 function give(bytes) {
     const missing = at.bytes + 2 * bytes.length - wire.memory.buffer.byteLength;
     if (missing > 0) grow(Math.ceil(missing / 65536));
@@ -41,13 +41,13 @@ const hex = (bytes) => Buffer.from(bytes).toString('hex');
 const slice = (place, length) => new Uint8Array(wire.memory.buffer, place, length);
 const id = (bytes) => (bytes.length === 0 ? '-' : hex(bytes));
 
-// A text of C.
+// A C string.
 function text(address) {
     const bytes = new Uint8Array(wire.memory.buffer, Number(address));
     return Buffer.from(bytes.subarray(0, bytes.indexOf(0))).toString();
 }
 
-// Words of 64 bits come as signed BigInts.
+// 64-bit values are returned as signed BigInts.
 const unsigned = (word) => BigInt.asUintN(64, word);
 
 function typeName(type) {
@@ -84,7 +84,7 @@ function canon(bytes) {
     return [answer === OK ? hex(slice(dest, Number(len))) : invalid(lastType, answer)];
 }
 
-// The line of a packet that begins at a place of its datagram, by its header at `at.out`.
+// The line of a packet that begins at an offset in its datagram, from its header at `at.out`.
 function packet(view, begin) {
     const [kind, first, dcidLen, scidLen] = slice(at.out, 4);
     const [end, token, tokenLen] = [12, 16, 20].map((place) => view.getUint32(at.out + place, true));
@@ -98,7 +98,7 @@ function packet(view, begin) {
 
 const refused = (result, version) => `${error(result)}${result === PACKET_VERSION ? ` ${version.toString(16)}` : ''}`;
 
-// Where the packet ends that begins at a place of the datagram, whose header is at `at.out`, or why there is none.
+// Where the packet ends that begins at an offset in the datagram, with its header at `at.out`, or why there is none.
 function readHeader(bytes, begin, idLen) {
     const [rest, versions, out] = [at.bytes + begin, at.versions, at.out].map(pointer);
     const [left, count] = [bytes.length - begin, VERSIONS.length].map(BigInt);
@@ -121,7 +121,7 @@ function packets(bytes, idLen) {
     return lines;
 }
 
-// The numbers with a default, in the order of quic_wire_params from its word 1 on.
+// The numbers with a default, in the order of quic_wire_params, from its second 64-bit field on.
 const NUMBERS = [
     ['max_idle_timeout', 0n], ['max_udp_payload_size', 65527n], ['initial_max_data', 0n],
     ['initial_max_stream_data_bidi_local', 0n], ['initial_max_stream_data_bidi_remote', 0n],
@@ -129,7 +129,7 @@ const NUMBERS = [
     ['ack_delay_exponent', 3n], ['max_ack_delay', 25n], ['active_connection_id_limit', 2n],
 ];
 
-// A preferred address as it stands in a list.
+// A preferred address as it is in a list.
 function address(view, p) {
     const port = (place) => view.getUint16(p + place, true).toString(16).padStart(4, '0');
     const cid = slice(p + 192, view.getUint32(p + 124, true));

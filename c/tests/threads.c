@@ -1,7 +1,7 @@
-/* threads < LIST: reads the payloads of a list, lines of hexadecimal, by one
- * thread and then by four at once, each with state of its own over the same
- * bytes, and all their answers must be the same.  Under a sanitizer of threads
- * it shows that the library shares nothing that it changes. */
+/* threads < LIST: reads the payloads of a list, lines of hexadecimal, with one
+ * thread and then with four at once.  Each has its own state and reads the same
+ * bytes, and all results must be the same.  Under the thread sanitizer it shows
+ * that the library shares nothing that it modifies. */
 #include <pthread.h>
 #include <stdint.h>
 #include <stdio.h>

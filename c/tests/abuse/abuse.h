@@ -1,5 +1,5 @@
 /* What the files of abuse share: the check, random numbers, blocks, and the
- * parts that main.c calls.  A part without arguments is gone through once. */
+ * parts that main.c calls.  A part without arguments runs once. */
 #ifndef ABUSE_H
 #define ABUSE_H
 
@@ -31,17 +31,17 @@ extern uint64_t any(void);
 /* A number near some bound. */
 extern uint64_t edge(void);
 
-/* A small place, or a number at a bound. */
+/* A small offset, or a number at a bound. */
 extern size_t place(void);
 
 /* Random bytes. */
 extern void any_bytes(uint8_t *bytes, size_t len);
 
-/* A block of just so many bytes, so that a sanitizer or valgrind sees each byte
- * that is read or written past it. */
+/* A block of exactly that many bytes, so that a sanitizer or valgrind sees each
+ * byte that is read or written past it. */
 extern uint8_t *block(size_t len);
 
-/* The least length of a number of variable length. */
+/* The length of the shortest encoding of a varint. */
 extern size_t varint_len(uint64_t n);
 
 /* frames.c: frames that are read. */
@@ -52,19 +52,19 @@ extern void fill_rubbish(const uint8_t *payload, size_t len);
 extern void first_rubbish(const uint8_t *payload, size_t len);
 extern int short_types_any(const uint8_t *bytes, size_t len);
 
-/* The next frame by single calls, with a run of PADDING as one, is |entry|. */
+/* The next frame from single calls, with a run of PADDING as one, is
+ * |entry|. */
 extern void next_is(quic_wire_frame_iter *one, const uint8_t *payload,
                     size_t len, const quic_wire_frame *entry);
 
-/* rules.c: what flags refuse. */
+/* rules.c: what flags reject. */
 extern void rules_examples(void);
 extern int rules_any(const uint8_t *bytes, size_t len);
 
 /* Flags, of which any bits may be set. */
 extern uint32_t any_flags(void);
 
-/* The result for a frame that flags refuse, though it is encoded as it should
- * be; otherwise 0. */
+/* The result for a validly encoded frame that flags reject; otherwise 0. */
 extern int refused_by(uint32_t flags, const quic_wire_frame *frame);
 
 /* fronts.c: frames at the front of what is left. */
@@ -94,14 +94,14 @@ extern void header_rubbish(void);
 extern void canonical_nulls(void);
 extern int canonical_any(const uint8_t *payload, size_t len);
 
-/* headers.c: headers of packets, and their protection. */
+/* headers.c: packet headers, and their protection. */
 extern void headers_nulls(void);
 extern void long_lengths(void);
 extern void packet_rubbish(uint8_t *datagram, size_t len);
 extern void protect_rubbish(uint8_t *datagram, size_t len);
 extern void place_any(uint8_t *packet, size_t len);
 
-/* headers_written.c: headers of packets that are written. */
+/* headers_written.c: packet headers that are written. */
 extern void headers_written_nulls(void);
 extern void long_tokens(void);
 extern int header_written(void);
@@ -110,7 +110,7 @@ extern int header_written(void);
 extern void negotiation_nulls(void);
 extern void negotiation_any(void);
 
-/* numbers.c: numbers of variable length, and of packets. */
+/* numbers.c: varints and packet numbers. */
 extern void numbers_nulls(void);
 extern void varint_any(void);
 extern void number_len_any(void);

@@ -1,4 +1,4 @@
-/* The ranges of ACKs: by an iterator, many with one call, and as gap and
+/* The ranges of ACKs: from an iterator, many with one call, and as gap and
  * length. */
 #include "abuse.h"
 
@@ -42,7 +42,7 @@ void acks_nulls(void) {
   WANT(quic_wire_ack_gaps_write(&frame, NULL, 0, out, 8, NULL) == INVALID);
 }
 
-/* The ranges of any words, and those of a frame between any places. */
+/* The ranges of any field values, and those of a frame between any offsets. */
 void ranges_rubbish(const uint8_t *payload, size_t len,
                     quic_wire_frame *frame) {
   quic_wire_range_iter ranges;
@@ -64,7 +64,8 @@ void ranges_rubbish(const uint8_t *payload, size_t len,
          ranges.end <= frame->end && frame->end <= len);
 }
 
-/* The ranges of any words, many with one call, are those of single calls. */
+/* The ranges of any field values, many with one call, are those of single
+ * calls. */
 void fill_ranges_rubbish(const uint8_t *payload, size_t len) {
   quic_wire_range_iter one, many;
   quic_wire_range range, filled[6], before[6];
@@ -96,7 +97,7 @@ void fill_ranges_rubbish(const uint8_t *payload, size_t len) {
 }
 
 /* The ranges of an ACK that was read at the front are those of its blocks, as
- * gap and length; |entry| gets the words that single calls give of it. */
+ * gap and length; |entry| gets the fields that single calls return for it. */
 void front_ranges(const uint8_t *payload, size_t len,
                   const quic_wire_frame *frame, const quic_wire_gap *gaps,
                   size_t room, quic_wire_frame *entry) {
@@ -120,8 +121,8 @@ void front_ranges(const uint8_t *payload, size_t len,
   WANT(frame->data == room || left.begin == left.end);
 }
 
-/* An ACK that was read, |len| bytes of |payload|, is written by its gaps in its
- * shortest form, where all of them were reported; and not where it goes below
+/* An ACK that was read, |len| bytes of |payload|, is written from its gaps in
+ * its shortest form, if all of them were reported, and not if it goes below
  * 0. */
 void gaps_written(const uint8_t *payload, size_t len,
                   const quic_wire_frame *frame, const quic_wire_gap *gaps) {

@@ -1,4 +1,4 @@
-/* The shortest payload with a payload's meaning. */
+/* The shortest payload with the same meaning as a payload. */
 #include "abuse.h"
 
 void canonical_nulls(void) {
@@ -13,8 +13,8 @@ void canonical_nulls(void) {
        canon.len == 1);
 }
 
-/* The next frame of both payloads is the same one, wherever its data are, and
- * the ranges of an ACK are the same. */
+/* The next frame of both payloads is the same, wherever its data is, and the
+ * ranges of an ACK are the same. */
 static void same_frame(const uint8_t *a, size_t alen, const quic_wire_frame *x,
                        const uint8_t *b, size_t blen,
                        const quic_wire_frame *y) {
@@ -39,7 +39,7 @@ static void same_frame(const uint8_t *a, size_t alen, const quic_wire_frame *x,
 }
 
 /* The bytes of a frame in its shortest form: what quic_wire_frame_write writes
- * of it; of an ACK by a plain model, from its ranges. */
+ * for it; for an ACK from a plain model, from its ranges. */
 static size_t shortest_len(const uint8_t *payload, size_t len,
                            const quic_wire_frame *f, int last) {
   uint8_t out[64];
@@ -87,8 +87,8 @@ static void canonical_read(const uint8_t *payload, size_t len,
 }
 
 /* The shortest form of any bytes has the same frames, each in its shortest
- * length, is its own shortest form, and is refused as the frames are.  Returns
- * whether there is one. */
+ * length, is its own shortest form, and is rejected when the frames are.
+ * Returns whether there is one. */
 int canonical_any(const uint8_t *payload, size_t len) {
   quic_wire_frame_iter frames;
   quic_wire_frame frame;

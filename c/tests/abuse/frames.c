@@ -1,5 +1,5 @@
-/* Frames that are read: by an iterator, one with each call or many, from the
- * beginning and from any place, and by types in their shortest encoding. */
+/* Frames that are read: with an iterator, one with each call or many, from the
+ * beginning and from any offset, and with types in their shortest encoding. */
 #include "abuse.h"
 
 static void iterator_nulls(void) {
@@ -61,7 +61,7 @@ void frames_nulls(void) {
         QUIC_WIRE_RULE_NOT_ELICITING | QUIC_WIRE_RULE_PROBING));
 }
 
-/* The eight bytes of a frame that was read, as its number says them. */
+/* The eight bytes of a frame that was read are those of its number. */
 static void path_bytes(const uint8_t *payload, size_t len,
                        const quic_wire_frame *frame) {
   const uint8_t *bytes = quic_wire_path_data(payload, len, frame);
@@ -74,8 +74,8 @@ static void path_bytes(const uint8_t *payload, size_t len,
   WANT(!bytes || number == frame->path.data);
 }
 
-/* How many frames of PADDING an entry has, by reading them one by one; 0 for
- * another frame. */
+/* How many frames of PADDING an entry has, counted by reading them one by one;
+ * 0 for another frame. */
 static size_t padding_in(const uint8_t *payload, const quic_wire_frame *entry) {
   const uint8_t *run = payload + entry->begin;
   const size_t len = entry->end - entry->begin;
@@ -94,7 +94,7 @@ static size_t padding_in(const uint8_t *payload, const quic_wire_frame *entry) {
 }
 
 /* Runs of PADDING whose first types have 1, 2, 4 and 8 bytes, some with a PING
- * after them: what either call gives of them has as many frames as are read. */
+ * after them: what either call returns has as many frames as are read. */
 void padding_any(void) {
   quic_wire_frame_iter frames;
   quic_wire_frame filled[4];
@@ -124,8 +124,8 @@ void padding_any(void) {
   free(payload);
 }
 
-/* Reads on from any place, with any last type and any flags, which change
- * between calls; |frame| is left with any words. */
+/* Reads on from any offset, with any last type and any flags, which change
+ * between calls; |frame| is left with any field values. */
 static void read_on_rubbish(const uint8_t *payload, size_t len,
                             quic_wire_frame *frame) {
   quic_wire_frame_iter frames;
@@ -166,8 +166,8 @@ static void read_on_rubbish(const uint8_t *payload, size_t len,
   WANT(frames.flags == flags);
 }
 
-/* Reads on, and asks for what a frame of any words and the ranges of any words
- * have in the payload. */
+/* Reads on, and makes the calls that read parts of a frame and of ranges in the
+ * payload, with any field values. */
 void read_rubbish(const uint8_t *payload, size_t len) {
   quic_wire_frame frame;
   const uint8_t *token;
@@ -201,7 +201,7 @@ void next_is(quic_wire_frame_iter *one, const uint8_t *payload, size_t len,
   WANT(!memcmp(&frame, entry, sizeof frame));
 }
 
-/* The frames from any place on, many with one call, are those of single calls,
+/* The frames from any offset on, many with one call, are those of single calls,
  * with runs of PADDING as one. */
 void fill_rubbish(const uint8_t *payload, size_t len) {
   quic_wire_frame_iter one, many;
@@ -241,8 +241,8 @@ void fill_rubbish(const uint8_t *payload, size_t len) {
   WANT(!memcmp(&one, &many, sizeof one));
 }
 
-/* The first frames with one call are those of the two calls that begin and go
- * on. */
+/* The first frames with one call are those of the two calls that begin and
+ * continue. */
 void first_rubbish(const uint8_t *payload, size_t len) {
   quic_wire_frame_iter one, both;
   quic_wire_frame first[5], filled[5];
@@ -266,7 +266,7 @@ void first_rubbish(const uint8_t *payload, size_t len) {
   WANT(!memcmp(first, filled, sizeof first));
 }
 
-/* Whether the bytes begin with a type that has more bytes than it needs. */
+/* Whether the bytes begin with a type that isn't in its shortest encoding. */
 static int has_long_type(const uint8_t *bytes, size_t len) {
   size_t width = len ? (size_t)1 << (bytes[0] >> 6) : 1, k;
   uint64_t type = len ? bytes[0] & 0x3f : 0;
@@ -275,9 +275,9 @@ static int has_long_type(const uint8_t *bytes, size_t len) {
   return width <= len && varint_len(type) < width;
 }
 
-/* Reading any bytes, in which 0x40 is put somewhere, by types in their shortest
- * encoding gives what other reading gives, up to the first type that is too
- * long.  Returns whether there is such a one. */
+/* Reading any bytes, with 0x40 inserted somewhere, with types in their shortest
+ * encoding returns what other reading returns, up to the first type that is too
+ * long.  Returns whether there is one. */
 int short_types_any(const uint8_t *bytes, size_t len) {
   size_t at = any() % 2 ? 0 : any() % (len + 1);
   uint8_t *payload = block(len + 1);
@@ -291,7 +291,7 @@ int short_types_any(const uint8_t *bytes, size_t len) {
   WANT(quic_wire_frames_init(&frames, payload, len, 0) == 0);
   WANT(quic_wire_frames_init(&checked, payload, len,
                              QUIC_WIRE_READ_SHORT_TYPES) == 0);
-  if (any() % 2) /* bits that are no flags */
+  if (any() % 2) /* bits that aren't flags */
     checked.flags |= (uint32_t)any() & ~QUIC_WIRE_READ_RFC;
   while (answer == QUIC_WIRE_ITEM && !is_long) {
     is_long = has_long_type(payload + checked.offset, len - checked.offset);

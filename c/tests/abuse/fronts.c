@@ -13,9 +13,9 @@ void fronts_nulls(void) {
        QUIC_WIRE_ERR_PAYLOAD_EMPTY);
 }
 
-/* A frame of |n| bytes that was read at |at| is the next one of an iterator; of
- * an ACK the ranges too, of which |gaps| has as many as there was room for, and
- * after them what it had |before|. */
+/* A frame of |n| bytes that was read at |at| is the next one of an iterator. So
+ * are the ranges of an ACK, of which |gaps| has as many as there was room for,
+ * and after them what it had |before|. */
 static void front_is_next(const uint8_t *payload, size_t len, size_t at,
                           size_t n, const quic_wire_frame *frame,
                           const quic_wire_gap gaps[3],

@@ -1,4 +1,4 @@
-/* Headers of packets that are read, and their protection. */
+/* Packet headers that are read, and their protection. */
 #include "abuse.h"
 
 static void protection_nulls(void) {
@@ -54,7 +54,7 @@ void long_lengths(void) {
   WANT(quic_wire_set_len(packet, 67, 4, 1) == 0 && packet[3] == 63);
 }
 
-/* The places that were given of a packet are within it. */
+/* The offsets that were returned for a packet are within it. */
 static void header_within(const uint8_t *packet, size_t left,
                           const quic_wire_header *header) {
   const uint8_t *sample;
@@ -77,7 +77,7 @@ static void header_within(const uint8_t *packet, size_t left,
            : sample == packet + header->header_end + 4);
 }
 
-/* Whether the fixed bit is clear where the flags ask for it. */
+/* Whether the fixed bit is clear although the flags require it. */
 static int lacks_fixed_bit(const uint8_t *packet, size_t len, uint32_t flags) {
   if (packet[0] & QUIC_WIRE_BIT_FIXED || flags & QUIC_WIRE_READ_GREASED_BIT)
     return 0;
@@ -87,8 +87,9 @@ static int lacks_fixed_bit(const uint8_t *packet, size_t len, uint32_t flags) {
                        !memcmp(packet + 1, "\x6b\x33\x43\xcf", 4)));
 }
 
-/* Any flags change what is read as the header says, whose words and answer
- * without any check these are; and the receiver's id alone is the header's. */
+/* Any flags change the result as the C header says, given the fields and the
+ * result without any check; and quic_wire_dcid_read finds the header's receiver
+ * id. */
 static void flags_any(const uint8_t *packet, size_t len, uint32_t cidlen,
                       const uint32_t *versions, int64_t end,
                       const quic_wire_header *header) {
@@ -122,8 +123,8 @@ static void flags_any(const uint8_t *packet, size_t len, uint32_t cidlen,
     WANT(dcid == quic_wire_dcid(packet, header) && dcidlen == header->dcidlen);
 }
 
-/* Reads any bytes as packets, and takes protection off any of them: in place,
- * and in a copy of the header. */
+/* Reads any bytes as packets, and removes the protection of any of them: in
+ * place, and in a copy of the header. */
 void packet_rubbish(uint8_t *datagram, size_t len) {
   static const uint32_t versions[] = {1, 0x6b3343cf};
   uint8_t mask[5], copy[40];
@@ -167,7 +168,7 @@ void packet_rubbish(uint8_t *datagram, size_t len) {
        (answer >= 1 ? at + 4 <= len : answer == QUIC_WIRE_ERR_PACKET_SMALL));
 }
 
-/* Any place to put protection on. */
+/* Any offset to apply protection at. */
 void protect_rubbish(uint8_t *datagram, size_t len) {
   const size_t at = place();
   uint8_t before[40], mask[5];
@@ -183,9 +184,9 @@ void protect_rubbish(uint8_t *datagram, size_t len) {
          (answer > 0 && (k == 0 || (k >= at && k < at + 4))));
 }
 
-/* A header of any bytes is opened in a copy where that has room: what is
- * returned and written there is what opening the same bytes in place gives, and
- * nothing changes with an error. */
+/* The protection of any bytes is removed in a copy if that has room: the result
+ * and the copy are those of removing it in place, and nothing changes after an
+ * error. */
 static void opened_apart(const uint8_t *packet, size_t len, size_t at) {
   const size_t headerlen = any() % 40;
   const uint64_t expected = any() % 2 ? edge() : any() >> 34;
@@ -212,7 +213,7 @@ static void opened_apart(const uint8_t *packet, size_t len, size_t at) {
   WANT(!memcmp(packet, before, len));
 }
 
-/* A header is opened in a copy, and a length is set where it fits. */
+/* Protection is removed in a copy, and a length is set if it fits. */
 void place_any(uint8_t *packet, size_t len) {
   const size_t at = place();
   const uint32_t lengthlen = (uint32_t)(any() % 10);

@@ -1,5 +1,5 @@
-/* Headers of packets that are written: as a plain model has them, and then
- * read, protected and opened. */
+/* Packet headers that are written: compared with a plain model, and then read,
+ * protected and opened. */
 #include "abuse.h"
 
 void headers_written_nulls(void) {
@@ -34,9 +34,9 @@ void headers_written_nulls(void) {
   WANT(quic_wire_header_len(NULL, 4, 4, 0) == 0);
 }
 
-/* Headers of each kind with tokens of each length's class: each is as long as
- * reported. Where no token of such a length is at hand, its length has as many
- * bytes as it is written in. */
+/* Headers of each kind with tokens of each class of length: each is as long as
+ * reported.  If there is no token of such a length, its length field has as
+ * many bytes as its encoding. */
 void long_tokens(void) {
   static const uint64_t lens[] = {
       0, 1, 63, 64, 16383, 16384, (1u << 30) - 1, 1u << 30, (1ull << 62) - 1};
@@ -109,8 +109,8 @@ static int64_t model_refusal(const quic_wire_header_fields *h,
   return 0;
 }
 
-/* A header as RFC 9000, section 17, and RFC 9369 draw it, by a plain model: its
- * length. */
+/* A header as in RFC 9000, section 17, and RFC 9369, by a plain model.  Returns
+ * its length. */
 static size_t model_header(const quic_wire_header_fields *h,
                            const uint8_t *const parts[3], const size_t lens[3],
                            uint8_t *out) {
@@ -132,8 +132,8 @@ static size_t model_header(const quic_wire_header_fields *h,
   return n;
 }
 
-/* Puts protection on a packet, and sees that it is put on as by hand: on the
- * low bits of the first byte, and on the number.  Returns its answer. */
+/* Applies protection to a packet, and checks that it is that of a plain model:
+ * on the low bits of the first byte, and on the number.  Returns the result. */
 static int header_protected(const quic_wire_header_fields *h, uint8_t *packet,
                             const uint8_t *plain, size_t whole, size_t len,
                             size_t at, const uint8_t mask[5]) {
@@ -159,9 +159,9 @@ static int header_protected(const quic_wire_header_fields *h, uint8_t *packet,
   return answer;
 }
 
-/* A packet of a header that was written, and a body after it: its length is
- * set, it is read back as its fields, its protection is put on as by hand, and
- * taken off again. */
+/* A packet with a header that was written, and a body after it: its length is
+ * set, it is read back as its fields, its protection is applied as in a plain
+ * model, and removed again. */
 static void header_cut(const quic_wire_header_fields *h,
                        const uint8_t *const parts[3], const size_t lens[3],
                        const uint8_t *written, size_t len) {
@@ -206,7 +206,7 @@ static void header_cut(const quic_wire_header_fields *h,
   free(plain);
 }
 
-/* Words that are mostly a header's, and sometimes any. */
+/* Fields that are mostly a header's, and sometimes have any values. */
 static void any_fields(quic_wire_header_fields *h) {
   static const uint32_t versions[] = {1, 0x6b3343cf, 0xff00001d};
   memset(h, 0, sizeof *h);
@@ -220,8 +220,8 @@ static void any_fields(quic_wire_header_fields *h) {
   h->number = any() % 20 ? any() >> (2 + any() % 60) : edge();
 }
 
-/* Words and parts that are mostly a header, and sometimes any words.  Returns
- * whether a header was written. */
+/* Fields and parts that are mostly a header, and sometimes have any values.
+ * Returns whether a header was written. */
 int header_written(void) {
   quic_wire_header_fields h;
   uint8_t model[512], *parts[3], *dest;

@@ -1,11 +1,9 @@
-/* abuse [ROUNDS]: what a caller may get wrong, and structs of any words over
- * blocks of just their length; what is written is read back; protection that is
- * put on by hand is taken off; sets are what bits say, and ACKs of them what
- * the RFC says.  It ends with 0 where all is as it should be, and is built here
- * by
+/* abuse [ROUNDS]: mistakes of callers, and structs with any field values on
+ * blocks of exactly their length; what is written is read back; protection that
+ * a plain model applies is removed; sets agree with bits, and ACKs of them with
+ * the RFC.  Its status is 0 if everything is as expected.  Build it here with
  *
- *   cc -O2 -I../../include -o abuse *.c libquic_wire.a
- */
+ *   cc -O2 -I../../include -o abuse *.c libquic_wire.a */
 #include "abuse.h"
 
 static uint64_t seed = 88172645463325252ull;
@@ -41,7 +39,7 @@ size_t varint_len(uint64_t n) {
   return n < 64 ? 1 : n < 16384 ? 2 : n < 1u << 30 ? 4 : 8;
 }
 
-/* What is refused for NULL, and single examples. */
+/* What is rejected for NULL, and single examples. */
 static void nulls(void) {
   frames_nulls();
   fronts_nulls();

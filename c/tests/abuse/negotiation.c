@@ -27,9 +27,9 @@ void negotiation_nulls(void) {
        n == 7 && !memcmp(out, "\xc0\0\0\0\0\0", 7));
 }
 
-/* A version negotiation is read where it is one by a plain model, whole, cut
- * off after so many bytes, and with a bit turned; its words are those that
- * quic_wire_header_read gives where it gives any. */
+/* A version negotiation is read exactly when it is one by a plain model: whole,
+ * cut off after some bytes, and with a bit inverted. Its fields are those that
+ * quic_wire_header_read returns, if it returns any. */
 static void negotiation_read(uint8_t *packet, size_t len, size_t cut) {
   static const uint32_t one[] = {1};
   quic_wire_header header, same;
@@ -68,7 +68,7 @@ static void negotiation_read(uint8_t *packet, size_t len, size_t cut) {
   }
 }
 
-/* A version negotiation as RFC 9000, section 17.2.1, draws it; its length. */
+/* A version negotiation as in RFC 9000, section 17.2.1. Returns its length. */
 static size_t model_negotiation(uint8_t flags, uint8_t *const ids[2],
                                 const size_t lens[2], const uint32_t *versions,
                                 size_t n, uint8_t *model) {
@@ -86,9 +86,10 @@ static size_t model_negotiation(uint8_t flags, uint8_t *const ids[2],
   return at;
 }
 
-/* A version negotiation is written as RFC 9000, section 17.2.1, draws it, with
- * ids of any length, and read back; any bytes are read as one just where that
- * section has one, and as quic_wire_header_read tells of ids of at most 20. */
+/* A version negotiation is written as in RFC 9000, section 17.2.1, with ids of
+ * any length, and read back. Any bytes are read as one exactly when that
+ * section has one, and, with ids of at most 20 bytes, as quic_wire_header_read
+ * does. */
 void negotiation_any(void) {
   const uint8_t flags = (uint8_t)any();
   const size_t most = any() % 3 ? 24 : 260, n = any() % 5;

@@ -1,4 +1,4 @@
-/* Numbers of variable length, and numbers of packets. */
+/* Varints, and packet numbers. */
 #include "abuse.h"
 
 void numbers_nulls(void) {
@@ -12,8 +12,8 @@ void numbers_nulls(void) {
   WANT(quic_wire_number_write(1, 1, NULL, 1) == INVALID);
 }
 
-/* Numbers of variable length: each that is written is read, in its least width
- * by 0, and in no less. */
+/* Varints: each that is written is read back, in its shortest encoding for
+ * width 0, and in no shorter one. */
 void varint_any(void) {
   const uint64_t n = edge();
   const uint32_t width = (uint32_t)(any() % 9);
@@ -31,7 +31,8 @@ void varint_any(void) {
          quic_wire_varint_read(dest, len - 1, &read) == 0);
 }
 
-/* The length of a number by a plain model, and that it is found again. */
+/* The length of a packet number by a plain model, and that the number is found
+ * again. */
 void number_len_any(void) {
   uint64_t acked = any() % 2 ? edge() : any() >> 2;
   uint64_t number = any() % 4 ? acked + any() % (1ull << (any() % 34)) : edge();
@@ -46,7 +47,8 @@ void number_len_any(void) {
                                        : 4));
 }
 
-/* The low bytes of a number are written, and read back, where there is room. */
+/* The low bytes of a packet number are written, and read back, if there is
+ * room. */
 void number_bytes_any(void) {
   const uint64_t number = edge();
   const uint32_t len = (uint32_t)(any() % 7);
@@ -67,8 +69,8 @@ void number_bytes_any(void) {
   WANT(written == (want > 0 ? number % (1ull << (8 * len)) : 77));
 }
 
-/* Numbers of any words are expanded as RFC 9000, appendix A.3, has it, without
- * its last bound. */
+/* Any values are expanded as in RFC 9000, appendix A.3, without its last
+ * bound. */
 void number_expand_any(void) {
   const uint32_t len = (uint32_t)(any() % 6);
   const uint64_t window = 1ull << (8 * len), half = window / 2;

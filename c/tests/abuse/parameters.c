@@ -1,7 +1,7 @@
 /* Transport parameters: read, written, and with further entries. */
 #include "abuse.h"
 
-/* What flags take, and where a list is refused. */
+/* What flags accept, and where a list is rejected. */
 static void params_flags(void) {
   static const struct {
     uint8_t list[9];
@@ -176,15 +176,15 @@ void params_nulls(void) {
 static const uint8_t in_order[] = {1, 1, 5, 4, 1,    9,   0x11, 4,
                                    0, 0, 0, 1, 0x40, 244, 0};
 
-/* A client's record, and further entries with the order of them all. */
+/* A client's parameters, and further entries with the order of them all. */
 struct further {
   quic_wire_params params;
   uint8_t entries[16], order[QUIC_WIRE_PARAM_ROWS + 2];
   size_t len;
 };
 
-/* The first two of the list as a record, the other two as entries, and an order
- * of all. */
+/* The first two of the list in the struct, the other two as entries, and an
+ * order of all. */
 static void further_made(struct further *f) {
   static const uint8_t versions[] = {0, 0, 0, 1};
   size_t n = 0, m = 0;
@@ -208,7 +208,7 @@ static void further_made(struct further *f) {
   f->order[1] = 2, f->order[20] = 21; /* 22 2 20 .. 3 21 1 0 */
 }
 
-/* The entries after and among those of the record. */
+/* The entries after and among those of the struct. */
 static void further_written(const struct further *f) {
   static const uint8_t turned[] = {0x40, 244, 0, 4, 1, 9, 0x11, 4,
                                    0,    0,   0, 1, 1, 1, 5};
@@ -233,7 +233,7 @@ static void further_written(const struct further *f) {
        m == w);
 }
 
-/* Orders and entries that are refused. */
+/* Orders and entries that are rejected. */
 static void further_refused(struct further *f) {
   const uint32_t side = QUIC_WIRE_SIDE_CLIENT;
   const quic_wire_params *params = &f->params;
@@ -289,7 +289,7 @@ static void entries_nulls(void) {
   WANT(!quic_wire_param_is_known(QUIC_WIRE_PARAM_RESERVED(0)));
 }
 
-/* Further entries after and among those of a client's record. */
+/* Further entries after and among those of a client's struct. */
 void params_with(void) {
   struct further f;
   further_made(&f);
@@ -321,7 +321,7 @@ static void any_address(quic_wire_params *p) {
   }
 }
 
-/* Parameters that are mostly in range, and sometimes any words. */
+/* Parameters that are mostly in range, and sometimes have any values. */
 static void params_rubbish(quic_wire_params *p) {
   const uint32_t side_bits =
       QUIC_WIRE_HAS_STATELESS_RESET_TOKEN | QUIC_WIRE_HAS_PREFERRED_ADDRESS |
@@ -357,8 +357,9 @@ static void params_rubbish(quic_wire_params *p) {
     ((uint8_t *)p)[any() % sizeof *p] ^= (uint8_t)any();
 }
 
-/* What is written is read back as the same words, for the side that it was
- * written for; one byte less has no room for it.  Returns whether it was. */
+/* What is written is read back as the same fields, for the side that it was
+ * written for; it doesn't fit in one byte less.  Returns whether it was
+ * written. */
 int params_written(uint32_t side) {
   quic_wire_params given, got;
   uint8_t room[512], *dest;
@@ -390,10 +391,10 @@ int params_written(uint32_t side) {
   return 1;
 }
 
-/* The entries of any list, one after the other, each of which is written in at
- * most as many bytes and read back.  Returns how many bytes of |further| were
- * filled with those that can be beside a record, and |*count| how many of
- * these there are. */
+/* The entries of any list, one after the other.  Each is written in at most as
+ * many bytes, and read back.  Returns how many bytes of |further| were filled
+ * with those that the struct has no field for, and in |*count| how many these
+ * are. */
 static size_t params_entries(const uint8_t *list, size_t len, uint8_t *further,
                              size_t room, size_t *count) {
   quic_wire_param param, again, other;
@@ -431,7 +432,7 @@ static size_t params_entries(const uint8_t *list, size_t len, uint8_t *further,
   return filled;
 }
 
-/* Further entries of any list among those of a record, in any order. */
+/* Further entries from any list among those of a struct, in any order. */
 static void params_mixed(uint32_t side, const quic_wire_params *params,
                          const uint8_t *list, size_t len) {
   uint8_t further[512], order[QUIC_WIRE_PARAM_ROWS + 200], out[1024];
@@ -463,7 +464,7 @@ static void params_mixed(uint32_t side, const quic_wire_params *params,
                               any() % sizeof out, &n);
 }
 
-/* Any bytes as a list, and any words as parameters. */
+/* Any bytes as a list, and any field values as parameters. */
 void params_any(const uint8_t *list, size_t len) {
   quic_wire_params got, same;
   quic_wire_refusal refusal = {0, 77};

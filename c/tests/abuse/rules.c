@@ -1,5 +1,6 @@
-/* What flags have readers refuse, QUIC_WIRE_READ_...: each rule by frames that
- * just keep it and by frames that break it, and any payloads by any flags. */
+/* What readers reject with flags, QUIC_WIRE_READ_...: each rule with frames
+ * that just pass it and frames that break it, and any payloads with any
+ * flags. */
 #include "abuse.h"
 
 uint32_t any_flags(void) {
@@ -41,8 +42,7 @@ static quic_wire_frame_iter begin(uint32_t flags) {
   return frames;
 }
 
-/* A frame, the flag that has it refused, and the result then; 0 if no flag
- * does. */
+/* A frame, the flag that rejects it, and the result then; 0 if no flag does. */
 typedef struct rule_row {
   uint32_t flag;
   int result;
@@ -85,7 +85,7 @@ static const rule_row rule_rows[] = {
 };
 #define RULE_ROWS (sizeof rule_rows / sizeof rule_rows[0])
 
-/* A frame by itself: what begins at the front. */
+/* A single frame, at the front. */
 static void read_alone(const rule_row *row, uint32_t flags) {
   const int refused = flags & row->flag ? row->result : 0;
   quic_wire_frame_iter frames;
@@ -119,7 +119,7 @@ static void read_later(const rule_row *row, uint32_t flags) {
   if (!refused)
     return;
   one = frames;
-  one.flags &= ~row->flag; /* the flag alone refuses it */
+  one.flags &= ~row->flag; /* only that flag rejects it */
   WANT(quic_wire_frames_next(&one, payload, len, &frame) == 1);
   one = frames;
   WANT(quic_wire_frames_next(&one, payload, len, &frame) == refused);
@@ -147,7 +147,7 @@ void rules_examples(void) {
   }
 }
 
-/* The bytes with a frame of a row put in, or one of a longer type, maybe cut
+/* The bytes with a row's frame inserted, or one with a longer type, maybe cut
  * off. */
 static uint8_t *put_in(const uint8_t *bytes, size_t *len) {
   static const uint8_t longer[] = {0x40, 0x1f};
@@ -163,8 +163,8 @@ static uint8_t *put_in(const uint8_t *bytes, size_t *len) {
   return payload;
 }
 
-/* One call more of each that reads: they agree.  |*at| is where the next frame
- * begins, and 1 is answered where there was one. */
+/* Another call of each reading function: they agree.  |*at| is where the next
+ * frame begins.  Returns 1 if there was one. */
 static int all_agree(quic_wire_frame_iter *one, quic_wire_frame_iter *many,
                      const uint8_t *payload, size_t len, size_t *at) {
   quic_wire_frame filled, next, front;
@@ -189,8 +189,8 @@ static int all_agree(quic_wire_frame_iter *one, quic_wire_frame_iter *many,
   return answer == QUIC_WIRE_ITEM;
 }
 
-/* By any flags all calls agree, and give what is read without rules for frames
- * up to the first that breaks one.  Returns whether there is such a one. */
+/* With any flags all calls agree, and return what is read without rules up to
+ * the first frame that breaks one.  Returns whether there is one. */
 int rules_any(const uint8_t *bytes, size_t len) {
   uint8_t *payload = put_in(bytes, &len);
   uint32_t flags = any_flags();

@@ -1,5 +1,5 @@
-/* Sets of packet numbers, against 64 bits for the numbers from |base| on, and
- * ACKs of them. */
+/* Sets of packet numbers, compared with 64 bits for the numbers from |base| on,
+ * and ACKs of them. */
 #include "abuse.h"
 
 void sets_nulls(void) {
@@ -51,7 +51,7 @@ static size_t put(uint8_t *dest, uint64_t n) {
   return len;
 }
 
-/* An ACK of runs, by the RFC's words; where one can't be, nothing. */
+/* An ACK of runs, as the RFC defines it, or nothing if there can't be one. */
 static size_t plain_ack(uint64_t delay, const quic_wire_range *runs, size_t n,
                         const uint64_t *counts, uint8_t *dest) {
   uint64_t most = (1ull << 62) - 1;
@@ -161,7 +161,7 @@ void sets(void) {
   free(old);
 }
 
-/* Runs of any words, and counts that are none. */
+/* Runs with any field values, and invalid counts. */
 void set_rubbish(void) {
   size_t room = any() % 6, count = any() % 9 ? any() % (room + 1) : place(), k;
   size_t size = room * sizeof(quic_wire_range), same, written = 99;

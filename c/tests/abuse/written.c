@@ -1,4 +1,4 @@
-/* Frames that are written, whole or up to their data, and how long they are. */
+/* Frames that are written, whole or up to their data, and their lengths. */
 #include "abuse.h"
 
 void written_nulls(void) {
@@ -27,9 +27,9 @@ void written_nulls(void) {
   WANT(quic_wire_frame_header_write(&frame, 0, out, 8, NULL) == 0);
 }
 
-/* A frame without data is written as it was read, whatever |data| and its place
- * in them are: a PING after a MAX_DATA of five bytes, and the end of a stream.
- */
+/* A frame without data is written as it was read, whatever |data| and its
+ * offset there are: a PING after a MAX_DATA of five bytes, and the end of a
+ * stream. */
 void without_data(void) {
   static const uint8_t payload[] = {0x10, 0x80, 0x01, 0x00, 0x00,
                                     0x01, 0x0d, 0x04, 0x09};
@@ -64,7 +64,7 @@ void without_data(void) {
   WANT(quic_wire_frame_write(&frame, NULL, 0, 1, out, 8, &n) == INVALID);
 }
 
-/* Writes a frame of any words, and reads it back where it was written. */
+/* Writes a frame with any field values, and reads it back if it was written. */
 void write_rubbish(const uint8_t *data, size_t len) {
   size_t room = any() % 32, written = 0, k;
   uint8_t *out = block(room), *before = block(room);
@@ -101,9 +101,9 @@ void write_rubbish(const uint8_t *data, size_t len) {
   free(before);
 }
 
-/* The header of a frame of any words is the front of what is written of it with
- * data, and what can be written whole has the length that is reported before.
- */
+/* The header of a frame with any field values is the front of what is written
+ * for it with data, and what can be written whole has the length that is
+ * reported beforehand. */
 void header_rubbish(void) {
   static const uint16_t kinds[] = {
       QUIC_WIRE_FRAME_CRYPTO, QUIC_WIRE_FRAME_STREAM, QUIC_WIRE_FRAME_DATAGRAM};

@@ -1,7 +1,7 @@
 //! Why an endpoint closes a connection (RFC 9000, section 20.1).
 use core::fmt;
 
-/// A code of the transport, below 2^62.
+/// A transport error code, below 2^62.
 ///
 /// ```
 /// use quic_wire::transport_error::Code;
@@ -58,7 +58,7 @@ codes! {
 }
 
 impl Code {
-    /// The code of this number. `None` if it is 2^62 or more.
+    /// The code with this number. `None` if it is 2^62 or more.
     ///
     /// ```
     /// use quic_wire::transport_error::Code;
@@ -77,7 +77,7 @@ impl Code {
         Code(number)
     }
 
-    /// `0x100` and the alert of the handshake (RFC 9001, section 4.8).
+    /// `0x100` plus the TLS alert (RFC 9001, section 4.8).
     ///
     /// ```
     /// assert_eq!(u64::from(quic_wire::transport_error::Code::crypto(42)), 0x12a);

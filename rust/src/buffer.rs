@@ -92,7 +92,7 @@ impl Put for alloc::vec::Vec<u8> {
             }
         };
         let len = self.len() + filled.len();
-        assert!(len <= self.capacity(), "more was written than there was room");
+        assert!(len <= self.capacity(), "more was written than there was room for");
         // SAFETY: `filled` was made by calls that got the front of the spare capacity, so these bytes are initialised,
         // and `len` isn't above the capacity.
         unsafe { self.set_len(len) };

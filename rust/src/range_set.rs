@@ -48,8 +48,8 @@ pub enum Error {
 impl fmt::Display for Error {
     fn fmt(&self, f: &mut fmt::Formatter<'_>) -> fmt::Result {
         f.write_str(match self {
-            Error::NoRoom => "no room for one run more",
-            Error::NoRuns => "no sorted runs",
+            Error::NoRoom => "no room for one more run",
+            Error::NoRuns => "not sorted runs",
         })
     }
 }

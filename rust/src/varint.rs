@@ -76,12 +76,12 @@ pub fn write<B: Buffer + ?Sized>(value: u64, out: &mut B) -> Result<usize, Write
 /// If it doesn't fit in `width` bytes, there is no such width, or there is too little room.
 #[inline]
 pub fn write_in<B: Buffer + ?Sized>(value: u64, width: usize, out: &mut B) -> Result<usize, WriteError> {
-    let shortest = len(value).ok_or(WriteError::OutOfRange("a number of variable length is 2^62 or more"))?;
+    let shortest = len(value).ok_or(WriteError::OutOfRange("a varint is 2^62 or more"))?;
     let needed = match width {
         0 => shortest,
         1 | 2 | 4 | 8 if shortest <= width => width,
         1 | 2 | 4 | 8 => return Err(WriteError::OutOfRange("a number has no encoding of this width")),
-        _ => return Err(WriteError::OutOfRange("a number of variable length has 1, 2, 4 or 8 bytes")),
+        _ => return Err(WriteError::OutOfRange("a varint has 1, 2, 4 or 8 bytes")),
     };
     out.put(|room| match sys::varint_write(value, width as u32, room) {
         Some(filled) => Ok((filled, filled.len())),
@@ -107,7 +107,7 @@ mod tests {
     fn a_width_is_refused_before_room_is_asked_for() {
         let mut short = [0; 1];
         for width in [3, 5, 6, 7, 9, usize::MAX] {
-            let error = "a number of variable length has 1, 2, 4 or 8 bytes";
+            let error = "a varint has 1, 2, 4 or 8 bytes";
             assert_eq!(write_in(5, width, &mut short), Err(WriteError::OutOfRange(error)), "{width}");
         }
         for (value, width) in [(64, 1), (1 << 14, 2), (1 << 30, 4)] {

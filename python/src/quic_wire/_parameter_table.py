@@ -54,7 +54,7 @@ KNOWN = {
 _OF_SERVERS = frozenset((0x00, 0x02, 0x0D, 0x10))
 # Numbers with a default: malformed to quinn-proto, and so here, if longer than their shortest encoding.
 _SHORTEST = frozenset((0x01, *range(0x03, 0x0C), 0x0E))
-_LONG = "its number isn't in its shortest encoding, which RFC 9000, section 16, allows and quinn-proto refuses"
+_LONG = "its integer isn't in its shortest encoding, which RFC 9000, section 16, allows and quinn-proto rejects"
 # In which order quic_wire_params_write_with numbers them, without the reserved one.
 ROWS = {
     0x01: 0, **{0x03 + i: 1 + i for i in range(9)}, 0x0E: 10, 0x02: 12, 0x0C: 13, 0x20: 14, 0x0D: 15, 0x00: 16,
@@ -93,12 +93,12 @@ def _of_entry(side: int, data: memoryview, entry: Entry) -> Fault:
     value = data[entry.value : entry.end]
     found = Fault(entry.begin, entry.id, bytes(value), section=known.section)
     if _is_repeated(data, entry):
-        return found._replace(why="it is there twice", section="RFC 9000, section 7.4")
+        return found._replace(why="it occurs twice", section="RFC 9000, section 7.4")
     if side == SERVER and entry.id in _OF_SERVERS:
         return found._replace(why="a client must not send it")
     if entry.id in _SHORTEST and _is_long(value):
         return found._replace(why=_LONG)
-    return found._replace(why="its value isn't what it must be", wanted=known.wanted)
+    return found._replace(why="its value is invalid", wanted=known.wanted)
 
 
 def of_cut_off(data: memoryview, at: int) -> Fault:

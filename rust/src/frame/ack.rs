@@ -247,7 +247,7 @@ fn why_not(runs: &[Run]) -> &'static str {
     if runs.is_empty() {
         "an ACK of no packet"
     } else if runs.iter().any(|run| run.start >= run.end) || runs.windows(2).any(|two| two[0].end >= two[1].start) {
-        "an ACK of ranges that are no sorted runs"
+        "the ranges of an ACK aren't sorted runs"
     } else {
         "a number in the ACK, its delay or a count is 2^62 or more"
     }

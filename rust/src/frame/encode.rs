@@ -85,7 +85,7 @@ impl<'a> Frame<'a> {
                 "retire_prior_to is above its own sequence number"
             }
             Frame::Close(Close::Connection(c)) if c.frame_type == Some(FrameType::PADDING) => {
-                "a close can't name PADDING, whose type says that it names none"
+                "a close can't name PADDING: type 0 means that no type is known"
             }
             _ => "a number is 2^62 or more",
         })
@@ -169,7 +169,7 @@ impl<'a> Frame<'a> {
 fn rewrite(bytes: &[u8], room: &mut [MaybeUninit<u8>]) -> Result<Filled, WriteError> {
     sys::canonical(bytes, room).map_err(|(answer, reported)| match answer {
         sys::NO_ROOM => WriteError::NoRoom(reported.len),
-        _ => WriteError::OutOfRange("what was read is no frame any more"),
+        _ => WriteError::OutOfRange("what was read isn't a frame any more"),
     })
 }
 

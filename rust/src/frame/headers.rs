@@ -191,7 +191,7 @@ impl DatagramMeta {
 fn length_of(offsets: &Range<u64>) -> Result<usize, WriteError> {
     match offsets.end.checked_sub(offsets.start) {
         None => Err(WriteError::OutOfRange("a range of data is reversed")),
-        Some(_) if offsets.end > varint::MAX => Err(WriteError::OutOfRange("data end at 2^62 or behind it")),
+        Some(_) if offsets.end > varint::MAX => Err(WriteError::OutOfRange("data ends at or past 2^62")),
         Some(len) => Ok(len as usize),
     }
 }

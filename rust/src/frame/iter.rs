@@ -191,7 +191,7 @@ impl<'a> Iter<'a> {
     /// If there is no entry.
     #[inline]
     pub fn fill<'r>(&mut self, entries: &'r mut [Entry]) -> Option<Result<Batch<'a, 'r>, InvalidFrame>> {
-        assert!(!entries.is_empty(), "frames are read into one entry at least");
+        assert!(!entries.is_empty(), "frames need at least one entry");
         self.payload.get(self.state.offset)?;
         let mut count = 0;
         match sys::frames_fill(&mut self.state, self.payload, entries, &mut count) {
@@ -459,7 +459,7 @@ fn rare_frame_of<'a>(payload: &'a [u8], f: &sys::Frame, data: &'a [u8]) -> Frame
             request_max_ack_delay: c,
             reordering_threshold: d,
         }),
-        kind => unreachable!("the library reported of the kind {kind}"),
+        kind => unreachable!("the library reported the kind {kind}"),
     }
 }
 

@@ -138,7 +138,7 @@ impl PartialEncode {
         }
         match sys::set_len(packet, self.number, self.length as u32) {
             sys::OK => Ok(()),
-            _ if self.number < self.length => Err(WriteError::OutOfRange("no length stands before this number")),
+            _ if self.number < self.length => Err(WriteError::OutOfRange("no length precedes this number")),
             _ => Err(WriteError::OutOfRange("a packet is too long for its length")),
         }
     }

@@ -48,8 +48,8 @@ impl fmt::Display for UnprotectError {
     fn fmt(&self, f: &mut fmt::Formatter<'_>) -> fmt::Result {
         f.write_str(match self {
             UnprotectError::TooShort => "packet too short to extract header protection sample",
-            UnprotectError::NotThere => "the packet's place isn't in this datagram",
-            UnprotectError::Expected => "the packet number that is expected is 2^62 or more",
+            UnprotectError::NotThere => "the packet isn't in this datagram",
+            UnprotectError::Expected => "the expected packet number is 2^62 or more",
         })
     }
 }

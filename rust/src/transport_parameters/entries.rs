@@ -205,10 +205,10 @@ fn why_not(further: &[u8]) -> WriteError {
     } else if entries(further).count() > 256 - TransportParameters::ROWS {
         "more than 235 further transport parameters"
     } else if entries(further).flatten().any(|entry| entry.is_known()) {
-        "a further transport parameter is one that the record has"
+        "a further transport parameter is one that the struct has"
     } else if entries(further).flatten().enumerate().any(twice) {
-        "a further transport parameter is there twice"
+        "a further transport parameter occurs twice"
     } else {
-        "the order isn't one of all transport parameters"
+        "the order doesn't have each transport parameter once"
     })
 }

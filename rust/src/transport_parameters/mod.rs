@@ -316,7 +316,7 @@ impl TransportParameters {
         let address = self.preferred_address;
         let min_ack_delay = self.min_ack_delay.unwrap_or(0);
         [
-            (side.is_client() && server, "a client sends a parameter that a server alone sends"),
+            (side.is_client() && server, "a client sends a parameter that only servers send"),
             (self.max_udp_payload_size < 1200, "max_udp_payload_size is below 1200"),
             (self.initial_max_streams_bidi > 1 << 60, "initial_max_streams_bidi is above 2^60"),
             (self.initial_max_streams_uni > 1 << 60, "initial_max_streams_uni is above 2^60"),

@@ -1,13 +1,16 @@
-// count WORK ROUNDS [FILE [KIND]]: one kind of work, so many rounds over a file of lines in hexadecimal. Prints how
-// many items there were in a round, and a sum. WORK: frames, canonical (of payloads; with KIND c of their canonical
-// forms); ngtcp2 (with KIND w of those payloads alone that are frames to their end without PADDING, for ngtcp2 too
-// where there is one, and the items are frames); copy, decode, cut (of datagrams; KIND s, i or h: those that begin with
-// a short, Initial or Handshake header); read, write (of lists of parameters); number, number0, expand, expand0 (0:
-// without the work); initial, handshake, short; ranges (of the ACKs of payloads), encode, in_range (of their frames);
-// set KIND NAME N, two WORK NAME NAME N, ack NAME N (of sets, below).
+// count WORK ROUNDS [FILE [KIND]]: does one kind of work ROUNDS times over a file of lines in hexadecimal. Prints the
+// number of items in a round, and a sum. WORK is one of
+//   frames, canonical: payloads; with KIND c their canonical forms
+//   ngtcp2: payloads; with KIND w only those that can be read to their end, by ngtcp2 too if it is linked, and have
+//     no PADDING, and the items are frames
+//   copy, decode, cut: datagrams; KIND s, i or h: those that begin with a short, Initial or Handshake header
+//   read, write: lists of transport parameters
+//   number, number0, expand, expand0 (0: without the work); initial, handshake, short
+//   ranges: the ACKs of payloads; encode, in_range: their frames
+//   set KIND NAME N; two WORK NAME NAME N; ack NAME N: sets, see `generate` in work.h
 #include "work.h"
 
-// Work on sets: WORK ROUNDS and what else it takes. Answers a sum, and counts the items.
+// Work on sets; its arguments follow WORK ROUNDS. Returns a sum, and counts the items.
 static u64 sets(int argc, char **argv, u32 rounds) {
     u64 sum = 0;
     items_len = strtoull(argv[argc - 1], NULL, 10);
@@ -27,7 +30,7 @@ static u64 sets(int argc, char **argv, u32 rounds) {
     return sum;
 }
 
-// The ranges of the ACKs, or the frames that are written where `written` isn't 0 or only looked at.
+// The ranges of the ACKs, or the frames: written if `written` isn't 0, else only checked.
 static u64 of_frames(const char *work, u32 rounds) {
     u64 sum = 0;
     size_t all = 0;

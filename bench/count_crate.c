@@ -1,5 +1,5 @@
-// count_crate WORK ROUNDS [FILE [KIND]]: the work that count does, by the Rust crate, of frames, ranges, encode, copy,
-// decode, cut, read, write, numbers, headers and sets. Prints a sum.
+// count_crate WORK ROUNDS [FILE [KIND]]: count's work, done by the Rust crate: frames, ranges, encode, copy, decode,
+// cut, read, write, numbers, headers and sets. Prints a sum.
 #include "crate.h"
 #include "work.h"
 

@@ -1,5 +1,5 @@
-// The calls of calls.txt over the Rust crate quinn-proto, as a static library that this repository doesn't hold has
-// them. Its payloads are kept beforehand, each as one buffer, and named by their places.
+// The calls of calls.txt with the Rust crate quinn-proto, from a static library that isn't in this repository. Payloads
+// are loaded first, each as one buffer, and named by their indices.
 #include <stddef.h>
 #include <stdint.h>
 

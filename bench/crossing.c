@@ -1,11 +1,15 @@
-// crossing WORK ROUNDS FILE: reads the payloads of a file of lines in hexadecimal so many rounds by the calls for C.
-// Prints how many items one round has, and a number that depends on all of them. WORK is frames (the numbers and the
-// length of each), many-frames (the same by calls that fill 16 entries, where a run of PADDING is one), ranges (of each
-// ACK, read too), acks (the same, frames and ranges by calls that fill 16), or packets (of each line as a datagram, the
-// headers with ids of 8 bytes). With a number in place of FILE: set-push (a run after so many others), set-grow (the
-// last of so many runs), set-contains (each of so many) or set-ack (of so many), each a thousand times, less what set-0
-// takes; or a call by itself, call-NAME of those in calls below, with ids of so many bytes or an ACK of so many ranges,
-// each a thousand times, less what call-none takes.
+// crossing WORK ROUNDS FILE: reads the payloads in a file of lines in hexadecimal ROUNDS times with the calls for C.
+// Prints the number of items in a round, and a number that depends on all of them. WORK is one of
+//   frames: the numbers and the length of each
+//   many-frames: the same with calls that fill 16 entries, where a run of PADDING is one
+//   ranges: also the ranges of each ACK
+//   acks: the same, with calls that fill 16 frames and 16 ranges
+//   packets: each line as a datagram, with connection IDs of 8 bytes in short headers
+// With a number N in place of FILE, a thousand calls each:
+//   set-push (a run after N others), set-grow (the last of N runs), set-contains (in N runs), set-ack (of N runs), each
+//     minus what set-0 takes
+//   call-NAME, a single call, one of `calls` below, with connection IDs of N bytes or an ACK of N ranges, minus what
+//     call-none takes
 #include "crossing.h"
 
 static u64 packets_of(const uint8_t *datagram, size_t len) {
@@ -23,7 +27,7 @@ static u64 packets_of(const uint8_t *datagram, size_t len) {
     return sum;
 }
 
-// A thousand calls on a set of so many runs of one number each.
+// A thousand calls on a set of runs_len runs of one number each.
 static u64 on_a_set(char work, size_t runs_len) {
     static quic_wire_range runs[1025];
     static uint8_t dest[1 << 15];
@@ -46,7 +50,7 @@ static u64 on_a_set(char work, size_t runs_len) {
     return sum;
 }
 
-// What the calls by themselves work on: ids of id_len bytes, an ACK of gaps_len + 1 ranges, and what is read.
+// What the single calls work on: connection IDs of id_len bytes, an ACK of gaps_len + 1 ranges, and what is read.
 static uint8_t id[20], token[16], source[2048], dest[2048];
 static size_t id_len, gaps_len, source_len;
 static quic_wire_gap gaps[MANY];
@@ -105,7 +109,7 @@ static const struct {
     {"negotiation", negotiation},
 };
 
-// A thousand calls by themselves of this name, with ids of so many bytes or an ACK of so many ranges.
+// A thousand single calls of this name, with connection IDs of len bytes or an ACK of len ranges.
 static u64 on_calls(const char *name, size_t len) {
     u64 (*call)(u64) = NULL;
     u64 sum = 0;

@@ -1,5 +1,5 @@
-// What crossing.c counts and times.c takes the time of: payloads, packets, sets and calls by themselves, by the calls for
-// C. The items are counted.
+// What crossing.c counts and times.c times: payloads, packets, sets and single calls, with the calls for C. Items are
+// counted.
 #include <stdint.h>
 #include <stdio.h>
 #include <stdlib.h>
@@ -11,8 +11,8 @@ typedef uint64_t u64;
 
 static u64 counted;
 
-// What is looked at of a frame: its kind, and by that some of its numbers and the length of its data, those that
-// count_frames looks at; of an ACK, where it ends in place of how many bytes its blocks have.
+// What is read from a frame: its kind, some of its numbers depending on the kind, and the length of its data, the same
+// as in count_frames; but of an ACK where it ends, not the length of its ranges.
 static inline __attribute__((always_inline)) u64 sum_of(const quic_wire_frame *frame) {
     switch (frame->kind) {
     case QUIC_WIRE_FRAME_ACK:

@@ -1,6 +1,7 @@
-// each_call FOLDER ROUNDS: the time of calls for C on the lists NAME.hex of a folder, lines of hexadecimal: the best of so
-// many rounds, in nanoseconds for each line. datagrams.hex and params.hex are taken as what they are, all others as
-// payloads. Last comes a number that depends on all answers, which is the same for two libraries that answer the same.
+// each_call FOLDER ROUNDS: the time of the calls for C on the lists NAME.hex in a folder, lines of hexadecimal: the
+// best of ROUNDS, in nanoseconds per line. datagrams.hex has datagrams, params.hex transport parameters, all other
+// files payloads. Last comes a number that depends on all results; it is the same for two libraries with the same
+// results.
 #define _POSIX_C_SOURCE 200809L
 #include <dirent.h>
 #include <inttypes.h>
@@ -53,7 +54,7 @@ static void params_read(size_t i) {
     sum += (uint64_t)quic_wire_params_read(QUIC_WIRE_SIDE_CLIENT, 0, lines[i], lens[i], &params, sizeof params, NULL);
 }
 
-// Writes the first list that a client may have got.
+// Writes the first list of transport parameters that a client can receive.
 static void params_write(size_t i) {
     static quic_wire_params params;
     static int has_params;

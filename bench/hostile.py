@@ -1,8 +1,8 @@
 #!/usr/bin/env python3
-"""Writes the hostile payloads of docs/SPEED.md, a line of hexadecimal each, into files of a folder, as scripts/bench
-takes them: ACKs of 10,000 ranges whose numbers have one width or several in any order, frames of 1,150 bytes with
-numbers of 8 bytes, 64 KiB of PADDING, and 1,200 bytes of it behind a PING whose shortest form is shorter. They are the
-same each time.
+"""Writes the hostile payloads of docs/SPEED.md into files of a folder, a line of hexadecimal each, as scripts/bench
+reads them: ACKs of 10,000 ranges whose numbers have one width, or several in random order; 1,150 bytes of frames with
+numbers of 8 bytes; 64 KiB of PADDING; and 1,200 bytes of PADDING after a PING that isn't in its shortest form. They are
+the same each time.
 
 bench/hostile.py FOLDER
 """
@@ -14,12 +14,12 @@ TOP = {1: 0, 2: 1, 4: 2, 8: 3}
 
 
 def varint(n, width):
-    """The number in that width (RFC 9000, section 16)."""
+    """The number as a varint of this width (RFC 9000, section 16)."""
     return (n | TOP[width] << 8 * width - 2).to_bytes(width, "big")
 
 
 def ack(widths):
-    """An ACK (section 19.3), each of whose gaps and lengths has one of the widths."""
+    """An ACK (section 19.3) whose gaps and range lengths have these widths, in random order."""
     numbers = [(random.randrange(min(2 ** (8 * width - 2), 2**46)), width) for width in random.choices(widths, k=20001)]
     largest = sum(n for n, _ in numbers) + 2 * 10000
     blocks = b"".join(varint(*number) for number in numbers)
@@ -27,7 +27,7 @@ def ack(widths):
 
 
 def frames():
-    """Frames of numbers alone, each in 8 bytes (sections 19.4 to 19.16), and PING after them."""
+    """Frames that only have numbers, each in 8 bytes (sections 19.4 to 19.16), then PING."""
     payload = b""
     while len(payload) < 1120:
         kind, count = random.choice([(0x04, 3), (0x05, 2), (0x10, 1), (0x11, 2), (0x14, 1), (0x15, 2), (0x19, 1)])

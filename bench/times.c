@@ -1,7 +1,8 @@
-// times ROUNDS FOLDER: how long the same work takes this library, and where they are linked the Rust crate (QUINN) and
-// ngtcp2 (NGTCP2), in turn in one process, the best of so many rounds, on the lists of FOLDER: datagrams.hex,
-// params.hex, and all others as payloads. A line for each work: nanoseconds an item, and the ratios to this library's
-// peers. Times are of one machine and hour: only the ratios of one run say something.
+// times ROUNDS FOLDER: the time that the same work takes with this library and, if they are linked, with the Rust crate
+// (QUINN) and ngtcp2 (NGTCP2). They run in turn in one process, and the best of ROUNDS counts. The lists of FOLDER are
+// datagrams.hex, params.hex, and payloads in all other files. Prints a line for each kind of work: nanoseconds per
+// item, and the ratios to the other libraries. The times depend on the machine and the hour; only ratios within one run
+// mean anything.
 #include <dirent.h>
 #include <time.h>
 
@@ -20,7 +21,8 @@
 #define PEER_NGTCP2(call) NULL
 #endif
 
-// How often a payload's frames, a list of parameters, a header and an ACK are written in a round, for one look at them.
+// How often the frames of a payload, a list of parameters, a header and an ACK are written in a round, once they are
+// read.
 #define WRITES 20
 
 static u32 rounds;
@@ -33,7 +35,7 @@ static double now(void) {
     return (double)t.tv_sec * 1e9 + (double)t.tv_nsec;
 }
 
-// A side of a comparison: its name, its work, and what of that isn't meant, or NULL.
+// One library in a comparison: its name, its work, and what is subtracted from the time of its work, or NULL.
 struct side {
     const char *name;
     u64 (*work)(void);
@@ -48,7 +50,7 @@ static double timed(u64 (*work)(void), double best) {
     return took < best ? took : best;
 }
 
-// Prints what each side takes for an item, and this library's time by each peer's.
+// Prints the time per item of each library, and the ratio of this library's time to each other's.
 static void compare(const char *file, const char *name, double items_of_round, struct side *sides, size_t count) {
     double first = 0;
     for (size_t k = 0; k < count; k++) sides[k].best = sides[k].best_less = 1e18;
@@ -76,7 +78,7 @@ static void compare(const char *file, const char *name, double items_of_round, s
         compare(file, name, items_of_round, sides, LENGTH(sides));                                                     \
     } while (0)
 
-// The work over all items of a file: by bytes, and by places.
+// The work over all items of a file: by their bytes, and by their indices.
 #define OVER(name, call)                                                                                               \
     static u64 name(void) {                                                                                            \
         u64 sum = 0;                                                                                                   \
@@ -136,7 +138,7 @@ static void payloads(const char *file) {
     base += items_len;
 }
 
-// The payloads that ngtcp2 reads to their ends, without PADDING, of which it tells a run as one frame.
+// The payloads that ngtcp2 reads to their ends, without PADDING, since ngtcp2 reads a run of it as one frame.
 static void whole_payloads(const char *file) {
     if (items_len)
         COMPARE(file, "frames of a payload without PADDING", (double)items_len, {"ours", frames},
@@ -189,7 +191,7 @@ static void headers_and_sets(void) {
         COMPARE("ArrayRangeSet of 1,000", orders[k], all, {"ours", array}, {"crate", PEER(quinn_array_set)});
         COMPARE("RangeSet of 1,000", orders[k], all, {"ours", vec}, {"crate", PEER(quinn_tree_set)});
     }
-    // What a peer can make of a set that isn't bounded: each change stands in front of all runs before it.
+    // What a peer can do to a set without a limit: each insertion goes before all existing runs.
     rounds = 1;
     generate("down", 100000);
     COMPARE("RangeSet of 100,000", "down", 100000.0, {"ours", vec}, {"crate", PEER(quinn_tree_set)});

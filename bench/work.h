@@ -1,5 +1,5 @@
-// The kinds of work that count.c counts and times.c takes the time of: over the calls of calls.txt, and where ngtcp2 is
-// there over its reader of frames. The lines of a file are loaded into `items`, those of one kind alone if one is named.
+// The kinds of work that count.c counts and times.c times, with the calls of calls.txt and, if ngtcp2 is available, its
+// frame reader. The lines of a file are loaded into `items`; only those of one kind if one is named.
 #include <stdint.h>
 #include <stdio.h>
 #include <stdlib.h>
@@ -32,7 +32,7 @@ u64 count_ack(const u64 *, size_t, u32);
 static uint8_t *items[MOST];
 static size_t sizes[MOST], items_len, frames_len;
 
-// The frames of a payload by ngtcp2, up to one that it refuses; a sum of their types and bytes, or 0 after a refusal.
+// Reads the frames of a payload with ngtcp2. Returns the sum of their types and lengths, or 0 if ngtcp2 rejects one.
 static u64 ngtcp2_sum(const uint8_t *payload, size_t len) {
 #ifdef NGTCP2
     static union { ngtcp2_frame frame; uint8_t room[1 << 16]; } place;
@@ -90,7 +90,7 @@ static void load(const char *path, char kind) {
 static u64 state = 88172645463325252ull;
 static u64 next(void) { state ^= state << 13; state ^= state >> 7; state ^= state << 17; return state; }
 
-// Operations on a set: how they begin, how many numbers they have, and 0 to insert, 1 to remove, 2 to look for one.
+// Operations on a set, each in one word: the start, how many numbers, and 0 to insert, 1 to remove, 2 to look for one.
 static u64 *operations;
 static size_t operations_len;
 
@@ -105,8 +105,8 @@ static void shuffle(u64 *numbers, size_t n) {
     }
 }
 
-// Packet numbers in order, one in 50 lost, and one in 20 late by up to 8 places; with `leave` the 400 that end 200
-// below an insertion leave after each 32nd.
+// Packet numbers in order, one in 50 lost, and one in 20 late by up to 8 positions. With `leave`, after each 32nd
+// insertion, the 400 numbers that end 200 below it are removed.
 static void packets(u64 *numbers, size_t n, int leave) {
     size_t len = 0;
     for (u64 number = 0; len < n; number++)
@@ -127,8 +127,8 @@ static void packets(u64 *numbers, size_t n, int leave) {
     }
 }
 
-// Single numbers that touch none: up, down or any (in any order); then each is removed (-r) or looked for (-c) in any
-// order.
+// Single numbers of which no two are adjacent: up, down or any (in random order). Then each is removed (-r) or looked
+// for (-c) in random order.
 static void singles(const char *name, u64 *numbers, size_t n) {
     for (size_t i = 0; i < n; i++) numbers[i] = 4 + (!strncmp(name, "down", 4) ? n - 1 - i : i) * 4;
     if (!strncmp(name, "any", 3)) shuffle(numbers, n);
@@ -139,9 +139,9 @@ static void singles(const char *name, u64 *numbers, size_t n) {
     for (size_t i = 0; i < n; i++) operation(then[1] == 'c' ? 2 : 1, numbers[i], 1);
 }
 
-// NAME: order; packets, packets-r; up, up-r, down, any, any-r, any-c; hole (single numbers leave one range in any
-// order); runs4, runs5, runs7 (single numbers, every fourth, from 4, 5, 7 on); inner, wide (runs of 4 and of 6, every
-// eighth).
+// NAME: order; packets, packets-r; up, up-r, down, any, any-r, any-c; hole (single numbers are removed from one range
+// in random order); runs4, runs5, runs7 (single numbers, every fourth, from 4, 5 or 7 on); inner, wide (runs of 4 and
+// of 6 numbers, every eighth).
 static void generate(const char *name, size_t n) {
     u64 *numbers = malloc(2 * n * sizeof *numbers);
     operations = malloc((4 * n + 16) * sizeof *operations);

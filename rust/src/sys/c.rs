@@ -1,10 +1,10 @@
-//! The functions of `quic_wire.h` that the library has; those of the header that C alone needs look for NULL.
+//! The functions of `quic_wire.h` that the library has. Those of the header that only C needs check for NULL.
 #[cfg(test)]
 use super::words::Gap;
 use super::words::{Canon, Frame, Frames, HeaderFields, HeaderPlaces, Param, Params, Range, Ranges, Refusal};
 
 extern "C" {
-    /// An archive of another version lacks it, so that it isn't linked.
+    /// An archive of another version lacks this symbol, so that it can't be linked.
     pub static quic_wire_abi_8: u8;
 
     pub fn quic_wire_frames_fill_(
@@ -149,7 +149,7 @@ extern "C" {
     ) -> i32;
 }
 
-// Those that this crate has no use for, for `c_alone`.
+// Those that this crate doesn't use, for `c_alone`.
 #[cfg(test)]
 extern "C" {
     pub fn quic_wire_frame_rules_(kind: u32) -> u32;

@@ -6,4 +6,4 @@
 /* What the Rust crate asks for by name, so that it isn't linked with a library
  * of another layout.  Its number goes up with each change of a struct or of a
  * function. */
-const unsigned char quic_wire_abi_8 = 8;
+const unsigned char quic_wire_abi_9 = 9;

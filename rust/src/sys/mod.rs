@@ -84,7 +84,7 @@ struct Linked(#[allow(dead_code)] *const u8);
 unsafe impl Sync for Linked {}
 
 #[used]
-static LINKED: Linked = Linked(&raw const c::quic_wire_abi_8);
+static LINKED: Linked = Linked(&raw const c::quic_wire_abi_9);
 
 // What a writer answers: the bytes at the front of its room, or its answer and how many it asks for.
 fn wrote(answer: i32, written: usize) -> Result<Filled, (i32, usize)> {
@@ -126,11 +126,10 @@ pub fn frames_next<'r>(
 }
 
 #[inline]
-pub fn ack_ranges_init_unchecked(ranges: &mut Ranges, payload: &[u8], frame: &Frame) -> i32 {
-    // SAFETY: `payload` gives its own pointer and length; `ranges` is borrowed alone. "Unchecked" leaves out a second
-    // look at the blocks, not at places: any words in `frame` serve. The library looks at no other memory and keeps no
-    // pointer.
-    unsafe { c::quic_wire_ack_ranges_init_unchecked_(ranges, payload.as_ptr(), payload.len(), frame) }
+pub fn ack_ranges_init(ranges: &mut Ranges, payload: &[u8], frame: &Frame) -> i32 {
+    // SAFETY: `payload` gives its own pointer and length; `ranges` is borrowed alone. Any words in `frame` serve. The
+    // library looks at no other memory and keeps no pointer.
+    unsafe { c::quic_wire_ack_ranges_init_(ranges, payload.as_ptr(), payload.len(), frame) }
 }
 
 #[inline]

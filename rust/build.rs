@@ -1,8 +1,8 @@
-//! Says where the library `quic_wire` is: in the folder that `QUIC_WIRE_LIB` names, packed in this package, where
-//! `pkg-config` finds it, or where `scripts/install out` left it in the repository. Where there is none, it is built of
-//! the library as C, which this package holds or `scripts/portable out/portable` left in the repository, by a C
-//! compiler like gcc or clang: `cc`, or what `CC_TARGET`, `TARGET_CC` or `CC` name, with `AR` in the same way. Where
-//! that isn't there either, only what links fails: `cargo check`, `cargo clippy` and `cargo doc` need no library.
+//! Finds the library `quic_wire`: in the folder that `QUIC_WIRE_LIB` names, in this package, with `pkg-config`, or
+//! where `scripts/install out` left it in the repository. If there is none, it is built from the library as C, which
+//! this package contains or `scripts/portable out/portable` left in the repository, with a C compiler like gcc or
+//! clang: `cc`, or what `CC_TARGET`, `TARGET_CC` or `CC` name, with `AR` in the same way. If that is missing too, only
+//! linking fails: `cargo check`, `cargo clippy` and `cargo doc` need no library.
 use std::env;
 use std::ffi::OsString;
 use std::path::{Path, PathBuf};
@@ -32,7 +32,7 @@ fn variable(name: &str) -> String {
     env::var(name).unwrap_or_default()
 }
 
-// The archives that a released package holds.
+// The archives that a released package contains.
 fn packed(top: &Path, target: &str) -> Option<PathBuf> {
     with_archive(top.join("native").join(target))
 }
@@ -42,7 +42,7 @@ fn named() -> Option<PathBuf> {
     env::var_os("QUIC_WIRE_LIB").filter(|folder| !folder.is_empty()).map(PathBuf::from)
 }
 
-// What `pkg-config` knows, which is of this machine alone.
+// What `pkg-config` finds, which is only for this machine.
 fn installed_for(target: &str) -> Option<PathBuf> {
     if target != variable("HOST") && env::var_os("PKG_CONFIG_SYSROOT_DIR").is_none() {
         return None;
@@ -71,7 +71,7 @@ fn as_c(top: &Path) -> Option<PathBuf> {
     folders.into_iter().flatten().find(|folder| folder.join("src").join("quic_wire_proved.c").is_file())
 }
 
-// A tool for the target by the variables that other crates look at, which may have words after its name.
+// A tool for the target, from the variables that other crates use; arguments may follow its name.
 fn tool(name: &str, target: &str) -> Option<Vec<OsString>> {
     let variables = [
         format!("{name}_{target}"),
@@ -83,12 +83,12 @@ fn tool(name: &str, target: &str) -> Option<Vec<OsString>> {
         println!("cargo:rerun-if-env-changed={variable}");
     }
     let said = variables.iter().map(|variable| self::variable(variable)).find(|said| !said.trim().is_empty());
-    // Without any, what is on the path is for this machine alone.
+    // Without these variables, the tool on the path is only for this machine.
     let said = said.or_else(|| (target == variable("HOST")).then(|| name.to_lowercase()))?;
     Some(said.split_whitespace().map(OsString::from).collect())
 }
 
-// Builds the archive, and says why where that fails.
+// Builds the archive, and says why if that fails.
 fn built(sources: &Path, target: &str) -> Option<PathBuf> {
     let (cc, ar) = (tool("CC", target)?, tool("AR", target)?);
     let to = PathBuf::from(variable("OUT_DIR"));
@@ -143,9 +143,9 @@ fn link_built(folder: &Path) {
     println!("cargo:lib={}", folder.display());
 }
 
-// Asks for it nevertheless, so that linking ends with one error of rustc after this sentence.
+// Requests it anyway, so that linking ends with one rustc error after this message.
 fn miss(top: &Path, target: &str) {
-    // A file that isn't there lets this be run again.
+    // A missing file makes cargo run this again.
     println!("cargo:rerun-if-changed={}", top.join("native").join(target).join(archive()).display());
     println!(
         "cargo:warning=no {} for {target}: install it (scripts/install of the repository, or a release's archive) and \

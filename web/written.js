@@ -3,13 +3,13 @@
 
 import { AT_ONCE, eachLine, Pace } from "./slices.js";
 
-const SWAPPED_UNITS = "the bytes of each group are swapped, as hexdump without -C and od -x print them; hexdump -C and "
-  + "od -t x1 are read";
-const WIDE_UNITS = "these are units of more than a byte, as od and hexdump print them; od -t x1 and hexdump -C are "
-  + "read";
-const BITS = "these are bits, as xxd -b prints them; xxd without -b is read";
-const EITHER = "decimal or hexadecimal? 0x before each number would say so";
-const SWAPPED_GROUPS = "the bytes of each group are swapped, as xxd -e prints them; xxd without -e is read";
+const SWAPPED_UNITS = "the bytes of each group are swapped, as hexdump without -C and od -x print them; use hexdump "
+  + "-C or od -t x1";
+const WIDE_UNITS = "these are units of more than a byte, as od and hexdump print them; use od -t x1 or "
+  + "hexdump -C";
+const BITS = "these are bits, as xxd -b prints them; use xxd without -b";
+const EITHER = "ambiguous numbers, decimal or hexadecimal; add 0x to each";
+const SWAPPED_GROUPS = "the bytes of each group are swapped, as xxd -e prints them; use xxd without -e";
 
 // A line of a dump with units of more than a byte, of bits, and of xxd with its text.
 const UNITS_LINE = /^[0-9a-f]{7}((?: +[0-9a-f]{3,22})+) *$/i;

@@ -442,10 +442,12 @@ typedef struct quic_wire_gap {
   uint64_t gap, len;
 } QUIC_WIRE_ALIGNED quic_wire_gap;
 
-/** How far the ranges of an ACK have been read. */
+/** How far the ranges of an ACK have been read.  Any other field values are
+ * harmless. */
 typedef struct quic_wire_range_iter {
-  quic_wire_size begin, end; /* the remaining bytes, in the payload */
-  uint64_t largest;          /* the greatest number of the next range */
+  quic_wire_size offset; /* where the next range begins in the payload */
+  uint64_t left;         /* how many ranges remain */
+  uint64_t largest;      /* the greatest number of the next range */
 } QUIC_WIRE_ALIGNED quic_wire_range_iter;
 
 /** The length of a payload's shortest form, or the type of an invalid frame. */
@@ -809,9 +811,13 @@ QUIC_WIRE_API uint64_t quic_wire_error_type(const quic_wire_frame *frame);
 /* ---- Reading the ranges of an ACK */
 
 /**
- * Begins at the greatest range of |frame|, an ACK that was read of this
- * payload.  Returns 0; QUIC_WIRE_ERR_PLACE where its bytes are no ACK;
- * QUIC_WIRE_ERR_ARGUMENT for NULL.
+ * Begins at the greatest range of |frame|, an ACK that was read from this
+ * payload.  |ranges->left| is then how many ranges it has.  Only the type, the
+ * largest number, the delay and the count of ranges are read: blocks that are
+ * invalid, which an ACK that was read doesn't have, are reported by the call
+ * that comes to them.  Returns 0; QUIC_WIRE_ERR_PLACE if no ACK begins at
+ * |frame->begin|; QUIC_WIRE_ERR_ARGUMENT for NULL.  |ranges| changes only with
+ * 0.
  */
 QUIC_WIRE_API int quic_wire_ack_ranges_init(quic_wire_range_iter *ranges,
                                             const uint8_t *payload,
@@ -819,20 +825,10 @@ QUIC_WIRE_API int quic_wire_ack_ranges_init(quic_wire_range_iter *ranges,
                                             const quic_wire_frame *frame);
 
 /**
- * The same without a second look at the blocks of an ACK without counts, for
- * a frame that was read of this payload.  Of other words it may return 0 too:
- * then the bytes up to |frame->end| are read as blocks, and the call that comes
- * to some that can be none refuses them.
- */
-QUIC_WIRE_API int
-quic_wire_ack_ranges_init_unchecked(quic_wire_range_iter *ranges,
-                                    const uint8_t *payload, size_t payloadlen,
-                                    const quic_wire_frame *frame);
-
-/**
  * Reads the next range, the greatest first.  Returns QUIC_WIRE_ITEM and the
- * range, 0 where none remains, QUIC_WIRE_ERR_PLACE where |ranges| has no place
- * of an ACK's blocks.
+ * range; 0 if |ranges->left| is 0; QUIC_WIRE_ERR_PLACE if the bytes at
+ * |ranges->offset| are no range of an ACK; QUIC_WIRE_ERR_ARGUMENT for NULL.
+ * Nothing changes except with QUIC_WIRE_ITEM.
  */
 QUIC_WIRE_API int quic_wire_ack_ranges_next(quic_wire_range_iter *ranges,
                                             const uint8_t *payload,
@@ -842,12 +838,11 @@ QUIC_WIRE_API int quic_wire_ack_ranges_next(quic_wire_range_iter *ranges,
 /**
  * Reads the next ranges, the greatest first, as many as the |room| entries of
  * |out| hold, with one call.  Returns QUIC_WIRE_ITEM, and in |*count| how many
- * entries were filled, one at least; 0 where no range remains;
- * QUIC_WIRE_ERR_NOBUF where |room| is 0; QUIC_WIRE_ERR_PLACE where
- * |ranges| has no place of an ACK's blocks.  Entries after those that were
- * filled don't change, and nothing changes but with QUIC_WIRE_ITEM.  Once
- * |ranges->begin| is |ranges->end| none remains, and no call is needed to learn
- * that.
+ * entries were filled, one at least; QUIC_WIRE_ERR_NOBUF if |room| is 0; else 0
+ * if |ranges->left| is 0, and QUIC_WIRE_ERR_PLACE if the bytes at
+ * |ranges->offset| are no range of an ACK; QUIC_WIRE_ERR_ARGUMENT for NULL.
+ * Ranges before an invalid one are given first.  Entries after those that were
+ * filled don't change, and nothing changes except with QUIC_WIRE_ITEM.
  */
 QUIC_WIRE_API int quic_wire_ack_ranges_fill(quic_wire_range_iter *ranges,
                                             const uint8_t *payload,

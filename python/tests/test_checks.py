@@ -42,7 +42,7 @@ GREASED = [
     (["GREASED_BIT", "ANY_VERSION"], "8000000009016100", UNSET, "Fixed Bit", 0, None, "17.2"),
 ]
 GREASE, DELAY = "6ab200", "c0000000ff04de1b0107"
-LONG = "its number isn't in its shortest encoding, which RFC 9000, section 16, allows and quinn-proto refuses"
+LONG = "its integer isn't in its shortest encoding, which RFC 9000, section 16, allows and quinn-proto rejects"
 # Lists that have a parameter twice, and where it is again.
 REPEATS = [("0f00" + GREASE + "040105" + GREASE, "grease_quic_bit", 8), (DELAY * 2, "min_ack_delay", 10)]
 # Lists with an integer that could be shorter, and what it is.
@@ -136,7 +136,7 @@ class Flags(unittest.TestCase):
                 self.assertEqual(getattr(self.parameters(digits, flags), name), value)
         with self.assertRaises(q.ParameterError) as caught:
             self.parameters("0304800000ff", q.Checks.RFC)
-        shown = ("its value isn't what it must be", "illegal value")
+        shown = ("its value is invalid", "illegal value")
         self.assertEqual((caught.exception.why, caught.exception.reason), shown)
 
     def test_a_repeat_is_rejected_with_a_flag(self):
@@ -147,7 +147,7 @@ class Flags(unittest.TestCase):
                 with self.subTest(name), self.assertRaises(q.ParameterError) as caught:
                     self.parameters(digits, flags)
                 error = caught.exception
-                self.assertEqual((error.name, error.why, error.code), (name, "it is there twice", TPE))
+                self.assertEqual((error.name, error.why, error.code), (name, "it occurs twice", TPE))
                 self.assertEqual((error.reason, error.offset), ("malformed", at))
                 self.assertEqual(error.section, "RFC 9000, section 7.4")
         self.assertEqual(self.parameters("1b00" * 2, q.Checks.RFC), q.TransportParameters())

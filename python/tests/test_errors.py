@@ -62,7 +62,7 @@ class Errors(unittest.TestCase):
     def test_of_parameters(self):
         rows = [
             ("0401010302" + "4064" + "050101", q.Side.CLIENT, 3, "max_udp_payload_size", "illegal value", None),
-            ("040101" + "040101", q.Side.CLIENT, 3, "initial_max_data", "malformed", "it is there twice"),
+            ("040101" + "040101", q.Side.CLIENT, 3, "initial_max_data", "malformed", "it occurs twice"),
             (
                 "0f00" + "0210" + "00" * 16,
                 q.Side.SERVER,
@@ -88,7 +88,7 @@ class Errors(unittest.TestCase):
                 found = (error.reason, error.offset, error.name, error.code)
                 self.assertEqual(found, (reason, at, name, q.Code.TRANSPORT_PARAMETER_ERROR))
                 self.assertIn(why, (None, error.why))
-        shown = "its value isn't what it must be"
+        shown = "its value is invalid"
         error = rejected(q.TransportParameters.read, q.Side.CLIENT, bytes.fromhex("03024064"))
         self.assertEqual((error.why, error.wanted, error.value.hex()), (shown, "a number of 1200 or more", "4064"))
         self.assertEqual(error.section, "RFC 9000, section 18.2")
@@ -97,7 +97,7 @@ class Errors(unittest.TestCase):
 
     def test_of_numbers(self):
         error = rejected(q.read_varint, b"\x01\x40", 1)
-        self.assertEqual(str(error), "unexpected end in a number of variable length at 1 (RFC 9000, section 16)")
+        self.assertEqual(str(error), "unexpected end in a varint at 1 (RFC 9000, section 16)")
 
     def test_an_error_is_a_value_error_that_can_be_copied(self):
         error = rejected(q.read_frames, b"\x01\x10")

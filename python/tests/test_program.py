@@ -11,7 +11,7 @@ HERE = pathlib.Path(__file__).parent
 REPOSITORY = HERE.parents[1]
 SWAPPED = (
     "the bytes of each group are swapped, as hexdump without -C and od -x print them; "
-    "hexdump -C and od -t x1 are read"
+    "use hexdump -C or od -t x1"
 )
 
 

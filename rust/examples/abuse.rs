@@ -1,5 +1,5 @@
-//! abuse [ROUNDS [SEED]]: every call with random and damaged bytes and words. What they answer must hang together,
-//! however they are asked: one frame or many, from the front or resumed, in place or copied, written and read.
+//! abuse [ROUNDS [SEED]]: every call with random and damaged bytes and fields. Different calls must agree: one frame or
+//! many, from the front or resumed, in place or copied, written and read.
 use quic_wire::canonical::canonical;
 use quic_wire::frame::{Ack, CryptoMeta, DatagramMeta, Entry, Frame, Iter, Rules, StreamMeta};
 use quic_wire::packet::{
@@ -28,7 +28,7 @@ impl Random {
         self.next() % n
     }
 
-    // Numbers of each width, at and about its bounds.
+    // Numbers of each width, at and around its bounds.
     fn number(&mut self) -> u64 {
         let width = [6, 14, 30, 62, 64][self.below(5) as usize];
         let number = self.next() >> (64 - width);
@@ -40,7 +40,7 @@ impl Random {
         (0..len).map(|_| self.next() as u8).collect()
     }
 
-    // What is mostly frames: types that there are, and small numbers.
+    // Mostly frames: known types, and small numbers.
     fn payload(&mut self) -> Vec<u8> {
         let len = 1 + self.below(60);
         let mut payload = Vec::new();
@@ -112,7 +112,7 @@ fn frames(random: &mut Random) {
     written(&payload, &all, end.is_some() || rules != Rules::default());
 }
 
-// Each frame is written and read, and what is canonical is what is written of all.
+// Each frame is written and read, and the canonical payload is what is written for all of them.
 fn written(payload: &[u8], all: &[(std::ops::Range<usize>, Frame<'_>)], is_broken: bool) {
     let mut together = Vec::new();
     for (i, (place, frame)) in all.iter().enumerate() {
@@ -278,8 +278,8 @@ fn parameters(random: &mut Random) {
             others.reverse();
             assert_eq!(others, unknown);
         }
-        // A parameter that isn't known may be there twice.
-        Err(error) => assert_eq!(error.to_string(), "a further transport parameter is there twice"),
+        // An unknown parameter may occur twice.
+        Err(error) => assert_eq!(error.to_string(), "a further transport parameter occurs twice"),
     }
     let _ = transport_parameters::entries(&random.bytes(9)).count();
 }

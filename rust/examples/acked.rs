@@ -1,4 +1,4 @@
-//! The program of the repository's docs/CALLING.md: packet numbers are kept in a set, an ACK of them is written, and its
+//! The program of the repository's docs/CALLING.md: packet numbers are put in a set, an ACK of them is written, and its
 //! ranges are read.
 use quic_wire::frame::{Ack, Frame, Iter};
 use quic_wire::range_set::ArrayRangeSet;

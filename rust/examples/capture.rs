@@ -1,6 +1,5 @@
-//! capture [FILE..]: what the payloads of a capture hold, each the bytes of a file, as a reader of captures has them
-//! after decryption: frames by their kind, the bytes of each stream, and what is lost to errors. Without a file it
-//! reads payloads of its own.
+//! capture [FILE..]: what the payloads of a capture contain: frames by kind, the bytes of each stream, and what is lost
+//! to errors. Each file is a decrypted payload. Without a file it reads built-in payloads.
 use quic_wire::frame::{Frame, Iter};
 use quic_wire::{Error, StreamId};
 use std::collections::BTreeMap;
@@ -10,9 +9,9 @@ use std::{env, fs, io};
 /// What was sent on a stream.
 #[derive(Debug, Default, PartialEq)]
 struct Sent {
-    /// How many bytes frames carried, those that were sent again too.
+    /// How many bytes frames carried, with retransmissions.
     carried: u64,
-    /// The end of its data, as far as they were seen.
+    /// The end of its data, as far as it was seen.
     end: u64,
     is_finished: bool,
 }

@@ -1,6 +1,6 @@
-//! conformance [FILE..]: a check of what an implementation writes, each file the bytes of a payload: whether types are
-//! in their shortest encoding, as RFC 9000, section 12.4, has it, and which frames are longer than they need to be, and
-//! where. Without a file it checks payloads of its own.
+//! conformance [FILE..]: checks what an implementation writes: whether types are in their shortest encoding, as RFC
+//! 9000, section 12.4, requires, and which frames are longer than necessary, and where. Each file is a payload. Without
+//! a file it checks built-in payloads.
 use quic_wire::canonical::canonical;
 use quic_wire::frame::{FrameType, Iter};
 use quic_wire::{varint, Error};
@@ -13,7 +13,7 @@ use std::{env, fs, io};
 struct Finding {
     place: Range<usize>,
     ty: FrameType,
-    /// How many bytes would do; the data of the last frame need no length.
+    /// How many bytes are enough; the data of the last frame needs no length.
     shortest: usize,
     /// Whether its type is at fault, which a receiver may close the connection for.
     is_type_long: bool,
@@ -44,7 +44,7 @@ fn check(payload: &[u8]) -> Result<Vec<Finding>, Error> {
     Ok(findings)
 }
 
-/// What a receiver that is strict about types refuses.
+/// What a receiver that is strict about types rejects.
 fn refused(payload: &[u8]) -> Result<(), Error> {
     Iter::strict(payload)?.try_for_each(|frame| frame.map(|_| ()))?;
     Ok(())

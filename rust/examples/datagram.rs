@@ -1,6 +1,6 @@
 //! A datagram from end to end: two packets are written, sealed and opened again, what they hold is acknowledged, and
-//! one that was changed on its way is dropped. In place of ciphers it has [`NoProtection`], which hides nothing.
-//! `std` is needed for printing alone.
+//! one that was changed on its way is dropped. In place of ciphers it has [`NoProtection`], which hides nothing. `std`
+//! is needed only for printing.
 use quic_wire::frame::{Ack, Crypto, Frame, Iter, StreamMeta};
 use quic_wire::packet::{Header, PacketNumber, PacketsMut};
 use quic_wire::range_set::ArrayRangeSet;
@@ -11,12 +11,12 @@ const SAMPLE: usize = 16;
 const VERSION: u32 = 1;
 const ID: &[u8] = &[7; 8];
 
-/// NO PROTECTION: the payload stays readable, anybody can make its tag, and the mask is the sample itself. Whoever
-/// builds a stack puts an AEAD and the cipher of headers here (RFC 9001, section 5).
+/// NO PROTECTION: the payload stays readable, anybody can make its tag, and the mask is the sample itself. A stack
+/// needs an AEAD and the header protection cipher here (RFC 9001, section 5).
 struct NoProtection;
 
 impl NoProtection {
-    // The XOR of blocks, which an AEAD would make of its key, the number, the header and the payload.
+    // The XOR of blocks. An AEAD would make the tag from its key, the packet number, the header and the payload.
     fn tag(header: &[u8], payload: &[u8]) -> [u8; TAG] {
         let mut tag = [0x5a; TAG];
         header.iter().chain(payload).enumerate().for_each(|(i, byte)| tag[i % TAG] ^= byte);
@@ -33,8 +33,8 @@ impl NoProtection {
     }
 }
 
-// Behind the header comes the payload, then room for the tag; then the length is known, which the tag covers, and with
-// the tag the sample.
+// The payload follows the header, then room for the tag. Then the length is known, which the tag covers, and with the
+// tag the sample.
 fn seal(
     datagram: &mut Vec<u8>,
     header: Header<'_>,
@@ -64,7 +64,7 @@ fn write() -> Result<Vec<u8>, Error> {
     })?;
     let short = Header::Short { spin: false, key_phase: true, dst_cid: ID, number: number(3)? };
     seal(&mut datagram, short, |out| {
-        // Data that are in two places are put after the frame's header.
+        // Data in two buffers is put after the frame's header.
         StreamMeta { id: StreamId(4), offsets: 100..106, fin: true }.encode(false, out)?;
         out.extend(b"abc");
         out.extend(b"def");
@@ -73,7 +73,7 @@ fn write() -> Result<Vec<u8>, Error> {
     Ok(datagram)
 }
 
-// The numbers of the packets that were opened, which are looked at in their order.
+// The packet numbers of the packets that were opened, in order.
 fn read(datagram: &mut [u8]) -> Result<ArrayRangeSet<32>, Error> {
     let mut received = ArrayRangeSet::new();
     for packet in PacketsMut::new(datagram, ID.len(), &[VERSION], false) {

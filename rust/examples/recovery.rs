@@ -1,21 +1,21 @@
-//! The sets of loss recovery (RFC 9002): a receiver keeps the numbers of the packets that it got and writes them into
-//! an ACK; its peer reads that, takes what is acknowledged out of what is in flight, and finds what is lost.
+//! The sets of loss recovery (RFC 9002). A receiver stores the packet numbers that it received and writes them into an
+//! ACK; its peer reads that, removes what is acknowledged from what is in flight, and finds what is lost.
 use quic_wire::frame::{Ack, Frame, Iter};
 use quic_wire::range_set::ArrayRangeSet;
 use quic_wire::transport_error::Code;
 use quic_wire::Error;
 
-/// How far behind one that was acknowledged a packet is lost (RFC 9002, section 6.1.1).
+/// The packet reordering threshold (RFC 9002, section 6.1.1).
 const THRESHOLD: u64 = 3;
 
-/// Remembers 32 runs of numbers, and no more: what a peer leaves out can't make it grow.
+/// Remembers 32 runs of numbers, and no more, so that a peer that skips numbers can't make it grow.
 #[derive(Default)]
 struct Receiver {
     received: ArrayRangeSet<32>,
 }
 
 impl Receiver {
-    /// Whether a packet is new. One that is older than all that is remembered isn't.
+    /// Whether a packet is new. One older than all that are remembered isn't.
     fn receive(&mut self, number: u64) -> bool {
         let one = number..number + 1;
         !self.received.contains(number) && self.received.insert_or_drop_min(one.clone()) != Some(one)
@@ -62,7 +62,7 @@ impl Sender {
         Ok(number)
     }
 
-    /// Reads the ACKs of a payload, and answers which packets are lost now.
+    /// Reads the ACKs of a payload, and returns which packets are lost now.
     fn read(&mut self, payload: &[u8]) -> Result<Vec<u64>, Refused> {
         let mut lost = Vec::new();
         for frame in Iter::new(payload)? {

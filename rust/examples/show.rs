@@ -1,5 +1,5 @@
-//! show MODE: what `quic-show` prints, with its text and its status, of all of its modes: `frames`, `strict`, `canon`,
-//! `datagram LEN`, `params SIDE`.
+//! show MODE: prints what `quic-show` prints, with the same text and status, in all of its modes: `frames`, `strict`,
+//! `canon`, `datagram LEN`, `params SIDE`.
 use quic_wire::canonical::canonical;
 use quic_wire::frame::{EmptyPayload, Iter};
 use quic_wire::packet::{
@@ -79,7 +79,7 @@ fn packet(packet: &PartialDecode<'_>) -> String {
     }
 }
 
-// In a version that isn't known an id may have up to 255 bytes, but `quic-show` refuses one of more than 20 there too.
+// In an unknown version an id may have up to 255 bytes, but `quic-show` rejects one of more than 20 there too.
 fn refusal(error: &PacketDecodeError<'_>) -> String {
     match error {
         PacketDecodeError::UnsupportedVersion { src_cid, dst_cid, .. }

@@ -4,10 +4,10 @@ use crate::WriteError;
 use core::mem::MaybeUninit;
 
 /// Where bytes are written: at the front of a slice, whose length is the room, or at the end of a `Vec`, which grows.
-/// So what a `Vec` holds is written over only by way of a slice of it, `&mut vec[..]`.
+/// To overwrite the contents of a `Vec`, pass a slice of it, `&mut vec[..]`.
 ///
-/// A slice of bytes that aren't initialised serves as well, such as a buffer's spare capacity; the answer says how many
-/// of them are then. Bytes after those that are written don't change, and none if nothing is written.
+/// A slice of uninitialised bytes works as well, such as a buffer's spare capacity; the result says how many of them
+/// are initialised then. Bytes after those written don't change, and none after an error.
 ///
 /// ```
 /// use quic_wire::frame::Frame;
@@ -34,8 +34,8 @@ pub(crate) mod sealed {
     use super::{Filled, Room, WriteError};
 
     pub trait Put {
-        /// Gives room to `write`, again with as much as it asks for where the buffer grows. `Filled` must be of calls
-        /// that were given the front of that room.
+        /// Passes room to `write`, and again with as much as it asks for if the buffer grows. `Filled` must come from
+        /// calls that got the front of that room.
         fn put<T>(&mut self, write: impl FnMut(&mut Room) -> Result<(Filled, T), WriteError>) -> Result<T, WriteError>;
     }
 }
@@ -57,8 +57,8 @@ impl Put for [u8] {
     #[inline]
     fn put<T>(&mut self, write: impl FnMut(&mut Room) -> Result<(Filled, T), WriteError>) -> Result<T, WriteError> {
         let (bytes, len) = (self.as_mut_ptr().cast::<MaybeUninit<u8>>(), self.len());
-        // SAFETY: it is the same room, borrowed alone, of the same layout; and nothing in this crate writes a byte to a
-        // `Room` that isn't initialised, so that all bytes stay so.
+        // SAFETY: it is the same room, borrowed exclusively, with the same layout; and nothing in this crate writes an
+        // uninitialised byte to a `Room`, so that all bytes stay initialised.
         let room = unsafe { core::slice::from_raw_parts_mut(bytes, len) };
         room.put(write)
     }
@@ -80,7 +80,7 @@ impl Buffer for alloc::vec::Vec<u8> {}
 impl Put for alloc::vec::Vec<u8> {
     #[inline]
     fn put<T>(&mut self, mut write: impl FnMut(&mut Room) -> Result<(Filled, T), WriteError>) -> Result<T, WriteError> {
-        // The call is here once, so that it is inlined with little code.
+        // There is only one call, so that inlining it needs little code.
         let mut is_grown = false;
         let (filled, reported) = loop {
             match write(self.spare_capacity_mut()) {
@@ -92,9 +92,9 @@ impl Put for alloc::vec::Vec<u8> {
             }
         };
         let len = self.len() + filled.len();
-        assert!(len <= self.capacity(), "more was written than there was room");
-        // SAFETY: `filled` was made by calls that were given the front of the spare capacity, so these bytes are
-        // initialised, and `len` isn't above the capacity.
+        assert!(len <= self.capacity(), "more was written than there was room for");
+        // SAFETY: `filled` was made by calls that got the front of the spare capacity, so these bytes are initialised,
+        // and `len` isn't above the capacity.
         unsafe { self.set_len(len) };
         Ok(reported)
     }

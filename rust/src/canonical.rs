@@ -1,5 +1,5 @@
-//! The one shortest payload with a meaning (RFC 9000, sections 12.4 and 19): the same frames in the same order, each in
-//! its shortest form.
+//! The shortest payload with the same meaning (RFC 9000, sections 12.4 and 19): the same frames in the same order, each
+//! in its shortest form.
 //!
 //! ```
 //! use quic_wire::canonical::canonical;
@@ -29,7 +29,7 @@ pub enum CanonError {
     Empty,
     /// The payload has an invalid frame.
     Invalid(InvalidFrame),
-    /// There is less room than these bytes.
+    /// There is less room than this many bytes.
     NoRoom(usize),
 }
 
@@ -45,8 +45,8 @@ impl fmt::Display for CanonError {
 
 impl core::error::Error for CanonError {}
 
-/// Writes the one shortest payload with the meaning of `payload`, and answers how many bytes it has, at most as many as
-/// `payload`.
+/// Writes the shortest payload with the same meaning as `payload`, and returns how many bytes it has, at most as many
+/// as `payload`.
 ///
 /// ```
 /// let payload = [0x40, 0x01, 0x10, 0x40, 0x05];

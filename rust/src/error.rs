@@ -1,4 +1,4 @@
-//! What can go wrong, put together.
+//! All errors of this crate.
 use crate::canonical::CanonError;
 use crate::frame::{EmptyPayload, FrameType, InvalidFrame, Reason};
 use crate::packet::{HeaderError, PacketDecodeError, UnprotectError};
@@ -18,10 +18,9 @@ use core::fmt;
 #[derive(Clone, Copy, Debug, PartialEq, Eq, Hash)]
 #[non_exhaustive]
 pub enum WriteError {
-    /// There is less room than these bytes.
+    /// There is less room than this many bytes.
     NoRoom(usize),
-    /// What isn't so of what was to be written: a number or a length is too great, an id has no length that it may
-    /// have.
+    /// Why it can't be encoded: a number or a length is too large, or an id has a forbidden length.
     OutOfRange(&'static str),
 }
 
@@ -66,13 +65,13 @@ pub enum Error {
     Frame(InvalidFrame),
     /// A packet's version isn't supported.
     UnsupportedVersion(u32),
-    /// No packet begins at this place of a datagram, or it isn't whole.
+    /// No packet begins at this offset of a datagram, or it is cut off.
     Packet(&'static str),
-    /// The protection of a header can't be taken off or put on.
+    /// Header protection can't be removed or applied.
     Protection(UnprotectError),
-    /// A list of transport parameters is refused.
+    /// A list of transport parameters is rejected.
     TransportParameters(transport_parameters::Error),
-    /// A set has no room left, or its entries are no set.
+    /// A set has no room left, or its entries aren't a set.
     Set(range_set::Error),
     /// Nothing was written.
     Write(WriteError),
@@ -80,7 +79,7 @@ pub enum Error {
 
 impl Error {
     /// The code to close the connection with if the peer caused the error; `None` if a packet is dropped (RFC 9000,
-    /// sections 5.2 and 12.2) or the peer has no part in it.
+    /// sections 5.2 and 12.2) or the peer didn't cause it.
     ///
     /// ```
     /// use quic_wire::transport_error::Code;
@@ -89,8 +88,8 @@ impl Error {
     /// assert_eq!(Error::Packet("fixed bit unset").code(), None);
     /// ```
     ///
-    /// An invalid frame is a `FRAME_ENCODING_ERROR`, but for a type that isn't in its shortest encoding (RFC 9000,
-    /// section 12.4), which is refused by [`Rules::short_types`](crate::frame::Rules::short_types) alone.
+    /// An invalid frame is a `FRAME_ENCODING_ERROR`. But a type that isn't in its shortest encoding (RFC 9000, section
+    /// 12.4), which only [`Rules::short_types`](crate::frame::Rules::short_types) rejects, is a `PROTOCOL_VIOLATION`.
     pub fn code(&self) -> Option<Code> {
         match self {
             Error::EmptyPayload | Error::Frame(InvalidFrame { reason: Reason::LongType, .. }) => {

@@ -48,7 +48,7 @@ impl ops::Not for Side {
     }
 }
 
-/// Whether data flow both ways.
+/// Whether data flows both ways.
 ///
 /// ```
 /// assert_eq!(quic_wire::Dir::Uni.to_string(), "unidirectional");
@@ -57,7 +57,7 @@ impl ops::Not for Side {
 pub enum Dir {
     /// Both ways.
     Bi = 0,
-    /// From the initiator alone.
+    /// Only from the initiator.
     Uni = 1,
 }
 
@@ -82,7 +82,7 @@ impl fmt::Display for Dir {
     }
 }
 
-/// The number of a stream, below 2^62 (RFC 9000, section 2.1). No frame is written with a greater one.
+/// A stream id, below 2^62 (RFC 9000, section 2.1). No frame with a larger one is written.
 ///
 /// ```
 /// use quic_wire::{Dir, Side, StreamId};
@@ -123,7 +123,7 @@ impl StreamId {
         }
     }
 
-    /// Whether data flow both ways.
+    /// Whether data flows both ways.
     ///
     /// ```
     /// use quic_wire::{Dir, StreamId};
@@ -160,7 +160,7 @@ impl fmt::Display for StreamId {
     }
 }
 
-/// The most bytes that a connection id has in QUIC 1 and 2 (RFC 9000, section 17.2).
+/// The longest connection id, in bytes, in QUIC 1 and 2 (RFC 9000, section 17.2).
 pub const MAX_CID_SIZE: usize = 20;
 
 /// A connection id of at most 20 bytes, which it owns (RFC 9000, section 5.1).
@@ -224,7 +224,7 @@ impl Eq for ConnectionId {}
 
 impl hash::Hash for ConnectionId {
     fn hash<H: hash::Hasher>(&self, state: &mut H) {
-        // As slices hash, for a map that is looked into by bytes.
+        // Hashes like a slice, for maps that are searched by bytes.
         (**self).hash(state);
     }
 }

@@ -1,13 +1,12 @@
 //! The wire layer of QUIC, versions 1 and 2: the packets of datagrams (RFC 9000, sections 12.2 and 17) in [`packet`];
 //! the frames of their payloads (RFC 9000, section 19, with DATAGRAM of RFC 9221 and the ACK frequency extension) in
 //! [`frame`], with their shortest form in [`canonical`]; the transport parameters (RFC 9000, section 18) in
-//! [`transport_parameters`]; sets of packet numbers in [`range_set`], and numbers of variable length in [`varint`].
+//! [`transport_parameters`]; sets of packet numbers in [`range_set`], and varints in [`varint`].
 //!
-//! A library reads and writes them whose contracts are proved: what is read is what the RFC's grammar says of the
-//! bytes, and no input reads outside them or ends the process. This crate gives it types, in the names of
-//! `quinn-proto`, that borrow from the caller's bytes. It keeps nothing, and takes no memory but for a `Vec` or a set
-//! that grows; ciphers are the caller's. A few calls panic on arguments of their caller, which their
-//! documents name, and none on what a peer sends.
+//! A library with proved contracts does the reading and writing: it reads exactly what the RFC's grammar allows, and no
+//! input makes it read out of bounds or ends the process. This crate adds types that borrow from your bytes, with the
+//! names of `quinn-proto`. It has no global state, and allocates only to grow a `Vec` or a set. You bring the ciphers.
+//! A few calls panic on arguments of their own caller, as their documentation says, and none on what a peer sends.
 //!
 //! ```
 //! use quic_wire::frame::{Frame, Iter};
@@ -22,17 +21,18 @@
 //!
 //! # Features
 //!
-//! The crate is `no_std`. `alloc` lets a `Vec` be written to ([`Buffer`]) and a set grow
-//! (`range_set::GrowingRangeSet`); `std`, the default, builds the program `quic-wire` as well.
+//! The crate is `no_std`. With `alloc` you can write to a `Vec` ([`Buffer`]) and use a set that grows
+//! (`range_set::GrowingRangeSet`). `std`, the default, also builds the program `quic-wire`.
 //!
 //! # What is read otherwise than RFC 9000 has it
 //!
-//! A transport parameter that is an integer with a default is refused as malformed where its encoding is longer than
-//! its shortest, though section 16 allows it; `max_datagram_frame_size` and `min_ack_delay` are taken in any. A version
-//! negotiation whose bit 0x40 is clear is refused by [`packet::Packets`] and [`packet::PacketsMut`] unless packets are
-//! greased, though section 17.2.1 has clients ignore it; [`packet::HeaderPlaces::read`] doesn't look at the bit.
-//! [`packet::PacketNumber::expand`] may give 2^62 or more near that, where appendix A.3 gives a number below. Whether
-//! data end below 2^62 and limits on streams are at most 2^60 isn't looked at: that is the connection's to judge.
+//! A transport parameter that is an integer with a default is malformed unless it is in its shortest encoding, although
+//! section 16 allows longer ones; `max_datagram_frame_size` and `min_ack_delay` are accepted in any encoding.
+//! [`packet::Packets`] and [`packet::PacketsMut`] reject a version negotiation whose fixed bit is clear unless packets
+//! are greased, although clients must ignore that bit (section 17.2.1); [`packet::HeaderPlaces::read`] ignores it. Near
+//! 2^62, [`packet::PacketNumber::expand`] may return 2^62 or more, for which appendix A.3 has a number below. Data that
+//! ends past 2^62 - 1 and limits above 2^60 streams are accepted unless you check them, with [`frame::Rules`] or in
+//! your connection.
 #![no_std]
 #![deny(unsafe_code)]
 

@@ -1,8 +1,8 @@
 //! Sets of packet numbers: sorted runs, none empty, none touching the next.
 //!
-//! An [`ArrayRangeSet`] owns room for a bounded number of them, and with the feature `alloc` a `GrowingRangeSet` for
-//! any. The functions of this module work on an array of the caller's, of which the first runs are the set. But for
-//! what grows nothing takes memory.
+//! An [`ArrayRangeSet`] owns room for a bounded number of runs and, with the feature `alloc`, a `GrowingRangeSet` for
+//! any number. The functions of this module work on an array that you own, whose first runs are the set. Only the set
+//! that grows allocates.
 //!
 //! ```
 //! use quic_wire::range_set::ArrayRangeSet;
@@ -29,7 +29,7 @@ use ends::{insert_at_end, remove_at_front, AtEnd};
 /// A run of packet numbers.
 pub use crate::sys::Range as Run;
 
-/// Why a set was not changed or not looked into.
+/// Why a set wasn't changed or searched.
 ///
 /// ```
 /// use quic_wire::range_set::{contains, ArrayRangeSet, Error, Run};
@@ -38,9 +38,9 @@ pub use crate::sys::Range as Run;
 /// ```
 #[derive(Clone, Copy, Debug, PartialEq, Eq, Hash)]
 pub enum Error {
-    /// The set needs one run more than there is room for.
+    /// The set needs one more run than there is room for.
     NoRoom,
-    /// The first `count` entries are no set: there are fewer, or one is empty or reversed, or doesn't begin after the
+    /// The first `count` entries aren't a set: there are fewer, or one is empty or reversed, or doesn't begin after the
     /// end of the one before it.
     NoRuns,
 }
@@ -48,8 +48,8 @@ pub enum Error {
 impl fmt::Display for Error {
     fn fmt(&self, f: &mut fmt::Formatter<'_>) -> fmt::Result {
         f.write_str(match self {
-            Error::NoRoom => "no room for one run more",
-            Error::NoRuns => "no sorted runs",
+            Error::NoRoom => "no room for one more run",
+            Error::NoRuns => "not sorted runs",
         })
     }
 }
@@ -65,8 +65,8 @@ fn answer(answer: i32) -> Result<bool, Error> {
     }
 }
 
-/// Puts the numbers of `range` into the set of the first `count` runs, and answers whether it changed. Runs after the
-/// set don't change, and nothing changes with an error.
+/// Inserts the numbers of `range` into the set of the first `count` runs, and returns whether it changed. Runs after
+/// the set don't change, and nothing changes after an error.
 ///
 /// ```
 /// use quic_wire::range_set::{contains, insert, remove, Run};
@@ -80,12 +80,12 @@ fn answer(answer: i32) -> Result<bool, Error> {
 ///
 /// # Errors
 ///
-/// Where there is no room for one run more, or the entries are no set.
+/// If there is no room for one more run, or the entries aren't a set.
 pub fn insert(runs: &mut [Run], count: &mut usize, range: Range<u64>) -> Result<bool, Error> {
     answer(sys::set_insert(runs, count, range.start, range.end))
 }
 
-/// Takes the numbers of `range` out of the set of the first `count` runs, as [`insert`] puts them in.
+/// Removes the numbers of `range` from the set of the first `count` runs, as [`insert`] inserts them.
 ///
 /// ```
 /// use quic_wire::range_set::{remove, Run};
@@ -96,7 +96,7 @@ pub fn insert(runs: &mut [Run], count: &mut usize, range: Range<u64>) -> Result<
 ///
 /// # Errors
 ///
-/// Where a run falls in two and there is no room for it, or the entries are no set.
+/// If a run would be split in two and there is no room for it, or the entries aren't a set.
 pub fn remove(runs: &mut [Run], count: &mut usize, range: Range<u64>) -> Result<bool, Error> {
     answer(sys::set_remove(runs, count, range.start, range.end))
 }
@@ -110,12 +110,12 @@ pub fn remove(runs: &mut [Run], count: &mut usize, range: Range<u64>) -> Result<
 ///
 /// # Errors
 ///
-/// Where they are no set.
+/// If they aren't a set.
 pub fn contains(runs: &[Run], number: u64) -> Result<bool, Error> {
     answer(sys::set_contains(runs, number))
 }
 
-/// A set of packet numbers in at most `N` runs, which it owns: what a peer makes of it is bounded.
+/// A set of packet numbers in at most `N` runs, which it owns, so that a peer can't make it grow without bound.
 ///
 /// ```
 /// use quic_wire::range_set::{ArrayRangeSet, Error};
@@ -149,7 +149,7 @@ impl<const N: usize> ArrayRangeSet<N> {
         ArrayRangeSet { runs: [Run { start: 0, end: 0 }; N], count: 0 }
     }
 
-    /// Puts numbers into the set, and answers whether it changed. An empty or reversed range puts in nothing.
+    /// Inserts numbers, and returns whether the set changed. An empty or reversed range inserts nothing.
     ///
     /// ```
     /// use quic_wire::range_set::ArrayRangeSet;
@@ -162,7 +162,7 @@ impl<const N: usize> ArrayRangeSet<N> {
     ///
     /// # Errors
     ///
-    /// Where there is no room for one run more; then nothing changes.
+    /// If there is no room for one more run; nothing changes then.
     #[inline]
     pub fn insert(&mut self, range: Range<u64>) -> Result<bool, Error> {
         match insert_at_end(&mut self.runs[..self.count], &range) {
@@ -178,7 +178,7 @@ impl<const N: usize> ArrayRangeSet<N> {
         }
     }
 
-    /// Puts one number below 2^64 - 1 into the set, and answers whether it wasn't there.
+    /// Inserts one number below 2^64 - 1, and returns whether it wasn't there.
     ///
     /// ```
     /// use quic_wire::range_set::ArrayRangeSet;
@@ -197,8 +197,8 @@ impl<const N: usize> ArrayRangeSet<N> {
         self.insert(number..number.saturating_add(1))
     }
 
-    /// Puts numbers into the set. If there is no room for one run more, the run of the least numbers, theirs or one
-    /// that was there, is dropped, and answered.
+    /// Inserts numbers. If there is no room for one more run, the run of the least numbers, theirs or one that was
+    /// there, is dropped and returned.
     ///
     /// ```
     /// use quic_wire::range_set::ArrayRangeSet;
@@ -216,7 +216,7 @@ impl<const N: usize> ArrayRangeSet<N> {
         match self.min() {
             Some(min) if min < range.start => {
                 let dropped = self.pop_min();
-                // The place of the run that went is there for this one.
+                // There is room for it now, since a run was dropped.
                 self.insert(range).expect("there is room");
                 dropped
             }
@@ -224,7 +224,7 @@ impl<const N: usize> ArrayRangeSet<N> {
         }
     }
 
-    /// Takes numbers out of the set, and answers whether it changed.
+    /// Removes numbers, and returns whether the set changed.
     ///
     /// ```
     /// use quic_wire::range_set::ArrayRangeSet;
@@ -237,7 +237,7 @@ impl<const N: usize> ArrayRangeSet<N> {
     ///
     /// # Errors
     ///
-    /// Where a run falls in two and there is no room for it; then nothing changes.
+    /// If a run would be split in two and there is no room for it; nothing changes then.
     #[inline]
     pub fn remove(&mut self, range: Range<u64>) -> Result<bool, Error> {
         match remove_at_front(&mut self.runs[..self.count], &range) {
@@ -246,7 +246,7 @@ impl<const N: usize> ArrayRangeSet<N> {
         }
     }
 
-    /// Takes all numbers of another set out of this one.
+    /// Removes all numbers of another set.
     ///
     /// ```
     /// use quic_wire::range_set::ArrayRangeSet;
@@ -260,12 +260,12 @@ impl<const N: usize> ArrayRangeSet<N> {
     ///
     /// # Errors
     ///
-    /// Where a run falls in two and there is no room for it; then those before it are out.
+    /// If a run would be split in two and there is no room for it; the numbers before that are removed then.
     pub fn subtract<const M: usize>(&mut self, other: &ArrayRangeSet<M>) -> Result<(), Error> {
         other.iter().try_for_each(|range| self.remove(range).map(|_| ()))
     }
 
-    /// Takes the run of the least numbers out of the set.
+    /// Removes the run of the least numbers and returns it.
     ///
     /// ```
     /// use quic_wire::range_set::ArrayRangeSet;
@@ -367,7 +367,7 @@ impl<const N: usize> ArrayRangeSet<N> {
         self.count
     }
 
-    /// Whether it has none.
+    /// Whether it is empty.
     ///
     /// ```
     /// use quic_wire::range_set::ArrayRangeSet;
@@ -381,7 +381,7 @@ impl<const N: usize> ArrayRangeSet<N> {
         self.count == 0
     }
 
-    /// The runs, as [`crate::frame::Ack::encode`] takes them.
+    /// The runs, as [`crate::frame::Ack::encode`] accepts them.
     ///
     /// ```
     /// use quic_wire::range_set::ArrayRangeSet;

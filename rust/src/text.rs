@@ -1,7 +1,7 @@
-//! How bytes are shown.
+//! How bytes are printed.
 use core::fmt;
 
-// How many bytes `Debug` shows of what may be long.
+// How many bytes of long data `Debug` prints.
 const SHOWN: usize = 16;
 
 /// Bytes in hexadecimal, as many as there are.

@@ -1,7 +1,7 @@
 //! Why an endpoint closes a connection (RFC 9000, section 20.1).
 use core::fmt;
 
-/// A code of the transport, below 2^62.
+/// A transport error code, below 2^62.
 ///
 /// ```
 /// use quic_wire::transport_error::Code;
@@ -38,27 +38,27 @@ macro_rules! codes {
 }
 
 codes! {
-    NO_ERROR = 0x0, "the connection ends without an error.";
-    INTERNAL_ERROR = 0x1, "the endpoint can't go on, for a reason of its own.";
-    CONNECTION_REFUSED = 0x2, "the server takes no new connection.";
-    FLOW_CONTROL_ERROR = 0x3, "more data came than was allowed.";
-    STREAM_LIMIT_ERROR = 0x4, "a stream came above the limit of its kind.";
-    STREAM_STATE_ERROR = 0x5, "a frame came that the stream's state doesn't allow.";
-    FINAL_SIZE_ERROR = 0x6, "a stream's size changed after it was settled.";
+    NO_ERROR = 0x0, "there is no error: the connection ends.";
+    INTERNAL_ERROR = 0x1, "the endpoint has an internal error and can't continue.";
+    CONNECTION_REFUSED = 0x2, "the server refused the connection.";
+    FLOW_CONTROL_ERROR = 0x3, "more data was received than was permitted.";
+    STREAM_LIMIT_ERROR = 0x4, "a frame was received for a stream above the limit of its type.";
+    STREAM_STATE_ERROR = 0x5, "a frame was received that the stream's state doesn't permit.";
+    FINAL_SIZE_ERROR = 0x6, "a stream's final size changed, or was exceeded.";
     FRAME_ENCODING_ERROR = 0x7, "a frame was badly formatted.";
-    TRANSPORT_PARAMETER_ERROR = 0x8, "the transport parameters were in error.";
-    CONNECTION_ID_LIMIT_ERROR = 0x9, "more connection ids came than were allowed.";
-    PROTOCOL_VIOLATION = 0xa, "the peer broke the protocol in a way that no other code says.";
-    INVALID_TOKEN = 0xb, "the token of a client's Initial was not valid.";
+    TRANSPORT_PARAMETER_ERROR = 0x8, "the transport parameters were invalid.";
+    CONNECTION_ID_LIMIT_ERROR = 0x9, "the peer issued more connection ids than were permitted.";
+    PROTOCOL_VIOLATION = 0xa, "the peer broke the protocol in a way that has no other code.";
+    INVALID_TOKEN = 0xb, "the token of a client's Initial was invalid.";
     APPLICATION_ERROR = 0xc, "the application closed the connection during the handshake.";
-    CRYPTO_BUFFER_EXCEEDED = 0xd, "more handshake data came than can be kept.";
-    KEY_UPDATE_ERROR = 0xe, "a key update went wrong.";
-    AEAD_LIMIT_REACHED = 0xf, "the keys were used as often as they may be.";
+    CRYPTO_BUFFER_EXCEEDED = 0xd, "more CRYPTO data was received than can be buffered.";
+    KEY_UPDATE_ERROR = 0xe, "an error in a key update.";
+    AEAD_LIMIT_REACHED = 0xf, "the limit on the use of the AEAD was reached.";
     NO_VIABLE_PATH = 0x10, "no network path works.";
 }
 
 impl Code {
-    /// The code of this number. `None` if it is 2^62 or more.
+    /// The code with this number. `None` if it is 2^62 or more.
     ///
     /// ```
     /// use quic_wire::transport_error::Code;
@@ -77,7 +77,7 @@ impl Code {
         Code(number)
     }
 
-    /// `0x100` and the alert of the handshake (RFC 9001, section 4.8).
+    /// `0x100` plus the TLS alert (RFC 9001, section 4.8).
     ///
     /// ```
     /// assert_eq!(u64::from(quic_wire::transport_error::Code::crypto(42)), 0x12a);

@@ -1,4 +1,4 @@
-//! Numbers of variable length (RFC 9000, section 16).
+//! Varints (RFC 9000, section 16).
 //!
 //! ```
 //! use quic_wire::varint;
@@ -13,7 +13,7 @@ use crate::{sys, WriteError};
 /// The greatest number, 2^62 - 1.
 pub const MAX: u64 = (1 << 62) - 1;
 
-/// The number that bytes begin with, and how many bytes it has, 1, 2, 4 or 8. `None` if they end within it.
+/// The number at the front of the bytes, and how many bytes it has: 1, 2, 4 or 8. `None` if they end within it.
 ///
 /// ```
 /// use quic_wire::varint;
@@ -29,7 +29,7 @@ pub fn read(bytes: &[u8]) -> Option<(u64, usize)> {
     }
 }
 
-/// How many bytes a number has in its shortest encoding. None above [`MAX`].
+/// How many bytes a number has in its shortest encoding. `None` above [`MAX`].
 ///
 /// ```
 /// use quic_wire::varint::{len, MAX};
@@ -46,7 +46,7 @@ pub const fn len(value: u64) -> Option<usize> {
     }
 }
 
-/// Writes a number in its shortest encoding, and answers how many bytes it has.
+/// Writes a number in its shortest encoding, and returns how many bytes it has.
 ///
 /// ```
 /// let mut out = [0; 2];
@@ -55,7 +55,7 @@ pub const fn len(value: u64) -> Option<usize> {
 ///
 /// # Errors
 ///
-/// Where it is above [`MAX`], or there is too little room.
+/// If it is above [`MAX`], or there is too little room.
 #[inline]
 pub fn write<B: Buffer + ?Sized>(value: u64, out: &mut B) -> Result<usize, WriteError> {
     write_in(value, 0, out)
@@ -73,15 +73,15 @@ pub fn write<B: Buffer + ?Sized>(value: u64, out: &mut B) -> Result<usize, Write
 ///
 /// # Errors
 ///
-/// Where it doesn't fit into so many bytes, there is no such width, or there is too little room.
+/// If it doesn't fit in `width` bytes, there is no such width, or there is too little room.
 #[inline]
 pub fn write_in<B: Buffer + ?Sized>(value: u64, width: usize, out: &mut B) -> Result<usize, WriteError> {
-    let shortest = len(value).ok_or(WriteError::OutOfRange("a number of variable length is 2^62 or more"))?;
+    let shortest = len(value).ok_or(WriteError::OutOfRange("a varint is 2^62 or more"))?;
     let needed = match width {
         0 => shortest,
         1 | 2 | 4 | 8 if shortest <= width => width,
         1 | 2 | 4 | 8 => return Err(WriteError::OutOfRange("a number has no encoding of this width")),
-        _ => return Err(WriteError::OutOfRange("a number of variable length has 1, 2, 4 or 8 bytes")),
+        _ => return Err(WriteError::OutOfRange("a varint has 1, 2, 4 or 8 bytes")),
     };
     out.put(|room| match sys::varint_write(value, width as u32, room) {
         Some(filled) => Ok((filled, filled.len())),
@@ -107,7 +107,7 @@ mod tests {
     fn a_width_is_refused_before_room_is_asked_for() {
         let mut short = [0; 1];
         for width in [3, 5, 6, 7, 9, usize::MAX] {
-            let error = "a number of variable length has 1, 2, 4 or 8 bytes";
+            let error = "a varint has 1, 2, 4 or 8 bytes";
             assert_eq!(write_in(5, width, &mut short), Err(WriteError::OutOfRange(error)), "{width}");
         }
         for (value, width) in [(64, 1), (1 << 14, 2), (1 << 30, 4)] {

@@ -8,7 +8,7 @@ const ENCODING: &str = "close_code=7 close_name=FRAME_ENCODING_ERROR";
 const VIOLATION: &str = "close_code=10 close_name=PROTOCOL_VIOLATION";
 const PARAMETER: &str = "close_code=8 close_name=TRANSPORT_PARAMETER_ERROR";
 
-// Each line ends with an error: its place, what it is, the field with its place, what closes, the section.
+// Each line ends with an error: its offset, what it is, the field with its offset, the close code, the section.
 #[test]
 fn an_error_of_a_frame_names_its_field() {
     let rows = [
@@ -57,7 +57,7 @@ fn an_error_of_a_packet_names_its_field() {
         (
             "c000000009 020102 030405ff",
             "unsupported version 9 dst=0102 src=0405ff field=\"Version\" field_at=1",
-            "then=\"a server answers by a version negotiation, a client drops the packet\" \
+            "then=\"a server responds with a version negotiation, a client drops the packet\" \
              section=\"RFC 9000, sections 5.2.1 and 5.2.2\""
                 .into(),
         ),
@@ -68,7 +68,7 @@ fn an_error_of_a_packet_names_its_field() {
     }
 }
 
-// A list, where the parameter at fault begins, what is said of it, the parameter, why, and the section.
+// A list, where the parameter at fault begins, the error, the parameter, why, and the section.
 const PARAMETERS: [(&str, usize, &str, &str, &str, &str); 8] = [
     ("0a0115", 0, "illegal value", "ack_delay_exponent id=10 value=15", "=a number of at most 20", "18.2"),
     ("010100 0b0480004000", 3, "illegal value", "max_ack_delay id=11 value=80004000", "=a number below 2^14", "18.2"),
@@ -76,7 +76,7 @@ const PARAMETERS: [(&str, usize, &str, &str, &str, &str); 8] = [
     ("0e0101", 0, "illegal value", "active_connection_id_limit id=14 value=01", "=a number of 2 or more", "18.2"),
     ("0c0100", 0, "malformed", "disable_active_migration id=12 value=00", "=no bytes", "18.2"),
     ("0202aabb", 0, "malformed", "stateless_reset_token id=2 value=aabb", "=16 bytes", "18.2"),
-    ("010100 1100 010100", 5, "malformed", "max_idle_timeout id=1 value=00", "it is there twice", "7.4"),
+    ("010100 1100 010100", 5, "malformed", "max_idle_timeout id=1 value=00", "it occurs twice", "7.4"),
     ("010100 0105", 3, "malformed", "max_idle_timeout id=1", "it is cut off", "18"),
 ];
 
@@ -84,7 +84,7 @@ const PARAMETERS: [(&str, usize, &str, &str, &str, &str); 8] = [
 fn an_error_of_parameters_names_the_parameter() {
     for (list, at, what, parameter, why, section) in PARAMETERS {
         let why = match why.strip_prefix('=') {
-            Some(wanted) => format!("wanted=\"{wanted}\" why=\"its value isn't what it must be\""),
+            Some(wanted) => format!("wanted=\"{wanted}\" why=\"its value is invalid\""),
             None => format!("why=\"{why}\""),
         };
         let error = format!(
@@ -111,7 +111,7 @@ fn programs_read_where_an_error_is() {
     let text = lines(&["params", "--json"], "0e0101\n");
     let error = concat!(
         r#"{"line":1,"offset":0,"error":"illegal value","parameter":"active_connection_id_limit","id":14,"#,
-        r#""value":"01","wanted":"a number of 2 or more","why":"its value isn't what it must be","close_code":8,"#,
+        r#""value":"01","wanted":"a number of 2 or more","why":"its value is invalid","close_code":8,"#,
         r#""close_name":"TRANSPORT_PARAMETER_ERROR","section":"RFC 9000, section 18.2"}"#,
     );
     assert_eq!(text, [error]);

@@ -232,16 +232,16 @@ fn headers_are_refused_whole() {
     assert_eq!(
         errors.map(|error| error.unwrap_err().to_string()),
         [
-            "data end at 2^62 or behind it",
+            "data ends at or past 2^62",
             "a stream's number is 2^62 or more",
             "a range of data is reversed",
-            "data end at 2^62 or behind it",
+            "data ends at or past 2^62",
         ]
     );
 }
 
-/// What RFC 9000, section 19.8, has a receiver refuse ("cannot exceed 2^62-1") is the connection's to judge where a
-/// frame is read or written whole; a header alone isn't written for it.
+/// What RFC 9000, section 19.8, has a receiver reject ("cannot exceed 2^62-1") is for the connection to check if a
+/// frame is read or written whole; only a header isn't written for it.
 #[test]
 fn data_that_end_at_2_62_have_no_header() {
     let (id, offset) = (StreamId(0), (1 << 62) - 2);
@@ -249,7 +249,7 @@ fn data_that_end_at_2_62_have_no_header() {
     is_read_back(whole(&[1]));
     is_read_back(whole(&[1, 2]));
     let header = |end| StreamMeta { id, offsets: offset..end, fin: false }.encode(true, &mut [0; 32]);
-    let refused = WriteError::OutOfRange("data end at 2^62 or behind it");
+    let refused = WriteError::OutOfRange("data ends at or past 2^62");
     assert_eq!((header(offset + 1), header(offset + 2)), (Ok(11), Err(refused)));
     assert_eq!(CryptoMeta { offsets: offset..offset + 2 }.encode(&mut [0; 32]), Err(refused));
 }
@@ -284,7 +284,7 @@ fn what_is_out_of_range_is_named() {
         (new(&id[..0], 0), "a new id has 1 to 20 bytes"),
         (new(&id, 0), "a new id has 1 to 20 bytes"),
         (new(&id[..20], 5), "retire_prior_to is above its own sequence number"),
-        (Frame::Close(close.into()), "a close can't name PADDING, whose type says that it names none"),
+        (Frame::Close(close.into()), "a close can't name PADDING: type 0 means that no type is known"),
         (Frame::Stream(stream), "a number is 2^62 or more"),
         (Frame::Stream(Stream { id: StreamId(1 << 62), offset: 0, ..stream }), "a number is 2^62 or more"),
         (Frame::MaxStreams { dir: Dir::Uni, count: 1 << 62 }, "a number is 2^62 or more"),

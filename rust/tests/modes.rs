@@ -35,7 +35,7 @@ fn numbers_are_those_of_the_rfc() {
         "1: 12..14 NUMBER value=15293 shortest_len=2",
         "1: 14..15 NUMBER value=37 shortest_len=1",
         "1: 15..17 NUMBER value=37 shortest_len=1",
-        "2: error at 0: unexpected end in a number of variable length section=\"RFC 9000, section 16\"",
+        "2: error at 0: unexpected end in a varint section=\"RFC 9000, section 16\"",
     ];
     assert_eq!(numbers, all);
     let expanded = [format!("1: 0..2 PACKET_NUMBER value={} written={}", 0xa82f9b32_u64, 0x9b32)];
@@ -63,7 +63,7 @@ fn sets_are_printed_with_an_ack_of_them() {
         [r#"{"line":1,"largest":7,"count":4,"ranges":[[7,7],[1,3]],"ack":"02070001000202"}"#]
     );
     for wrong in ["3-1", "4611686018427387904", "x", "1-", "5..5", "-3"] {
-        let error = format!("1: error no packet number or range of them below 2^62: {wrong:?}");
+        let error = format!("1: error not a packet number or range below 2^62: {wrong:?}");
         assert_eq!(lines(&["ranges"], wrong), [error]);
     }
     assert_eq!(lines(&["ranges"], "4611686018427387903")[0], "1: largest=4611686018427387903");
@@ -95,7 +95,7 @@ fn ids_of_short_headers_are_known_by_long_ones() {
 fn a_version_negotiation_needs_no_fixed_bit() {
     let negotiation = "800000000004010203040405060708000000016b3343cf";
     let versions = "0..23 version-negotiation dst=01020304 src=05060708 versions=00000001,6b3343cf";
-    let note = "note=\"RFC 9000, section 17.2.1, leaves this bit unused; quinn-proto 0.11 refuses the packet\"";
+    let note = "note=\"RFC 9000, section 17.2.1, leaves this bit unused; quinn-proto 0.11 rejects the packet\"";
     assert_eq!(lines(&["datagram"], negotiation), [format!("1: {versions} fixed_bit=false {note}")]);
     assert_eq!(lines(&["datagram", "--grease"], negotiation), [format!("1: {versions}")]);
     let with_bit = negotiation.replacen('8', "c", 1);
@@ -105,7 +105,7 @@ fn a_version_negotiation_needs_no_fixed_bit() {
     assert!(lines(&["datagram"], "8000000009 01aa 00 00")[0].starts_with(other));
 }
 
-// What is asked for above the memory that there is ends with a sentence and 3.
+// A request for more memory than there is ends with a message and status 3.
 #[test]
 #[cfg(target_os = "linux")]
 fn lacking_memory_is_said() {
@@ -139,7 +139,7 @@ fn packets_of_captures_are_cut_to_their_datagrams() {
         assert_eq!(read[0], format!("2: 0..{front} udp from=127.0.0.1:24434 to=127.0.0.1:33487"));
         assert!(read[1].starts_with(&format!("2: {front}..{} initial dst=- src=546f", front + 52)), "{read:?}");
         assert!(read[1].ends_with(&format!(" len=22 number_at={}", front + 30)) && read.len() == 2, "{read:?}");
-        assert!(lines(&["frames"], dump)[0].starts_with("2: error a packet with its headers of IP"));
+        assert!(lines(&["frames"], dump)[0].starts_with("2: error an IP packet, not a QUIC payload"));
     }
     let ipv6 = "6000 0000 000d 1120 2001 0db8 0000 0000 0000 0000 0000 0001 2001 0db8 0000 0000 0000 0000 0000 0002 \
                 01bb c350 000d e1dc 41aa bbcc 00";
@@ -148,5 +148,5 @@ fn packets_of_captures_are_cut_to_their_datagrams() {
     assert_eq!(lines(&["datagram"], ipv6), all);
     let tcp = "4500 002d 1234 0000 ff06 9594 0a00 0001 0a00 0002 01bb c350 0000 0000 0000 0000 5000 2000 b95a 0000 \
                41aa bbcc 00";
-    assert_eq!(lines(&["datagram"], tcp), ["1: error a packet of IP without UDP"]);
+    assert_eq!(lines(&["datagram"], tcp), ["1: error an IP packet without UDP"]);
 }

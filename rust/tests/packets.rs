@@ -151,7 +151,8 @@ fn a_packet_is_sealed_and_opened() {
     assert_eq!(packet, before);
 }
 
-/// What RFC 9001, section 5.4.1, has a cipher do: mask the first byte, and the bytes of the number that it tells.
+/// What RFC 9001, section 5.4.1, has a cipher do: mask the first byte, and the bytes of the packet number whose length
+/// it has.
 fn masked(mask: [u8; 5], first: &mut u8, number: &mut [u8; 4], taken_off: bool) {
     let before = *first;
     *first ^= mask[0] & if before < 0x80 { 0x1f } else { 0x0f };
@@ -276,7 +277,7 @@ fn a_length_that_does_not_fit_is_refused() {
     for number in 0..2 {
         let mut moved = written;
         moved.number = number;
-        let what = WriteError::OutOfRange("no length stands before this number");
+        let what = WriteError::OutOfRange("no length precedes this number");
         assert_eq!((moved.set_len(&mut packet[..most]), &packet), (Err(what), &before));
     }
     // A short header has none.

@@ -28,7 +28,7 @@ fn parameters_are_read_back() {
     let len = given.write(Side::Server, &mut list).unwrap();
     assert_eq!(TransportParameters::read(Side::Client, &list[..len]), Ok(given));
     let refused = |side, list: &[u8]| TransportParameters::read(side, list).map_err(|error| (error.kind(), error.id()));
-    // A preferred address, which a server alone sends.
+    // A preferred address, which only servers send.
     assert_eq!(refused(Side::Server, &list[..len]), Err((ErrorKind::IllegalValue, Some(0x0d))));
     assert_eq!(given.write(Side::Server, &mut list[..len - 1]), Err(WriteError::NoRoom(len)));
     // The last entry is that of min_ack_delay.
@@ -45,7 +45,7 @@ fn what_is_out_of_range_is_named() {
     let at = |address| TransportParameters { preferred_address: Some(address), ..d() };
     let nowhere = Some("0.0.0.0:0".parse().unwrap());
     let refused = [
-        (Side::Client, of_a_server(), "a client sends a parameter that a server alone sends"),
+        (Side::Client, of_a_server(), "a client sends a parameter that only servers send"),
         (Side::Client, TransportParameters { max_udp_payload_size: 1199, ..d() }, "max_udp_payload_size is below 1200"),
         (Side::Client, TransportParameters { ack_delay_exponent: 21, ..d() }, "ack_delay_exponent is above 20"),
         (Side::Client, TransportParameters { max_ack_delay: 1 << 14, ..d() }, "max_ack_delay is 2^14 or more"),
@@ -125,13 +125,13 @@ fn further_parameters_are_checked() {
     assert!(write(&list_of(&many[..235]), &[]).is_ok());
     let refused = [
         (write(&list_of(&[one, Entry { id: 0x04, value }]), &[]), {
-            "a further transport parameter is one that the record has"
+            "a further transport parameter is one that the struct has"
         }),
-        (write(&list_of(&[one, one]), &[]), "a further transport parameter is there twice"),
+        (write(&list_of(&[one, one]), &[]), "a further transport parameter occurs twice"),
         (write(&[0x11], &[]), "a further transport parameter is cut off"),
         (write(&list_of(&many), &[]), "more than 235 further transport parameters"),
-        (write(&[], &[0]), "the order isn't one of all transport parameters"),
-        (write(&[], &[1; 21]), "the order isn't one of all transport parameters"),
+        (write(&[], &[0]), "the order doesn't have each transport parameter once"),
+        (write(&[], &[1; 21]), "the order doesn't have each transport parameter once"),
         (Entry { id: 1 << 62, value }.write(&mut vec![]), "the number of a transport parameter is 2^62 or more"),
         (TransportParameters { max_ack_delay: 1 << 14, ..sent }.write_with(Side::Client, &[], &[], &mut vec![]), {
             "max_ack_delay is 2^14 or more"
@@ -161,7 +161,7 @@ fn ids_are_keys() {
     assert_eq!(format!("{id:?} {id}"), "010203 010203");
 }
 
-// What each way of reading says of a list: its `initial_max_data`, or the number and the place of what it refuses.
+// What each way of reading returns for a list: its `initial_max_data`, or the id and the offset of what it rejects.
 type Answer = Result<u64, (Option<u64>, usize)>;
 
 #[test]
@@ -219,7 +219,7 @@ fn an_illegal_value_names_its_parameter() {
     for (i, (side, id, entry)) in rows.iter().enumerate() {
         let list = [&[0x04, 1, 9][..], entry].concat();
         assert_eq!(refused(*side, &list), (ErrorKind::IllegalValue, Some(*id), 3));
-        // A server refuses the others' too, so that any two may be in one list.
+        // A server rejects the others' too, so that any two may be in one list.
         for (_, _, later) in &rows[i + 1..] {
             let list = [&later[..], entry].concat();
             assert_eq!(refused(Side::Server, &list), (ErrorKind::IllegalValue, Some(*id), later.len()));

@@ -104,27 +104,27 @@ fn every_field_of_a_packet_is_printed() {
 #[test]
 fn calls_end_with_their_status() {
     for (wrong, what) in [
-        (&[][..], "no mode is given; it is one of frames, canon, datagram, params, number, ranges"),
-        (&["frame"], "there is no mode \"frame\"; did you mean frames?"),
-        (&["dataram"], "there is no mode \"dataram\"; did you mean datagram?"),
-        (&["quux"], "there is no mode \"quux\""),
+        (&[][..], "missing MODE: frames, canon, datagram, params, number, ranges"),
+        (&["frame"], "unknown mode \"frame\"; did you mean frames?"),
+        (&["dataram"], "unknown mode \"dataram\"; did you mean datagram?"),
+        (&["quux"], "unknown mode \"quux\""),
         (&["frames", "--grease"], "--grease is an option of datagram, not of frames"),
         (&["params", "--cid-len=1"], "--cid-len is an option of datagram, not of params"),
         (&["canon", "--strict"], "--strict is an option of frames, not of canon"),
-        (&["datagram", "--cid-len", "21"], "an id has 0 to 20 bytes, not \"21\""),
-        (&["datagram", "--cid-len", "+1"], "an id has 0 to 20 bytes, not \"+1\""),
-        (&["datagram", "--cid-len"], "--cid-len wants a value: how many bytes an id has, 0 to 20"),
-        (&["datagram", "--versions", "0"], "a version is a hexadecimal number of at most 8 digits and not 0"),
-        (&["datagram", "--versions", "1,,2"], "a version is a hexadecimal number of at most 8 digits and not 0"),
-        (&["datagram", "--vers", "1"], "there is no option --vers; did you mean --version?"),
-        (&["params", "--side", "clint"], "a side is client or server, not \"clint\"; did you mean client?"),
-        (&["params", "--side"], "--side wants a value: client or server"),
-        (&["params", "--sdie=client"], "there is no option --sdie; did you mean --side?"),
-        (&["number", "--largest", "-1"], "a packet number is below 2^62 - 1"),
-        (&["frames", "--json=1"], "--json has no value"),
-        (&["frames", "--color=alwys"], "colours are always, never or auto, not \"alwys\"; did you mean always?"),
-        (&["frames", "--color"], "--color wants a value: always, never or auto"),
-        (&["frames", "-x"], "there is no option -x"),
+        (&["datagram", "--cid-len", "21"], "--cid-len: an id has 0 to 20 bytes, not \"21\""),
+        (&["datagram", "--cid-len", "+1"], "--cid-len: an id has 0 to 20 bytes, not \"+1\""),
+        (&["datagram", "--cid-len"], "--cid-len needs a value: how many bytes an id has, 0 to 20"),
+        (&["datagram", "--versions", "0"], "--versions: not a hexadecimal number of 1 to 8 digits, other than 0"),
+        (&["datagram", "--versions", "1,,2"], "--versions: not a hexadecimal number of 1 to 8 digits, other than 0"),
+        (&["datagram", "--vers", "1"], "unknown option --vers; did you mean --version?"),
+        (&["params", "--side", "clint"], "--side: expected client or server, not \"clint\"; did you mean client?"),
+        (&["params", "--side"], "--side needs a value: client or server"),
+        (&["params", "--sdie=client"], "unknown option --sdie; did you mean --side?"),
+        (&["number", "--largest", "-1"], "--largest: not a packet number below 2^62 - 1"),
+        (&["frames", "--json=1"], "--json takes no value"),
+        (&["frames", "--color=alwys"], "--color: expected always, never or auto, not \"alwys\"; did you mean always?"),
+        (&["frames", "--color"], "--color needs a value: always, never or auto"),
+        (&["frames", "-x"], "unknown option -x"),
     ] {
         let (out, err, status) = run(wrong, b"01\n");
         assert_eq!((out.as_str(), status), ("", 2), "{wrong:?}");
@@ -151,13 +151,13 @@ fn answers_come_as_lines_do() {
         let answer = answers.next().unwrap().unwrap();
         assert!(answer.starts_with(&format!("{}: ", i + 1)), "{answer}");
     }
-    // Who reads no more ends it, without a word, by the status that a shell has of SIGPIPE.
+    // When the reader stops, the program ends without a message, with the shell's status for SIGPIPE.
     drop(answers);
     while writeln!(stdin, "01").is_ok() {}
     assert_eq!(child.wait().unwrap().code(), Some(141));
 }
 
-// The output goes to what the shell's words say; then what is said, and the status.
+// The output goes where the shell's words say; then the message, and the status.
 #[cfg(target_os = "linux")]
 fn shell(words: &str) -> (String, i32) {
     let mut command = Command::new("sh");
@@ -258,8 +258,8 @@ fn colours_are_asked_for() {
     assert_eq!(lines(&["frames", "--color=always", "--json"], input), json);
 }
 
-// What `quic-show` prints of a list, by the lines of this program. Lines with other hexadecimal than it takes are left
-// out.
+// What `quic-show` prints for a list, made from this program's lines. Lines with hexadecimal that it doesn't accept are
+// left out.
 fn as_shown(mode: &str, input: &str, answer: &str) -> String {
     let lines: Vec<&str> = input.lines().collect();
     let mut shown = String::new();
@@ -314,7 +314,7 @@ fn reason(error: &str) -> &str {
     &error[..end]
 }
 
-// `quic-show` looks at the fixed bit of any version, and refuses an id of more than 20 bytes in any.
+// `quic-show` checks the fixed bit of any version, and rejects an id of more than 20 bytes in any.
 fn no_packet(text: &str, error: &str, line: &str) -> String {
     let reason = reason(error);
     let at: usize = text.strip_prefix("error at ").unwrap().split(':').next().unwrap().parse().unwrap();
@@ -379,7 +379,7 @@ impl Params {
         }
     }
 
-    // The order of the numbers and then of the rest is that of the record.
+    // The order of the numbers and then of the rest is that of the struct.
     fn end(&mut self) -> String {
         if !std::mem::take(&mut self.is_begun) {
             return String::new();
@@ -390,7 +390,7 @@ impl Params {
     }
 }
 
-/// The lists `MODE.in` of the folder that `QUIC_WIRE_LISTS` names, with what `quic-show` prints of them in `MODE.out`.
+/// The lists `MODE.in` of the folder that `QUIC_WIRE_LISTS` names, with what `quic-show` prints for them in `MODE.out`.
 #[test]
 fn lists_are_read_as_quic_show_reads_them() {
     let Ok(folder) = std::env::var("QUIC_WIRE_LISTS") else { return };

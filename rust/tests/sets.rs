@@ -31,9 +31,9 @@ fn an_ack_that_cannot_be_written_is_named() {
     let run = |start, end| Run { start, end };
     let refused = [
         (vec![], "an ACK of no packet"),
-        (vec![run(2, 2)], "an ACK of ranges that are no sorted runs"),
-        (vec![run(5, 6), run(1, 2)], "an ACK of ranges that are no sorted runs"),
-        (vec![run(1, 2), run(2, 3)], "an ACK of ranges that are no sorted runs"),
+        (vec![run(2, 2)], "the ranges of an ACK aren't sorted runs"),
+        (vec![run(5, 6), run(1, 2)], "the ranges of an ACK aren't sorted runs"),
+        (vec![run(1, 2), run(2, 3)], "the ranges of an ACK aren't sorted runs"),
         (vec![run(1, (1 << 62) + 1)], "a number in the ACK, its delay or a count is 2^62 or more"),
     ];
     for (runs, what) in refused {
@@ -98,7 +98,7 @@ fn runs_of(bits: u8) -> Vec<Run> {
     runs
 }
 
-// What the library makes of an array with this set.
+// The library's change to an array with this set.
 fn asked(set: &[Run], room: usize, change: impl Fn(&mut [Run], &mut usize) -> Result<bool, Error>) -> Changed {
     let (mut runs, mut count) = ([Run::default(); 5], set.len());
     runs[..count].copy_from_slice(set);

@@ -7,7 +7,7 @@ use quic_wire::transport_parameters::{Entry, TransportParameters};
 use quic_wire::{varint, Buffer, Side, StreamId, WriteError};
 use std::mem::MaybeUninit;
 
-// Each room that is too little is refused with what is needed, and stays as it is.
+// Each room that is too small is rejected with what is needed, and doesn't change.
 fn check(len: usize, write: impl Fn(&mut [u8]) -> Result<usize, WriteError>) {
     let mut out = [7; 64];
     assert_eq!(write(&mut out), Ok(len));
@@ -43,7 +43,7 @@ fn writers_say_what_room_they_need() {
     });
 }
 
-// Room that isn't initialised, and an array, by one function.
+// Uninitialised room, and an array, with one function.
 fn ping<B: Buffer + ?Sized>(out: &mut B) -> Result<usize, WriteError> {
     Frame::Ping.encode(false, out)
 }

@@ -18,7 +18,7 @@ void canonical_nulls(void) {
 static void same_frame(const uint8_t *a, size_t alen, const quic_wire_frame *x,
                        const uint8_t *b, size_t blen,
                        const quic_wire_frame *y) {
-  quic_wire_range_iter some, others, unchecked;
+  quic_wire_range_iter some, others;
   quic_wire_range one, other;
   WANT(x->kind == y->kind && x->flags == y->flags && x->datalen == y->datalen);
   WANT(!memcmp(x->numbers, y->numbers, sizeof x->numbers));
@@ -29,8 +29,7 @@ static void same_frame(const uint8_t *a, size_t alen, const quic_wire_frame *x,
     return;
   WANT(quic_wire_ack_ranges_init(&some, a, alen, x) == 0);
   WANT(quic_wire_ack_ranges_init(&others, b, blen, y) == 0);
-  WANT(quic_wire_ack_ranges_init_unchecked(&unchecked, b, blen, y) == 0);
-  WANT(!memcmp(&others, &unchecked, sizeof others));
+  WANT(some.left == others.left && some.largest == others.largest);
   while (quic_wire_ack_ranges_next(&some, a, alen, &one) == 1) {
     WANT(quic_wire_ack_ranges_next(&others, b, blen, &other) == 1);
     WANT(one.start == other.start && one.end == other.end);

@@ -4,6 +4,7 @@ mod Shapes
 mod Meanings
 mod Filling
 mod Fronts
+mod RangeSteps
 mod RangeFilling
 mod GapFilling
 mod AckGaps

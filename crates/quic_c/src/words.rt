@@ -60,10 +60,10 @@ pub struct CGap {
 #[repr(C)]
 #[derive(Clone, Copy)]
 pub struct CRangeIter {
-    /// Where the blocks that are left begin in the payload.
-    pub begin: usize,
-    /// Where they end.
-    pub end: usize,
+    /// Where the next block begins in the payload.
+    pub offset: usize,
+    /// How many ranges are left.
+    pub left: u64,
     /// The greatest number of the next range.
     pub largest: u64,
 }

@@ -18,7 +18,7 @@ from ._program.source import Pieces, Plain
 
 # Some line was rejected; the call is wrong; reading, writing or memory failed; who read the output reads no more.
 REFUSED, WRONG_CALL, FAILED, UNREAD = 1, 2, 3, 141
-_WHOLE_PACKET = "a packet with its headers of IP, and no payload of QUIC; the mode datagram reads it"
+_WHOLE_PACKET = "an IP packet, not a QUIC payload; use the mode datagram"
 
 
 def _say(what: object) -> None:

@@ -56,7 +56,7 @@ _OF_SERVERS = frozenset((0x00, 0x02, 0x0D, 0x10))
 _SHORTEST = frozenset((0x01, *range(0x03, 0x0C), 0x0E))
 # Those that may be there twice, unless Checks.NO_REPEATS rejects that.
 _REPEATABLE = frozenset((GREASE_QUIC_BIT, MIN_ACK_DELAY))
-_LONG = "its number isn't in its shortest encoding, which RFC 9000, section 16, allows and quinn-proto refuses"
+_LONG = "its integer isn't in its shortest encoding, which RFC 9000, section 16, allows and quinn-proto rejects"
 # In which order quic_wire_params_write_with numbers them, without the reserved one.
 ROWS = {
     0x01: 0, **{0x03 + i: 1 + i for i in range(9)}, 0x0E: 10, 0x02: 12, 0x0C: 13, 0x20: 14, 0x0D: 15, 0x00: 16,
@@ -106,9 +106,9 @@ def fault_of(side: int, checks: Checks, data: memoryview, begin: int, number: Op
     value = data[begin + entry.value : begin + entry.end]
     found = Fault(begin, entry.id, bytes(value), section=known.section)
     if _is_repeat(checks, data[:begin], entry.id):
-        return found._replace(why="it is there twice", section="RFC 9000, section 7.4")
+        return found._replace(why="it occurs twice", section="RFC 9000, section 7.4")
     if side == SERVER and entry.id in _OF_SERVERS:
         return found._replace(why="a client must not send it")
     if entry.id in _SHORTEST and Checks.ANY_WIDTH not in checks and _is_long(value):
         return found._replace(why=_LONG)
-    return found._replace(why="its value isn't what it must be", wanted=known.wanted)
+    return found._replace(why="its value is invalid", wanted=known.wanted)

@@ -178,4 +178,4 @@ def _parameter_fault(reason: str, code: Code, found: _parameter_table.Fault) -> 
 
 
 def _raise_varint(at: int) -> NoReturn:
-    raise Error("unexpected end in a number of variable length", at, None, None, "RFC 9000, section 16")
+    raise Error("unexpected end in a varint", at, None, None, "RFC 9000, section 16")

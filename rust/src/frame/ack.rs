@@ -8,7 +8,7 @@ use core::fmt;
 use core::iter::FusedIterator;
 use core::ops::{Range, RangeInclusive};
 
-/// Counts of marked packets (RFC 9000, section 19.3.2).
+/// ECN counts: how many packets were received with each codepoint (RFC 9000, section 19.3.2).
 ///
 /// ```
 /// use quic_wire::frame::{Ack, EcnCounts};
@@ -31,8 +31,8 @@ impl EcnCounts {
     pub const ZERO: EcnCounts = EcnCounts { ect0: 0, ect1: 0, ce: 0 };
 }
 
-/// An acknowledgement that was read (RFC 9000, section 19.3). It borrows its frame's bytes. Who keeps the payload keeps
-/// an [`AckPlace`] beside it; who doesn't keeps the bytes, which [`Ack::from_bytes`] reads again.
+/// An acknowledgement that was read (RFC 9000, section 19.3). It borrows its frame's bytes. To use it later, keep the
+/// payload and an [`AckPlace`], or keep the frame's bytes, which [`Ack::from_bytes`] reads again.
 ///
 /// ```
 /// use quic_wire::frame::{Ack, Frame, Iter};
@@ -58,7 +58,7 @@ pub struct Ack<'a> {
     bytes: &'a [u8],
 }
 
-/// Bytes that aren't those of just one ACK.
+/// Bytes that aren't exactly one ACK.
 ///
 /// ```
 /// use quic_wire::frame::{Ack, AckError};
@@ -77,13 +77,13 @@ impl fmt::Display for AckError {
 impl core::error::Error for AckError {}
 
 impl<'a> Ack<'a> {
-    // Of an entry that the library read of these bytes.
+    // From an entry that the library read from these bytes.
     pub(super) fn of(bytes: &'a [u8], f: &sys::Frame) -> Ack<'a> {
         let [largest, delay, ect0, ect1, ce] = f.numbers;
         Ack { largest, delay, ecn: (f.flags == 2).then_some(EcnCounts { ect0, ect1, ce }), bytes }
     }
 
-    /// The ACK that these bytes are, as [`Ack::as_bytes`] gave them. They are looked at again.
+    /// The ACK in these bytes, as [`Ack::as_bytes`] returned them. They are checked again.
     ///
     /// ```
     /// use quic_wire::frame::Ack;
@@ -94,7 +94,7 @@ impl<'a> Ack<'a> {
     ///
     /// # Errors
     ///
-    /// Where they aren't one ACK and nothing else.
+    /// If they aren't exactly one ACK.
     pub fn from_bytes(bytes: &'a [u8]) -> Result<Ack<'a>, AckError> {
         let mut frames = Iter::new(bytes).map_err(|_| AckError)?;
         match frames.next() {
@@ -116,8 +116,7 @@ impl<'a> Ack<'a> {
         self.bytes
     }
 
-    /// What is to be kept of it beside its payload, without a borrow of that. `None` if its bytes aren't a part of
-    /// `payload`.
+    /// What to keep with the payload, without borrowing it. `None` if its bytes aren't a part of `payload`.
     ///
     /// ```
     /// use quic_wire::frame::{Frame, Iter};
@@ -161,7 +160,7 @@ impl<'a> Ack<'a> {
         self.delay
     }
 
-    /// The counts, where they were sent.
+    /// The ECN counts, if they were sent.
     ///
     /// ```
     /// use quic_wire::frame::Ack;
@@ -174,7 +173,7 @@ impl<'a> Ack<'a> {
         self.ecn
     }
 
-    /// The bytes of its ranges: the first range, and a gap and a range by turns.
+    /// The bytes of its ranges: the first range, and then pairs of gap and range.
     ///
     /// ```
     /// use quic_wire::frame::Ack;
@@ -183,8 +182,7 @@ impl<'a> Ack<'a> {
     /// # Ok::<(), quic_wire::frame::AckError>(())
     /// ```
     pub fn additional(&self) -> &'a [u8] {
-        let state = self.ranges();
-        self.bytes.get(state.begin..state.end).unwrap_or_default()
+        self.iter().blocks()
     }
 
     /// The ranges of acknowledged numbers, the greatest first.
@@ -202,13 +200,13 @@ impl<'a> Ack<'a> {
 
     fn ranges(&self) -> sys::Ranges {
         let frame = sys::Frame { end: self.bytes.len(), ..super::encode::NO_FRAME };
-        let mut state = sys::Ranges { begin: 0, end: 0, largest: 0 };
-        // The bytes were read as an ACK, so they are one again, and need no second look.
-        sys::ack_ranges_init_unchecked(&mut state, self.bytes, &frame);
+        let mut state = sys::Ranges { offset: 0, left: 0, largest: 0 };
+        // The bytes were read as an ACK, so they are one again.
+        sys::ack_ranges_init(&mut state, self.bytes, &frame);
         state
     }
 
-    /// Writes an ACK of the set of these runs in its shortest form, and answers how many bytes it has. `delay` is in
+    /// Writes an ACK of the set of these runs in its shortest form, and returns how many bytes it has. `delay` is in
     /// microseconds, shifted right by the sender's `ack_delay_exponent`.
     ///
     /// ```
@@ -225,7 +223,7 @@ impl<'a> Ack<'a> {
     ///
     /// # Errors
     ///
-    /// If there is no run, if they are no sorted runs (see [`crate::range_set`]), or if a number in them, the delay or
+    /// If there is no run, if they aren't sorted runs (see [`crate::range_set`]), or if a number in them, the delay or
     /// a count is 2^62 or more; or if there is too little room.
     pub fn encode<B: Buffer + ?Sized>(
         delay: u64,
@@ -248,7 +246,7 @@ fn why_not(runs: &[Run]) -> &'static str {
     if runs.is_empty() {
         "an ACK of no packet"
     } else if runs.iter().any(|run| run.start >= run.end) || runs.windows(2).any(|two| two[0].end >= two[1].start) {
-        "an ACK of ranges that are no sorted runs"
+        "the ranges of an ACK aren't sorted runs"
     } else {
         "a number in the ACK, its delay or a count is 2^62 or more"
     }
@@ -289,8 +287,8 @@ pub struct AckPlace {
 }
 
 impl AckPlace {
-    /// The ACK at its place in the payload, which must be the same or a copy of it: with other bytes its ranges are
-    /// others or none. `None` if the payload ends before it does.
+    /// The ACK in the payload, which must be the same or a copy of it: with other bytes it has other ranges, or none.
+    /// `None` if the payload ends before the ACK does.
     ///
     /// ```
     /// use quic_wire::frame::Ack;
@@ -342,12 +340,21 @@ pub struct AckIter<'a> {
     state: sys::Ranges,
 }
 
+impl<'a> AckIter<'a> {
+    // The bytes of the ranges that are left, up to where the last one ends.
+    fn blocks(&self) -> &'a [u8] {
+        let mut last = self.clone();
+        while last.next().is_some() {}
+        self.bytes.get(self.state.offset..last.state.offset).unwrap_or_default()
+    }
+}
+
 impl Iterator for AckIter<'_> {
     type Item = RangeInclusive<u64>;
 
     #[inline]
     fn next(&mut self) -> Option<RangeInclusive<u64>> {
-        if self.state.begin >= self.state.end {
+        if self.state.left == 0 {
             return None;
         }
         let mut range = sys::Range { start: 0, end: 0 };
@@ -362,7 +369,6 @@ impl FusedIterator for AckIter<'_> {}
 
 impl fmt::Debug for AckIter<'_> {
     fn fmt(&self, f: &mut fmt::Formatter<'_>) -> fmt::Result {
-        let left = self.bytes.get(self.state.begin..self.state.end).unwrap_or_default();
-        f.debug_struct("AckIter").field("largest", &self.state.largest).field("left", &Short(left)).finish()
+        f.debug_struct("AckIter").field("largest", &self.state.largest).field("left", &Short(self.blocks())).finish()
     }
 }

@@ -55,14 +55,14 @@ pub struct ConnectionClose<'a> {
 /// ```
 #[derive(Clone, Copy, PartialEq, Eq, Hash)]
 pub struct ApplicationClose<'a> {
-    /// A code of the application.
+    /// The application's error code.
     pub error_code: u64,
     /// The reason phrase, which should be text.
     pub reason: &'a [u8],
 }
 
 impl<'a> Close<'a> {
-    /// Whether the transport closed, and not the application.
+    /// Whether the transport closes the connection, not the application.
     ///
     /// ```
     /// use quic_wire::frame::{ApplicationClose, Close};
@@ -85,8 +85,8 @@ impl<'a> Close<'a> {
         }
     }
 
-    /// The same with as many bytes of the reason as let the frame have at most `max_len` bytes. None where not even an
-    /// empty one does.
+    /// The same with the reason cut so that the frame has at most `max_len` bytes. `None` if not even an empty reason
+    /// fits.
     ///
     /// ```
     /// use quic_wire::frame::{ApplicationClose, Close, Frame};
@@ -104,7 +104,7 @@ impl<'a> Close<'a> {
             Close::Application(c) => 1 + varint::len(c.error_code)?,
         };
         let room = max_len.checked_sub(front)?;
-        // The longest that fits with its length: each width of the length serves for lengths of its own.
+        // The longest reason that fits with its length: each width of the length covers a range of lengths.
         let fits = |width: usize| {
             let most = (1_usize << (8 * width - 2)) - 1;
             room.checked_sub(width).map(|len| len.min(most))
@@ -130,7 +130,7 @@ impl<'a> From<ApplicationClose<'a>> for Close<'a> {
     }
 }
 
-// The text of a reason, with U+FFFD for what is no text.
+// The text of a reason, with U+FFFD for what isn't text.
 struct Text<'a>(&'a [u8]);
 
 impl fmt::Display for Text<'_> {

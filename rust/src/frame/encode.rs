@@ -13,8 +13,8 @@ pub(super) const NO_FRAME: sys::Frame =
 type IdAndToken = [u8; MAX_CID_SIZE + 16];
 
 impl<'a> Frame<'a> {
-    /// Writes the frame in its shortest form, as the `last` of its payload, where STREAM and DATAGRAM need no length,
-    /// or not; and answers how many bytes it has. An ACK that was read is written in its shortest form too.
+    /// Writes the frame in its shortest form, and returns how many bytes it has. `last` says whether it is the last of
+    /// its payload; then STREAM and DATAGRAM need no length. An ACK that was read is written in its shortest form too.
     ///
     /// ```
     /// use quic_wire::frame::{Datagram, Frame};
@@ -30,8 +30,8 @@ impl<'a> Frame<'a> {
     /// # Errors
     ///
     /// If no such frame can be written: a number is 2^62 or more, an id has a forbidden length, `retire_prior_to` is
-    /// above `sequence`, or a close names PADDING; or if there is too little room. Whether data end below 2^62 and
-    /// limits on streams are at most 2^60 isn't tested, nor when they are read: that is the connection's to judge.
+    /// above `sequence`, or a close names PADDING; or if there is too little room. Data that ends past 2^62 - 1 and
+    /// limits above 2^60 streams are written and read; the connection must check them.
     #[inline]
     pub fn encode<B: Buffer + ?Sized>(&self, last: bool, out: &mut B) -> Result<usize, WriteError> {
         out.put(|room| self.write(last, room).map(|filled| (filled, filled.len())))
@@ -47,7 +47,7 @@ impl<'a> Frame<'a> {
     ///
     /// # Errors
     ///
-    /// Where no such frame can be written.
+    /// If no such frame can be written.
     pub fn encoded_len(&self, last: bool) -> Result<usize, WriteError> {
         match self.write(last, &mut []) {
             Err(WriteError::NoRoom(needed)) => Ok(needed),
@@ -85,7 +85,7 @@ impl<'a> Frame<'a> {
                 "retire_prior_to is above its own sequence number"
             }
             Frame::Close(Close::Connection(c)) if c.frame_type == Some(FrameType::PADDING) => {
-                "a close can't name PADDING, whose type says that it names none"
+                "a close can't name PADDING: type 0 means that no type is known"
             }
             _ => "a number is 2^62 or more",
         })
@@ -124,7 +124,7 @@ impl<'a> Frame<'a> {
         }
     }
 
-    // The words of the frame.
+    // The frame as the library's struct.
     #[inline]
     fn words(&self) -> sys::Frame {
         let numbers = match *self {
@@ -169,11 +169,11 @@ impl<'a> Frame<'a> {
 fn rewrite(bytes: &[u8], room: &mut [MaybeUninit<u8>]) -> Result<Filled, WriteError> {
     sys::canonical(bytes, room).map_err(|(answer, reported)| match answer {
         sys::NO_ROOM => WriteError::NoRoom(reported.len),
-        _ => WriteError::OutOfRange("what was read is no frame any more"),
+        _ => WriteError::OutOfRange("what was read isn't a frame any more"),
     })
 }
 
-// None where the id is too long.
+// `None` if the id is too long.
 fn id_and_token<'b>(new: &NewConnectionId<'_>, bytes: &'b mut IdAndToken) -> Option<&'b [u8]> {
     let len = new.id.len();
     if len > MAX_CID_SIZE {

@@ -23,7 +23,7 @@ pub struct StreamMeta {
     pub id: StreamId,
     /// The range of the data's offsets in the stream, in bytes.
     pub offsets: Range<u64>,
-    /// Whether the stream ends with them.
+    /// Whether the stream ends with the data.
     pub fin: bool,
 }
 
@@ -51,13 +51,13 @@ pub struct CryptoMeta {
 /// ```
 #[derive(Clone, Copy, Debug, Default, PartialEq, Eq, Hash)]
 pub struct DatagramMeta {
-    /// How many bytes the data are.
+    /// How many bytes the data has.
     pub len: u64,
 }
 
 impl StreamMeta {
-    /// Writes the frame up to its data, with their length or, as the last of its payload, without; and answers how many
-    /// bytes that are.
+    /// Writes the frame up to its data, with the data's length or, as the last of its payload, without; and returns how
+    /// many bytes that is.
     ///
     /// ```
     /// use quic_wire::frame::StreamMeta;
@@ -71,7 +71,7 @@ impl StreamMeta {
     ///
     /// # Errors
     ///
-    /// Where the range is reversed, its end or the stream's number is 2^62 or more, or there is too little room.
+    /// If the range is reversed, its end or the stream's number is 2^62 or more, or there is too little room.
     #[inline]
     pub fn encode<B: Buffer + ?Sized>(&self, length: bool, out: &mut B) -> Result<usize, WriteError> {
         let header = self.header()?;
@@ -89,7 +89,7 @@ impl StreamMeta {
     ///
     /// # Errors
     ///
-    /// As [`StreamMeta::encode`], but for room.
+    /// As [`StreamMeta::encode`], except for room.
     pub fn encoded_len(&self, length: bool) -> Result<usize, WriteError> {
         len_of(&self.header()?, length)
     }
@@ -107,7 +107,7 @@ impl StreamMeta {
 }
 
 impl CryptoMeta {
-    /// Writes the frame up to its data, and answers how many bytes that are.
+    /// Writes the frame up to its data, and returns how many bytes that is.
     ///
     /// ```
     /// use quic_wire::frame::CryptoMeta;
@@ -118,7 +118,7 @@ impl CryptoMeta {
     ///
     /// # Errors
     ///
-    /// Where the range is reversed, its end is 2^62 or more, or there is too little room.
+    /// If the range is reversed, its end is 2^62 or more, or there is too little room.
     #[inline]
     pub fn encode<B: Buffer + ?Sized>(&self, out: &mut B) -> Result<usize, WriteError> {
         let header = self.header()?;
@@ -134,7 +134,7 @@ impl CryptoMeta {
     ///
     /// # Errors
     ///
-    /// As [`CryptoMeta::encode`], but for room.
+    /// As [`CryptoMeta::encode`], except for room.
     pub fn encoded_len(&self) -> Result<usize, WriteError> {
         len_of(&self.header()?, true)
     }
@@ -147,8 +147,8 @@ impl CryptoMeta {
 }
 
 impl DatagramMeta {
-    /// Writes the frame up to its data, with their length or, as the last of its payload, without; and answers how many
-    /// bytes that are.
+    /// Writes the frame up to its data, with the data's length or, as the last of its payload, without; and returns how
+    /// many bytes that is.
     ///
     /// ```
     /// use quic_wire::frame::DatagramMeta;
@@ -159,7 +159,7 @@ impl DatagramMeta {
     ///
     /// # Errors
     ///
-    /// Where the length is 2^62 or more, or there is too little room.
+    /// If the length is 2^62 or more, or there is too little room.
     #[inline]
     pub fn encode<B: Buffer + ?Sized>(&self, length: bool, out: &mut B) -> Result<usize, WriteError> {
         let header = self.header()?;
@@ -175,7 +175,7 @@ impl DatagramMeta {
     ///
     /// # Errors
     ///
-    /// As [`DatagramMeta::encode`], but for room.
+    /// As [`DatagramMeta::encode`], except for room.
     pub fn encoded_len(&self, length: bool) -> Result<usize, WriteError> {
         len_of(&self.header()?, length)
     }
@@ -187,16 +187,16 @@ impl DatagramMeta {
     }
 }
 
-// How many bytes the data are, which end below 2^62.
+// How many bytes the data has, whose end is below 2^62.
 fn length_of(offsets: &Range<u64>) -> Result<usize, WriteError> {
     match offsets.end.checked_sub(offsets.start) {
         None => Err(WriteError::OutOfRange("a range of data is reversed")),
-        Some(_) if offsets.end > varint::MAX => Err(WriteError::OutOfRange("data end at 2^62 or behind it")),
+        Some(_) if offsets.end > varint::MAX => Err(WriteError::OutOfRange("data ends at or past 2^62")),
         Some(len) => Ok(len as usize),
     }
 }
 
-// Writes a frame up to its data, with their length, which CRYPTO always has, or without.
+// Writes a frame up to its data, with or without the data's length, which CRYPTO always has.
 #[inline]
 fn write(header: &sys::Frame, length: bool, room: &mut Room) -> Result<(Filled, usize), WriteError> {
     match sys::frame_header_write(header, !length, room) {

@@ -31,7 +31,7 @@ impl core::error::Error for EmptyPayload {}
 /// ```
 #[derive(Clone, Copy, Debug, PartialEq, Eq, Hash)]
 pub struct InvalidFrame {
-    /// The last type that was read, the invalid frame's own included.
+    /// The last type that was read, which may be that of the invalid frame itself.
     pub ty: Option<FrameType>,
     /// Why the frame is invalid.
     pub reason: Reason,
@@ -56,9 +56,9 @@ pub enum Reason {
     InvalidFrameId,
     /// A field has a forbidden value.
     Malformed,
-    /// The type is not in its shortest encoding, and must be ([`Rules::short_types`](super::Rules::short_types)).
+    /// The type isn't in its shortest encoding, and must be ([`Rules::short_types`](super::Rules::short_types)).
     LongType,
-    /// Data end past 2^62 - 1, or there are more than 2^60 streams ([`Rules::data_limit`](super::Rules::data_limit),
+    /// Data ends past 2^62 - 1, or there are more than 2^60 streams ([`Rules::data_limit`](super::Rules::data_limit),
     /// [`Rules::stream_limit`](super::Rules::stream_limit)).
     LimitExceeded,
 }
@@ -97,7 +97,7 @@ impl fmt::Display for InvalidFrame {
 
 impl core::error::Error for InvalidFrame {}
 
-// By the library's answer.
+// From the library's result.
 pub(crate) fn invalid_by(last_type: u64, answer: i32) -> InvalidFrame {
     InvalidFrame {
         ty: FrameType::new(last_type),

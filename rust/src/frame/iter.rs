@@ -12,7 +12,7 @@ use core::mem::MaybeUninit;
 use core::ops::Range;
 
 /// The frames of a payload, and then one [`InvalidFrame`] if the rest isn't a valid frame. A run of PADDING is a frame
-/// for each type, mostly a byte. It is 40 bytes; [`Iter::fill`] reads many frames with one call.
+/// for each type, mostly a byte. It has 40 bytes; [`Iter::fill`] reads many frames with one call.
 ///
 /// ```
 /// use quic_wire::frame::{Frame, Iter};
@@ -40,7 +40,7 @@ impl<'a> Iter<'a> {
     ///
     /// # Errors
     ///
-    /// Where it is empty.
+    /// If it is empty.
     #[inline]
     pub fn new(payload: &'a [u8]) -> Result<Self, EmptyPayload> {
         Iter::with_rules(payload, Rules::default())
@@ -59,13 +59,13 @@ impl<'a> Iter<'a> {
     ///
     /// # Errors
     ///
-    /// Where it is empty.
+    /// If it is empty.
     #[inline]
     pub fn strict(payload: &'a [u8]) -> Result<Self, EmptyPayload> {
         Iter::with_rules(payload, Rules { short_types: true, ..Rules::default() })
     }
 
-    /// The same, but each frame is checked by `rules`, and the first that breaks one is an error.
+    /// The same, but each frame is checked against `rules`, and the first that breaks one is an error.
     ///
     /// ```
     /// use quic_wire::frame::{Frame, Iter, Reason, Rules};
@@ -81,7 +81,7 @@ impl<'a> Iter<'a> {
     ///
     /// # Errors
     ///
-    /// Where it is empty.
+    /// If it is empty.
     #[inline]
     pub fn with_rules(payload: &'a [u8], rules: Rules) -> Result<Self, EmptyPayload> {
         if payload.is_empty() {
@@ -91,8 +91,9 @@ impl<'a> Iter<'a> {
         Ok(Iter { payload, state })
     }
 
-    /// Goes on at a place in a payload, after a frame of the type `last_type`: for an owner of the payload that can't
-    /// keep a borrow of it, and keeps [`Iter::offset`] and [`Iter::last_type`]. `None` if the place is past the end.
+    /// Goes on at an offset in a payload, after a frame of the type `last_type`. It is meant for an owner of the
+    /// payload that can't keep a borrow of it, and keeps [`Iter::offset`] and [`Iter::last_type`]. `None` if the offset
+    /// is past the end.
     ///
     /// ```
     /// use quic_wire::frame::{Frame, Iter, Rules};
@@ -141,7 +142,7 @@ impl<'a> Iter<'a> {
         FrameType::new(self.state.last_type)
     }
 
-    /// How far it has come, without a borrow of the payload.
+    /// How far it has read, without a borrow of the payload.
     ///
     /// ```
     /// use quic_wire::frame::{Frame, Iter};
@@ -169,9 +170,9 @@ impl<'a> Iter<'a> {
         &self.payload[self.state.offset..]
     }
 
-    /// Reads the next frames with one call, as many as there are entries, which the caller keeps from payload to
-    /// payload. A run of PADDING is one of them. `None` if no frame remains; an invalid frame is reported once,
-    /// after the frames before it.
+    /// Reads the next frames with one call, as many as there are entries. You can reuse the entries for each payload. A
+    /// run of PADDING is one frame. `None` if no frame remains; an invalid frame is reported once, after the frames
+    /// before it.
     ///
     /// ```
     /// use quic_wire::frame::{Entry, Frame, Iter};
@@ -187,10 +188,10 @@ impl<'a> Iter<'a> {
     ///
     /// # Panics
     ///
-    /// Where there is no entry.
+    /// If there is no entry.
     #[inline]
     pub fn fill<'r>(&mut self, entries: &'r mut [Entry]) -> Option<Result<Batch<'a, 'r>, InvalidFrame>> {
-        assert!(!entries.is_empty(), "frames are read into one entry at least");
+        assert!(!entries.is_empty(), "frames need at least one entry");
         self.payload.get(self.state.offset)?;
         let mut count = 0;
         match sys::frames_fill(&mut self.state, self.payload, entries, &mut count) {
@@ -204,7 +205,7 @@ impl<'a> Iter<'a> {
 impl<'a> Iterator for Iter<'a> {
     type Item = Result<Frame<'a>, InvalidFrame>;
 
-    // Made where it is looked at, a frame takes a fifth less than one that is handed over.
+    // Building a frame where it is used takes a fifth less than returning it.
     #[inline(always)]
     fn next(&mut self) -> Option<Self::Item> {
         let first = *self.payload.get(self.state.offset)?;
@@ -225,7 +226,7 @@ impl<'a> Iterator for Iter<'a> {
 
 impl FusedIterator for Iter<'_> {}
 
-/// How far a payload was read, without a borrow of it: for an owner of the payload, which reads it frame by frame. It is
+/// How far a payload was read, without a borrow of it, for an owner of the payload that reads it frame by frame. It has
 /// 24 bytes.
 ///
 /// ```
@@ -254,8 +255,8 @@ pub struct Progress {
 }
 
 impl Progress {
-    /// The next frame of the payload, which is the same with each call, as [`Iter`] gives it: `None` after the last one,
-    /// after an invalid one, and if the payload ends before the place.
+    /// The next frame of the payload, as [`Iter`] returns it. Pass the same payload to each call. `None` after the last
+    /// frame, after an invalid one, and if the payload ends before the offset.
     ///
     /// ```
     /// use quic_wire::frame::{Frame, Iter};
@@ -274,7 +275,7 @@ impl Progress {
         item
     }
 
-    /// Goes on as an iterator. `None` if the payload ends before the place.
+    /// Goes on as an iterator. `None` if the payload ends before the offset.
     ///
     /// ```
     /// use quic_wire::frame::{Frame, Iter};
@@ -358,7 +359,7 @@ impl fmt::Debug for Entry {
     }
 }
 
-/// The frames that one call read, each with its place in the payload; a run of PADDING is one of them.
+/// The frames that one call read, each with its byte range in the payload; a run of PADDING is one frame.
 ///
 /// ```
 /// use quic_wire::frame::{Entry, Frame, Iter};
@@ -397,7 +398,7 @@ impl fmt::Debug for Batch<'_, '_> {
     }
 }
 
-// Slices are taken with Rust's own tests, though the library proves the places.
+// Slices are bounds-checked by Rust, although the library proves the offsets.
 #[inline(always)]
 fn frame_of<'a>(payload: &'a [u8], f: &sys::Frame) -> Frame<'a> {
     let data = &payload[f.data..f.data + f.datalen];
@@ -458,7 +459,7 @@ fn rare_frame_of<'a>(payload: &'a [u8], f: &sys::Frame, data: &'a [u8]) -> Frame
             request_max_ack_delay: c,
             reordering_threshold: d,
         }),
-        kind => unreachable!("the library reported of the kind {kind}"),
+        kind => unreachable!("the library reported the kind {kind}"),
     }
 }
 

@@ -47,11 +47,11 @@ pub enum Frame<'a> {
     Padding,
     /// Asks for an acknowledgement (section 19.2).
     Ping,
-    /// Which packets arrived (section 19.3).
+    /// Which packets were received (section 19.3).
     Ack(Ack<'a>),
     /// The sender ends a stream early (section 19.4).
     ResetStream(ResetStream),
-    /// The receiver wants no more of a stream (section 19.5).
+    /// The receiver no longer wants a stream's data (section 19.5).
     StopSending(StopSending),
     /// Bytes of the handshake (section 19.6).
     Crypto(Crypto<'a>),
@@ -68,48 +68,48 @@ pub enum Frame<'a> {
         /// The limit on its offsets, in bytes.
         offset: u64,
     },
-    /// How many streams may be opened (section 19.11).
+    /// How many streams the peer may open (section 19.11).
     MaxStreams {
-        /// Of which direction.
+        /// The direction of these streams.
         dir: Dir,
-        /// How many in all, which should be at most 2^60.
+        /// How many in all, at most 2^60 if the peer is correct.
         count: u64,
     },
-    /// The limit of the connection holds back data (section 19.12).
+    /// The sender is blocked by the connection's limit (section 19.12).
     DataBlocked {
         /// That limit, in bytes.
         offset: u64,
     },
-    /// The limit of a stream holds back data (section 19.13).
+    /// The sender is blocked by a stream's limit (section 19.13).
     StreamDataBlocked {
         /// The stream.
         id: StreamId,
         /// That limit, in bytes.
         offset: u64,
     },
-    /// The limit on streams holds back one (section 19.14).
+    /// The sender is blocked by the limit on streams (section 19.14).
     StreamsBlocked {
-        /// Of which direction.
+        /// The direction of these streams.
         dir: Dir,
-        /// That limit, which should be at most 2^60.
+        /// That limit, at most 2^60 if the peer is correct.
         limit: u64,
     },
     /// Another id for the connection (section 19.15).
     NewConnectionId(NewConnectionId<'a>),
-    /// An id that will not be used any more (section 19.16).
+    /// An id that will no longer be used (section 19.16).
     RetireConnectionId {
-        /// Its number.
+        /// Its sequence number.
         sequence: u64,
     },
     /// Tests a path (section 19.17), by its eight bytes, the highest first.
     PathChallenge(u64),
-    /// Answers such a test (section 19.18).
+    /// The response to such a test (section 19.18).
     PathResponse(u64),
     /// Closes the connection (section 19.19).
     Close(Close<'a>),
-    /// Data that are sent once (RFC 9221, section 4).
+    /// Data that is sent once (RFC 9221, section 4).
     Datagram(Datagram<'a>),
-    /// How often acknowledgements are wanted (the ACK frequency extension).
+    /// How often the sender wants acknowledgements (the ACK frequency extension).
     AckFrequency(AckFrequency),
     /// Asks for an acknowledgement at once (the ACK frequency extension).
     ImmediateAck,
@@ -118,9 +118,8 @@ pub enum Frame<'a> {
 }
 
 impl Frame<'_> {
-    /// The type that names the frame: ACK also with counts, 0x30 of each DATAGRAM. That of a STREAM has the bit for the
-    /// offset where it isn't 0, and never the one for the length; [`Iter::last_type`] has the type as it is in the
-    /// payload.
+    /// The type that names the frame: ACK also with ECN counts, 0x30 for each DATAGRAM. That of a STREAM has the OFF
+    /// bit if the offset isn't 0, and never the LEN bit; [`Iter::last_type`] has the type as it is in the payload.
     ///
     /// ```
     /// use quic_wire::frame::{Frame, FrameType};
@@ -133,7 +132,7 @@ impl Frame<'_> {
         }
     }
 
-    /// Whether it asks for an acknowledgement: all but ACK, PADDING and closes do (RFC 9000, section 13.2).
+    /// Whether it is ack-eliciting: any frame except ACK, PADDING and closes (RFC 9000, section 13.2).
     ///
     /// ```
     /// use quic_wire::frame::Frame;
@@ -156,13 +155,13 @@ impl Frame<'_> {
 pub struct ResetStream {
     /// The stream.
     pub id: StreamId,
-    /// A code of the application.
+    /// The application's error code.
     pub error_code: u64,
     /// How many bytes the stream has.
     pub final_offset: u64,
 }
 
-/// The receiver wants no more of a stream (RFC 9000, section 19.5).
+/// The receiver no longer wants a stream's data (RFC 9000, section 19.5).
 ///
 /// ```
 /// use quic_wire::frame::{Frame, Iter, StopSending, StreamId};
@@ -174,7 +173,7 @@ pub struct ResetStream {
 pub struct StopSending {
     /// The stream.
     pub id: StreamId,
-    /// A code of the application.
+    /// The application's error code.
     pub error_code: u64,
 }
 
@@ -190,7 +189,7 @@ pub struct StopSending {
 pub struct Crypto<'a> {
     /// The offset of the data in the CRYPTO stream, in bytes.
     pub offset: u64,
-    /// The bytes, whose end should be below 2^62.
+    /// The bytes. Their end is below 2^62 if the peer is correct.
     pub data: &'a [u8],
 }
 
@@ -224,7 +223,7 @@ pub struct Stream<'a> {
     pub offset: u64,
     /// Whether it ends with them.
     pub fin: bool,
-    /// The bytes, whose end should be below 2^62.
+    /// The bytes. Their end is below 2^62 if the peer is correct.
     pub data: &'a [u8],
 }
 
@@ -239,17 +238,17 @@ pub struct Stream<'a> {
 /// ```
 #[derive(Clone, Copy, PartialEq, Eq, Hash)]
 pub struct NewConnectionId<'a> {
-    /// The number of the id.
+    /// The sequence number of the id.
     pub sequence: u64,
-    /// Ids with numbers below this one are to be retired; at most `sequence`.
+    /// Ids with lower sequence numbers are to be retired; at most `sequence`.
     pub retire_prior_to: u64,
     /// The id, of 1 to 20 bytes.
     pub id: &'a [u8],
-    /// The token of a stateless reset.
+    /// The stateless reset token.
     pub reset_token: &'a [u8; 16],
 }
 
-/// Data that are sent once (RFC 9221, section 4).
+/// Data that is sent once (RFC 9221, section 4).
 ///
 /// ```
 /// use quic_wire::frame::{Datagram, Frame, Iter};
@@ -263,7 +262,7 @@ pub struct Datagram<'a> {
     pub data: &'a [u8],
 }
 
-/// How often acknowledgements are wanted (the ACK frequency extension).
+/// How often the sender wants acknowledgements (the ACK frequency extension).
 ///
 /// ```
 /// use quic_wire::frame::{AckFrequency, Frame, Iter};
@@ -279,17 +278,17 @@ pub struct Datagram<'a> {
 /// ```
 #[derive(Clone, Copy, Debug, PartialEq, Eq, Hash)]
 pub struct AckFrequency {
-    /// The number of the frame.
+    /// The sequence number of the frame.
     pub sequence: u64,
-    /// How many packets may come before one is sent.
+    /// How many ack-eliciting packets may be received before an acknowledgement is sent.
     pub ack_eliciting_threshold: u64,
-    /// How long one may wait, in microseconds.
+    /// How long an acknowledgement may be delayed, in microseconds.
     pub request_max_ack_delay: u64,
-    /// How far packets may be out of order before one is sent.
+    /// How far packets may be out of order before an acknowledgement is sent.
     pub reordering_threshold: u64,
 }
 
-// What may be long is shown by how much it is, so that no log has whole datagrams.
+// Long data is printed by its length, so that logs don't contain whole datagrams.
 impl fmt::Debug for Crypto<'_> {
     fn fmt(&self, f: &mut fmt::Formatter<'_>) -> fmt::Result {
         f.debug_struct("Crypto").field("offset", &self.offset).field("data", &Short(self.data)).finish()

@@ -1,7 +1,7 @@
-//! What is checked of frames besides their encoding.
+//! What is checked in frames besides their encoding.
 
-/// What is checked of a payload's frames besides their encoding. `Rules::default()` checks nothing more, as quinn-proto
-/// does; [`Rules::RFC`] checks all that RFC 9000 asks of a receiver. The first frame that breaks a rule is an
+/// What is checked in a payload's frames besides their encoding. `Rules::default()` checks nothing more, as quinn-proto
+/// does; [`Rules::RFC`] checks all that RFC 9000 requires of a receiver. The first frame that breaks a rule is an
 /// [`InvalidFrame`](super::InvalidFrame) with its type.
 ///
 /// ```
@@ -24,17 +24,17 @@ pub struct Rules {
     pub stream_limit: bool,
     /// The token of NEW_TOKEN may not be empty (section 19.7): [`Reason::Malformed`](super::Reason::Malformed).
     pub tokens: bool,
-    /// ACK_FREQUENCY and IMMEDIATE_ACK have unknown types (section 12.4), as where their extension wasn't negotiated:
-    /// [`Reason::InvalidFrameId`](super::Reason::InvalidFrameId).
+    /// The types of ACK_FREQUENCY and IMMEDIATE_ACK are unknown (section 12.4), because their extension wasn't
+    /// negotiated: [`Reason::InvalidFrameId`](super::Reason::InvalidFrameId).
     pub no_ack_frequency: bool,
 }
 
 impl Rules {
-    /// All that RFC 9000 asks of a receiver, without the ACK frequency extension.
+    /// All that RFC 9000 requires of a receiver that hasn't negotiated the ACK frequency extension.
     pub const RFC: Rules =
         Rules { short_types: true, data_limit: true, stream_limit: true, tokens: true, no_ack_frequency: true };
 
-    // As `quic_wire.h` has them, QUIC_WIRE_READ_...
+    // The flags of `quic_wire.h`, QUIC_WIRE_READ_...
     #[inline]
     pub(crate) const fn flags(self) -> u32 {
         self.short_types as u32

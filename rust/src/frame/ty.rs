@@ -14,7 +14,7 @@ use core::fmt;
 #[derive(Clone, Copy, PartialEq, Eq, Hash, PartialOrd, Ord)]
 pub struct FrameType(u64);
 
-/// A number that is no type of a frame, since it is 2^62 or more.
+/// A number that can't be a frame type, since it is 2^62 or more.
 ///
 /// ```
 /// use quic_wire::frame::{FrameType, NoFrameType};
@@ -84,7 +84,7 @@ impl FrameType {
     /// `0x08`, the least of the eight types of STREAM, whose bits 0x01, 0x02 and 0x04 say that the frame ends the
     /// stream, that it has a length and that it has an offset (RFC 9000, section 19.8).
     pub const STREAM: FrameType = FrameType(0x08);
-    /// `0x30`, without a length; `0x31` is with one (RFC 9221, section 4).
+    /// `0x30`, without a length; `0x31` has one (RFC 9221, section 4).
     pub const DATAGRAM: FrameType = FrameType(0x30);
 
     /// The type of this number. `None` if it is 2^62 or more.

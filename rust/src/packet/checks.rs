@@ -1,13 +1,13 @@
-//! What a reader asks of a packet's header, and the receiver's id alone.
+//! What a reader checks in a packet's header, and reading only the receiver's id.
 use crate::sys;
 
-/// What [`HeaderPlaces::read_with`](super::HeaderPlaces::read_with) asks of a packet.
+/// What [`HeaderPlaces::read_with`](super::HeaderPlaces::read_with) checks in a packet.
 #[derive(Clone, Copy, Debug, PartialEq, Eq)]
 pub struct HeaderChecks {
-    /// The fixed bit may be clear, as was agreed (RFC 9287).
+    /// The fixed bit may be clear in every packet (RFC 9287).
     pub grease_quic_bit: bool,
-    /// The fixed bit isn't looked at in version negotiations (RFC 9000, section 17.2.1), nor in versions that aren't
-    /// given (RFC 8999).
+    /// The fixed bit is ignored in version negotiations (RFC 9000, section 17.2.1), and in versions that aren't given
+    /// (RFC 8999).
     pub any_version: bool,
     /// A Retry must have a token and a tag of 16 bytes (RFC 9000, section 17.2.5).
     pub whole_retry: bool,
@@ -16,18 +16,18 @@ pub struct HeaderChecks {
 impl HeaderChecks {
     /// Those of quinn-proto: the fixed bit must be set in each packet.
     pub const QUINN: HeaderChecks = HeaderChecks { grease_quic_bit: false, any_version: false, whole_retry: false };
-    /// All that RFC 9000 asks of a receiver that hasn't agreed on anything else.
+    /// All that RFC 9000 requires of a receiver that has negotiated no extension.
     pub const RFC: HeaderChecks = HeaderChecks { grease_quic_bit: false, any_version: true, whole_retry: true };
 
-    // As the library takes them.
+    // The library's flags.
     #[inline]
     pub(super) const fn flags(self) -> u32 {
         0x10 * self.grease_quic_bit as u32 | 0x20 * self.any_version as u32 | 0x40 * self.whole_retry as u32
     }
 }
 
-/// The receiver's id at the front of a packet of any version, for who passes packets on (RFC 8999, section 5): a short
-/// header's has `cid_len` bytes. `None` if the packet ends before the id's end. The fixed bit isn't looked at.
+/// The receiver's id in a packet of any version, as you need to forward it (RFC 8999, section 5). A short header's id
+/// has `cid_len` bytes. `None` if the packet ends before the id does. The fixed bit is ignored.
 ///
 /// ```
 /// use quic_wire::packet::receiver_id;

@@ -4,7 +4,7 @@ use crate::text::Short;
 use core::fmt;
 use core::iter::FusedIterator;
 
-// The header that a datagram's rest begins with.
+// The header at the front of a datagram's rest.
 #[inline]
 fn read_packet(rest: &[u8], how: &How<'_>) -> Result<HeaderPlaces, HeaderError> {
     let checks = HeaderChecks { grease_quic_bit: how.grease, ..HeaderChecks::QUINN };
@@ -40,7 +40,7 @@ impl<'v> How<'v> {
 }
 
 /// The packets of a datagram, one after another, and then one error if the rest doesn't begin with a packet. An empty
-/// datagram gives such an error. The borrow of the versions may be shorter than that of the datagram.
+/// datagram is such an error. The borrow of the versions may be shorter than that of the datagram.
 ///
 /// ```
 /// use quic_wire::packet::Packets;
@@ -58,9 +58,9 @@ pub struct Packets<'a, 'v> {
 }
 
 impl<'a, 'v> Packets<'a, 'v> {
-    /// Begins at the front of a datagram. Ids of short headers have `cid_len` bytes; of versions that are not among
-    /// `versions` only the ids are read; with `grease` the fixed bit may be clear (RFC 9287). Without, a version
-    /// negotiation is also refused if it is clear, though section 17.2.1 of RFC 9000 has clients ignore it there.
+    /// Begins at the front of a datagram. Ids of short headers have `cid_len` bytes. For versions other than `versions`
+    /// only the ids are read. With `grease` the fixed bit may be clear (RFC 9287). Without it, a version negotiation
+    /// whose fixed bit is clear is also rejected, although clients must ignore it there (RFC 9000, section 17.2.1).
     ///
     /// ```
     /// use quic_wire::packet::{Packets, DEFAULT_SUPPORTED_VERSIONS};
@@ -70,7 +70,7 @@ impl<'a, 'v> Packets<'a, 'v> {
     ///
     /// # Panics
     ///
-    /// Where `cid_len` is above 20.
+    /// If `cid_len` is above 20.
     pub fn new(datagram: &'a [u8], cid_len: usize, versions: &'v [u32], grease: bool) -> Self {
         Packets { rest: Some(datagram), begin: 0, how: How::new(cid_len, versions, grease) }
     }
@@ -102,7 +102,7 @@ impl fmt::Debug for Packets<'_, '_> {
     }
 }
 
-/// A packet of a datagram, with the protection of its header still on.
+/// A packet of a datagram, whose header is still protected.
 ///
 /// ```
 /// use quic_wire::packet::Packets;
@@ -132,7 +132,7 @@ impl<'a> PartialDecode<'a> {
         self.packet
     }
 
-    /// Its header as places in the packet.
+    /// Its header as offsets in the packet.
     ///
     /// ```
     /// use quic_wire::packet::Packets;
@@ -145,7 +145,7 @@ impl<'a> PartialDecode<'a> {
         &self.places
     }
 
-    /// The place of the packet in its datagram, by which its protection is taken off.
+    /// Where the packet is in its datagram, as needed to remove its protection.
     ///
     /// ```
     /// use quic_wire::packet::Packets;
@@ -195,8 +195,8 @@ impl fmt::Debug for PartialDecode<'_> {
     }
 }
 
-/// The packets of a datagram that is opened in place. Each owns its part of it, so they are opened in a loop, which goes
-/// on after a packet that isn't opened (RFC 9000, section 12.2). It ends where no packet can be cut.
+/// The packets of a datagram that is opened in place. Each borrows its own part of it, so you open them in a loop,
+/// which goes on after a packet that isn't opened (RFC 9000, section 12.2). It ends when no packet can be cut.
 ///
 /// ```
 /// use quic_wire::packet::PacketsMut;
@@ -226,7 +226,7 @@ impl<'a, 'v> PacketsMut<'a, 'v> {
     ///
     /// # Panics
     ///
-    /// Where `cid_len` is above 20.
+    /// If `cid_len` is above 20.
     pub fn new(datagram: &'a mut [u8], cid_len: usize, versions: &'v [u32], grease: bool) -> Self {
         PacketsMut { rest: Some(datagram), how: How::new(cid_len, versions, grease) }
     }

@@ -7,7 +7,7 @@ use crate::text::{Hex, Hex32, Short};
 use crate::{varint, WriteError};
 use core::fmt;
 
-/// The header of a packet that is written.
+/// The header of a packet to be written.
 ///
 /// ```
 /// use quic_wire::packet::{Header, PacketNumber};
@@ -29,7 +29,7 @@ pub enum Header<'a> {
         src_cid: &'a [u8],
         /// The token.
         token: &'a [u8],
-        /// The packet's number.
+        /// The packet number.
         number: PacketNumber,
         /// The version of QUIC.
         version: u32,
@@ -42,7 +42,7 @@ pub enum Header<'a> {
         dst_cid: &'a [u8],
         /// The sender's id.
         src_cid: &'a [u8],
-        /// The packet's number.
+        /// The packet number.
         number: PacketNumber,
         /// The version of QUIC.
         version: u32,
@@ -58,21 +58,21 @@ pub enum Header<'a> {
     },
     /// The header of a 1-RTT packet (RFC 9000, section 17.3.1).
     Short {
-        /// The bit for measuring round trips.
+        /// The spin bit (RFC 9000, section 17.4).
         spin: bool,
-        /// The bit that changes with the keys.
+        /// The Key Phase bit (RFC 9001, section 6).
         key_phase: bool,
         /// The receiver's id.
         dst_cid: &'a [u8],
-        /// The packet's number.
+        /// The packet number.
         number: PacketNumber,
     },
     /// The header of a version negotiation (RFC 9000, section 17.2.1). The whole packet, whose ids may be longer, is
     /// [`VersionNegotiation`](super::VersionNegotiation).
     VersionNegotiate {
-        /// The first byte without its highest bit. Who doesn't take greased packets looks for 0x40 in it, which RFC
-        /// 9000, section 17.2.1, has set where QUIC may share its port; without it, [`Header::encode_with`] alone
-        /// writes it.
+        /// The first byte without its highest bit. Receivers that don't accept greased packets require 0x40 in it, and
+        /// RFC 9000, section 17.2.1, sets it if QUIC may share its port. Only [`Header::encode_with`] writes it without
+        /// that.
         random: u8,
         /// The sender's id.
         src_cid: &'a [u8],
@@ -81,7 +81,7 @@ pub enum Header<'a> {
     },
 }
 
-/// Where a header was written: places from the front of what was written.
+/// Where a header was written: offsets from its front.
 ///
 /// ```
 /// use quic_wire::packet::{Header, PacketNumber};
@@ -94,17 +94,17 @@ pub enum Header<'a> {
 /// ```
 #[derive(Clone, Copy, Debug, PartialEq, Eq, Hash)]
 pub struct PartialEncode {
-    /// How many bytes the header has, its number among them.
+    /// How many bytes the header has, with its packet number.
     pub header_len: usize,
-    /// Where its number begins, which is its end if it has none.
+    /// Where its packet number begins, or the header's end if it has none.
     pub number: usize,
     // How many bytes its length has.
     length: usize,
 }
 
 impl PartialEncode {
-    /// Sets the length of a packet whose bytes these are, from the front of its header to its end, the tag of its
-    /// payload included; of a header that has no length nothing changes.
+    /// Sets the length of a packet. `packet` has its bytes from the front of its header to its end, with the tag of its
+    /// payload. If the header has no length, nothing changes.
     ///
     /// ```
     /// use quic_wire::packet::{Header, LongType, PacketNumber};
@@ -120,7 +120,7 @@ impl PartialEncode {
     ///
     /// # Errors
     ///
-    /// Where what follows from the number on is 2^14 bytes or more, or the header isn't all in the bytes.
+    /// If there are 2^14 bytes or more from the packet number on, or the bytes end within the header.
     #[inline]
     pub fn set_len(&self, packet: &mut [u8]) -> Result<(), WriteError> {
         if self.length == 0 {
@@ -130,7 +130,7 @@ impl PartialEncode {
         }
     }
 
-    // Apart, since most headers have none.
+    // A separate function, since most headers have none.
     #[inline(never)]
     fn lay_len(&self, packet: &mut [u8]) -> Result<(), WriteError> {
         if packet.len() < self.number.max(self.header_len) {
@@ -138,12 +138,12 @@ impl PartialEncode {
         }
         match sys::set_len(packet, self.number, self.length as u32) {
             sys::OK => Ok(()),
-            _ if self.number < self.length => Err(WriteError::OutOfRange("no length stands before this number")),
+            _ if self.number < self.length => Err(WriteError::OutOfRange("no length precedes this number")),
             _ => Err(WriteError::OutOfRange("a packet is too long for its length")),
         }
     }
 
-    /// The place of the packet that these bytes are, and of its number.
+    /// Where the packet in these bytes is, and its packet number.
     ///
     /// ```
     /// use quic_wire::packet::{Header, PacketNumber};
@@ -157,7 +157,7 @@ impl PartialEncode {
     ///
     /// # Panics
     ///
-    /// Where its number isn't in it.
+    /// If the packet number isn't in the bytes.
     #[inline]
     pub fn place(&self, packet: &[u8]) -> PacketPlace {
         PacketPlace::new(0..packet.len(), self.number)
@@ -194,8 +194,7 @@ impl Header<'_> {
         }
     }
 
-    /// Writes the header, with no protection on it. Its length, where it has one, is 0 until
-    /// [`PartialEncode::set_len`].
+    /// Writes the header, unprotected. Its length, if it has one, is 0 until [`PartialEncode::set_len`].
     ///
     /// ```
     /// use quic_wire::packet::{Header, PacketNumber};
@@ -209,16 +208,16 @@ impl Header<'_> {
     ///
     /// # Errors
     ///
-    /// If nobody would read it: ids of more than 20 bytes, a number of 2^62 or more or not in one to four bytes, a long
-    /// header of version 0; if `random` lacks 0x40, which [`Packets`](super::Packets) requires unless packets are
-    /// greased; or if there is too little room.
-    // In line always, where the kind of the header is known.
+    /// If no receiver would accept it: ids of more than 20 bytes, a packet number of 2^62 or more or not in one to four
+    /// bytes, a long header with version 0; if `random` lacks 0x40, which [`Packets`](super::Packets) requires unless
+    /// packets are greased; or if there is too little room.
+    // Always inlined, since the kind of the header is known.
     #[inline(always)]
     pub fn encode<B: Buffer + ?Sized>(&self, out: &mut B) -> Result<PartialEncode, WriteError> {
         self.encode_with(false, out)
     }
 
-    /// The same, where the fixed bit may be clear (RFC 9287).
+    /// The same, but the fixed bit may be clear (RFC 9287).
     ///
     /// ```
     /// use quic_wire::packet::{Header, PacketNumber};
@@ -231,7 +230,7 @@ impl Header<'_> {
     ///
     /// # Errors
     ///
-    /// As [`Header::encode`], but that `random` may be any.
+    /// As [`Header::encode`], but `random` may have any value.
     #[inline(always)]
     pub fn encode_with<B: Buffer + ?Sized>(
         &self,
@@ -250,7 +249,7 @@ impl Header<'_> {
         let fields =
             sys::HeaderFields { kind: 4, flags, numberlen: len as u8, lengthlen: 0, version: 0, number: whole };
         let place = 1 + dst_cid.len();
-        // The library looks at the id and the number by itself.
+        // The library checks the id and the packet number.
         out.put(|room| match sys::short_write(&fields, dst_cid, room) {
             Ok(filled) => Ok((filled, PartialEncode { header_len: place + number.len, number: place, length: 0 })),
             Err(answer) if answer == i64::from(sys::NO_ROOM) => Err(WriteError::NoRoom(place + number.len)),
@@ -258,13 +257,13 @@ impl Header<'_> {
         })
     }
 
-    // Apart, so that a short header is written in line with little code.
+    // A separate function, so that writing a short header is inlined with little code.
     #[inline(never)]
     fn encode_long<B: Buffer + ?Sized>(&self, fixed: u8, out: &mut B) -> Result<PartialEncode, WriteError> {
         self.long(fixed)?.encode(out)
     }
 
-    // The words of a long header, which are sound.
+    // The fields of a long header, which are valid.
     #[inline]
     fn long(&self, fixed: u8) -> Result<Long<'_>, WriteError> {
         let (kind, ids, token, number, version) = match *self {
@@ -298,7 +297,7 @@ impl Header<'_> {
 
 const NOTHING: &[u8] = &[];
 
-// A long header as words and bytes.
+// A long header as the library's struct and bytes.
 struct Long<'a> {
     fields: sys::HeaderFields,
     ids: [&'a [u8]; 2],
@@ -318,7 +317,7 @@ impl Long<'_> {
     }
 }
 
-// Whether somebody reads it.
+// Whether a receiver would accept it.
 #[inline]
 fn check(ids: &[&[u8]], number: Option<PacketNumber>, version: u32) -> Result<(), WriteError> {
     let what = match number {
@@ -331,7 +330,7 @@ fn check(ids: &[&[u8]], number: Option<PacketNumber>, version: u32) -> Result<()
     Err(WriteError::OutOfRange(what))
 }
 
-// Why nobody does.
+// Why no receiver would.
 #[cold]
 fn unwritable(ids: &[&[u8]], number: Option<PacketNumber>, version: u32) -> WriteError {
     check(ids, number, version).err().unwrap_or(WriteError::OutOfRange("no such header"))

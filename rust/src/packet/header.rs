@@ -1,11 +1,11 @@
-//! The header of a packet as places in it.
+//! The header of a packet as offsets in it.
 use super::{HeaderChecks, LongType, PacketPlace, ProtectedHeader};
 use crate::sys;
 use crate::text::Hex32;
 use core::fmt;
 use core::ops::Range;
 
-/// The header of a packet as places in it, before its protection is taken off: 32 bytes that borrow nothing.
+/// The protected header of a packet as offsets in it: 32 bytes that borrow nothing.
 ///
 /// ```
 /// use quic_wire::packet::{HeaderPlaces, ProtectedHeader};
@@ -18,7 +18,7 @@ use core::ops::Range;
 #[derive(Clone, Copy, PartialEq, Eq, Hash)]
 pub struct HeaderPlaces(sys::HeaderPlaces);
 
-/// Why no header was read, or not of a whole packet.
+/// Why no header was read, or only that of a packet that is cut off.
 ///
 /// ```
 /// use quic_wire::packet::{HeaderPlaces, HeaderError};
@@ -33,7 +33,7 @@ pub struct HeaderPlaces(sys::HeaderPlaces);
 pub enum HeaderError {
     /// The version isn't among those that were given. Nothing after its ids can be read.
     UnsupportedVersion(UnsupportedVersion),
-    /// The bytes end within the packet. All of its header is given.
+    /// The bytes end within the packet. It has the whole header.
     CutOff(HeaderPlaces),
     /// No header can be read.
     InvalidHeader(&'static str),
@@ -131,7 +131,7 @@ impl fmt::Debug for UnsupportedVersion {
     }
 }
 
-// The kinds that the library tells.
+// The kinds of packets, as the library numbers them.
 const INITIAL: u8 = 0;
 const ZERO_RTT: u8 = 1;
 const HANDSHAKE: u8 = 2;
@@ -140,8 +140,8 @@ const ONE_RTT: u8 = 4;
 const VERSION_NEGOTIATION: u8 = 5;
 
 impl HeaderPlaces {
-    /// Reads the header of the packet that bytes begin with. Ids of short headers have `cid_len` bytes; of versions
-    /// that are not among `versions` only the ids are read. The fixed bit isn't checked: see
+    /// Reads the header of the packet at the front of the bytes. Ids of short headers have `cid_len` bytes. For
+    /// versions other than `versions` only the ids are read. The fixed bit isn't checked: see
     /// [`HeaderPlaces::fixed_bit`]. Only [`HeaderPlaces::read_version_negotiation`] reads ids of a version negotiation
     /// that are longer than 20 bytes.
     ///
@@ -156,11 +156,12 @@ impl HeaderPlaces {
     ///
     /// # Errors
     ///
-    /// If no header can be read, or its packet isn't whole or of another version; the fields that were read are given.
+    /// If no header can be read, or its packet is cut off or has another version. The error has the fields that were
+    /// read.
     ///
     /// # Panics
     ///
-    /// Where `cid_len` is above 20.
+    /// If `cid_len` is above 20.
     #[inline]
     pub fn read(bytes: &[u8], cid_len: usize, versions: &[u32]) -> Result<HeaderPlaces, HeaderError> {
         let checks = HeaderChecks { grease_quic_bit: true, ..HeaderChecks::QUINN };
@@ -199,9 +200,9 @@ impl HeaderPlaces {
         }
     }
 
-    /// Where the short header ends that a packet begins with, whose id has `cid_len` bytes: where its number begins. It
-    /// equals [`HeaderPlaces::header_end`] of [`HeaderPlaces::read`], with fewer instructions; `None` if no short
-    /// header begins there.
+    /// Where the short header at the front of a packet ends, which is where the packet number begins. Its id has
+    /// `cid_len` bytes. It equals [`HeaderPlaces::header_end`] of [`HeaderPlaces::read`], with fewer instructions.
+    /// `None` if there is no short header.
     ///
     /// ```
     /// use quic_wire::packet::HeaderPlaces;
@@ -218,10 +219,10 @@ impl HeaderPlaces {
         }
     }
 
-    /// Reads the header of the version negotiation that a packet is. Its ids are those of the packet that it answers,
-    /// which may be of any version, so they have up to 255 bytes (RFC 8999, section 6). [`HeaderPlaces::read`] gives
-    /// the same if both have at most 20, and refuses longer ones. `None` if no version negotiation begins there, or if
-    /// there are 4 GiB or more. The fixed bit isn't checked.
+    /// Reads the header of a version negotiation. Its ids are those of the packet that it responds to, which may have
+    /// any version, so they have up to 255 bytes (RFC 8999, section 6). If both have at most 20, [`HeaderPlaces::read`]
+    /// returns the same; it rejects longer ones. `None` if it isn't a version negotiation, or if there are 4 GiB or
+    /// more. The fixed bit isn't checked.
     ///
     /// ```
     /// use quic_wire::packet::{HeaderPlaces, VersionNegotiation};
@@ -254,12 +255,12 @@ impl HeaderPlaces {
             sys::PACKET_SMALL => "packet too small",
             sys::PACKET_CID => "malformed cid",
             sys::PACKET_TOKEN => "token out of bounds",
-            // Places have 32 bits.
+            // Offsets have 32 bits.
             _ => "packet of 4 GiB or more",
         })
     }
 
-    /// The first byte, before protection is taken off.
+    /// The first byte, still protected.
     ///
     /// ```
     /// use quic_wire::packet::HeaderPlaces;
@@ -273,8 +274,8 @@ impl HeaderPlaces {
         self.0.first
     }
 
-    /// Whether the fixed bit is set, as in all packets but those of RFC 9287. In a version negotiation clients ignore
-    /// it (RFC 9000, section 17.2.1).
+    /// Whether the fixed bit is set, as in all packets except greased ones (RFC 9287). Clients ignore it in a version
+    /// negotiation (RFC 9000, section 17.2.1).
     ///
     /// ```
     /// use quic_wire::packet::HeaderPlaces;
@@ -302,7 +303,7 @@ impl HeaderPlaces {
         self.0.first < 0x80
     }
 
-    /// Whether the packet has a number, under protection: all but Retry and version negotiation do.
+    /// Whether the packet has a packet number, and so protection: all do, except Retry and version negotiation.
     ///
     /// ```
     /// use quic_wire::packet::HeaderPlaces;
@@ -316,7 +317,7 @@ impl HeaderPlaces {
         matches!(self.0.kind, INITIAL | ZERO_RTT | HANDSHAKE | ONE_RTT)
     }
 
-    /// The version of QUIC; 0 of 1-RTT and of a version negotiation.
+    /// The version of QUIC; 0 for 1-RTT and version negotiation.
     ///
     /// ```
     /// use quic_wire::packet::HeaderPlaces;
@@ -342,7 +343,7 @@ impl HeaderPlaces {
     ///
     /// # Panics
     ///
-    /// Where the bytes end before it does: they aren't those that the header was read of.
+    /// If the bytes end before it does: they aren't those that the header was read from.
     #[inline]
     pub fn dst_cid<'a>(&self, packet: &'a [u8]) -> &'a [u8] {
         let start = if self.is_short() { 1 } else { 6 };
@@ -361,15 +362,15 @@ impl HeaderPlaces {
     ///
     /// # Panics
     ///
-    /// Where the bytes end before it does: they aren't those that the header was read of.
+    /// If the bytes end before it does: they aren't those that the header was read from.
     #[inline]
     pub fn src_cid<'a>(&self, packet: &'a [u8]) -> &'a [u8] {
         let start = if self.is_short() { 1 } else { 7 + usize::from(self.0.dcidlen) };
         &packet[start..start + usize::from(self.0.scidlen)]
     }
 
-    /// The place of the token of an Initial packet, or of a Retry that has the 16 bytes of its tag after it; an empty
-    /// range for others.
+    /// The byte range of the token of an Initial packet, or of a Retry that has the 16 bytes of its tag after it; an
+    /// empty range for others.
     ///
     /// ```
     /// use quic_wire::packet::HeaderPlaces;
@@ -396,7 +397,7 @@ impl HeaderPlaces {
     ///
     /// # Panics
     ///
-    /// Where the bytes end before it does: they aren't those that the header was read of.
+    /// If the bytes end before it does: they aren't those that the header was read from.
     #[inline]
     pub fn token<'a>(&self, packet: &'a [u8]) -> &'a [u8] {
         &packet[self.token_pos()]
@@ -420,7 +421,7 @@ impl HeaderPlaces {
         packet.get(self.header_end()..self.end())?.split_last_chunk()
     }
 
-    /// The versions that a version negotiation names (RFC 9000, section 17.2.1); none of another packet.
+    /// The versions that a version negotiation names (RFC 9000, section 17.2.1); none for another packet.
     ///
     /// ```
     /// use quic_wire::packet::HeaderPlaces;
@@ -463,7 +464,7 @@ impl HeaderPlaces {
         self.0.end as usize
     }
 
-    /// Where the header ends: if the packet has a number, where that begins.
+    /// Where the header ends, or where the packet number begins if there is one.
     ///
     /// ```
     /// use quic_wire::packet::HeaderPlaces;
@@ -477,8 +478,8 @@ impl HeaderPlaces {
         self.0.header_end as usize
     }
 
-    /// The place of the packet, which begins at a place of its datagram. One without a number has no room for
-    /// protection.
+    /// Where the packet is in its datagram, given the offset at which it begins. A packet without a packet number has
+    /// no room for protection.
     ///
     /// ```
     /// use quic_wire::packet::HeaderPlaces;
@@ -497,7 +498,7 @@ impl HeaderPlaces {
         PacketPlace::of(begin, number, self.end())
     }
 
-    /// What it says.
+    /// Its fields.
     ///
     /// ```
     /// use quic_wire::packet::{HeaderPlaces, ProtectedHeader};
@@ -509,7 +510,7 @@ impl HeaderPlaces {
     ///
     /// # Panics
     ///
-    /// Where the bytes end before its ids do: they aren't those that the header was read of.
+    /// If the bytes end before its ids do: they aren't those that the header was read from.
     #[inline]
     pub fn header<'a>(&self, packet: &'a [u8]) -> ProtectedHeader<'a> {
         let (dst_cid, src_cid) = (self.dst_cid(packet), self.src_cid(packet));

@@ -1,7 +1,6 @@
-//! The packets of a datagram (RFC 9000, sections 12.2 and 17), and the protection of their headers (RFC 9001, section
-//! 5.4).
+//! The packets of a datagram (RFC 9000, sections 12.2 and 17), and header protection (RFC 9001, section 5.4).
 //!
-//! A datagram is opened in place, packet by packet. The cipher is the caller's: it makes a mask of a sample.
+//! A datagram is opened in place, packet by packet. You bring the cipher, which makes a mask from a sample.
 //!
 //! ```
 //! use quic_wire::packet::{Header, LongType, PacketNumber, PacketsMut};
@@ -49,11 +48,11 @@ use core::ops::Range;
 
 pub use crate::WriteError;
 
-/// The versions that `quinn-proto` speaks: 1, the drafts 29 to 34, and 2 (RFC 9369).
+/// The versions that `quinn-proto` supports, 1 and the drafts 29 to 34, and version 2 (RFC 9369).
 pub const DEFAULT_SUPPORTED_VERSIONS: &[u32] =
     &[0x0000_0001, 0xff00_001d, 0xff00_001e, 0xff00_001f, 0xff00_0020, 0xff00_0021, 0xff00_0022, 0x6b33_43cf];
 
-/// The kinds of long headers that have a number but no token.
+/// The kinds of long headers with a packet number but without a token.
 ///
 /// ```
 /// use quic_wire::packet::{HeaderPlaces, LongType, ProtectedHeader};
@@ -64,13 +63,13 @@ pub const DEFAULT_SUPPORTED_VERSIONS: &[u32] =
 /// ```
 #[derive(Clone, Copy, Debug, PartialEq, Eq, Hash)]
 pub enum LongType {
-    /// Of the handshake.
+    /// Handshake (RFC 9000, section 17.2.4).
     Handshake,
-    /// Early data.
+    /// 0-RTT (RFC 9000, section 17.2.3).
     ZeroRtt,
 }
 
-/// The fields of a header, before its protection is taken off.
+/// The fields of a protected header.
 ///
 /// ```
 /// use quic_wire::packet::{HeaderPlaces, ProtectedHeader};
@@ -86,7 +85,7 @@ pub enum ProtectedHeader<'a> {
         dst_cid: &'a [u8],
         /// The sender's id.
         src_cid: &'a [u8],
-        /// The place of the token in the packet.
+        /// The byte range of the token in the packet.
         token_pos: Range<usize>,
         /// How many bytes the packet has after its header, including those of the packet number.
         len: u64,
@@ -117,7 +116,7 @@ pub enum ProtectedHeader<'a> {
     },
     /// The header of a 1-RTT packet (RFC 9000, section 17.3.1).
     Short {
-        /// The bit for measuring round trips.
+        /// The spin bit (RFC 9000, section 17.4).
         spin: bool,
         /// The receiver's id.
         dst_cid: &'a [u8],
@@ -182,7 +181,7 @@ impl fmt::Debug for ProtectedHeader<'_> {
     }
 }
 
-/// Why no packet was cut. What is left of the datagram is given up.
+/// Why no packet was cut. What is left of the datagram is dropped.
 ///
 /// ```
 /// use quic_wire::packet::{PacketDecodeError, Packets};

@@ -5,8 +5,8 @@ use crate::text::{Hex, Hex32};
 use crate::WriteError;
 use core::fmt;
 
-/// A version negotiation, all of the packet (RFC 9000, section 17.2.1). Its ids are those of the packet that it
-/// answers, which may be of any version, so they have up to 255 bytes (RFC 8999, section 6).
+/// A whole version negotiation (RFC 9000, section 17.2.1). Its ids are those of the packet that it responds to, which
+/// may have any version, so they have up to 255 bytes (RFC 8999, section 6).
 /// [`HeaderPlaces::read_version_negotiation`](super::HeaderPlaces::read_version_negotiation) reads it.
 ///
 /// ```
@@ -19,14 +19,14 @@ use core::fmt;
 /// ```
 #[derive(Clone, Copy, PartialEq, Eq, Hash)]
 pub struct VersionNegotiation<'a> {
-    /// The first byte without its highest bit. RFC 9000, section 17.2.1, has 0x40 set in it where QUIC may share its
-    /// port, and [`Packets`](super::Packets) asks for it unless packets are greased.
+    /// The first byte without its highest bit. RFC 9000, section 17.2.1, sets 0x40 in it if QUIC may share its port,
+    /// and [`Packets`](super::Packets) requires that unless packets are greased.
     pub random: u8,
-    /// The receiver's id: the source id of the packet that is answered.
+    /// The receiver's id: the source id of the packet that it responds to.
     pub dst_cid: &'a [u8],
     /// The sender's id: the destination id of that packet.
     pub src_cid: &'a [u8],
-    /// The versions that the sender speaks.
+    /// The versions that the sender supports.
     pub versions: &'a [u32],
 }
 
@@ -42,7 +42,7 @@ impl VersionNegotiation<'_> {
         7 + self.dst_cid.len() + self.src_cid.len() + 4 * self.versions.len()
     }
 
-    /// Writes the packet, and answers how many bytes it has.
+    /// Writes the packet, and returns how many bytes it has.
     ///
     /// ```
     /// use quic_wire::packet::VersionNegotiation;
@@ -54,9 +54,9 @@ impl VersionNegotiation<'_> {
     ///
     /// # Errors
     ///
-    /// Where an id has more than 255 bytes, or there is too little room.
+    /// If an id has more than 255 bytes, or there is too little room.
     pub fn encode<B: Buffer + ?Sized>(&self, out: &mut B) -> Result<usize, WriteError> {
-        // What differs from the first byte of RFC 9000, section 17.2.1.
+        // The bits that differ from the first byte of RFC 9000, section 17.2.1.
         let flags = self.random ^ 0x40;
         out.put(|room| match sys::negotiation_write(flags, [self.dst_cid, self.src_cid], self.versions, room) {
             Ok(filled) => Ok((filled, filled.len())),

@@ -19,9 +19,9 @@ pub struct PacketNumber {
 }
 
 impl PacketNumber {
-    /// As few bytes as let a receiver find the number that has acknowledged `largest_acked` (RFC 9000, appendix A.2),
-    /// as `quinn-proto` chooses them. None if the number is 2^62 or more, or if `largest_acked` is above it, or 2^31 or
-    /// more below it.
+    /// The number in as few bytes as a receiver needs that has acknowledged `largest_acked` (RFC 9000, appendix A.2),
+    /// as `quinn-proto` chooses them. `None` if the number is 2^62 or more, or if `largest_acked` is above it, or 2^31
+    /// or more below it.
     ///
     /// ```
     /// use quic_wire::packet::PacketNumber;
@@ -35,7 +35,7 @@ impl PacketNumber {
             return None;
         }
         let Some(distance) = number.checked_sub(largest_acked) else { return None };
-        // As `quic_wire_number_len_` answers, which the test below asks.
+        // As `quic_wire_number_len_` returns; the test below compares the two.
         let len = match distance {
             0..=0x7f => 1,
             0x80..=0x7fff => 2,
@@ -61,10 +61,10 @@ impl PacketNumber {
         }
     }
 
-    /// The whole number of which the low `len` bytes are `written`, by the one that is expected next (RFC 9000,
-    /// appendix A.3). None where `len` isn't 1 to 4, `written` has more bytes, or `expected` is 2^62 or more. Where
-    /// `expected` is at most `2^(8 * len - 1)` below 2^62 the number may be 2^62 or more, which no packet has; appendix
-    /// A.3 gives the one that is less by `2^(8 * len)` then.
+    /// The whole packet number whose low `len` bytes are `written`, from the one that is expected next (RFC 9000,
+    /// appendix A.3). `None` if `len` isn't 1 to 4, `written` has more bytes, or `expected` is 2^62 or more. If
+    /// `expected` is at most `2^(8 * len - 1)` below 2^62, the result may be 2^62 or more, which no packet number is;
+    /// appendix A.3 then has the number that is less by `2^(8 * len)`.
     ///
     /// ```
     /// use quic_wire::packet::PacketNumber;
@@ -88,7 +88,7 @@ mod tests {
         for distance in distances.map(|distance: u64| [distance.saturating_sub(1), distance, distance + 1]).concat() {
             for largest_acked in [0, 1, 0xff, 0xabe8_b3c1, (1 << 62) - 1, u64::MAX / 2] {
                 let number = largest_acked + distance;
-                // The library doesn't look at the number itself.
+                // The library doesn't check the number itself.
                 let reported = if number > varint::MAX { -5 } else { sys::number_len(number, largest_acked) };
                 let len = PacketNumber::new(number, largest_acked).map_or(-5, |number| number.len as i32);
                 assert_eq!(len, reported, "of {number}, {largest_acked} acknowledged");

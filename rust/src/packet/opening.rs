@@ -18,7 +18,7 @@ pub struct PacketMut<'a> {
 }
 
 impl<'a> PacketMut<'a> {
-    // Of a packet that is these bytes.
+    // From a packet's bytes.
     pub(super) fn new(places: HeaderPlaces, packet: &'a mut [u8]) -> Self {
         PacketMut { places, packet }
     }
@@ -36,7 +36,7 @@ impl<'a> PacketMut<'a> {
         self.packet
     }
 
-    /// Its header as places in the packet.
+    /// Its header as offsets in the packet.
     ///
     /// ```
     /// use quic_wire::packet::PacketsMut;
@@ -90,8 +90,8 @@ impl<'a> PacketMut<'a> {
         self.packet
     }
 
-    /// Takes the protection off its header by the mask that is made of a sample of so many bytes, and gives its number,
-    /// expanded by the one that is expected next.
+    /// Removes its header protection, with the mask that `mask` makes from a sample of `sample_len` bytes, and expands
+    /// its packet number from the one that is expected next.
     ///
     /// ```
     /// use quic_wire::packet::PacketsMut;
@@ -104,7 +104,7 @@ impl<'a> PacketMut<'a> {
     ///
     /// # Errors
     ///
-    /// Where it has no number, is too short for the sample, or `expected` is 2^62 or more.
+    /// If it has no packet number, is too short for the sample, or `expected` is 2^62 or more.
     #[inline]
     pub fn open_with(
         self,
@@ -116,7 +116,7 @@ impl<'a> PacketMut<'a> {
         Ok(self.opened(opened))
     }
 
-    /// The same by a cipher that takes its mask off itself and gives none away, as that of `rustls` does: see
+    /// The same with a cipher that removes its mask itself and doesn't reveal it, like that of `rustls`: see
     /// [`PacketPlace::unprotect_by`](super::PacketPlace::unprotect_by).
     ///
     /// ```
@@ -155,7 +155,7 @@ impl fmt::Debug for PacketMut<'_> {
     }
 }
 
-/// A packet whose header has no protection any more, and whose payload is still sealed.
+/// A packet whose header protection was removed, and whose payload is still sealed.
 ///
 /// ```
 /// use quic_wire::packet::PacketsMut;
@@ -166,8 +166,8 @@ impl fmt::Debug for PacketMut<'_> {
 /// # Ok::<(), quic_wire::Error>(())
 /// ```
 pub struct Packet<'a> {
-    /// The header with the number, which the AEAD authenticates. Where fewer bytes are put in its place, what reads the
-    /// header panics.
+    /// The header with the packet number, which the AEAD authenticates. If it is replaced by fewer bytes, the calls
+    /// that read the header panic.
     pub header_data: &'a [u8],
     /// The payload with its tag, to be opened in place.
     pub payload: &'a mut [u8],
@@ -176,7 +176,7 @@ pub struct Packet<'a> {
 }
 
 impl<'a> Packet<'a> {
-    /// The fields of its header that were never under protection.
+    /// The fields of its header that were never protected.
     ///
     /// ```
     /// use quic_wire::packet::{PacketsMut, ProtectedHeader};
@@ -231,7 +231,7 @@ impl<'a> Packet<'a> {
         self.places.token(self.header_data)
     }
 
-    /// The whole number.
+    /// The whole packet number.
     ///
     /// ```
     /// use quic_wire::packet::PacketsMut;
@@ -245,7 +245,7 @@ impl<'a> Packet<'a> {
         self.opened.number
     }
 
-    /// The number, how many bytes of it are written, and the first byte without protection.
+    /// The packet number, its length in the packet, and the unprotected first byte.
     ///
     /// ```
     /// use quic_wire::packet::PacketsMut;
@@ -259,7 +259,7 @@ impl<'a> Packet<'a> {
         self.opened
     }
 
-    /// The key phase of a 1-RTT packet; false of others.
+    /// The Key Phase bit of a 1-RTT packet; false for others.
     ///
     /// ```
     /// use quic_wire::packet::PacketsMut;

@@ -1,10 +1,10 @@
-//! The protection of headers (RFC 9001, section 5.4).
+//! Header protection (RFC 9001, section 5.4).
 use crate::buffer::Buffer;
 use crate::{sys, varint, WriteError};
 use core::fmt;
 use core::ops::Range;
 
-/// Where a packet and its number are in its datagram: 12 bytes that borrow nothing.
+/// Where a packet and its packet number are in its datagram: 12 bytes that borrow nothing.
 ///
 /// ```
 /// use quic_wire::packet::{Packets, UnprotectError};
@@ -24,7 +24,7 @@ pub struct PacketPlace {
     end: u32,
 }
 
-/// Why the protection of a header wasn't taken off or put on.
+/// Why header protection wasn't removed or applied.
 ///
 /// ```
 /// use quic_wire::packet::{PacketPlace, UnprotectError};
@@ -36,11 +36,11 @@ pub struct PacketPlace {
 #[derive(Clone, Copy, Debug, PartialEq, Eq, Hash)]
 #[non_exhaustive]
 pub enum UnprotectError {
-    /// The packet has no number, or is too short for the sample or for a number of four bytes.
+    /// The packet has no packet number, or is too short for the sample or for a number of four bytes.
     TooShort,
-    /// The packet isn't one of this datagram.
+    /// The packet isn't in this datagram.
     NotThere,
-    /// The number that is expected is 2^62 or more.
+    /// The expected packet number is 2^62 or more.
     Expected,
 }
 
@@ -48,15 +48,15 @@ impl fmt::Display for UnprotectError {
     fn fmt(&self, f: &mut fmt::Formatter<'_>) -> fmt::Result {
         f.write_str(match self {
             UnprotectError::TooShort => "packet too short to extract header protection sample",
-            UnprotectError::NotThere => "the packet's place isn't in this datagram",
-            UnprotectError::Expected => "the packet number that is expected is 2^62 or more",
+            UnprotectError::NotThere => "the packet isn't in this datagram",
+            UnprotectError::Expected => "the expected packet number is 2^62 or more",
         })
     }
 }
 
 impl core::error::Error for UnprotectError {}
 
-/// A packet number, and the fields of a header that are readable once its protection is off.
+/// A packet number, and the fields of a header that are readable once its protection was removed.
 ///
 /// ```
 /// use quic_wire::packet::Opened;
@@ -65,18 +65,18 @@ impl core::error::Error for UnprotectError {}
 /// ```
 #[derive(Clone, Copy, Debug, PartialEq, Eq, Hash)]
 pub struct Opened {
-    /// The whole number.
+    /// The whole packet number.
     pub number: u64,
     /// How many bytes it has in the packet, 1 to 4.
     pub number_len: usize,
     /// Where the header ends and the payload begins in the datagram.
     pub payload: usize,
-    /// The first byte without protection.
+    /// The unprotected first byte.
     pub first: u8,
 }
 
 impl Opened {
-    /// The key phase of a 1-RTT packet (RFC 9001, section 6); false of others.
+    /// The Key Phase bit of a 1-RTT packet (RFC 9001, section 6); false for others.
     ///
     /// ```
     /// use quic_wire::packet::Opened;
@@ -87,7 +87,7 @@ impl Opened {
         self.first & 0x84 == 0x04
     }
 
-    /// Whether the reserved bits are 0, as they have to be; else it is a `PROTOCOL_VIOLATION`, once the payload was
+    /// Whether the reserved bits are 0, as they must be; otherwise it is a `PROTOCOL_VIOLATION`, once the payload was
     /// opened (RFC 9000, section 17.2).
     ///
     /// ```
@@ -101,7 +101,7 @@ impl Opened {
 }
 
 impl PacketPlace {
-    /// Of a packet in a datagram, whose number begins at a place of that.
+    /// A packet in a datagram, given its byte range and the offset of its packet number there.
     ///
     /// ```
     /// use quic_wire::packet::PacketPlace;
@@ -119,10 +119,10 @@ impl PacketPlace {
         PacketPlace { begin: packet.start as u32, number: number as u32, end: packet.end as u32 }
     }
 
-    // Of a packet that begins at a place of its datagram, by places in it, which are its own and in their order.
+    // A packet that begins at an offset of its datagram, from offsets in the packet, which are within it and in order.
     #[inline]
     pub(super) fn of(begin: usize, number: usize, end: usize) -> Self {
-        // Both are looked at, since the sum may go round.
+        // Both are checked, since the sum may wrap.
         assert!(u32::try_from(begin | begin.wrapping_add(end)).is_ok(), "a datagram is shorter than 4 GiB");
         PacketPlace { begin: begin as u32, number: (begin + number) as u32, end: (begin + end) as u32 }
     }
@@ -138,7 +138,7 @@ impl PacketPlace {
         self.begin as usize..self.end as usize
     }
 
-    /// Where its number begins in the datagram, which is the packet's end where it has none.
+    /// Where its packet number begins in the datagram, or the packet's end if it has none.
     ///
     /// ```
     /// use quic_wire::packet::PacketPlace;
@@ -149,13 +149,13 @@ impl PacketPlace {
         self.number as usize
     }
 
-    // Where the number begins in the packet.
+    // Where the packet number begins in the packet.
     #[inline]
     fn place(&self) -> usize {
         (self.number - self.begin) as usize
     }
 
-    /// The sample of so many bytes, of which the caller makes the mask (RFC 9001, section 5.4.2).
+    /// The sample of `len` bytes from which you make the mask (RFC 9001, section 5.4.2).
     ///
     /// ```
     /// use quic_wire::packet::PacketPlace;
@@ -166,7 +166,7 @@ impl PacketPlace {
     ///
     /// # Errors
     ///
-    /// Where the packet is too short, or isn't in the datagram.
+    /// If the packet is too short, or isn't in the datagram.
     #[inline]
     pub fn sample<'a>(&self, datagram: &'a [u8], len: usize) -> Result<&'a [u8], UnprotectError> {
         let packet = datagram.get(self.range()).ok_or(UnprotectError::NotThere)?;
@@ -174,8 +174,8 @@ impl PacketPlace {
         packet.get(start..start.saturating_add(len)).ok_or(UnprotectError::TooShort)
     }
 
-    /// Takes the protection off the packet's header by a mask (RFC 9001, section 5.4.1), and gives its number, expanded
-    /// by the one that is expected next (RFC 9000, appendix A.3); with 0 it is the truncated number.
+    /// Removes the packet's header protection with a mask (RFC 9001, section 5.4.1), and expands its packet number from
+    /// the one that is expected next (RFC 9000, appendix A.3); with 0 it is the truncated one.
     ///
     /// ```
     /// use quic_wire::packet::PacketPlace;
@@ -187,14 +187,14 @@ impl PacketPlace {
     ///
     /// # Errors
     ///
-    /// Where the packet is too short, isn't in the datagram, or `expected` is 2^62 or more. Then nothing changes.
+    /// If the packet is too short, isn't in the datagram, or `expected` is 2^62 or more. Nothing changes then.
     #[inline]
     pub fn unprotect(&self, datagram: &mut [u8], mask: &[u8; 5], expected: u64) -> Result<Opened, UnprotectError> {
         let packet = datagram.get_mut(self.range()).ok_or(UnprotectError::NotThere)?;
         self.open(packet, mask, expected)
     }
 
-    // Of the packet's bytes, or a beginning of them with its header and four bytes.
+    // From the packet's bytes, or a beginning of them with its header and four bytes.
     #[inline]
     fn open(&self, packet: &mut [u8], mask: &[u8; 5], expected: u64) -> Result<Opened, UnprotectError> {
         let mut number = 0;
@@ -208,7 +208,7 @@ impl PacketPlace {
         }
     }
 
-    /// The same by the mask that is made of the sample of so many bytes.
+    /// The same with the mask that is made from a sample of `sample_len` bytes.
     ///
     /// ```
     /// use quic_wire::packet::PacketPlace;
@@ -234,7 +234,7 @@ impl PacketPlace {
         self.unprotect(datagram, &mask, expected)
     }
 
-    // The sample of so many bytes, the first byte, and four bytes from the number's place on, each apart.
+    // The sample, the first byte, and four bytes from the packet number on, as separate borrows.
     #[inline]
     fn parts<'p>(&self, packet: &'p mut [u8], sample_len: usize) -> Option<(&'p [u8], &'p mut u8, &'p mut [u8; 4])> {
         let (header, behind) = packet.split_at_mut_checked(self.place() + 4)?;
@@ -242,8 +242,8 @@ impl PacketPlace {
         Some((behind.get(..sample_len)?, first, header.last_chunk_mut()?))
     }
 
-    /// The same by a cipher that takes its mask off itself and gives none away, as that of `rustls` does. It is handed
-    /// the sample of so many bytes, the first byte and four bytes from the number's place on, of which it changes the
+    /// The same with a cipher that removes its mask itself and doesn't reveal it, like that of `rustls`. It gets the
+    /// sample of `sample_len` bytes, the first byte, and four bytes from the packet number on, of which it changes the
     /// number's.
     ///
     /// ```
@@ -267,7 +267,7 @@ impl PacketPlace {
     ///
     /// # Errors
     ///
-    /// As [`PacketPlace::unprotect`]. The cipher isn't asked then.
+    /// As [`PacketPlace::unprotect`]. The cipher isn't called then.
     #[inline]
     pub fn unprotect_by(
         &self,
@@ -282,12 +282,12 @@ impl PacketPlace {
         }
         let (sample, first, number) = self.parts(packet, sample_len).ok_or(UnprotectError::TooShort)?;
         take_off(sample, first, number);
-        // By a mask of zeros the number is read as it is now.
+        // With a mask of zeros the number is read as it is now.
         self.open(packet, &[0; 5], expected)
     }
 
-    /// The same of a datagram that stays as it is: its header is written to `places` without its protection, with four
-    /// bytes from the number's place on, of which `number_len` are the number's.
+    /// The same for a datagram that doesn't change: the unprotected header is written to `places`, with four bytes from
+    /// the packet number on, of which `number_len` are the number's.
     ///
     /// ```
     /// use quic_wire::packet::PacketPlace;
@@ -300,7 +300,7 @@ impl PacketPlace {
     ///
     /// # Errors
     ///
-    /// As [`PacketPlace::unprotect`], and where `places` has too little room. Nothing is written then.
+    /// As [`PacketPlace::unprotect`], and if `places` has too little room. Nothing is written then.
     pub fn unprotect_header<B: Buffer + ?Sized>(
         &self,
         datagram: &[u8],
@@ -324,7 +324,7 @@ impl PacketPlace {
         Ok(reported??)
     }
 
-    /// Puts the protection on the header of a packet whose payload is sealed.
+    /// Applies header protection to a packet whose payload is sealed.
     ///
     /// ```
     /// use quic_wire::packet::PacketPlace;
@@ -336,7 +336,7 @@ impl PacketPlace {
     ///
     /// # Errors
     ///
-    /// Where the packet is too short, or isn't in the datagram. Then nothing changes.
+    /// If the packet is too short, or isn't in the datagram. Nothing changes then.
     #[inline]
     pub fn protect(&self, datagram: &mut [u8], mask: &[u8; 5]) -> Result<(), UnprotectError> {
         let packet = datagram.get_mut(self.range()).ok_or(UnprotectError::NotThere)?;
@@ -346,8 +346,8 @@ impl PacketPlace {
         Ok(())
     }
 
-    /// The same by a cipher that puts its mask on itself and gives none away, as that of `rustls` does. It is handed
-    /// what [`PacketPlace::unprotect_by`] hands on.
+    /// The same with a cipher that applies its mask itself and doesn't reveal it, like that of `rustls`. It gets what
+    /// [`PacketPlace::unprotect_by`] passes.
     ///
     /// ```
     /// use quic_wire::packet::PacketPlace;
@@ -365,7 +365,7 @@ impl PacketPlace {
     ///
     /// # Errors
     ///
-    /// Where the packet is too short, or isn't in the datagram. The cipher isn't asked then.
+    /// If the packet is too short, or isn't in the datagram. The cipher isn't called then.
     #[inline]
     pub fn protect_by(
         &self,

@@ -1,19 +1,19 @@
-//! Most packet numbers come at the end of a set and go at its front. What becomes of it then is seen by one of its runs
-//! without a call, where the runs are known to be sorted.
+//! Most packet numbers are inserted at the end of a set and removed at its front. If its runs are known to be sorted,
+//! one of them is enough to make such a change without a call.
 use super::Run;
 use core::ops::Range;
 
-// How numbers are put into a set that begin in its last run or after it.
+// How numbers that begin in the last run of a set or after it are inserted.
 pub(super) enum AtEnd {
-    // They are there, or none.
+    // They are there already, or the range is empty.
     Kept,
-    // Its last run goes on to their end.
+    // The last run is extended to their end.
     Extended,
-    // They are a run of their own.
+    // They are a new run.
     Behind,
 }
 
-// Puts numbers in unless they begin before the last run or are one of their own.
+// Inserts numbers unless they begin before the last run or are a new run.
 #[inline]
 pub(super) fn insert_at_end(runs: &mut [Run], range: &Range<u64>) -> Option<AtEnd> {
     match runs.last_mut() {
@@ -28,7 +28,7 @@ pub(super) fn insert_at_end(runs: &mut [Run], range: &Range<u64>) -> Option<AtEn
     }
 }
 
-// Takes numbers out that begin before the first run ends and end in it or before it; else `None`.
+// Removes numbers that begin before the first run ends and end in it or before it; otherwise `None`.
 #[inline]
 pub(super) fn remove_at_front(runs: &mut [Run], range: &Range<u64>) -> Option<bool> {
     let first = runs.first_mut()?;

@@ -5,8 +5,8 @@ use alloc::vec::Vec;
 use core::ops::Range;
 use core::{fmt, hash};
 
-/// A set of packet numbers in any number of runs: up to `N` are in the set itself, more in memory that it allocates. A
-/// set that a peer fills should be bounded, by [`GrowingRangeSet::pop_min`] or as an
+/// A set of packet numbers in any number of runs: up to `N` are in the set itself, more in memory that it allocates.
+/// Bound a set that a peer fills, with [`GrowingRangeSet::pop_min`] or by using an
 /// [`ArrayRangeSet`](super::ArrayRangeSet).
 ///
 /// ```
@@ -29,7 +29,7 @@ enum Runs<const N: usize> {
 }
 
 impl<const N: usize> GrowingRangeSet<N> {
-    /// The empty set, which allocates no memory.
+    /// The empty set, which doesn't allocate.
     ///
     /// ```
     /// use quic_wire::range_set::GrowingRangeSet;
@@ -40,7 +40,7 @@ impl<const N: usize> GrowingRangeSet<N> {
         GrowingRangeSet(Runs::Here { count: 0, runs: [Run { start: 0, end: 0 }; N] })
     }
 
-    /// Puts numbers into the set, and answers whether it changed. An empty or reversed range puts in nothing.
+    /// Inserts numbers, and returns whether the set changed. An empty or reversed range inserts nothing.
     ///
     /// ```
     /// use quic_wire::range_set::GrowingRangeSet;
@@ -61,7 +61,7 @@ impl<const N: usize> GrowingRangeSet<N> {
         }
     }
 
-    /// Puts one number below 2^64 - 1 into the set, and answers whether it wasn't there.
+    /// Inserts one number below 2^64 - 1, and returns whether it wasn't there.
     ///
     /// ```
     /// use quic_wire::range_set::GrowingRangeSet;
@@ -73,7 +73,7 @@ impl<const N: usize> GrowingRangeSet<N> {
         self.insert(number..number.saturating_add(1))
     }
 
-    /// Takes numbers out of the set, and answers whether it changed.
+    /// Removes numbers, and returns whether the set changed.
     ///
     /// ```
     /// use quic_wire::range_set::GrowingRangeSet;
@@ -90,7 +90,7 @@ impl<const N: usize> GrowingRangeSet<N> {
         }
     }
 
-    /// Takes all numbers of another set out of this one.
+    /// Removes all numbers of another set.
     ///
     /// ```
     /// use quic_wire::range_set::GrowingRangeSet;
@@ -106,7 +106,7 @@ impl<const N: usize> GrowingRangeSet<N> {
         }
     }
 
-    // Makes a change by the library, in the room that there is, or with one run more where it asks for that.
+    // Makes a change with the library, in the room that there is, or with one more run if it needs that.
     fn change(&mut self, change: impl Fn(&mut [Run], &mut usize) -> Result<bool, Error>) -> bool {
         let mut count = self.len();
         let mut answer = change(self.room(), &mut count);
@@ -121,7 +121,7 @@ impl<const N: usize> GrowingRangeSet<N> {
         answer.expect("the runs are sorted, and there is room")
     }
 
-    // All the runs that there is room for without memory.
+    // All the runs that there is room for without an allocation.
     fn room(&mut self) -> &mut [Run] {
         match &mut self.0 {
             Runs::Here { runs, .. } => runs,
@@ -161,7 +161,7 @@ impl<const N: usize> GrowingRangeSet<N> {
         }
     }
 
-    /// Takes the run of the least numbers out.
+    /// Removes the run of the least numbers and returns it.
     ///
     /// ```
     /// use quic_wire::range_set::GrowingRangeSet;
@@ -184,7 +184,7 @@ impl<const N: usize> GrowingRangeSet<N> {
         Some(least)
     }
 
-    /// Makes the set empty, and gives its memory back.
+    /// Makes the set empty, and frees its memory.
     ///
     /// ```
     /// use quic_wire::range_set::GrowingRangeSet;
@@ -260,7 +260,7 @@ impl<const N: usize> GrowingRangeSet<N> {
         self.runs().len()
     }
 
-    /// Whether it has none.
+    /// Whether it is empty.
     ///
     /// ```
     /// use quic_wire::range_set::GrowingRangeSet;
@@ -271,7 +271,7 @@ impl<const N: usize> GrowingRangeSet<N> {
         self.runs().is_empty()
     }
 
-    /// The runs, as [`crate::frame::Ack::encode`] takes them.
+    /// The runs, as [`crate::frame::Ack::encode`] accepts them.
     ///
     /// ```
     /// use quic_wire::range_set::GrowingRangeSet;
@@ -316,7 +316,7 @@ impl<const N: usize> GrowingRangeSet<N> {
 }
 
 impl<const N: usize> Clone for GrowingRangeSet<N> {
-    // Few runs are in the copy itself, wherever they were before.
+    // Few runs are stored in the copy itself, wherever they were before.
     #[inline]
     fn clone(&self) -> Self {
         let (from, mut runs) = (self.runs(), [Run::default(); N]);

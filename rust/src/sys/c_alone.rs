@@ -1,5 +1,5 @@
-//! The calls that C alone needs, and `quic_wire_set_len_`, with random bytes and words: their answers are among those
-//! that `quic_wire.h` names, nothing changes but where it says so, and they agree with what this crate tells.
+//! The calls that only C needs, and `quic_wire_set_len_`, with random bytes and field values: their results are among
+//! those in `quic_wire.h`, nothing changes except where it says so, and they agree with this crate.
 extern crate std;
 
 use super::words::Gap;
@@ -14,42 +14,36 @@ const NOT_THERE: i32 = -2;
 const NO_LENGTH: i32 = -6;
 
 fn frames_init(frames: &mut Frames, payload: &[u8], flags: u32) -> i32 {
-    // SAFETY: `payload` gives its own pointer and length; `frames` is borrowed alone. The library looks at no other
-    // memory and keeps no pointer.
+    // SAFETY: `payload` passes its own pointer and length; `frames` is borrowed exclusively. The library accesses no
+    // other memory and keeps no pointer.
     unsafe { c::quic_wire_frames_init_(frames, payload.as_ptr(), payload.len(), flags) }
 }
 
 fn frames_first(frames: &mut Frames, payload: &[u8], flags: u32, out: &mut [Frame], count: &mut usize) -> i32 {
     let (bytes, len, entries, room) = (payload.as_ptr(), payload.len(), out.as_mut_ptr(), out.len());
-    // SAFETY: `payload` and `out` each give their own pointer and length; `frames`, `out` and `count` are borrowed
-    // alone. The library looks at no other memory and keeps no pointer.
+    // SAFETY: `payload` and `out` each pass their own pointer and length; `frames`, `out` and `count` are borrowed
+    // exclusively. The library accesses no other memory and keeps no pointer.
     unsafe { c::quic_wire_frames_first_(frames, bytes, len, flags, entries, room, count) }
 }
 
 fn frame_read(payload: &[u8], flags: u32, out: &mut Frame, gaps: &mut [Gap]) -> i64 {
     let (bytes, len, gaps, room) = (payload.as_ptr(), payload.len(), gaps.as_mut_ptr(), gaps.len());
-    // SAFETY: `payload` and `gaps` each give their own pointer and length; `out` and `gaps` are borrowed alone. The
-    // library looks at no other memory and keeps no pointer.
+    // SAFETY: `payload` and `gaps` each pass their own pointer and length; `out` and `gaps` are borrowed exclusively.
+    // The library accesses no other memory and keeps no pointer.
     unsafe { c::quic_wire_frame_read_(bytes, len, flags, out, gaps, room) }
-}
-
-fn ack_ranges_init(ranges: &mut Ranges, payload: &[u8], frame: &Frame) -> i32 {
-    // SAFETY: `payload` gives its own pointer and length; `ranges` is borrowed alone. Any words in `frame` serve. The
-    // library looks at no other memory and keeps no pointer.
-    unsafe { c::quic_wire_ack_ranges_init_(ranges, payload.as_ptr(), payload.len(), frame) }
 }
 
 fn ack_ranges_fill(ranges: &mut Ranges, payload: &[u8], out: &mut [Range], count: &mut usize) -> i32 {
     let (bytes, len, entries, room) = (payload.as_ptr(), payload.len(), out.as_mut_ptr(), out.len());
-    // SAFETY: `payload` and `out` each give their own pointer and length; `ranges`, `out` and `count` are borrowed
-    // alone. Any words in `ranges` serve. The library looks at no other memory and keeps no pointer.
+    // SAFETY: `payload` and `out` each pass their own pointer and length; `ranges`, `out` and `count` are borrowed
+    // exclusively. Any values in `ranges` are valid. The library accesses no other memory and keeps no pointer.
     unsafe { c::quic_wire_ack_ranges_fill_(ranges, bytes, len, entries, room, count) }
 }
 
 fn ack_gaps_write(ack: &Frame, gaps: &[Gap], out: &mut [u8], written: &mut usize) -> i32 {
     let (gaps, count, to, room) = (gaps.as_ptr(), gaps.len(), out.as_mut_ptr(), out.len());
-    // SAFETY: `gaps` and `out` each give their own pointer and length; `out` and `written` are borrowed alone. Any
-    // words in `ack` serve. The library looks at no other memory and keeps no pointer.
+    // SAFETY: `gaps` and `out` each pass their own pointer and length; `out` and `written` are borrowed exclusively.
+    // Any values in `ack` are valid. The library accesses no other memory and keeps no pointer.
     unsafe { c::quic_wire_ack_gaps_write_(ack, gaps, count, to, room, written) }
 }
 
@@ -73,7 +67,7 @@ impl Random {
         self.next() >> [58, 50, 34, 2, 0][self.below(5)]
     }
 
-    // A place in some bytes, or near their end, or anywhere.
+    // An offset in some bytes, or near their end, or anywhere.
     fn place(&mut self) -> usize {
         match self.below(9) {
             0 => self.number() as usize,
@@ -81,7 +75,7 @@ impl Random {
         }
     }
 
-    // Types that there are, small numbers, rubbish, and ACKs.
+    // Known types, small numbers, random bytes, and ACKs.
     fn payload(&mut self) -> Vec<u8> {
         let (len, mut payload) = (self.below(60), vec![]);
         while payload.len() < len {
@@ -118,7 +112,7 @@ fn rounds(one: impl Fn(&mut Random)) {
     (0..20_000).for_each(|_| one(&mut random));
 }
 
-// What the header has for each reason.
+// The header's result for each reason.
 fn answer_of(reason: Reason) -> i32 {
     match reason {
         Reason::UnexpectedEnd => -21,
@@ -210,7 +204,7 @@ fn front(random: &mut Random, payload: &[u8], flags: u32) -> Option<usize> {
     Some(frame.end)
 }
 
-// The ranges of an ACK are those of `Ack`, as gaps of which there is room for so many; and as ranges, some at a time.
+// The ranges of an ACK are those of `Ack`, as gaps with limited room, and as ranges, some at a time.
 fn ack_at_front(random: &mut Random, bytes: &[u8], reported: Frame, frame: Frame, gaps: [Gap; 5], room: usize) {
     let ack = Ack::from_bytes(bytes).unwrap();
     let ranges: Vec<_> = ack.iter().map(|range| Range { start: *range.start(), end: range.end() + 1 }).collect();
@@ -229,15 +223,15 @@ fn ack_at_front(random: &mut Random, bytes: &[u8], reported: Frame, frame: Frame
     let frame = Frame { ty: other.ty, begin: other.begin, end: other.end, data: other.data, ..frame };
     assert_eq!(written(random, &frame, &gaps[..count]), wanted);
 
-    let init = [ack_ranges_init, super::ack_ranges_init_unchecked][random.below(2)];
-    let mut state = Ranges { begin: 7, end: 7, largest: 7 };
-    assert_eq!(init(&mut state, bytes, &reported), OK);
+    let mut state = Ranges { offset: 7, left: 7, largest: 7 };
+    assert_eq!(super::ack_ranges_init(&mut state, bytes, &reported), OK);
+    assert_eq!(state.left, ranges.len() as u64);
     let mut filled = vec![];
     while filled_from(random, &mut state, bytes, &mut filled) == ITEM {}
-    assert_eq!((filled, state.begin), (ranges, state.end));
+    assert_eq!((filled, state.left, state.largest), (ranges, 0, 0));
 }
 
-// One call of `quic_wire_ack_ranges_fill_`, and its answer.
+// One call of `quic_wire_ack_ranges_fill_`, and its result.
 fn filled_from(random: &mut Random, state: &mut Ranges, bytes: &[u8], filled: &mut Vec<Range>) -> i32 {
     let (before, room) = (*state, 1 + random.below(4));
     let (mut out, mut count) = ([NO_RANGE; 5], 77);
@@ -253,7 +247,20 @@ fn filled_from(random: &mut Random, state: &mut Ranges, bytes: &[u8], filled: &m
     answer
 }
 
-/// `quic_wire_ack_ranges_init_` begins at each ACK, and changes nothing where it finds none.
+// The largest number of the ACK that the bytes begin with, how many ranges are below its first one, and the offset of
+// their blocks.
+fn head_of(bytes: &[u8]) -> Option<(u64, u64, usize)> {
+    let (mut numbers, mut at) = ([0; 4], 0);
+    for number in &mut numbers {
+        let (read, len) = varint::read(&bytes[at..])?;
+        *number = read;
+        at += len;
+    }
+    let [ty, largest, _, count] = numbers;
+    (ty == 2 || ty == 3).then_some((largest, count, at))
+}
+
+/// `quic_wire_ack_ranges_init_` begins after the head of each ACK, and changes nothing if it finds none.
 #[test]
 fn ranges_begin_at_an_ack() {
     rounds(|random| {
@@ -265,26 +272,30 @@ fn ranges_begin_at_an_ack() {
             payload[damaged] ^= 1 << random.below(8);
         }
         frame.end = [payload.len(), random.place()][random.below(2)];
-        let before = Ranges { begin: 7, end: 7, largest: 7 };
-        let (mut ranges, mut unchecked) = (before, before);
-        let answer = ack_ranges_init(&mut ranges, &payload, &frame);
-        if payload.get(frame.begin..frame.end).is_some_and(|bytes| Ack::from_bytes(bytes).is_ok()) {
-            let other = super::ack_ranges_init_unchecked(&mut unchecked, &payload, &frame);
-            assert_eq!((answer, other, ranges), (OK, OK, unchecked));
-        } else if answer == OK {
-            assert!(frame.begin < ranges.begin && ranges.begin < ranges.end && ranges.end <= frame.end);
-        } else {
-            assert_eq!((answer, ranges), (NOT_THERE, before));
+        let before = Ranges { offset: 7, left: 7, largest: 7 };
+        let mut ranges = before;
+        let answer = super::ack_ranges_init(&mut ranges, &payload, &frame);
+        let bytes = payload.get(frame.begin..frame.end).unwrap_or_default();
+        if let Ok(ack) = Ack::from_bytes(bytes) {
+            assert_eq!((answer, ranges.left, ranges.largest), (OK, ack.iter().count() as u64, ack.largest()));
+        }
+        match head_of(bytes) {
+            Some((largest, count, len)) => {
+                let wanted = Ranges { offset: frame.begin + len, left: count + 1, largest };
+                assert_eq!((answer, ranges), (OK, wanted));
+            }
+            None => assert_eq!((answer, ranges), (NOT_THERE, before)),
         }
     });
 }
 
-/// `quic_wire_ack_ranges_fill_` gives of any words what single calls give.
+/// `quic_wire_ack_ranges_fill_` returns for any field values what single calls return.
 #[test]
 fn ranges_are_filled_as_single_calls_give_them() {
     rounds(|random| {
         let payload = random.payload();
-        let before = Ranges { begin: random.place(), end: random.place(), largest: random.number() };
+        let left = [random.below(9) as u64, random.number()][random.below(2)];
+        let before = Ranges { offset: random.place(), left, largest: random.number() };
         let (mut many, mut one, mut filled) = (before, before, vec![]);
         let answer = loop {
             let answer = filled_from(random, &mut many, &payload, &mut filled);
@@ -299,11 +310,11 @@ fn ranges_are_filled_as_single_calls_give_them() {
         assert_eq!((super::ack_ranges_next(&mut one, &payload, &mut range), one), (answer, many));
         let (mut none, mut count) = (before, 77);
         let answer = ack_ranges_fill(&mut none, &payload, &mut [], &mut count);
-        assert!([OK, NOT_THERE, NO_ROOM].contains(&answer) && (none, count) == (before, 77));
+        assert_eq!((answer, none, count), (NO_ROOM, before, 77));
     });
 }
 
-// What `quic_wire_ack_gaps_write_` writes, in room that is enough; with less nothing changes.
+// What `quic_wire_ack_gaps_write_` writes with enough room; with less nothing changes.
 fn written(random: &mut Random, ack: &Frame, gaps: &[Gap]) -> Option<Vec<u8>> {
     let (mut out, mut len) = ([0xa5; 200], 77);
     match ack_gaps_write(ack, gaps, &mut out, &mut len) {
@@ -321,7 +332,7 @@ fn written(random: &mut Random, ack: &Frame, gaps: &[Gap]) -> Option<Vec<u8>> {
     }
 }
 
-/// `quic_wire_ack_gaps_write_` writes of any words an ACK that is read back, or says that they are none.
+/// `quic_wire_ack_gaps_write_` writes for any field values an ACK that is read back, or rejects them.
 #[test]
 fn an_ack_that_is_written_by_gaps_is_read_back() {
     rounds(|random| {
@@ -344,7 +355,7 @@ fn an_ack_that_is_written_by_gaps_is_read_back() {
     });
 }
 
-/// `quic_wire_set_len_` sets the length where it fits, and changes nothing else.
+/// `quic_wire_set_len_` sets the length if it fits, and changes nothing else.
 #[test]
 fn a_length_is_set_where_it_fits() {
     let mut packet = vec![0xa5; (1 << 14) + 80];
@@ -364,12 +375,12 @@ fn a_length_is_set_where_it_fits() {
     }
 }
 
-/// `quic_wire_varint_len_` gives the length of the shortest encoding, 0 where there is none.
+/// `quic_wire_varint_len_` returns the length of the shortest encoding, 0 if there is none.
 #[test]
 fn a_number_is_as_long_as_its_encoding() {
     rounds(|random| {
         let number = random.number();
-        // SAFETY: a number alone goes in and out, and any serves.
+        // SAFETY: it takes and returns only numbers, and any are valid.
         let len = unsafe { c::quic_wire_varint_len_(number) };
         assert_eq!(len, varint::len(number).unwrap_or(0), "of {number}");
     });
@@ -399,7 +410,7 @@ fn the_bytes_of_a_packet_number_are_read_back() {
     });
 }
 
-/// `quic_wire_frame_rules_` has the rows of RFC 9000, section 12.4, table 3, by the letters that stand there.
+/// `quic_wire_frame_rules_` has the rows of RFC 9000, section 12.4, table 3, by the letters there.
 #[test]
 fn a_kind_of_frame_has_its_row() {
     let rows = [
@@ -434,12 +445,12 @@ fn a_kind_of_frame_has_its_row() {
     let row = |kind: u32| rows.iter().find(|row| row[..2] == std::format!("{kind:02x}"));
     for kind in (0..0x1_0000).chain([u32::MAX, 1 << 31]) {
         let wanted: u32 = row(kind).map_or(0, |row| row[3..].chars().filter(|c| *c != '.').map(bit).sum());
-        // SAFETY: a number alone goes in and out, and any serves.
+        // SAFETY: it takes and returns only numbers, and any are valid.
         assert_eq!(unsafe { c::quic_wire_frame_rules_(kind) }, wanted, "of {kind:x}");
     }
 }
 
-// A call that writes at the front of `out`: its answer and how many bytes it says.
+// A call that writes at the front of `out`: its result, and how many bytes it reports.
 fn wrote(out: &mut [u8], call: impl Fn(*mut u8, usize, *mut usize) -> i32) -> (i32, usize) {
     let mut written = 77;
     (call(out.as_mut_ptr(), out.len(), &mut written), written)
@@ -455,8 +466,8 @@ fn entries_are_written_in_parts_and_of_numbers() {
         Entry { id, value: &number }.write(&mut shortest).unwrap();
         let head = shortest.len() - number.len();
         let mut out = vec![0; shortest.len()];
-        // SAFETY: `out` gives its own pointer and length, and is borrowed alone as `written` is. The library looks at
-        // no other memory and keeps no pointer.
+        // SAFETY: `out` passes its own pointer and length, and is borrowed exclusively as `written` is. The library
+        // accesses no other memory and keeps no pointer.
         let write_header =
             |to, room, written| unsafe { c::quic_wire_param_header_write_(id, number.len(), to, room, written) };
         assert_eq!(wrote(&mut out, write_header), (OK, head));
@@ -469,8 +480,8 @@ fn entries_are_written_in_parts_and_of_numbers() {
         assert_eq!(out, shortest);
         let read = |list: &[u8]| {
             let (mut entry, mut number) = (Param::default(), 77);
-            // SAFETY: `list` gives its own pointer and length; `entry` and `number` are borrowed alone. The library
-            // looks at no other memory and keeps no pointer.
+            // SAFETY: `list` passes its own pointer and length; `entry` and `number` are borrowed exclusively. The
+            // library accesses no other memory and keeps no pointer.
             let end = unsafe { c::quic_wire_param_read_number_(list.as_ptr(), list.len(), &mut entry, &mut number) };
             (end, entry.id, number)
         };
@@ -491,16 +502,17 @@ fn a_preferred_address_is_its_entry_alone() {
     let given = TransportParameters { preferred_address: Some(preferred_address), ..TransportParameters::default() };
     let mut list = vec![];
     given.write(Side::Server, &mut list).unwrap();
-    // Of its entry the number and the length have a byte each.
+    // The id and the length of its entry have a byte each.
     let value = &list[2..];
     let (mut words, mut whole) = (Params::default(), Params::default());
-    // SAFETY: `value` and `list` each give their own pointer and length; `words`, `whole` and what the library says of
-    // a refusal are borrowed alone. The library looks at no other memory and keeps no pointer.
+    // SAFETY: `value` and `list` each pass their own pointer and length; `words`, `whole` and the refusal are borrowed
+    // exclusively. The library accesses no other memory and keeps no pointer.
     let read = unsafe { c::quic_wire_preferred_address_read_(value.as_ptr(), value.len(), &mut words) };
     assert_eq!(super::params_read(0, 0, &list, &mut whole, &mut super::Refusal::default()), OK);
     assert_eq!((read, words), (OK, whole));
     let mut out = vec![0; value.len()];
-    // SAFETY: `out` gives its own pointer and length, and is borrowed alone as `written` is. Any words serve.
+    // SAFETY: `out` passes its own pointer and length, and is borrowed exclusively as `written` is. Any values are
+    // valid.
     let write = |to, room, written| unsafe { c::quic_wire_preferred_address_write_(&words, to, room, written) };
     assert_eq!(wrote(&mut out, write), (OK, value.len()));
     assert_eq!(out, value);

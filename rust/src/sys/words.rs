@@ -1,7 +1,7 @@
 //! The structs of `quic_wire.h`.
 use core::mem::offset_of;
 
-/// How far an iterator over a payload has come.
+/// How far a payload was read.
 #[repr(C)]
 #[derive(Clone, Copy, Debug, PartialEq, Eq, Hash)]
 pub struct Frames {
@@ -41,7 +41,7 @@ pub struct Range {
     pub end: u64,
 }
 
-/// A range of an ACK below another one: how many numbers are between the two, and how many it has, both less one.
+/// A range of an ACK below another one: how many numbers are between the two, and how many it has, both minus one.
 #[cfg(test)]
 #[repr(C)]
 #[derive(Clone, Copy, Debug, PartialEq, Eq)]
@@ -54,12 +54,12 @@ pub struct Gap {
 #[repr(C)]
 #[derive(Clone, Copy, Debug, PartialEq, Eq, Hash)]
 pub struct Ranges {
-    pub begin: usize,
-    pub end: usize,
+    pub offset: usize,
+    pub left: u64,
     pub largest: u64,
 }
 
-/// The length of a payload's shortest form, or the type because of which it has none.
+/// The length of a payload's shortest form, or the type of an invalid frame.
 #[repr(C)]
 #[derive(Clone, Copy, Debug, Default, PartialEq, Eq, Hash)]
 pub struct Canon {
@@ -67,7 +67,7 @@ pub struct Canon {
     pub last_type: u64,
 }
 
-/// The header of a packet as places in it.
+/// The header of a packet as offsets in it.
 #[repr(C)]
 #[derive(Clone, Copy, Debug, Default, PartialEq, Eq, Hash)]
 pub struct HeaderPlaces {
@@ -130,7 +130,7 @@ pub struct Params {
     pub preferred_v4: [u8; 4],
 }
 
-/// An entry of a list of transport parameters: its number, and the place of its value.
+/// An entry of a list of transport parameters: its id, and the byte range of its value.
 #[repr(C)]
 #[derive(Clone, Copy, Debug, Default, PartialEq, Eq, Hash)]
 pub struct Param {
@@ -139,8 +139,8 @@ pub struct Param {
     pub valuelen: usize,
 }
 
-/// Where a list of transport parameters is refused: the number of the parameter, or [`NO_PARAM`], and the place of its
-/// entry.
+/// Which entry of a list of transport parameters is rejected: the parameter's id, or [`NO_PARAM`], and the offset of
+/// the entry.
 #[repr(C)]
 #[derive(Clone, Copy, Debug, Default, PartialEq, Eq, Hash)]
 pub struct Refusal {
@@ -148,10 +148,10 @@ pub struct Refusal {
     pub offset: usize,
 }
 
-/// The value of a parameter's number where there is none.
+/// The value for a parameter's id if there is none.
 pub const NO_PARAM: u64 = u64::MAX;
 
-// Each struct is the header's: its size, its alignment, and the place and size of each field.
+// Each struct is the header's: its size, its alignment, and the offset and size of each field.
 macro_rules! layout {
     ($type:ty, $size:literal, $align:literal: $($field:ident $at:literal $len:literal,)*) => {
         const _: () = {
@@ -160,7 +160,7 @@ macro_rules! layout {
                 size_of::<U>()
             }
             $(assert!(offset_of!($type, $field) == $at && field_len::<$type, _>(|s| &s.$field) == $len);)*
-            // No field is left out, and none overlaps another.
+            // No field is missing, and none overlaps another.
             assert!(0 $(+ $len)* == $size);
         };
     };
@@ -171,7 +171,7 @@ layout!(Frame, 80, 8: kind 0 2, ty 2 2, flags 4 4, begin 8 8, end 16 8, data 24 
 layout!(Range, 16, 8: start 0 8, end 8 8,);
 #[cfg(test)]
 layout!(Gap, 16, 8: gap 0 8, len 8 8,);
-layout!(Ranges, 24, 8: begin 0 8, end 8 8, largest 16 8,);
+layout!(Ranges, 24, 8: offset 0 8, left 8 8, largest 16 8,);
 layout!(Canon, 16, 8: len 0 8, last_type 8 8,);
 layout!(HeaderPlaces, 32, 8: kind 0 1, first 1 1, dcidlen 2 1, scidlen 3 1, version 4 4, header_end 8 4, end 12 4, token 16 4,
     tokenlen 20 4, len 24 8,);

@@ -1,4 +1,5 @@
-//! Lists of transport parameters by their entries: what the record doesn't have, and the order (RFC 9000, section 18).
+//! Lists of transport parameters as entries, also those that the struct has no field for, and their order (RFC 9000,
+//! section 18).
 use super::{Error, ErrorKind, Side, TransportParameters};
 use crate::buffer::Buffer;
 use crate::sys;
@@ -7,7 +8,7 @@ use crate::{varint, WriteError};
 use core::fmt;
 use core::iter::FusedIterator;
 
-/// A transport parameter by its number and the bytes of its value.
+/// A transport parameter: its id and the bytes of its value.
 ///
 /// ```
 /// use quic_wire::transport_parameters::{entries, Entry};
@@ -15,15 +16,15 @@ use core::iter::FusedIterator;
 /// ```
 #[derive(Clone, Copy, PartialEq, Eq, Hash, Default)]
 pub struct Entry<'a> {
-    /// Its number, below 2^62.
+    /// Its id, below 2^62.
     pub id: u64,
     /// Its value.
     pub value: &'a [u8],
 }
 
 impl<'a> Entry<'a> {
-    /// The nth of the parameters that have no meaning and that peers must ignore, of the number `31 * n + 27` (RFC
-    /// 9000, section 18.1). `None` if that is 2^62 or more.
+    /// The nth reserved parameter, which has no meaning and which peers must ignore. Its id is `31 * n + 27` (RFC 9000,
+    /// section 18.1). `None` if that is 2^62 or more.
     ///
     /// ```
     /// use quic_wire::transport_parameters::Entry;
@@ -36,7 +37,7 @@ impl<'a> Entry<'a> {
         (id <= varint::MAX).then_some(Entry { id, value })
     }
 
-    /// Whether its number is one of those that are kept free of any meaning.
+    /// Whether its id is reserved.
     ///
     /// ```
     /// use quic_wire::transport_parameters::Entry;
@@ -56,7 +57,7 @@ impl<'a> Entry<'a> {
         sys::param_is_known(self.id)
     }
 
-    /// Writes the entry in its least widths, and answers how many bytes it has.
+    /// Writes the entry, with its id and length in their shortest encodings, and returns how many bytes it has.
     ///
     /// ```
     /// use quic_wire::transport_parameters::Entry;
@@ -67,7 +68,7 @@ impl<'a> Entry<'a> {
     ///
     /// # Errors
     ///
-    /// Where its number is 2^62 or more, or there is too little room.
+    /// If its id is 2^62 or more, or there is too little room.
     pub fn write<B: Buffer + ?Sized>(&self, out: &mut B) -> Result<usize, WriteError> {
         out.put(|room| match sys::param_write(self.id, self.value, room) {
             Ok(filled) => Ok((filled, filled.len())),
@@ -83,8 +84,8 @@ impl fmt::Debug for Entry<'_> {
     }
 }
 
-/// The entries of a list in their order, known or not, and then one error if the rest doesn't begin with an entry.
-/// Whether a value is valid for its parameter isn't tested, nor whether an entry is there twice.
+/// The entries of a list in their order, known or not, and then one error if the rest doesn't begin with an entry. It
+/// doesn't check whether a value is valid for its parameter, nor whether an entry occurs twice.
 ///
 /// ```
 /// use quic_wire::transport_parameters::{entries, Entry};
@@ -145,14 +146,14 @@ impl fmt::Debug for Entries<'_> {
 }
 
 impl TransportParameters {
-    /// How many rows the table of the record's parameters has, in which [`TransportParameters::write_with`] numbers
-    /// them: those of quinn-proto's `TransportParameterId::SUPPORTED`.
+    /// How many rows the table has in which [`TransportParameters::write_with`] numbers the struct's parameters: those
+    /// of quinn-proto's `TransportParameterId::SUPPORTED`.
     pub const ROWS: usize = 21;
 
-    /// Writes the list that `side` sends with `further` entries, which the record has no fields for and which
-    /// [`Entry::write`] wrote one after the other. `order` numbers the record's parameters by their rows, whether they
-    /// are written or not, and the further entries from [`TransportParameters::ROWS`] on, and has each of these numbers
-    /// once; or it is empty, and then the further entries come after the others.
+    /// Writes the list that `side` sends with `further` entries, which the struct has no fields for and which
+    /// [`Entry::write`] wrote one after the other. The struct's parameters are numbered by their rows, whether they are
+    /// written or not, and the further entries from [`TransportParameters::ROWS`] on. `order` has each of these numbers
+    /// once, or is empty; then the further entries follow the others.
     ///
     /// ```
     /// use quic_wire::transport_parameters::{entries, Entry, TransportParameters};
@@ -173,8 +174,8 @@ impl TransportParameters {
     ///
     /// # Errors
     ///
-    /// As [`TransportParameters::write`]; where `further` isn't such a list, or has more than 235 entries; where
-    /// `order` isn't one of all.
+    /// As [`TransportParameters::write`]; if `further` isn't such a list, or has more than 235 entries; if `order`
+    /// doesn't have each number once.
     pub fn write_with<B: Buffer + ?Sized>(
         &self,
         side: Side,
@@ -192,10 +193,10 @@ impl TransportParameters {
     }
 }
 
-// The longest list of the record has 289 bytes.
+// The longest list of the struct has 289 bytes.
 const OWN_ROOM: usize = 512;
 
-// Why entries can't be written among those of a record, or else that their order isn't one.
+// Why entries can't be written among those of a struct, or that their order is invalid.
 #[cold]
 fn why_not(further: &[u8]) -> WriteError {
     let twice = |(i, entry): (usize, Entry<'_>)| entries(further).take(i).flatten().any(|before| before.id == entry.id);
@@ -204,10 +205,10 @@ fn why_not(further: &[u8]) -> WriteError {
     } else if entries(further).count() > 256 - TransportParameters::ROWS {
         "more than 235 further transport parameters"
     } else if entries(further).flatten().any(|entry| entry.is_known()) {
-        "a further transport parameter is one that the record has"
+        "a further transport parameter is one that the struct has"
     } else if entries(further).flatten().enumerate().any(twice) {
-        "a further transport parameter is there twice"
+        "a further transport parameter occurs twice"
     } else {
-        "the order isn't one of all transport parameters"
+        "the order doesn't have each transport parameter once"
     })
 }

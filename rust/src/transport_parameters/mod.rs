@@ -1,4 +1,4 @@
-//! The limits and options that two endpoints tell each other while they shake hands (RFC 9000, section 18).
+//! The limits and options that two endpoints exchange in the handshake (RFC 9000, section 18).
 //!
 //! ```
 //! use quic_wire::transport_parameters::TransportParameters;
@@ -26,16 +26,16 @@ use crate::{sys, varint};
 use core::fmt;
 use core::net::{SocketAddrV4, SocketAddrV6};
 
-/// What is wrong with a list that is refused.
+/// What is wrong with a list that is rejected.
 #[derive(Clone, Copy, Debug, PartialEq, Eq, Hash)]
 pub enum ErrorKind {
-    /// A value is out of its range, a client sent what a server alone sends, or the preferred address has no address.
+    /// A value is out of range, a client sent what only servers send, or the preferred address has no address.
     IllegalValue,
-    /// It is no list: an entry is cut off, no value of its kind, or a repeat.
+    /// An entry is cut off, has an invalid value, or is a repeat.
     Malformed,
 }
 
-/// Why a list is refused (`TRANSPORT_PARAMETER_ERROR`), and at which parameter.
+/// Why a list is rejected (`TRANSPORT_PARAMETER_ERROR`), and at which parameter.
 ///
 /// ```
 /// use quic_wire::transport_parameters::{ErrorKind, TransportParameters};
@@ -57,10 +57,10 @@ impl Error {
         self.kind
     }
 
-    /// The number of the parameter that is refused. `None` if the list ends within that number.
+    /// The id of the parameter that is rejected; `None` if the list ends within it.
     ///
-    /// Of an entry that is cut off, no value of its kind or a repeat it is that entry's. If the record isn't accepted,
-    /// it is the parameter of the first rule that the record breaks, in the order in which quinn-proto tests them.
+    /// For an entry that is cut off, invalid or a repeat, it is that entry's. If the parameters as a whole are
+    /// rejected, it belongs to the first rule that they break, in the order in which quinn-proto checks them.
     ///
     /// ```
     /// use quic_wire::transport_parameters::TransportParameters;
@@ -72,7 +72,8 @@ impl Error {
         self.id
     }
 
-    /// Where its entry begins in the list, in bytes; the last one of its number, if the record isn't accepted.
+    /// The offset of its entry in the list, in bytes; the last one with its id, if the parameters as a whole are
+    /// rejected.
     pub fn offset(&self) -> usize {
         self.offset
     }
@@ -89,7 +90,7 @@ impl fmt::Display for Error {
 
 impl core::error::Error for Error {}
 
-/// How a list is read, where RFC 9000 and quinn-proto differ. The default, [`ReadOptions::QUINN`], is quinn-proto's
+/// How a list is read when RFC 9000 and quinn-proto differ. The default, [`ReadOptions::QUINN`], is quinn-proto's
 /// reading.
 ///
 /// ```
@@ -104,11 +105,10 @@ impl core::error::Error for Error {}
 /// ```
 #[derive(Clone, Copy, Debug, Default, PartialEq, Eq, Hash)]
 pub struct ReadOptions {
-    /// Takes an integer that has a default in an encoding of any width (RFC 9000, section 16), in place of the shortest
-    /// one alone.
+    /// Accepts an integer that has a default in any encoding (RFC 9000, section 16), not only in the shortest one.
     pub any_width: bool,
-    /// Refuses each known parameter that is there twice (RFC 9000, section 7.4), `grease_quic_bit` and `min_ack_delay`
-    /// too, whose last value counts otherwise.
+    /// Rejects each known parameter that occurs twice (RFC 9000, section 7.4), also `grease_quic_bit` and
+    /// `min_ack_delay`, whose last value counts otherwise.
     pub no_repeats: bool,
 }
 
@@ -125,7 +125,7 @@ impl ReadOptions {
     }
 }
 
-/// An address that a server would rather be reached at (RFC 9000, section 18.2).
+/// A server's preferred address (RFC 9000, section 18.2).
 ///
 /// ```
 /// use quic_wire::transport_parameters::{PreferredAddress, TransportParameters};
@@ -144,13 +144,13 @@ impl ReadOptions {
 /// ```
 #[derive(Clone, Copy, PartialEq, Eq, Hash)]
 pub struct PreferredAddress {
-    /// Its address of IPv4, if it has one.
+    /// Its IPv4 address, if it has one.
     pub address_v4: Option<SocketAddrV4>,
-    /// Its address of IPv6, if it has one; neither its flow label nor its scope can be written.
+    /// Its IPv6 address, if it has one; neither its flow label nor its scope can be written.
     pub address_v6: Option<SocketAddrV6>,
-    /// The id of connections there, of 1 to 20 bytes.
+    /// The connection id to use there, of 1 to 20 bytes.
     pub connection_id: ConnectionId,
-    /// The token by which such a connection is reset.
+    /// The stateless reset token for that id.
     pub stateless_reset_token: [u8; 16],
 }
 
@@ -176,7 +176,7 @@ impl fmt::Debug for PreferredAddress {
 /// ```
 #[derive(Clone, Copy, Debug, PartialEq, Eq, Hash)]
 pub struct TransportParameters {
-    /// In milliseconds; 0, the default, is for ever.
+    /// In milliseconds; 0, the default, means no timeout.
     pub max_idle_timeout: u64,
     /// In bytes, at least 1200; by default 65527.
     pub max_udp_payload_size: u64,
@@ -198,13 +198,13 @@ pub struct TransportParameters {
     pub max_ack_delay: u64,
     /// At least 2, the default.
     pub active_connection_id_limit: u64,
-    /// The token by which the server resets the connection.
+    /// The server's stateless reset token.
     pub stateless_reset_token: Option<[u8; 16]>,
-    /// Whether the peer is to stay at its address.
+    /// Whether the peer must not migrate actively.
     pub disable_active_migration: bool,
-    /// The longest DATAGRAM frame that is taken, in bytes (RFC 9221, section 3).
+    /// The longest DATAGRAM frame that is accepted, in bytes (RFC 9221, section 3).
     pub max_datagram_frame_size: Option<u64>,
-    /// An address that the server would rather be reached at.
+    /// The server's preferred address.
     pub preferred_address: Option<PreferredAddress>,
     /// The destination id of the client's first packet, which the server sends.
     pub original_dst_cid: Option<ConnectionId>,
@@ -212,7 +212,7 @@ pub struct TransportParameters {
     pub initial_src_cid: Option<ConnectionId>,
     /// The source id of the server's Retry, which it sends.
     pub retry_src_cid: Option<ConnectionId>,
-    /// Whether packets are taken whose fixed bit is 0 (RFC 9287).
+    /// Whether packets whose fixed bit is 0 are accepted (RFC 9287).
     pub grease_quic_bit: bool,
     /// In microseconds, no longer than `max_ack_delay` (the ACK frequency extension).
     pub min_ack_delay: Option<u64>,
@@ -225,11 +225,11 @@ impl Default for TransportParameters {
 }
 
 impl TransportParameters {
-    /// Reads a list that `side` got from its peer: a server takes nothing that a server alone sends. Parameters that
-    /// aren't known are passed; [`entries`] gives these.
+    /// Reads a list that `side` received from its peer: a server rejects what only servers send. Unknown parameters are
+    /// ignored; [`entries`] returns them.
     ///
-    /// An integer that has a default must be in its shortest encoding, as in quinn-proto, though section 16 of RFC 9000
-    /// allows others: [`TransportParameters::read_with`] takes them.
+    /// An integer that has a default must be in its shortest encoding, as in quinn-proto, although section 16 of RFC
+    /// 9000 allows others; [`TransportParameters::read_with`] can accept them.
     ///
     /// ```
     /// use quic_wire::transport_parameters::TransportParameters;
@@ -243,12 +243,12 @@ impl TransportParameters {
     ///
     /// # Errors
     ///
-    /// Where the list is refused.
+    /// If the list is rejected.
     pub fn read(side: Side, list: &[u8]) -> Result<TransportParameters, Error> {
         TransportParameters::read_with(side, ReadOptions::QUINN, list)
     }
 
-    /// Reads a list as [`TransportParameters::read`] does, in the way that the options say.
+    /// Reads a list as [`TransportParameters::read`] does, with these options.
     ///
     /// ```
     /// use quic_wire::transport_parameters::{ReadOptions, TransportParameters};
@@ -263,7 +263,7 @@ impl TransportParameters {
     ///
     /// # Errors
     ///
-    /// Where the list is refused.
+    /// If the list is rejected.
     pub fn read_with(side: Side, options: ReadOptions, list: &[u8]) -> Result<TransportParameters, Error> {
         let (mut words, mut refusal) = (sys::Params::default(), sys::Refusal::default());
         let kind = match sys::params_read(side as u32, options.flags(), list, &mut words, &mut refusal) {
@@ -275,7 +275,7 @@ impl TransportParameters {
         Err(Error { kind, id, offset: refusal.offset })
     }
 
-    /// Writes the shortest list that `side` sends, and answers how many bytes it has. Its peer reads the same.
+    /// Writes the shortest list that `side` sends, and returns how many bytes it has. Its peer reads the same.
     ///
     /// ```
     /// use quic_wire::transport_parameters::TransportParameters;
@@ -287,7 +287,7 @@ impl TransportParameters {
     ///
     /// # Errors
     ///
-    /// Where the peer would refuse it, or there is too little room.
+    /// If the peer would reject it, or there is too little room.
     pub fn write<B: Buffer + ?Sized>(&self, side: Side, out: &mut B) -> Result<usize, WriteError> {
         self.check_scope()?;
         let (words, reader) = (self.words(), !side as u32);
@@ -298,7 +298,7 @@ impl TransportParameters {
         })
     }
 
-    // The words of an address of IPv6 have neither.
+    // The library's IPv6 address has neither.
     fn check_scope(&self) -> Result<(), WriteError> {
         let scoped = |a: PreferredAddress| a.address_v6.is_some_and(|s| s.flowinfo() != 0 || s.scope_id() != 0);
         if self.preferred_address.is_some_and(scoped) {
@@ -316,7 +316,7 @@ impl TransportParameters {
         let address = self.preferred_address;
         let min_ack_delay = self.min_ack_delay.unwrap_or(0);
         [
-            (side.is_client() && server, "a client sends a parameter that a server alone sends"),
+            (side.is_client() && server, "a client sends a parameter that only servers send"),
             (self.max_udp_payload_size < 1200, "max_udp_payload_size is below 1200"),
             (self.initial_max_streams_bidi > 1 << 60, "initial_max_streams_bidi is above 2^60"),
             (self.initial_max_streams_uni > 1 << 60, "initial_max_streams_uni is above 2^60"),

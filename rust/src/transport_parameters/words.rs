@@ -1,4 +1,4 @@
-//! The record as the library's words.
+//! The parameters as the library's struct.
 use super::{ConnectionId, PreferredAddress, TransportParameters};
 use crate::sys;
 use core::net::{SocketAddrV4, SocketAddrV6};
@@ -6,7 +6,7 @@ use core::net::{SocketAddrV4, SocketAddrV6};
 const NO_ID: [u8; 20] = [0; 20];
 const NO_TOKEN: [u8; 16] = [0; 16];
 
-/// What a list without entries says.
+/// What an empty list means.
 pub const DEFAULT: sys::Params = sys::Params {
     present: 0,
     reserved: 0,

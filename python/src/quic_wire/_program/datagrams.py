@@ -20,9 +20,9 @@ from .output import Field, Output
 _MOST_IDS = 256  # that are kept: those that came last
 _MAX_CID_LEN = 20
 _LONG, _FIXED_BIT = 0x80, 0x40
-_NEGOTIATION = "RFC 9000, section 17.2.1, leaves this bit unused; quinn-proto 0.11 refuses the packet"
+_NEGOTIATION = "RFC 9000, section 17.2.1, leaves this bit unused; quinn-proto 0.11 rejects the packet"
 _DROPPED = "the packet is dropped"
-_UNKNOWN_VERSION = "a server answers by a version negotiation, a client drops the packet"
+_UNKNOWN_VERSION = "a server responds with a version negotiation, a client drops the packet"
 
 
 class Ids:
@@ -50,7 +50,7 @@ def show_datagram(data: bytes, args: Args, ids: Ids, output: Output) -> None:
     if captured is None:
         _show_packets(data, 0, args, ids, output)
     elif captured.source is None:
-        output.error("a packet of IP without UDP")
+        output.error("an IP packet without UDP")
     else:
         fields = [("from", out.word(str(captured.source))), ("to", out.word(str(captured.destination)))]
         output.item(0, captured.begin, ("packet", "udp"), fields)

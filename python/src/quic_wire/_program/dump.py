@@ -14,8 +14,8 @@ from .dump_line import Line, Order, read_line
 from .plain import trimmed
 
 _MOST = 1 << 20  # bytes of a dump with lines of `*`
-_SWAPPED = "the bytes of each group are swapped, as xxd -e prints them; xxd without -e is read"
-_MAY_BE_SWAPPED = "the bytes of each group may be swapped, as xxd -e prints them; xxd -g1 shows their order"
+_SWAPPED = "the bytes of each group are swapped, as xxd -e prints them; use xxd without -e"
+_MAY_BE_SWAPPED = "the bytes of each group may be swapped, as xxd -e prints them; use xxd -g1"
 
 
 class Piece(NamedTuple):
@@ -98,5 +98,5 @@ class Dump:
         if self.broken_at is not None:
             return Piece(self.line, f"the dump does not go on in line {self.broken_at}")
         if self.repeats:
-            return Piece(self.line, "the dump ends with *, and not with an offset")
+            return Piece(self.line, "the dump ends with *, not with an offset")
         return Piece(self.line, bytes(self.data))

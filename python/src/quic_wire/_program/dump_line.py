@@ -12,11 +12,11 @@ _HEX = re.compile(rb"[0-9a-fA-F]+")
 _BLANKS = b" \t\r\n\x0c"
 _TIME = re.compile(rb"[0-9:.]{8}\.[0-9:.]{6}")
 _BITS_OF = re.compile(rb"[01]{8}")
-_BITS = "these are bits, as xxd -b prints them; xxd without -b is read"
+_BITS = "these are bits, as xxd -b prints them; use xxd without -b"
 _SWAPPED = (
-    "the bytes of each group are swapped, as hexdump without -C and od -x print them; hexdump -C and od -t x1 are read"
+    "the bytes of each group are swapped, as hexdump without -C and od -x print them; use hexdump -C or od -t x1"
 )
-_UNITS = "these are units of more than a byte, as od and hexdump print them; od -t x1 and hexdump -C are read"
+_UNITS = "these are units of more than a byte, as od and hexdump print them; use od -t x1 or hexdump -C"
 
 
 class Form(enum.Enum):

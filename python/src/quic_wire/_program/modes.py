@@ -175,7 +175,7 @@ def show_number(data: bytes, largest: Optional[int], output: Output) -> None:
         read = varint_at(data, at)
         if read is None:
             section = [("section", out.sentence("RFC 9000, section 16"))]
-            output.error("unexpected end in a number of variable length", at, section)
+            output.error("unexpected end in a varint", at, section)
             return
         value, end = read
         fields = [("value", out.number(value)), ("shortest_len", out.number(varint_len(value)))]
@@ -201,12 +201,12 @@ def show_ranges(line: bytes, output: Output) -> None:
         ends = _range(word) if word else range(0, 1)
         if ends is None:
             shown = out.text(word).text
-            output.error(f"no packet number or range of them below 2^62: {shown}")
+            output.error(f"not a packet number or range below 2^62: {shown}")
             return
         if word:
             found.insert(ends.start, ends.stop)
     if found.largest is None:
-        output.error("no packet number")
+        output.error("no packet numbers")
         return
     fields = [
         ("largest", out.number(found.largest)),

@@ -67,7 +67,7 @@ def _list_of_decimals(text: bytes, begin: int) -> bytes:
     """A list as JSON has it. Where each number has two digits it may be hexadecimal."""
     words = list(_words(text, begin))
     if words and all(len(word) == 2 for _, word in words):
-        fail("decimal or hexadecimal? 0x before each number would say so:", words[0][0])
+        fail("ambiguous numbers, decimal or hexadecimal; add 0x to each, from the one", words[0][0])
     return bytes(int(word) for _, word in words)
 
 
@@ -90,7 +90,7 @@ def _hexadecimal(text: bytes, begin: int) -> bytes:
         if wrong:
             fail(f"not hexadecimal: {character(text[first + wrong.start() :])}", first + wrong.start())
         if not digits:
-            fail("no digits behind 0x", at)
+            fail("no digits after 0x", at)
         if len(digits) % 2:
             fail(f"an odd number of digits, {len(digits)},", at)
         out += bytes.fromhex(digits.decode("ascii"))
@@ -144,19 +144,19 @@ def _literal(text: bytes, begin: int) -> bytes:
         if text[at] == ord("\\"):
             found = _escaped(text[at + 1 :])
             if found is None:
-                fail("no such escape:", at)
+                fail("unknown escape:", at)
             out.append(found[0])
             at += 1 + found[1]
         elif text[at] < 0x80:
             out.append(text[at])
             at += 1
         else:
-            fail("more than a byte:", at)
+            fail("value above one byte:", at)
     if at >= len(text):
-        fail("no quote ends the bytes that begin", begin)
+        fail("no closing quote for the bytes that begin", begin)
     behind = _NOT_QUOTED.search(text, at + 1)
     if behind:
-        fail("something stands behind the bytes:", behind.start())
+        fail("unexpected text after the bytes:", behind.start())
     return bytes(out)
 
 
@@ -185,7 +185,7 @@ def base64(text: bytes) -> bytes:
         if value is None:
             fail(f"not base64: {character(text[at:])}", at)
         if padding:
-            fail("something stands behind the bytes:", at)
+            fail("unexpected text after the bytes:", at)
         bits, count = bits << 6 & 0xFFFFFFFF | value, count + 1
         if count % 4 != 1:
             out.append(bits >> 2 * (3 - (count - 1) % 4) & 0xFF)

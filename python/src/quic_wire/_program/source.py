@@ -10,8 +10,8 @@ from . import plain
 from .dump import Dump, Piece, Step
 from .dump_line import has_offset, is_heading, read_line
 
-_BAD_DUMP = "an offset, and no bytes behind it as xxd or tcpdump print them"
-_UTF_16 = "the text is UTF-16, and UTF-8 is read"
+_BAD_DUMP = "an offset without bytes after it as xxd or tcpdump print them"
+_UTF_16 = "the text is UTF-16, not UTF-8"
 _OPEN = "a bracket is not closed"
 
 

@@ -1,4 +1,4 @@
-//! What the program is called with.
+//! The program's arguments.
 use crate::colour::When;
 use crate::help::HELP;
 use crate::input::Plain;
@@ -29,7 +29,7 @@ pub enum Mode {
 }
 
 pub struct Datagrams {
-    /// By the ids of long headers where it isn't given.
+    /// If it isn't given, the ids of long headers determine it.
     pub cid_len: Option<usize>,
     pub versions: Vec<u32>,
     pub grease: bool,
@@ -37,7 +37,7 @@ pub struct Datagrams {
 
 const MODES: [&str; 6] = ["frames", "canon", "datagram", "params", "number", "ranges"];
 
-// An option: what its value is, if it has one, and the only mode that it is of.
+// An option: what its value is, if it has one, and the only mode that accepts it.
 struct Known {
     name: &'static str,
     value: Option<&'static str>,
@@ -74,7 +74,7 @@ struct Options {
     versions: Option<Vec<u32>>,
     side: Option<Side>,
     largest: Option<u64>,
-    // Those that are of one mode.
+    // Those of one mode.
     of_modes: Vec<&'static Known>,
 }
 
@@ -98,7 +98,7 @@ pub fn parse(words: impl Iterator<Item = OsString>) -> Result<Call, String> {
     if files.is_empty() {
         files.push("-".into());
     }
-    let mode = mode.ok_or_else(|| format!("no mode is given; it is one of {}", MODES.join(", ")))?;
+    let mode = mode.ok_or_else(|| format!("missing MODE: {}", MODES.join(", ")))?;
     let (json, colours, base64) = (options.json, options.colours, options.base64);
     let mode = options.mode(&mode)?;
     let plain = match mode {
@@ -116,22 +116,19 @@ impl Options {
             None => (word, None),
         };
         let Some(option) = OPTIONS.iter().find(|option| option.name == name) else {
-            return Err(format!(
-                "there is no option {name}{}",
-                nearest(name, OPTIONS.iter().map(|option| option.name))
-            ));
+            return Err(format!("unknown option {name}{}", nearest(name, OPTIONS.iter().map(|option| option.name))));
         };
         if option.mode.is_some() {
             self.of_modes.push(option);
         }
         let value = match (option.value, given) {
-            (None, Some(_)) => return Err(format!("{name} has no value")),
+            (None, Some(_)) => return Err(format!("{name} takes no value")),
             (None, None) => String::new(),
             (Some(_), Some(value)) => value,
             (Some(what), None) => rest
                 .next()
                 .and_then(|word| word.into_string().ok())
-                .ok_or_else(|| format!("{name} wants a value: {what}"))?,
+                .ok_or_else(|| format!("{name} needs a value: {what}"))?,
         };
         self.set(name, &value)
     }
@@ -168,7 +165,7 @@ impl Options {
             "params" => Mode::Params { side: self.side.unwrap_or(Side::Client) },
             "number" => Mode::Number { largest: self.largest },
             "ranges" => Mode::Ranges,
-            _ => return Err(format!("there is no mode {text:?}{}", nearest(&text, MODES))),
+            _ => return Err(format!("unknown mode {text:?}{}", nearest(&text, MODES))),
         })
     }
 }
@@ -176,7 +173,7 @@ impl Options {
 fn cid_len(text: &str) -> Result<usize, String> {
     let digits = text.len() <= 2 && text.bytes().all(|byte| byte.is_ascii_digit());
     let len = text.parse().ok().filter(|len| digits && *len <= MAX_CID_SIZE);
-    len.ok_or_else(|| format!("an id has 0 to {MAX_CID_SIZE} bytes, not {text:?}"))
+    len.ok_or_else(|| format!("--cid-len: an id has 0 to {MAX_CID_SIZE} bytes, not {text:?}"))
 }
 
 fn versions(text: &str) -> Result<Vec<u32>, String> {
@@ -184,7 +181,7 @@ fn versions(text: &str) -> Result<Vec<u32>, String> {
         let digits = word.strip_prefix("0x").unwrap_or(word);
         let is_plain = digits.bytes().all(|byte| byte.is_ascii_hexdigit());
         let number = u32::from_str_radix(digits, 16).ok().filter(|number| is_plain && *number != 0);
-        number.ok_or_else(|| format!("a version is a hexadecimal number of at most 8 digits and not 0, not {word:?}"))
+        number.ok_or_else(|| format!("--versions: not a hexadecimal number of 1 to 8 digits, other than 0: {word:?}"))
     };
     text.split(',').map(|word| version(word.trim())).collect()
 }
@@ -197,7 +194,7 @@ fn largest(text: &str) -> Result<u64, String> {
     let is_plain = text.bytes().all(|byte| byte.is_ascii_alphanumeric());
     let number = number.ok().filter(|number| is_plain && *number < varint::MAX);
     number.ok_or_else(|| {
-        format!("a packet number is below 2^62 - 1, with 0x in front where it is hexadecimal, not {text:?}")
+        format!("--largest: not a packet number below 2^62 - 1, decimal or hexadecimal with 0x: {text:?}")
     })
 }
 
@@ -205,7 +202,7 @@ fn side(text: &str) -> Result<Side, String> {
     match text {
         "client" => Ok(Side::Client),
         "server" => Ok(Side::Server),
-        _ => Err(format!("a side is client or server, not {text:?}{}", nearest(text, ["client", "server"]))),
+        _ => Err(format!("--side: expected client or server, not {text:?}{}", nearest(text, ["client", "server"]))),
     }
 }
 
@@ -216,12 +213,12 @@ fn when(text: &str) -> Result<When, String> {
         "auto" => Ok(When::Auto),
         _ => {
             let nearest = nearest(text, ["always", "never", "auto"]);
-            Err(format!("colours are always, never or auto, not {text:?}{nearest}"))
+            Err(format!("--color: expected always, never or auto, not {text:?}{nearest}"))
         }
     }
 }
 
-// Which word may be meant, as the end of a sentence: one that begins so, or the nearest.
+// A suggestion, as the end of a sentence: a word that begins so, or the nearest one.
 fn nearest<'a>(word: &str, words: impl IntoIterator<Item = &'a str> + Clone) -> String {
     let mut all = words.clone().into_iter();
     let longer = all.find(|other| word.trim_matches('-').len() > 1 && other.starts_with(word));
@@ -230,7 +227,7 @@ fn nearest<'a>(word: &str, words: impl IntoIterator<Item = &'a str> + Clone) -> 
     longer.or(near).map_or(String::new(), |other| format!("; did you mean {other}?"))
 }
 
-// How many characters are put in, taken out or changed between two words: their Levenshtein distance.
+// How many characters are inserted, deleted or changed between two words: their Levenshtein distance.
 fn changes(word: &str, other: &str) -> usize {
     let mut row: Vec<usize> = (0..=other.chars().count()).collect();
     for (i, c) in word.chars().enumerate() {

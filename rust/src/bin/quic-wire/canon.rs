@@ -5,7 +5,7 @@ use quic_wire::canonical::{canonical, CanonError};
 use quic_wire::frame::Iter;
 use std::io::{self, Write};
 
-/// Prints the one shortest payload with the same frames.
+/// Prints the shortest payload with the same frames.
 pub fn show(payload: &[u8], output: &mut Output<impl Write>) -> io::Result<()> {
     let mut shortest = Vec::new();
     shortest.try_reserve_exact(payload.len())?;

@@ -1,16 +1,16 @@
-//! Whether standard output is closed. Before `main` Rust opens `/dev/null` in the place of a standard file that is
-//! closed, so it is looked at earlier, as far as this is known how to do.
+//! Whether standard output is closed. Before `main`, Rust opens `/dev/null` in place of a closed standard stream, so
+//! this is checked earlier, where the platform allows it.
 use std::sync::atomic::{AtomicBool, Ordering};
 
 static IS_CLOSED: AtomicBool = AtomicBool::new(false);
 
-/// Whether the program was started without a standard output. On Linux alone; elsewhere it never is.
+/// Whether the program was started without a standard output. Only on Linux; elsewhere it is always false.
 pub fn is_closed() -> bool {
     IS_CLOSED.load(Ordering::Relaxed)
 }
 
-// What the linker gathers in this section runs before Rust's own beginning. What is called asks the system for another
-// descriptor of the same file, and needs nothing that begins later.
+// Functions in this section run before Rust's runtime starts. This one asks the system for another descriptor of the
+// same file, and needs nothing that starts later.
 #[cfg(target_os = "linux")]
 #[used]
 #[link_section = ".init_array"]

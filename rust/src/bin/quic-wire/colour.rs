@@ -3,7 +3,7 @@ use std::ffi::OsStr;
 use std::fmt::{self, Display, Formatter};
 use std::io::{self, IsTerminal};
 
-/// When there are colours.
+/// When to use colours.
 #[derive(Clone, Copy, Default)]
 pub enum When {
     Always,
@@ -13,7 +13,7 @@ pub enum When {
 }
 
 impl When {
-    /// Whether what goes to standard output is coloured.
+    /// Whether standard output is coloured.
     pub fn is_on(self) -> bool {
         let variable = |name| std::env::var_os(name);
         self.is_on_for(io::stdout().is_terminal(), variable("NO_COLOR").as_deref(), variable("TERM").as_deref())
@@ -31,7 +31,7 @@ impl When {
     }
 }
 
-/// What has a colour of its own in a line.
+/// The parts of a line that have their own colour.
 #[derive(Clone, Copy)]
 pub enum Part {
     /// The number of the line, and the file.
@@ -45,7 +45,7 @@ pub enum Part {
 }
 
 impl Part {
-    // As ECMA-48 selects it.
+    // Its ECMA-48 code.
     fn code(self) -> &'static str {
         match self {
             Part::Source => "2",
@@ -56,7 +56,7 @@ impl Part {
         }
     }
 
-    /// The text, in the colour of this part where there are colours.
+    /// The text, in the colour of this part if colours are used.
     pub fn paint<T: Display>(self, is_on: bool, text: T) -> Painted<T> {
         Painted { code: is_on.then(|| self.code()), text }
     }

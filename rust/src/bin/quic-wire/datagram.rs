@@ -9,11 +9,11 @@ use std::collections::VecDeque;
 use std::io::{self, Write};
 use Value::{Flag, Number, Version, Versions};
 
-// How many ids are kept: those that came last.
+// How many ids are remembered: the latest ones.
 const MOST_IDS: usize = 256;
-const NEGOTIATION: &str = "RFC 9000, section 17.2.1, leaves this bit unused; quinn-proto 0.11 refuses the packet";
+const NEGOTIATION: &str = "RFC 9000, section 17.2.1, leaves this bit unused; quinn-proto 0.11 rejects the packet";
 
-/// The ids that endpoints gave in long headers for packets that are sent to them.
+/// The ids that endpoints chose for packets sent to them, from long headers.
 #[derive(Default)]
 pub struct Ids(VecDeque<ConnectionId>);
 
@@ -26,8 +26,8 @@ impl Ids {
         self.0.push_back(id);
     }
 
-    // How long the id of a short header is: as that of the packet before it in its datagram, which is the same id (RFC
-    // 9000, section 12.2), or the longest known one that it begins with.
+    // The length of a short header's id: that of the packet before it in its datagram, which has the same id (RFC 9000,
+    // section 12.2), or that of the longest known id at its front.
     fn len_in(&self, packet: &[u8], before: Option<&[u8]>) -> usize {
         let begins = |id: &[u8]| packet.get(1..).is_some_and(|rest| rest.starts_with(id));
         let known = self.0.iter().filter(|id| begins(id)).map(|id| id.len()).max();
@@ -35,7 +35,7 @@ impl Ids {
     }
 }
 
-/// Prints the packets of a datagram, and learns the ids in them. A capture has the headers of IP and UDP before it.
+/// Prints the packets of a datagram, and remembers the ids in them. In a capture, IP and UDP headers precede it.
 pub fn show(bytes: &[u8], how: &Datagrams, ids: &mut Ids, output: &mut Output<impl Write>) -> io::Result<()> {
     match link::packet(bytes) {
         Some(Packet { udp: Some((payload, from, to)) }) => {
@@ -43,7 +43,7 @@ pub fn show(bytes: &[u8], how: &Datagrams, ids: &mut Ids, output: &mut Output<im
             output.item(0..payload.start, ("packet", "udp"), &fields, &[])?;
             show_packets(&bytes[..payload.end], payload.start, how, ids, output)
         }
-        Some(Packet { udp: None }) => output.error("a packet of IP without UDP", None, &[]),
+        Some(Packet { udp: None }) => output.error("an IP packet without UDP", None, &[]),
         None => show_packets(bytes, 0, how, ids, output),
     }
 }
@@ -92,7 +92,7 @@ fn is_negotiation(places: &HeaderPlaces) -> bool {
     !places.is_short() && places.version() == 0
 }
 
-// What a refusal tells of the header.
+// What an error contains of the header.
 fn reported<'a>(error: &HeaderError, rest: &'a [u8], begin: usize) -> Vec<Field<'a>> {
     match error {
         HeaderError::UnsupportedVersion(packet) => {

@@ -1,11 +1,11 @@
 //! Dumps of bytes, as `xxd`, `hexdump -C`, `od -t x1`, Wireshark, `tshark -x` and `tcpdump -x` print them.
 //!
-//! A line of a dump begins with an offset, whose form says which program printed it:
+//! A line of a dump begins with an offset, whose form identifies the program that printed it:
 //!
-//! - hexadecimal digits, a colon and a space: `xxd`, `tcpdump`. Groups of digits follow, and behind two spaces text.
+//! - hexadecimal digits, a colon and a space: `xxd`, `tcpdump`. Groups of digits follow and, after two spaces, text.
 //! - eight digits or more and two spaces: `hexdump -C`. Bytes of two digits follow, and text in bars.
-//! - four to seven and two spaces: Wireshark, `tshark`. Bytes of two digits follow, and behind three spaces text.
-//! - six and a space: `od -A x -t x1`. Bytes of two digits follow, and with `x1z` text behind `>`.
+//! - four to seven and two spaces: Wireshark, `tshark`. Bytes of two digits follow and, after three spaces, text.
+//! - six and a space: `od -A x -t x1`. Bytes of two digits follow and, with `x1z`, text after `>`.
 //! - seven octal digits and a space: `od -t x1`, with or without text.
 //!
 //! Plain hexadecimal may begin with six digits too, so a line of these without text begins a dump only at offset 0. A
@@ -20,15 +20,15 @@ use std::io;
 // How many bytes a dump with lines of `*` may have.
 const MOST: usize = 1 << 20;
 
-const SWAPPED: &str = "the bytes of each group are swapped, as xxd -e prints them; xxd without -e is read";
-const MAY_BE_SWAPPED: &str = "the bytes of each group may be swapped, as xxd -e prints them; xxd -g1 shows their order";
+const SWAPPED: &str = "the bytes of each group are swapped, as xxd -e prints them; use xxd without -e";
+const MAY_BE_SWAPPED: &str = "the bytes of each group may be swapped, as xxd -e prints them; use xxd -g1";
 
-/// What a line is to the dump before it.
+/// The relation of a line to the dump before it.
 pub enum Step {
     GoesOn,
     /// The dump is whole, and the line belongs to it.
     Ends,
-    /// The dump is whole, and the line isn't of it.
+    /// The dump is whole, and the line isn't part of it.
     Another,
 }
 
@@ -36,17 +36,17 @@ pub enum Step {
 pub struct Dump {
     form: Form,
     line: usize,
-    // Where its first byte was in what was dumped.
+    // The offset of its first byte in what was dumped.
     base: u64,
     bytes: Vec<u8>,
     // How many bytes its last row has.
     row: usize,
-    // Whether `*` was read after that.
+    // Whether `*` was read after that row.
     repeats: bool,
-    // The first line that doesn't go on where the ones before it end.
+    // The first line whose offset doesn't follow the lines before it.
     broken_at: Option<usize>,
     refusal: Option<&'static str>,
-    // What the texts beside its groups say of all of them.
+    // The order of bytes in its groups, from the texts next to them.
     order: Order,
 }
 
@@ -58,7 +58,7 @@ impl Dump {
         Dump { form, line, base, row, bytes, repeats: false, broken_at: None, refusal, order }
     }
 
-    /// Takes up the next line.
+    /// Adds the next line.
     pub fn take(&mut self, number: usize, text: &[u8]) -> io::Result<Step> {
         match text.trim_ascii() {
             b"" => return Ok(Step::Ends),
@@ -87,7 +87,7 @@ impl Dump {
         Ok(Step::GoesOn)
     }
 
-    // The offset of the end closes a dump, but for those that no line closes, which anything ends.
+    // The end's offset closes a dump. Dumps that no line closes are ended by anything.
     fn close(&mut self, number: usize, text: &[u8]) -> io::Result<Step> {
         if !self.form.is_closed() {
             return Ok(Step::Another);
@@ -106,7 +106,7 @@ impl Dump {
         Ok(if offset.is_some() { Step::Ends } else { Step::GoesOn })
     }
 
-    // Whether the dump goes on at an offset, once rows are repeated where `*` says so.
+    // Whether the dump goes on at an offset, after rows are repeated for `*`.
     fn reach(&mut self, offset: u64) -> io::Result<bool> {
         let end = self.base.checked_add(self.bytes.len() as u64);
         let gap = end.and_then(|end| usize::try_from(offset.checked_sub(end)?).ok());
@@ -122,7 +122,7 @@ impl Dump {
         Ok(true)
     }
 
-    /// The bytes that were dumped, or why it isn't known what they are.
+    /// The bytes that were dumped, or why they aren't known.
     pub fn finish(self) -> Piece {
         let refusal = self.refusal.or(match self.order {
             Order::Swapped => Some(SWAPPED),
@@ -132,7 +132,7 @@ impl Dump {
         let bytes = match (refusal, self.broken_at) {
             (Some(refusal), _) => Err(refusal.into()),
             (None, Some(line)) => Err(format!("the dump does not go on in line {line}")),
-            (None, None) if self.repeats => Err("the dump ends with *, and not with an offset".into()),
+            (None, None) if self.repeats => Err("the dump ends with *, not with an offset".into()),
             (None, None) => Ok(self.bytes),
         };
         Piece { line: self.line, bytes }

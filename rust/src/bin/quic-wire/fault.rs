@@ -1,4 +1,4 @@
-//! At which field reading failed, and what an endpoint does then.
+//! The field at which reading failed, and what an endpoint does then.
 mod frame;
 mod packet;
 mod parameter;
@@ -10,7 +10,7 @@ pub use parameter::of_parameters;
 use quic_wire::transport_error::Code;
 use quic_wire::varint;
 
-/// A field that is cut off or has a value that it may not have.
+/// A field that is cut off or has an invalid value.
 #[derive(Clone, Copy, Debug, PartialEq)]
 pub struct Place {
     /// Its name in the RFC.
@@ -20,13 +20,13 @@ pub struct Place {
 }
 
 impl Place {
-    // The field and its place, behind what is in front of the bytes.
+    // The field with its offset in all of the bytes, given what precedes them.
     fn fields(self, front: usize) -> [Field<'static>; 2] {
         [("field", Value::Text(self.field.as_bytes())), ("field_at", Value::Number((front + self.at) as u64))]
     }
 }
 
-// The code to close with, and which section says so.
+// The code to close with, and the section that says so.
 fn closed(code: Code, section: &'static str) -> [Field<'static>; 3] {
     [
         ("close_code", Value::Number(code.into())),
@@ -35,7 +35,7 @@ fn closed(code: Code, section: &'static str) -> [Field<'static>; 3] {
     ]
 }
 
-/// Fields that are read one behind the other, up to the one at fault.
+/// Fields that are read one after another, up to the one at fault.
 struct Walk<'a> {
     bytes: &'a [u8],
     at: usize,
@@ -50,7 +50,7 @@ impl<'a> Walk<'a> {
         Place { field, at: self.at }
     }
 
-    /// A number of variable length (RFC 9000, section 16).
+    /// A varint (RFC 9000, section 16).
     fn number(&mut self, field: &'static str) -> Result<u64, Place> {
         let (number, len) = varint::read(&self.bytes[self.at..]).ok_or(self.place(field))?;
         self.at += len;
@@ -68,7 +68,7 @@ impl<'a> Walk<'a> {
         self.take(field, 1).map(|byte| byte[0])
     }
 
-    /// Bytes behind their length.
+    /// Bytes after their length.
     fn counted(&mut self, len: &'static str, field: &'static str) -> Result<(), Place> {
         let len = self.number(len)?;
         self.take(field, len).map(|_| ())

@@ -26,7 +26,7 @@ pub fn show(payload: &[u8], strict: bool, output: &mut Output<impl Write>) -> io
         };
         for (place, frame) in batch {
             let bytes = &payload[place.clone()];
-            // A run of PADDING says of how many frames it is.
+            // A run of PADDING has its number of frames.
             let count = ("count", Number(padding(bytes)));
             let fields = if frame == Frame::Padding { vec![count] } else { fields(&frame) };
             let raw_type = varint::read(bytes).map_or(0, |(ty, _)| ty);
@@ -36,7 +36,7 @@ pub fn show(payload: &[u8], strict: bool, output: &mut Output<impl Write>) -> io
     Ok(())
 }
 
-// How many types of PADDING are there, in one byte or more.
+// How many PADDING types there are, each in one byte or more.
 fn padding(mut run: &[u8]) -> u64 {
     let mut count = 0;
     while let Some((_, len)) = varint::read(run) {

@@ -3,54 +3,54 @@
 pub const USAGE: &str = "usage: quic-wire frames|canon|datagram|params|number|ranges [OPTION..] [FILE..]";
 
 pub const HELP: &str = "\
-Prints what the bytes of QUIC say, versions 1 and 2.
+Decode QUIC v1 and v2 frames, packets and transport parameters, and print every field.
 
 usage: quic-wire MODE [OPTION..] [FILE..]
 
-MODE is what a line is:
-  frames      the payload of a packet without protection: its frames
-  canon       the same: the one shortest payload with the same frames in the same order
-  datagram    a datagram as it is sent: its packets, as far as their headers are readable
+MODE says what a line is:
+  frames      an unprotected packet payload: print its frames
+  canon       the same: print the shortest payload with the same frames in the same order
+  datagram    a datagram as it is sent: print its packets, as far as their headers are readable
   params      a list of transport parameters
-  number      numbers of variable length, or with --largest a truncated packet number
-  ranges      packet numbers, in decimal, as 1-3 7 9: the set of them, and an ACK of it
+  number      varints or, with --largest, a truncated packet number
+  ranges      packet numbers in decimal, such as 1-3 7 9: print the set of them, and an ACK of it
 
-What is printed:
-  1: 0..2 PADDING count=1    of line 1, from byte 0 up to byte 2 and without it, the frame and its fields
-  ranges=9-10,7-7            packet numbers, each range with both its ends
+Output:
+  1: 0..2 PADDING count=1    line 1, bytes 0 and 1: the frame and its fields
+  ranges=9-10,7-7            packet numbers: each range with both its ends
   order=4,17                 the ids of all parameters of a list, in its order
-  error at 3: ..             the byte where what is refused begins; field_at is where the field at fault does,
-                             close_code what an endpoint closes the connection with, section where the RFC says so
+  error at 3: ..             the byte at which what is rejected begins. field_at is where the field at fault begins,
+                             close_code the code to close the connection with, section the RFC's section
 
-Without FILE, and for -, standard input is read. A line is hexadecimal, in which spaces, tabs, commas, colons, quotes,
-0x and \\x may stand, or base64 (--base64). Lists as in C, Rust, Python and JSON go over several lines, b'..' is read
-as Python and Rust print it, comments are left out. Lines of a dump are put together to what was dumped; they are
-known by the offset in front of them:
+Without FILE, and for -, read standard input. A line is hexadecimal, which may contain spaces, tabs, commas, colons,
+quotes, 0x and \\x, or base64 (--base64). Lists as in C, Rust, Python and JSON may have several lines; b'..' is read as
+Python and Rust print it; comments are ignored. The lines of a dump are joined. They are recognized by the offset in
+front of them:
   00000010: 0102 ..    `xxd`
   \\t0x0010:  0102 ..   `tcpdump -x`, `tcpdump -X`
   00000010  01 02 ..   `hexdump -C`
   0010  01 02 ..       Wireshark (Copy, as a Hex Dump), `tshark -x`
   000010 01 02 ..      `od -A x -t x1` or, with text, `od -A x -t x1z`
   0000020 01 02 ..     `od -t x1`: seven octal digits
-`xxd -e`, and `hexdump` without -C, swap bytes and are refused. A datagram may have its headers of Ethernet, IP and
-UDP in front, as captures print them.
-A blank line ends a dump, as its last offset does. Each line of output begins with the number of the line that it
-belongs to, and is written before the next one is read.
+`xxd -e`, and `hexdump` without -C, swap bytes and are rejected. A datagram may begin with its Ethernet, IP and UDP
+headers, as captures print them.
+A blank line ends a dump, as does its last offset. Each line of output begins with the number of its line of input, and
+is written before the next line is read.
 
 options:
-  --base64             lines are base64
-  --color WHEN         always, never or auto: on a terminal, unless NO_COLOR is set or TERM is dumb; by default auto
-  --json               an object of JSON in each line, for other programs; it has no colours
-  --strict             of frames: a type counts in its shortest encoding alone
-  --cid-len N          of datagram: how many bytes the ids of short headers have, 0 to 20; by default as many as an
-                       id has that a long header before it in the same input has given, else 0
-  --versions LIST      of datagram: the versions that are read, in hexadecimal with commas between them;
-                       by default 1, the drafts 29 to 34, and 2 (6b3343cf)
-  --grease             of datagram: the fixed bit may be clear (RFC 9287)
-  --side client|server of params: the side that reads the list; by default the client, who takes all of them
-  --largest N          of number: a line is a packet number's last 1 to 4 bytes, and N the largest that was received
+  --base64             read lines as base64
+  --color WHEN         always, never or auto: on a terminal, unless NO_COLOR is set or TERM is dumb; default auto
+  --json               print a JSON object per line, without colours
+  --strict             frames: reject a frame type not in its shortest encoding
+  --cid-len N          datagram: length of the ids of short headers in bytes, 0 to 20; default: that of the matching
+                       id in an earlier long header of the same input, or else 0
+  --versions LIST      datagram: versions to read, in hexadecimal, separated by commas;
+                       default 1, the drafts 29 to 34, and 2 (6b3343cf)
+  --grease             datagram: accept a clear fixed bit (RFC 9287)
+  --side client|server params: the side that reads the list; default client, which accepts all parameters
+  --largest N          number: a line is a packet number's last 1 to 4 bytes, and N the largest received so far
   -h, --help; -V, --version
 
-It ends with 0 where every line was read, 1 where an error was printed, 2 for a wrong call, and 3 where reading or
-writing failed, or memory was lacking; a file that can't be read doesn't keep it from the others.
+Exit status: 0 all lines were read, 1 an error was printed, 2 usage error, 3 reading, writing or an allocation failed.
+If a file can't be read, the others are still read.
 ";

@@ -1,14 +1,14 @@
-//! What is to be read as one, out of lines.
+//! Lines joined to the pieces that are read as one.
 use crate::dump::{self, Dump, Line, Step};
 use crate::plain::{self, Fault};
 use std::io::{self, BufRead};
 use std::mem;
 
-const BAD_DUMP: &str = "an offset, and no bytes behind it as xxd or tcpdump print them";
-const UTF_16: &str = "the text is UTF-16, and UTF-8 is read";
+const BAD_DUMP: &str = "an offset without bytes after it as xxd or tcpdump print them";
+const UTF_16: &str = "the text is UTF-16, not UTF-8";
 const OPEN: &str = "a bracket is not closed";
 
-/// What is to be read as one, and the line that it begins with.
+/// A piece that is read as one, and the number of its first line.
 #[derive(Debug, PartialEq)]
 pub struct Piece {
     pub line: usize,
@@ -41,7 +41,7 @@ pub struct Pieces<R> {
     dump: Option<Dump>,
     // Lines of a list that isn't whole.
     list: Option<List>,
-    // Whether a dump ended with the line before, but for blank ones.
+    // Whether a dump ended with the line before, ignoring blank ones.
     is_behind_dump: bool,
     // What was read beyond a dump.
     next: Option<Piece>,
@@ -135,7 +135,7 @@ impl<R: BufRead> Pieces<R> {
         self.list_or_piece(list)
     }
 
-    // A line that is no hexadecimal.
+    // A line that isn't hexadecimal.
     fn other_line(&mut self, mut text: Vec<u8>) -> io::Result<Option<Piece>> {
         if self.plain == Plain::Base64 {
             return Ok(Some(piece(self.line, &text, plain::base64(&text)?)));
@@ -145,7 +145,7 @@ impl<R: BufRead> Pieces<R> {
         Ok((!is_left_out).then_some(Piece { line: self.line, bytes: Ok(text) }))
     }
 
-    // A line behind those of a list.
+    // A line after those of a list.
     fn go_on(&mut self, mut list: List, mut text: Vec<u8>) -> io::Result<Option<Piece>> {
         if text.trim_ascii().is_empty() {
             return list.end().map(Some);
@@ -212,7 +212,7 @@ impl<R: BufRead> Iterator for Pieces<R> {
 }
 
 impl List {
-    // The list, where a blank line ends it, or the end of all.
+    // The list, if a blank line or the end of the input ends it.
     fn end(self) -> io::Result<Piece> {
         let List { line, text, open } = self;
         match open {
@@ -222,7 +222,7 @@ impl List {
     }
 }
 
-// With where in the lines something is wrong.
+// With the position of the fault in the lines.
 fn piece(line: usize, text: &[u8], read: plain::Read) -> Piece {
     let bytes = read.map_err(|Fault { what, at }| {
         let (before, hint) = (&text[..at], hint(text));
@@ -237,7 +237,7 @@ fn piece(line: usize, text: &[u8], read: plain::Read) -> Piece {
     Piece { line, bytes }
 }
 
-// What may be meant by a line that isn't hexadecimal.
+// What a line that isn't hexadecimal may be meant as.
 fn hint(text: &[u8]) -> &'static str {
     let is_base64 = text.len() >= 8 && text.len() % 4 == 0 && !text.contains(&b' ');
     match is_base64 && matches!(plain::base64(text), Ok(Ok(_))) {

@@ -1,22 +1,22 @@
-//! Packets as captures have them, with the headers of the link, of IP and of UDP in front of the datagram.
+//! Packets as captures have them, with link, IP and UDP headers before the datagram.
 use std::net::{IpAddr, Ipv4Addr, Ipv6Addr, SocketAddr};
 use std::ops::Range;
 
-// How many bytes a link puts in front: none, the loopback of BSD, Ethernet without and with a tag, Linux's cooked ones.
+// How long link headers are: none, BSD loopback, Ethernet without and with a tag, Linux cooked captures.
 const LINKS: [usize; 6] = [0, 4, 14, 18, 16, 20];
-// How many bytes Ethernet may have put behind, since it sends 46 at least.
+// How many bytes Ethernet may have appended, since it sends at least 46.
 const MOST_PADDING: usize = 46;
 const UDP: u8 = 17;
 const UDP_HEADER: usize = 8;
 
-/// A packet of IP.
+/// An IP packet.
 #[derive(Debug, PartialEq)]
 pub struct Packet {
-    /// Where what UDP carries is, and from where to where it is sent; `None` if another protocol has it.
+    /// Where UDP's payload is, with source and destination; `None` for another protocol.
     pub udp: Option<(Range<usize>, SocketAddr, SocketAddr)>,
 }
 
-/// The packet of IP that bytes are. All of its lengths must fit, so that hardly any datagram of QUIC looks like one.
+/// The IP packet in the bytes. All of its lengths must fit, so that hardly any QUIC datagram looks like one.
 pub fn packet(bytes: &[u8]) -> Option<Packet> {
     LINKS.iter().find_map(|link| {
         let ip = bytes.get(*link..)?;
@@ -47,10 +47,10 @@ fn number(bytes: &[u8], at: usize) -> Option<u16> {
     Some(u16::from_be_bytes(bytes.get(at..at + 2)?.try_into().ok()?))
 }
 
-// Where a packet ends, where what it carries begins, its protocol and addresses.
+// Where a packet ends, where its payload begins, its protocol and addresses.
 type Header = (usize, usize, u8, IpAddr, IpAddr);
 
-// RFC 791, of a packet in one piece.
+// RFC 791, for a packet that isn't fragmented.
 fn ipv4(ip: &[u8]) -> Option<Header> {
     let header: &[u8; 20] = ip.first_chunk()?;
     let len = usize::from(header[0] & 0x0f) * 4;
@@ -59,7 +59,7 @@ fn ipv4(ip: &[u8]) -> Option<Header> {
     is_whole.then_some((usize::from(number(header, 2)?), len, header[9], address(12)?, address(16)?))
 }
 
-// RFC 8200, without headers of extensions.
+// RFC 8200, without extension headers.
 fn ipv6(ip: &[u8]) -> Option<Header> {
     let header: &[u8; 40] = ip.first_chunk()?;
     let address = |at: usize| Some(Ipv6Addr::from(<[u8; 16]>::try_from(&header[at..at + 16]).ok()?).into());
@@ -70,7 +70,8 @@ fn ipv6(ip: &[u8]) -> Option<Header> {
 mod tests {
     use super::*;
 
-    // RFC 791 and RFC 768: whatever is cut off or changed of a packet, it is none or nothing is read outside of it.
+    // RFC 791 and RFC 768: whatever is cut off or changed in a packet, it is rejected, or nothing is read outside of
+    // it.
     #[test]
     fn a_packet_fits_in_all_of_its_lengths() {
         let mut bytes = vec![0x45, 0, 0, 30, 0, 0, 0x40, 0, 64, UDP, 0, 0, 10, 0, 0, 1, 10, 0, 0, 2];

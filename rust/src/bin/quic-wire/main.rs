@@ -1,4 +1,4 @@
-//! The program `quic-wire`: what the bytes of QUIC say, from lines of hexadecimal or dumps.
+//! The program `quic-wire`, which decodes QUIC from lines of hexadecimal or dumps.
 mod args;
 mod canon;
 mod closed;
@@ -26,14 +26,14 @@ use std::fs::File;
 use std::io::{self, BufRead, BufReader, BufWriter, ErrorKind, Write};
 use std::process::ExitCode;
 
-// Some line was refused; the call is wrong; reading, writing or memory failed. As of `quic-show`.
+// A line was rejected; usage error; reading, writing or an allocation failed. As for `quic-show`.
 const REFUSED: u8 = 1;
 const WRONG_CALL: u8 = 2;
 const FAILED: u8 = 3;
-// Who read the output reads no more, as `head` does: what a shell says of a program that SIGPIPE has ended.
+// The reader of the output has stopped, as `head` does: the shell's status for a program that SIGPIPE ended.
 const UNREAD: u8 = 141;
 
-const WHOLE_PACKET: &str = "a packet with its headers of IP, and no payload of QUIC; the mode datagram reads it";
+const WHOLE_PACKET: &str = "an IP packet, not a QUIC payload; use the mode datagram";
 
 fn main() -> ExitCode {
     match args::parse(std::env::args_os().skip(1)) {
@@ -50,7 +50,7 @@ fn main() -> ExitCode {
     }
 }
 
-// A line on standard error. Nothing is left to be done where that fails.
+// A line on standard error. If that fails, nothing can be done.
 fn say(what: impl Display) {
     let _ = writeln!(io::stderr(), "quic-wire: {what}");
 }
@@ -87,7 +87,7 @@ fn look(args: &Args) -> Look {
 }
 
 enum Failure {
-    /// Of one file; others may be read.
+    /// For one file; others may be read.
     Reading(io::Error),
     Writing(io::Error),
 }
@@ -99,7 +99,7 @@ fn show_file(args: &Args, file: &OsStr, output: &mut Output<impl Write>) -> Resu
     show_all(args, BufReader::new(File::open(file).map_err(Failure::Reading)?), output)
 }
 
-// Answers each piece before the next one is waited for.
+// Prints the result of each piece before it waits for the next.
 fn show_all(args: &Args, source: impl BufRead, output: &mut Output<impl Write>) -> Result<(), Failure> {
     let mut ids = Ids::default();
     for piece in Pieces::new(source, args.plain) {

@@ -1,11 +1,11 @@
-//! Numbers of variable length (RFC 9000, section 16), and truncated packet numbers (section 17.1).
+//! Varints (RFC 9000, section 16), and truncated packet numbers (section 17.1).
 use crate::output::{Output, Value};
 use quic_wire::packet::PacketNumber;
 use quic_wire::varint;
 use std::io::{self, Write};
 use Value::Number;
 
-/// Prints the numbers that bytes are, or the packet number of which they are the end, by the largest received one.
+/// Prints the varints in the bytes, or the packet number that ends with them, given the largest received one.
 pub fn show(bytes: &[u8], largest: Option<u64>, output: &mut Output<impl Write>) -> io::Result<()> {
     match largest {
         Some(largest) => show_packet_number(bytes, largest, output),
@@ -18,7 +18,7 @@ fn show_numbers(bytes: &[u8], output: &mut Output<impl Write>) -> io::Result<()>
     while at < bytes.len() {
         let Some((number, len)) = varint::read(&bytes[at..]) else {
             let section = [("section", Value::sentence("RFC 9000, section 16"))];
-            return output.error("unexpected end in a number of variable length", Some(at), &section);
+            return output.error("unexpected end in a varint", Some(at), &section);
         };
         let shortest = varint::len(number).unwrap_or(len);
         let fields = [("value", Number(number)), ("shortest_len", Number(shortest as u64))];

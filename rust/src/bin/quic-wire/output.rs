@@ -47,7 +47,7 @@ impl<W: Write> Output<W> {
         self.out.flush()
     }
 
-    /// What is at a place: its name, which is its `key`, and its fields. Fields in `more` are for programs alone.
+    /// What is at an offset: its name, which is its `key`, and its fields. Fields in `more` are only for programs.
     pub fn item(
         &mut self,
         place: Range<usize>,
@@ -65,7 +65,7 @@ impl<W: Write> Output<W> {
         self.line_end(fields)
     }
 
-    /// Fields alone, for people each in its line.
+    /// Only fields, for people each on its line.
     pub fn fields(&mut self, fields: &[Field<'_>], more: &[Field<'_>]) -> io::Result<()> {
         if self.look == Look::Json {
             return self.object(&[fields, more]);
@@ -77,7 +77,7 @@ impl<W: Write> Output<W> {
         Ok(())
     }
 
-    /// An error at a byte, with what was read before it and what is known of it.
+    /// An error at a byte, with what was read before it and what is known about it.
     pub fn error(&mut self, what: &str, at: Option<usize>, fields: &[Field<'_>]) -> io::Result<()> {
         self.is_clean = false;
         if self.look == Look::Json {

@@ -1,4 +1,4 @@
-//! Bytes that are no dump: hexadecimal, lists as source code and JSON have them, literals of Python and Rust, base64.
+//! Bytes that aren't a dump: hexadecimal, lists as in source code and JSON, literals of Python and Rust, base64.
 use std::io;
 
 /// Why there are no bytes, and from which byte of the text on.
@@ -31,7 +31,7 @@ pub fn read(text: &[u8]) -> io::Result<Read> {
 fn list_of_decimals(text: &[u8], begin: usize) -> io::Result<Read> {
     if words(text, begin).all(|(_, word)| word.len() == 2) {
         return match words(text, begin).next() {
-            Some((at, _)) => fault("decimal or hexadecimal? 0x before each number would say so:", at),
+            Some((at, _)) => fault("ambiguous numbers, decimal or hexadecimal; add 0x to each, from the one", at),
             None => Ok(Ok(Vec::new())),
         };
     }
@@ -41,7 +41,7 @@ fn list_of_decimals(text: &[u8], begin: usize) -> io::Result<Read> {
     Ok(Ok(bytes))
 }
 
-/// Hexadecimal without anything else than blanks between its digits.
+/// Hexadecimal with only blanks between its digits.
 pub fn unhex(text: &[u8]) -> io::Result<Option<Vec<u8>>> {
     if text.iter().any(|byte| *byte != b' ' && !byte.is_ascii_hexdigit()) {
         return Ok(None);
@@ -62,7 +62,7 @@ fn hexadecimal(text: &[u8], begin: usize) -> io::Result<Read> {
         }
         let pairs = digits.chunks_exact(2);
         if digits.is_empty() {
-            return fault("no digits behind 0x", at);
+            return fault("no digits after 0x", at);
         }
         if !pairs.remainder().is_empty() {
             return fault(format!("an odd number of digits, {},", digits.len()), at);
@@ -82,7 +82,7 @@ fn character(bytes: &[u8]) -> char {
     String::from_utf8_lossy(front).chars().next().unwrap_or_default()
 }
 
-// What stands between separators, with its place. Behind a backslash an x is one too.
+// What is between separators, with its offset. After a backslash an x is one too.
 fn words(text: &[u8], begin: usize) -> impl Iterator<Item = (usize, &[u8])> {
     let mut at = begin;
     let parts = text[begin..].split(|byte| b" \t\r\n,:;(){}[]\"'\\".contains(byte)).map(move |part| {
@@ -137,7 +137,7 @@ fn literal(text: &[u8], begin: usize) -> io::Result<Read> {
         match text.get(at) {
             Some(byte) if *byte == quote => break,
             Some(b'\\') => {
-                let Some((byte, len)) = escaped(&text[at + 1..]) else { return fault("no such escape:", at) };
+                let Some((byte, len)) = escaped(&text[at + 1..]) else { return fault("unknown escape:", at) };
                 bytes.push(byte);
                 at += 1 + len;
             }
@@ -145,17 +145,17 @@ fn literal(text: &[u8], begin: usize) -> io::Result<Read> {
                 bytes.push(*byte);
                 at += 1;
             }
-            Some(_) => return fault("more than a byte:", at),
-            None => return fault("no quote ends the bytes that begin", begin),
+            Some(_) => return fault("value above one byte:", at),
+            None => return fault("no closing quote for the bytes that begin", begin),
         }
     }
     match text[at + 1..].iter().position(|byte| !b") \t\r\n,;".contains(byte)) {
-        Some(behind) => fault("something stands behind the bytes:", at + 1 + behind),
+        Some(behind) => fault("unexpected text after the bytes:", at + 1 + behind),
         None => Ok(Ok(bytes)),
     }
 }
 
-// The byte that an escape means, and how many characters it has behind its backslash.
+// The byte that an escape means, and how many characters it has after its backslash.
 fn escaped(text: &[u8]) -> Option<(u8, usize)> {
     let byte = match text.first()? {
         b'x' => return Some(((digit(*text.get(1)?)? << 4) | digit(*text.get(2)?)?, 3)),
@@ -192,7 +192,7 @@ pub fn base64(text: &[u8]) -> io::Result<Read> {
             _ => return fault(format!("not base64: {:?}", character(&text[at..])), at),
         };
         if padding > 0 {
-            return fault("something stands behind the bytes:", at);
+            return fault("unexpected text after the bytes:", at);
         }
         (bits, count) = ((bits << 6) | u32::from(value), count + 1);
         if count % 4 != 1 {
@@ -205,7 +205,7 @@ pub fn base64(text: &[u8]) -> io::Result<Read> {
     }
 }
 
-/// Puts blanks in the place of comments, as `# ..`, `// ..` and `/* .. */`. Answers whether there was one.
+/// Replaces comments, such as `# ..`, `// ..` and `/* .. */`, with blanks. Returns whether there was one.
 pub fn blank_comments(text: &mut [u8]) -> bool {
     let mut has_comment = false;
     let mut at = 0;
@@ -223,7 +223,7 @@ pub fn blank_comments(text: &mut [u8]) -> bool {
     has_comment
 }
 
-/// How many brackets are open behind a text, of which some were before it.
+/// How many brackets are open after a text, given how many were before it.
 pub fn open_brackets(before: usize, text: &[u8]) -> usize {
     text.iter().fold(before, |open, byte| match byte {
         b'[' | b'{' | b'(' => open + 1,
@@ -232,7 +232,7 @@ pub fn open_brackets(before: usize, text: &[u8]) -> usize {
     })
 }
 
-/// Whether a line is how many bytes there are, as `xxd -i` prints it below them.
+/// Whether a line is the number of bytes, as `xxd -i` prints it below them.
 pub fn is_length(text: &[u8]) -> bool {
     let text = text.trim_ascii();
     text.starts_with(b"unsigned int ") && text.ends_with(b";") && text.windows(7).any(|part| part == b"_len = ")

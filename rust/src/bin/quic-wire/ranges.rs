@@ -18,7 +18,7 @@ pub fn show(line: &[u8], output: &mut Output<impl Write>) -> io::Result<()> {
     for word in words() {
         let inserted = range(word).map(|range| range_set::insert(&mut runs, &mut count, range));
         if !matches!(inserted, Some(Ok(_))) {
-            let what = format!("no packet number or range of them below 2^62: {:?}", String::from_utf8_lossy(word));
+            let what = format!("not a packet number or range below 2^62: {:?}", String::from_utf8_lossy(word));
             return output.error(&what, None, &[]);
         }
     }
@@ -27,7 +27,7 @@ pub fn show(line: &[u8], output: &mut Output<impl Write>) -> io::Result<()> {
 }
 
 fn show_set(runs: &[Run], output: &mut Output<impl Write>) -> io::Result<()> {
-    let Some(last) = runs.last() else { return output.error("no packet number", None, &[]) };
+    let Some(last) = runs.last() else { return output.error("no packet numbers", None, &[]) };
     let mut ranges = Vec::new();
     ranges.try_reserve_exact(runs.len())?;
     ranges.extend(runs.iter().rev().map(|run| (run.start, run.end - 1)));
@@ -48,7 +48,7 @@ fn show_set(runs: &[Run], output: &mut Output<impl Write>) -> io::Result<()> {
     output.fields(&fields, &[])
 }
 
-// A number, both ends of a range as `1-3`, or a range without its end as `1..4`.
+// A number, both ends of a range, such as `1-3`, or a half-open range, such as `1..4`.
 fn range(word: &[u8]) -> Option<Range<u64>> {
     let word = std::str::from_utf8(word).ok()?;
     let number = |text: &str| {

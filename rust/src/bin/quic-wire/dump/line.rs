@@ -2,7 +2,7 @@
 use crate::plain::unhex;
 use std::io;
 
-/// Which program prints such lines.
+/// The program that prints such lines.
 #[derive(Clone, Copy, Debug, PartialEq)]
 pub enum Form {
     /// `xxd`, `tcpdump -x`, `tcpdump -X`.
@@ -18,7 +18,7 @@ pub enum Form {
 }
 
 impl Form {
-    // The form whose offset these digits are, where no colon follows them, but blanks do.
+    // The form of an offset with these digits, if blanks and no colon follow.
     fn of(digits: &[u8], blanks: usize) -> Option<Form> {
         let is_octal = digits.iter().all(|digit| (b'0'..=b'7').contains(digit));
         match digits.len() {
@@ -36,7 +36,7 @@ impl Form {
         u64::from_str_radix(std::str::from_utf8(digits).ok()?, radix).ok()
     }
 
-    /// The offset that stands alone in a line, as that of the end closes a dump.
+    /// The offset of a line that has only that, as the end's offset closes a dump.
     pub fn closing(self, text: &[u8]) -> Option<u64> {
         let is_one = match self {
             Form::Hexdump => text.len() >= 8,
@@ -57,12 +57,12 @@ impl Form {
     }
 }
 
-/// In which order the bytes of a group are, by the text beside them. Of two lines the greater says more.
+/// The order of the bytes in a group, from the text next to them. Of two lines the greater value decides.
 #[derive(Clone, Copy, Debug, PartialEq, Eq, PartialOrd, Ord)]
 pub enum Order {
-    /// The text says nothing, and there is no need.
+    /// The text says nothing, and it isn't needed.
     Untold,
-    /// It doesn't tell, and the groups are as wide as those of `xxd -e`.
+    /// It doesn't say, and the groups are as wide as those of `xxd -e`.
     Unknown,
     AsDumped,
     /// As `xxd -e` prints them.
@@ -76,19 +76,19 @@ pub struct Line {
     pub offset: u64,
     pub bytes: Vec<u8>,
     pub order: Order,
-    // Whether it is nothing else than a line of a dump.
+    // Whether it can only be a line of a dump.
     is_sure: bool,
-    /// Whether it has fewer bytes than a line of its dump holds, so that no other follows.
+    /// Whether it has fewer bytes than a full line, so that no other follows.
     pub is_last: bool,
     /// Why its bytes aren't read.
     pub refusal: Option<&'static str>,
 }
 
-const BITS: &str = "these are bits, as xxd -b prints them; xxd without -b is read";
+const BITS: &str = "these are bits, as xxd -b prints them; use xxd without -b";
 const SWAPPED: &str = "the bytes of each group are swapped, as hexdump without -C and od -x print them; \
-    hexdump -C and od -t x1 are read";
+    use hexdump -C or od -t x1";
 const UNITS: &str = "these are units of more than a byte, as od and hexdump print them; \
-    od -t x1 and hexdump -C are read";
+    use od -t x1 or hexdump -C";
 
 impl Line {
     /// A line of a dump, if the text is one.
@@ -127,12 +127,12 @@ impl Line {
             true => Order::Swapped,
             false => order(groups, &bytes, shown),
         };
-        // A byte is a character of the text, in which an editor may have cut off spaces.
+        // Each byte has a character in the text, from which an editor may have removed trailing spaces.
         let left = bytes.get(shown.len()..).unwrap_or_default();
         if order != Order::Swapped && !shown.is_empty() && left.iter().any(|byte| *byte != b' ') {
             return Ok(None);
         }
-        // Digits that are lacking leave spaces before the text.
+        // Missing digits leave spaces before the text.
         let is_last = shown.len() > bytes.len() && order != Order::Swapped;
         Ok(Some(Line { form: Form::Colon, offset, bytes, order, is_sure: true, is_last, refusal: None }))
     }
@@ -169,12 +169,12 @@ impl Line {
     }
 }
 
-/// Whether a line has an offset and a colon, and so is no plain hexadecimal.
+/// Whether a line has an offset and a colon, and so isn't plain hexadecimal.
 pub fn has_offset(text: &[u8]) -> bool {
     split_at_colon(text.trim_ascii_start()).is_some()
 }
 
-/// Whether a line is one that `tshark` or `tcpdump` prints above a dump: what it is of, or the packet in a few words.
+/// Whether a line is one that `tshark` or `tcpdump` prints above a dump: its source, or a summary of the packet.
 pub fn is_heading(text: &[u8]) -> bool {
     let text = text.trim_ascii();
     let is_data_source = text.ends_with(b" bytes):") && text.contains(&b'(');
@@ -207,7 +207,7 @@ fn split_at_colon(text: &[u8]) -> Option<(&[u8], &[u8])> {
     (is_offset && rest.starts_with(b" ")).then_some((digits, rest))
 }
 
-// Whether the last group has fewer digits than the first and stands at its right, as `xxd -e` prints it.
+// Whether the last group has fewer digits than the first and is right-aligned, as `xxd -e` prints it.
 fn is_right_aligned(rest: &[u8]) -> bool {
     let is_hex = |digits: &[u8]| digits.iter().all(u8::is_ascii_hexdigit);
     let width = rest.iter().position(|byte| *byte == b' ').unwrap_or(rest.len());
@@ -217,7 +217,7 @@ fn is_right_aligned(rest: &[u8]) -> bool {
     width.is_power_of_two() && !digits.is_empty() && is_hex(digits) && behind.starts_with(b"  ")
 }
 
-// By the text beside groups, which has a character for each byte.
+// From the text next to groups, which has a character for each byte.
 fn order(groups: &[u8], bytes: &[u8], shown: &[u8]) -> Order {
     let width = groups.split(|byte| *byte == b' ').next().map_or(0, |group| group.len() / 2);
     let shown = &shown[shown.len().saturating_sub(bytes.len())..];

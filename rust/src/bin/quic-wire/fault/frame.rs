@@ -5,12 +5,12 @@ use quic_wire::frame::{FrameType, InvalidFrame, Reason};
 use quic_wire::transport_error::Code;
 use quic_wire::MAX_CID_SIZE;
 
-/// What is known of a payload without frames.
+/// What is known about a payload without frames.
 pub fn of_empty_payload() -> Vec<Field<'static>> {
     closed(Code::PROTOCOL_VIOLATION, "RFC 9000, section 12.4").to_vec()
 }
 
-/// What is known of an invalid frame that begins at a place of the payload.
+/// What is known about an invalid frame that begins at an offset of the payload.
 pub fn of_frame(payload: &[u8], begin: usize, invalid: &InvalidFrame) -> Vec<Field<'static>> {
     let section = match invalid.reason {
         Reason::InvalidFrameId | Reason::LongType => "RFC 9000, section 12.4",
@@ -27,7 +27,7 @@ pub fn of_frame(payload: &[u8], begin: usize, invalid: &InvalidFrame) -> Vec<Fie
     [place.as_slice().as_flattened(), &closed(code, section)].concat()
 }
 
-// The first field of a frame that is cut off or has a value that it may not have.
+// The first field of a frame that is cut off or has an invalid value.
 fn place(frame: &[u8]) -> Option<Place> {
     let mut walk = Walk::new(frame);
     let ty = match walk.number("Frame Type") {
@@ -127,7 +127,7 @@ mod tests {
     use super::*;
     use quic_wire::frame::Iter;
 
-    // Whatever frame the library refuses for its fields, one of them is found, and none of another.
+    // If the library rejects a frame for its fields, one of them is found; otherwise none is.
     #[test]
     fn a_field_is_found_where_a_frame_is_refused() {
         let mut state = 1_u64;

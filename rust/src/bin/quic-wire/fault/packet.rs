@@ -1,4 +1,4 @@
-//! Headers of packets: RFC 9000, section 17; RFC 8999.
+//! Packet headers: RFC 9000, section 17; RFC 8999.
 use super::{Place, Walk};
 use crate::output::{Field, Value};
 use quic_wire::packet::HeaderError;
@@ -6,23 +6,23 @@ use quic_wire::MAX_CID_SIZE;
 
 const VERSION_2: u32 = 0x6b33_43cf;
 
-// What becomes of a packet, and which section says so.
+// What happens to a packet, and the section that says so.
 fn dropped(section: &'static str) -> [Field<'static>; 2] {
     [("then", Value::sentence("the packet is dropped")), ("section", Value::sentence(section))]
 }
 
-/// What is known of a packet whose fixed bit is clear.
+/// What is known about a packet whose fixed bit is clear.
 pub fn of_fixed_bit(packet: &[u8], begin: usize) -> Vec<Field<'static>> {
     let is_long = packet.first().is_some_and(|first| first & 0x80 != 0);
     let section = if is_long { "RFC 9000, section 17.2" } else { "RFC 9000, section 17.3.1" };
     [&Place { field: "Fixed Bit", at: 0 }.fields(begin)[..], &dropped(section)].concat()
 }
 
-/// What is known of a header that begins at a place of the datagram.
+/// What is known about a header that begins at an offset of the datagram.
 pub fn of_header(packet: &[u8], begin: usize, cid_len: usize, error: &HeaderError) -> Vec<Field<'static>> {
     let (place, after) = match error {
         HeaderError::UnsupportedVersion(_) => {
-            let then = "a server answers by a version negotiation, a client drops the packet";
+            let then = "a server responds with a version negotiation, a client drops the packet";
             let section =
                 [("then", Value::sentence(then)), ("section", Value::sentence("RFC 9000, sections 5.2.1 and 5.2.2"))];
             (Some(Place { field: "Version", at: 1 }), section)

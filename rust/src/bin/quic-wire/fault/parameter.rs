@@ -53,14 +53,14 @@ const PARAMETERS: [Parameter; 20] = [
 ];
 const GREASE_QUIC_BIT: u64 = 0x2ab2;
 const MIN_ACK_DELAY: u64 = 0xff04_de1b;
-// How many bytes of a value are shown.
+// How many bytes of a value are printed.
 const MOST: usize = 64;
 // Those that a client must not send.
 const OF_SERVERS: [u64; 4] = [0x00, 0x02, 0x0d, 0x10];
-// Numbers with a default: malformed to `quinn-proto`, and so here, if longer than their shortest encoding.
+// Numbers with a default: malformed for `quinn-proto`, and so here, unless in their shortest encoding.
 const SHORTEST: [u64; 11] = [0x01, 0x03, 0x04, 0x05, 0x06, 0x07, 0x08, 0x09, 0x0a, 0x0b, 0x0e];
 
-// An entry of a list: its id, its place and that of its value.
+// An entry of a list: its id, its offset and that of its value.
 struct Entry {
     id: u64,
     place: Range<usize>,
@@ -84,7 +84,7 @@ fn known(id: u64) -> Option<&'static Parameter> {
     PARAMETERS.iter().find(|known| known.id == id)
 }
 
-/// Where the parameter is that makes a list one that is refused, and what is known of it.
+/// Where the parameter is for which a list is rejected, and what is known about it.
 pub fn of_parameters(list: &[u8], side: Side, error: Error) -> (Option<usize>, Vec<Field<'static>>) {
     let at = error.offset();
     let fields = match entries(list).find(|entry| entry.place.start == at) {
@@ -106,7 +106,7 @@ fn of_cut_off(id: Option<u64>) -> Vec<Field<'static>> {
     fields
 }
 
-// Whether it is a repeat that is refused: quinn-proto takes two parameters more than once.
+// Whether it is a repeat that is rejected: quinn-proto accepts two parameters more than once.
 fn is_repeated(list: &[u8], entry: &Entry) -> bool {
     ![GREASE_QUIC_BIT, MIN_ACK_DELAY].contains(&entry.id)
         && entries(&list[..entry.place.start]).any(|other| other.id == entry.id)
@@ -124,14 +124,14 @@ fn of_entry(list: &[u8], side: Side, entry: &Entry, known: &Parameter) -> Vec<Fi
     let mut section = known.section;
     let why = if is_repeated(list, entry) {
         section = REPEATED;
-        "it is there twice"
+        "it occurs twice"
     } else if side == Side::Server && OF_SERVERS.contains(&entry.id) {
         "a client must not send it"
     } else if is_long && SHORTEST.contains(&entry.id) {
-        "its number isn't in its shortest encoding, which RFC 9000, section 16, allows and quinn-proto refuses"
+        "its integer isn't in its shortest encoding, which RFC 9000, section 16, allows and quinn-proto rejects"
     } else {
         fields.push(("wanted", Value::sentence(known.wanted)));
-        "its value isn't what it must be"
+        "its value is invalid"
     };
     fields.push(("why", Value::sentence(why)));
     fields.extend(closed(Code::TRANSPORT_PARAMETER_ERROR, section));

@@ -1,4 +1,4 @@
-//! How lines are put together.
+//! How lines are joined.
 use super::*;
 
 // The first line of each piece, with its bytes or its error.
@@ -29,7 +29,7 @@ fn lines_are_hexadecimal() {
         [
             odd(5, 1),
             no_digit(6, 'z'),
-            (7, Err("no digits behind 0x in column 1".into())),
+            (7, Err("no digits after 0x in column 1".into())),
             no_digit(8, '+'),
             (9, Ok(vec![10, 255]))
         ]
@@ -41,7 +41,7 @@ fn dumps_are_put_together() {
     let full = "00000000: 0001 0203 0405 0607 0809 0a0b 0c0d 0e0f  ................\n";
     let last = "00000010: 4142 20                                  AB \n";
     let short = "00000000: 2061 2020 62                             a  b\n";
-    // What doesn't go on where the lines before it end is another piece, as a dump from a place on is.
+    // A line whose offset doesn't follow the lines before it begins another piece, like a dump from an offset on.
     let apart = "00000040: 4344                                     CD\n";
     let all = pieces(&[full, last, short, full, full, "ff\n", full, apart].concat());
     let put_together = [&sixteen()[..], b"AB "].concat();
@@ -94,13 +94,13 @@ fn rows_that_are_left_out_are_repeated() {
     }
     for end in ["", "\n", "000000 01\n000001\n"] {
         let first = pieces(&format!("000000 {row}\n*\n{end}")).remove(0);
-        assert_eq!(first, (1, Err("the dump ends with *, and not with an offset".into())));
+        assert_eq!(first, (1, Err("the dump ends with *, not with an offset".into())));
     }
 }
 
 #[test]
 fn blank_lines_end_dumps() {
-    // Those after a dump are no empty pieces; the last line is.
+    // Those after a dump aren't empty pieces; the last line is one.
     let text = "000000 01 02\n\n0000000 03\n0000001\n \n\n00000000  04\n\n00000000: 05\n\n06\n\n";
     let all = [(1, vec![1, 2]), (3, vec![3]), (7, vec![4]), (9, vec![5]), (11, vec![6]), (12, vec![])];
     assert_eq!(pieces(text), all.map(|(line, bytes)| (line, Ok(bytes))));
@@ -127,14 +127,14 @@ fn a_dump_begins_at_the_front_unless_it_has_text() {
 #[test]
 fn dumps_that_do_not_go_on_are_refused_once() {
     let broken = |line| (1, format!("the dump does not go on in line {line}"));
-    // With decimal offsets; a line that is lacking, and one that is no line; another end.
+    // With decimal offsets; a missing line, and one that isn't a line of a dump; another end.
     let row = "00 01 02 03 04 05 06 07 08 09 0a 0b 0c 0d 0e 0f";
     assert_eq!(errors(&format!("0000000 {row}\n0000016 {row}\n0000032 01\n0000033\n")), [broken(2)]);
     assert_eq!(errors("000000 01 02\n000003 04\n000004\n"), [broken(2)]);
     assert_eq!(errors("000000 01 02\n000002 0\nzz\n000003 03\n000004\n"), [broken(2)]);
     assert_eq!(errors("00000000  01 02  |..|\n00000003\n"), [broken(2)]);
     assert_eq!(errors("ffffffffffffffff  01  |.|\nfffffffffffffff0  01  |.|\n"), [broken(2)]);
-    // One of `xxd` is broken after `*` alone.
+    // One by `xxd` is broken only after `*`.
     let xxd = "00000000: 0001  ..\n*\n00000003: 01  .\n00000004: 02  .\n";
     assert_eq!(errors(xxd), [broken(3)]);
     let two = pieces("000000 01\n000002 03\n000000 04\n000001\n");

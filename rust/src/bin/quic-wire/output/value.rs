@@ -1,4 +1,4 @@
-//! What the fields of a line hold. They borrow what may be long.
+//! The values of a line's fields. They borrow long data.
 use quic_wire::frame::Ack;
 use quic_wire::transport_parameters::{entries, Entry};
 use std::borrow::Cow;
@@ -11,7 +11,7 @@ pub enum Value<'a> {
     Flag(bool),
     Word(Cow<'a, str>),
     Bytes(Cow<'a, [u8]>),
-    /// What may be no UTF-8, in quotes.
+    /// Text that may not be UTF-8, in quotes.
     Text(&'a [u8]),
     Version(u32),
     /// Versions of four bytes each.
@@ -20,16 +20,16 @@ pub enum Value<'a> {
     Ranges(Ack<'a>),
     /// Ranges of numbers, the same way.
     Runs(Vec<(u64, u64)>),
-    /// Of a list of transport parameters the numbers of all.
+    /// The ids of all transport parameters of a list.
     Ids(&'a [u8]),
-    /// Of a list of transport parameters those without a name.
+    /// The transport parameters of a list that have no name.
     Unknown(&'a [u8]),
 }
 
 pub type Field<'a> = (&'static str, Value<'a>);
 
 impl<'a> Value<'a> {
-    /// Bytes that are lent.
+    /// Borrowed bytes.
     pub fn bytes(bytes: &'a [u8]) -> Self {
         Value::Bytes(Cow::Borrowed(bytes))
     }

@@ -405,14 +405,25 @@ typedef struct quic_wire_frame {
   uint32_t flags; /* QUIC_WIRE_FLAG_FIN, QUIC_WIRE_FLAG_ECN */
   quic_wire_size begin;   /* where the frame begins in the payload, in bytes */
   quic_wire_size end;     /* where it ends */
-  quic_wire_size data;    /* where its data begins in the payload: that of
-                             CRYPTO, NEW_TOKEN, STREAM and DATAGRAM; the reason
-                             phrase of a close; the id of a NEW_CONNECTION_ID,
-                             which its token follows */
-  quic_wire_size datalen; /* how many bytes the data has, without that token */
 #ifdef QUIC_WIRE_PLAIN
+  quic_wire_size data, datalen; /* of an ACK ngaps and first_range */
   uint64_t numbers[5];
 #else
+  QUIC_WIRE_EXTENSION union {
+    quic_wire_size data;  /* where its data begins in the payload: that of
+                             CRYPTO, NEW_TOKEN, STREAM and DATAGRAM; the reason
+                             phrase of a close; the id of a NEW_CONNECTION_ID,
+                             which its token follows.  Of other kinds except ACK
+                             |end| */
+    quic_wire_size ngaps; /* ACK: how many gaps quic_wire_frame_read wrote; 0
+                             from other functions */
+  };
+  QUIC_WIRE_EXTENSION union {
+    quic_wire_size datalen;     /* how many bytes the data has, without that
+                                   token; of other kinds except ACK 0 */
+    quic_wire_size first_range; /* ACK: how many numbers its first range has,
+                                   less one: First ACK Range (19.3) */
+  };
   QUIC_WIRE_EXTENSION union {
     uint64_t numbers[5];
     quic_wire_ack ack;
@@ -757,11 +768,10 @@ QUIC_WIRE_API int quic_wire_frames_first(quic_wire_frame_iter *frames,
  * Offsets in |frame| count from |payload|.  A PADDING frame and the zero bytes
  * after it are one frame.  |flags| are QUIC_WIRE_READ_...
  *
- * Of an ACK |frame->datalen| is its first range, less one, the ranges below it
- * are written to the |room| entries of |gaps| as they are encoded, and
- * |frame->data| is how many were; where that isn't all, QUIC_WIRE_FLAG_MORE is
- * set, and quic_wire_ack_ranges_init gives all.  For other frames |gaps|
- * doesn't change.
+ * The ranges of an ACK below the first are written to the |room| entries of
+ * |gaps| as they are encoded, and |frame->ngaps| is how many were; if that isn't
+ * all, QUIC_WIRE_FLAG_MORE is set, and quic_wire_ack_ranges_init gives all.  For
+ * other frames |gaps| doesn't change.
  *
  * Returns:
  *  - where the frame ends, which is above 0
@@ -889,7 +899,7 @@ QUIC_WIRE_API int quic_wire_frame_header_write(const quic_wire_frame *frame,
  * Writes an ACK in its shortest form at the front of |dest|, as
  * quic_wire_frame_read tells one: |ack->ack| has the greatest number, the delay
  * and, where |ack->flags| is QUIC_WIRE_FLAG_ECN and not 0, the counts;
- * |ack->datalen| is the first range, less one, and the |ngaps| entries of
+ * |ack->first_range| is the first range, less one, and the |ngaps| entries of
  * |gaps| are the ranges below it.  Nothing else of |ack| is looked at but its
  * kind.
  *

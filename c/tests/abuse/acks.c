@@ -101,19 +101,18 @@ void front_ranges(const uint8_t *payload, size_t len,
   size_t k;
   *entry = *frame;
   entry->flags &= ~(uint32_t)QUIC_WIRE_FLAG_MORE;
-  entry->data = entry->end;
-  entry->datalen = 0;
+  entry->ngaps = 0;
   WANT(quic_wire_ack_ranges_init(&left, payload, len, frame) == 0);
   WANT(quic_wire_ack_ranges_next(&left, payload, len, &above) == 1);
-  WANT(above.end - above.start == frame->datalen + 1);
-  for (k = 0; k < frame->data; k++) {
+  WANT(above.end - above.start == frame->first_range + 1);
+  for (k = 0; k < frame->ngaps; k++) {
     WANT(quic_wire_ack_ranges_next(&left, payload, len, &range) == 1);
     WANT(above.start - range.end == gaps[k].gap + 1);
     WANT(range.end - range.start == gaps[k].len + 1);
     above = range;
   }
   WANT((left.left > 0) == (frame->flags >= QUIC_WIRE_FLAG_MORE));
-  WANT(frame->data == room || left.left == 0);
+  WANT(frame->ngaps == room || left.left == 0);
 }
 
 /* An ACK that was read, |len| bytes of |payload|, is written from its gaps in
@@ -127,10 +126,10 @@ void gaps_written(const uint8_t *payload, size_t len,
   size_t n = 0, room = sizeof out, k;
   int answer;
   memset(out, 0xa5, sizeof out);
-  below.datalen = (size_t)frame->ack.largest + 1;
-  WANT(quic_wire_ack_gaps_write(&below, gaps, frame->data, out, room, &n) ==
+  below.first_range = (size_t)frame->ack.largest + 1;
+  WANT(quic_wire_ack_gaps_write(&below, gaps, frame->ngaps, out, room, &n) ==
        INVALID);
-  answer = quic_wire_ack_gaps_write(frame, gaps, frame->data, out, room, &n);
+  answer = quic_wire_ack_gaps_write(frame, gaps, frame->ngaps, out, room, &n);
   if (frame->flags & QUIC_WIRE_FLAG_MORE) {
     WANT(answer == INVALID && n == 0);
   } else {
@@ -140,7 +139,7 @@ void gaps_written(const uint8_t *payload, size_t len,
     memset(out, 0xa5, n);
     room = any() % (canon.len + 1);
     n = 0;
-    answer = quic_wire_ack_gaps_write(frame, gaps, frame->data, out, room, &n);
+    answer = quic_wire_ack_gaps_write(frame, gaps, frame->ngaps, out, room, &n);
     WANT(n == canon.len &&
          answer == (room < n ? QUIC_WIRE_ERR_NOBUF : QUIC_WIRE_OK));
     if (answer == 0)

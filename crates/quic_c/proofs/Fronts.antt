@@ -1,10 +1,9 @@
 -- The head of an ACK.
 use Rattle.std.proofs.Common.{◌≡◌, ℕ, ◌+◌, ◌-◌, ◌≤◌, ◌<◌, ◌^◌, List, [], ◌∷◌, ◌++◌, length, drop, get_or, refl, sym, ap, subst, ◌∙◌, append_assoc, arith}
-use Rattle.std.specs.Prelude.{◌⊎◌, slice_range}
+use Rattle.std.specs.Prelude.{◌⊎◌}
 use Rattle.std.proofs.lemmas.List.{append-nil}
 use Rattle.quic_base.specs.Codec.{Takes}
 use Rattle.quic_base.specs.Varint.{Encodes}
-use Rattle.quic_frame_fields.specs.AckPlace.{BeginsWithAck}
 use Rattle.quic_frame_fields.specs.Field.{AreBlocks, NoNumber}
 use Rattle.quic_frame_fields.specs.FirstRange.{AreLeft}
 use Rattle.quic_frame_fields.specs.Numbers.{AreEncoded}
@@ -12,8 +11,7 @@ use Rattle.quic_frame_fields.specs.Reading.{varint_at}
 use Rattle.quic_frame_fields.proofs.Steps.{ok_is}
 use Rattle.quic_frame_fields.proofs.Varints.{varint_again}
 use Rattle.quic_c.specs.declared.words.CFrame.{CFrame}
-use Rattle.quic_c.specs.declared.words.CRangeIter.{CRangeIter}
-use Rattle.quic_c.specs.Ranges.{BeginsWithHead, GivesHead, HasLeft, frame_of_words}
+use Rattle.quic_c.specs.Ranges.{BeginsWithHead, GivesHead, frame_of_words}
 use Rattle.quic_c.proofs.Places.{rest_placed, part_goes_on}
 
 -- the numbers in front of a rest

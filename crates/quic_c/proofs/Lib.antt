@@ -1,4 +1,5 @@
 mod Unset
+mod Shown
 pub mod Places
 mod Shapes
 mod Meanings

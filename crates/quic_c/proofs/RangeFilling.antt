@@ -7,7 +7,7 @@ use Rattle.std.proofs.Math.ListN.{length-set}
 use Rattle.std.proofs.lemmas.Grind.{drop_more_same}
 use Rattle.quic_c.specs.declared.words.CRange.{CRange}
 use Rattle.quic_c.specs.declared.words.CRangeIter.{CRangeIter}
-use Rattle.quic_c.specs.Ranges.{CutRange, GivesRange, LacksRange, TakesRange}
+use Rattle.quic_c.specs.Ranges.{CutRange, GivesRange, TakesRange}
 use Rattle.quic_c.specs.Filling.{Shows, FillsRanges, StepsOver, HasNoRange}
 use Rattle.quic_c.proofs.Filling.{shows-append}
 use Rattle.quic_c.proofs.Places.{end_of_end}

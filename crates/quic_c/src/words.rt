@@ -28,9 +28,9 @@ pub struct CFrame {
     pub begin: usize,
     /// Where it ends.
     pub end: usize,
-    /// Where its data begin in the payload.
+    /// Where its data begin in the payload. Of an ACK: how many of its gaps were written.
     pub data_offset: usize,
-    /// How many bytes of data it has.
+    /// How many bytes of data it has. Of an ACK: its first range, less one.
     pub data_len: usize,
     /// Its numbers.
     pub numbers: [u64; 5],

@@ -213,8 +213,9 @@ fn ack_at_front(random: &mut Random, bytes: &[u8], reported: Frame, frame: Frame
     let count = all.len().min(room);
     assert!(gaps[..count] == all[..count] && gaps[count..].iter().all(|gap| *gap == NO_GAP));
     let flags = reported.flags | if count < all.len() { 4 } else { 0 };
-    let datalen = (ranges[0].end - ranges[0].start - 1) as usize;
-    assert_eq!(frame, Frame { flags, data: count, datalen, ..reported });
+    let first = (ranges[0].end - ranges[0].start - 1) as usize;
+    assert_eq!((reported.data, reported.datalen), (0, first));
+    assert_eq!(frame, Frame { flags, data: count, ..reported });
 
     let mut shortest = [0; 200];
     let len = crate::frame::Frame::Ack(ack).encode(false, &mut shortest).unwrap();

@@ -1,6 +1,5 @@
-use Rattle.std.proofs.Common.{inr, refl, arith, rules}
+use Rattle.std.proofs.Common.{arith}
 use Rattle.quic_c.proofs.Fronts.{head_given}
-use Rattle.std.proofs.lemmas.Grind.{common_steps}
 use Rattle.quic_c.proofs.acks.quic_wire_ack_ranges_init_.Goals as goal
 
 pub returns-clause-head : goal.returns-clause-head

@@ -1,4 +1,4 @@
-use Rattle.std.proofs.Common.{length, inr, refl, arith}
+use Rattle.std.proofs.Common.{inr, refl, arith}
 use Rattle.quic_c.proofs.RangeFilling.{none_of_left, ranges_go_on, ranges_end}
 use Rattle.quic_c.proofs.fill_ranges.fill_ranges.Goals as goal
 

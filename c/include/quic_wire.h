@@ -769,9 +769,9 @@ QUIC_WIRE_API int quic_wire_frames_first(quic_wire_frame_iter *frames,
  * after it are one frame.  |flags| are QUIC_WIRE_READ_...
  *
  * The ranges of an ACK below the first are written to the |room| entries of
- * |gaps| as they are encoded, and |frame->ngaps| is how many were; if that isn't
- * all, QUIC_WIRE_FLAG_MORE is set, and quic_wire_ack_ranges_init gives all.  For
- * other frames |gaps| doesn't change.
+ * |gaps| as they are encoded, and |frame->ngaps| is how many were.  If that
+ * isn't all, QUIC_WIRE_FLAG_MORE is set, and quic_wire_ack_ranges_init gives
+ * all.  For other frames |gaps| doesn't change.
  *
  * Returns:
  *  - where the frame ends, which is above 0

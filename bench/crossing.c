@@ -55,7 +55,7 @@ static uint8_t id[20], token[16], source[2048], dest[2048];
 static size_t id_len, gaps_len, source_len;
 static quic_wire_gap gaps[MANY];
 static const quic_wire_frame stream = {.kind = QUIC_WIRE_FRAME_STREAM, .datalen = 1000, .stream = {4, 70000}};
-static const quic_wire_frame ack = {.kind = QUIC_WIRE_FRAME_ACK, .datalen = 9, .ack = {1000, 25, 0, 0, 0}};
+static const quic_wire_frame ack = {.kind = QUIC_WIRE_FRAME_ACK, .first_range = 9, .ack = {1000, 25, 0, 0, 0}};
 
 static u64 none(u64 turn) { return turn; }
 

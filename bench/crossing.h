@@ -73,7 +73,7 @@ static u64 ranges_of(const uint8_t *payload, size_t len) {
     while (quic_wire_frames_next(&frames, payload, len, &frame) == QUIC_WIRE_ITEM) {
         quic_wire_range_iter at;
         quic_wire_range range;
-        if (frame.kind != QUIC_WIRE_FRAME_ACK || quic_wire_ack_ranges_init_unchecked(&at, payload, len, &frame))
+        if (frame.kind != QUIC_WIRE_FRAME_ACK || quic_wire_ack_ranges_init(&at, payload, len, &frame))
             continue;
         while (quic_wire_ack_ranges_next(&at, payload, len, &range) == QUIC_WIRE_ITEM) {
             sum += range.start ^ range.end;
@@ -90,9 +90,9 @@ static u64 many_ranges_of(const uint8_t *payload, size_t len, const quic_wire_fr
     quic_wire_range filled[MANY];
     size_t count;
     u64 sum = 0;
-    if (quic_wire_ack_ranges_init_unchecked(&ranges, payload, len, ack))
+    if (quic_wire_ack_ranges_init(&ranges, payload, len, ack))
         return 0;
-    while (ranges.begin < ranges.end &&
+    while (ranges.left != 0 &&
            quic_wire_ack_ranges_fill(&ranges, payload, len, filled, MANY, &count) == QUIC_WIRE_ITEM) {
         for (size_t k = 0; k < count; k++)
             sum += filled[k].start ^ filled[k].end;

@@ -28,8 +28,8 @@ static void frames(void) {
   FIELD(range, start);
   FIELD(range, end);
   STRUCT(range_iter);
-  FIELD(range_iter, begin);
-  FIELD(range_iter, end);
+  FIELD(range_iter, offset);
+  FIELD(range_iter, left);
   FIELD(range_iter, largest);
   STRUCT(canon);
   FIELD(canon, len);

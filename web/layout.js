@@ -12,7 +12,7 @@ export const LAYOUT = {
     },
   },
   range: { size: 16, fields: { start: [0, 8], end: [8, 8] } },
-  range_iter: { size: 24, fields: { begin: [0, 8], end: [8, 8], largest: [16, 8] } },
+  range_iter: { size: 24, fields: { offset: [0, 8], left: [8, 8], largest: [16, 8] } },
   canon: { size: 16, fields: { len: [0, 8], last_type: [8, 8] } },
   header: {
     size: 32,

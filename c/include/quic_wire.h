@@ -405,14 +405,25 @@ typedef struct quic_wire_frame {
   uint32_t flags; /* QUIC_WIRE_FLAG_FIN, QUIC_WIRE_FLAG_ECN */
   quic_wire_size begin;   /* where the frame begins in the payload, in bytes */
   quic_wire_size end;     /* where it ends */
-  quic_wire_size data;    /* where its data begins in the payload: that of
-                             CRYPTO, NEW_TOKEN, STREAM and DATAGRAM; the reason
-                             phrase of a close; the id of a NEW_CONNECTION_ID,
-                             which its token follows */
-  quic_wire_size datalen; /* how many bytes the data has, without that token */
 #ifdef QUIC_WIRE_PLAIN
+  quic_wire_size data, datalen; /* of an ACK ngaps and first_range */
   uint64_t numbers[5];
 #else
+  QUIC_WIRE_EXTENSION union {
+    quic_wire_size data;  /* where its data begins in the payload: that of
+                             CRYPTO, NEW_TOKEN, STREAM and DATAGRAM; the reason
+                             phrase of a close; the id of a NEW_CONNECTION_ID,
+                             which its token follows.  Of other kinds except ACK
+                             |end| */
+    quic_wire_size ngaps; /* ACK: how many gaps quic_wire_frame_read wrote; 0
+                             from other functions */
+  };
+  QUIC_WIRE_EXTENSION union {
+    quic_wire_size datalen;     /* how many bytes the data has, without that
+                                   token; of other kinds except ACK 0 */
+    quic_wire_size first_range; /* ACK: how many numbers its first range has,
+                                   less one: First ACK Range (19.3) */
+  };
   QUIC_WIRE_EXTENSION union {
     uint64_t numbers[5];
     quic_wire_ack ack;
@@ -442,10 +453,12 @@ typedef struct quic_wire_gap {
   uint64_t gap, len;
 } QUIC_WIRE_ALIGNED quic_wire_gap;
 
-/** How far the ranges of an ACK have been read. */
+/** How far the ranges of an ACK have been read.  Any other field values are
+ * harmless. */
 typedef struct quic_wire_range_iter {
-  quic_wire_size begin, end; /* the remaining bytes, in the payload */
-  uint64_t largest;          /* the greatest number of the next range */
+  quic_wire_size offset; /* where the next range begins in the payload */
+  uint64_t left;         /* how many ranges remain */
+  uint64_t largest;      /* the greatest number of the next range */
 } QUIC_WIRE_ALIGNED quic_wire_range_iter;
 
 /** The length of a payload's shortest form, or the type of an invalid frame. */
@@ -755,11 +768,10 @@ QUIC_WIRE_API int quic_wire_frames_first(quic_wire_frame_iter *frames,
  * Offsets in |frame| count from |payload|.  A PADDING frame and the zero bytes
  * after it are one frame.  |flags| are QUIC_WIRE_READ_...
  *
- * Of an ACK |frame->datalen| is its first range, less one, the ranges below it
- * are written to the |room| entries of |gaps| as they are encoded, and
- * |frame->data| is how many were; where that isn't all, QUIC_WIRE_FLAG_MORE is
- * set, and quic_wire_ack_ranges_init gives all.  For other frames |gaps|
- * doesn't change.
+ * The ranges of an ACK below the first are written to the |room| entries of
+ * |gaps| as they are encoded, and |frame->ngaps| is how many were.  If that
+ * isn't all, QUIC_WIRE_FLAG_MORE is set, and quic_wire_ack_ranges_init gives
+ * all.  For other frames |gaps| doesn't change.
  *
  * Returns:
  *  - where the frame ends, which is above 0
@@ -809,9 +821,13 @@ QUIC_WIRE_API uint64_t quic_wire_error_type(const quic_wire_frame *frame);
 /* ---- Reading the ranges of an ACK */
 
 /**
- * Begins at the greatest range of |frame|, an ACK that was read of this
- * payload.  Returns 0; QUIC_WIRE_ERR_PLACE where its bytes are no ACK;
- * QUIC_WIRE_ERR_ARGUMENT for NULL.
+ * Begins at the greatest range of |frame|, an ACK that was read from this
+ * payload.  |ranges->left| is then how many ranges it has.  Only the type, the
+ * largest number, the delay and the count of ranges are read: blocks that are
+ * invalid, which an ACK that was read doesn't have, are reported by the call
+ * that comes to them.  Returns 0; QUIC_WIRE_ERR_PLACE if no ACK begins at
+ * |frame->begin|; QUIC_WIRE_ERR_ARGUMENT for NULL.  |ranges| changes only with
+ * 0.
  */
 QUIC_WIRE_API int quic_wire_ack_ranges_init(quic_wire_range_iter *ranges,
                                             const uint8_t *payload,
@@ -819,20 +835,10 @@ QUIC_WIRE_API int quic_wire_ack_ranges_init(quic_wire_range_iter *ranges,
                                             const quic_wire_frame *frame);
 
 /**
- * The same without a second look at the blocks of an ACK without counts, for
- * a frame that was read of this payload.  Of other words it may return 0 too:
- * then the bytes up to |frame->end| are read as blocks, and the call that comes
- * to some that can be none refuses them.
- */
-QUIC_WIRE_API int
-quic_wire_ack_ranges_init_unchecked(quic_wire_range_iter *ranges,
-                                    const uint8_t *payload, size_t payloadlen,
-                                    const quic_wire_frame *frame);
-
-/**
  * Reads the next range, the greatest first.  Returns QUIC_WIRE_ITEM and the
- * range, 0 where none remains, QUIC_WIRE_ERR_PLACE where |ranges| has no place
- * of an ACK's blocks.
+ * range; 0 if |ranges->left| is 0; QUIC_WIRE_ERR_PLACE if the bytes at
+ * |ranges->offset| are no range of an ACK; QUIC_WIRE_ERR_ARGUMENT for NULL.
+ * Nothing changes except with QUIC_WIRE_ITEM.
  */
 QUIC_WIRE_API int quic_wire_ack_ranges_next(quic_wire_range_iter *ranges,
                                             const uint8_t *payload,
@@ -842,12 +848,11 @@ QUIC_WIRE_API int quic_wire_ack_ranges_next(quic_wire_range_iter *ranges,
 /**
  * Reads the next ranges, the greatest first, as many as the |room| entries of
  * |out| hold, with one call.  Returns QUIC_WIRE_ITEM, and in |*count| how many
- * entries were filled, one at least; 0 where no range remains;
- * QUIC_WIRE_ERR_NOBUF where |room| is 0; QUIC_WIRE_ERR_PLACE where
- * |ranges| has no place of an ACK's blocks.  Entries after those that were
- * filled don't change, and nothing changes but with QUIC_WIRE_ITEM.  Once
- * |ranges->begin| is |ranges->end| none remains, and no call is needed to learn
- * that.
+ * entries were filled, one at least; QUIC_WIRE_ERR_NOBUF if |room| is 0; else 0
+ * if |ranges->left| is 0, and QUIC_WIRE_ERR_PLACE if the bytes at
+ * |ranges->offset| are no range of an ACK; QUIC_WIRE_ERR_ARGUMENT for NULL.
+ * Ranges before an invalid one are given first.  Entries after those that were
+ * filled don't change, and nothing changes except with QUIC_WIRE_ITEM.
  */
 QUIC_WIRE_API int quic_wire_ack_ranges_fill(quic_wire_range_iter *ranges,
                                             const uint8_t *payload,
@@ -894,7 +899,7 @@ QUIC_WIRE_API int quic_wire_frame_header_write(const quic_wire_frame *frame,
  * Writes an ACK in its shortest form at the front of |dest|, as
  * quic_wire_frame_read tells one: |ack->ack| has the greatest number, the delay
  * and, where |ack->flags| is QUIC_WIRE_FLAG_ECN and not 0, the counts;
- * |ack->datalen| is the first range, less one, and the |ngaps| entries of
+ * |ack->first_range| is the first range, less one, and the |ngaps| entries of
  * |gaps| are the ranges below it.  Nothing else of |ack| is looked at but its
  * kind.
  *

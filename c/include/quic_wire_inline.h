@@ -28,9 +28,6 @@ int64_t quic_wire_frame_read_(const uint8_t *, size_t, uint32_t,
                               quic_wire_frame *, quic_wire_gap *, size_t);
 int32_t quic_wire_ack_ranges_init_(quic_wire_range_iter *, const uint8_t *,
                                    size_t, const quic_wire_frame *);
-int32_t quic_wire_ack_ranges_init_unchecked_(quic_wire_range_iter *,
-                                             const uint8_t *, size_t,
-                                             const quic_wire_frame *);
 int32_t quic_wire_ack_ranges_next_(quic_wire_range_iter *, const uint8_t *,
                                    size_t, quic_wire_range *);
 int32_t quic_wire_ack_ranges_fill_(quic_wire_range_iter *, const uint8_t *,
@@ -230,16 +227,6 @@ QUIC_WIRE_API int quic_wire_ack_ranges_init(quic_wire_range_iter *ranges,
   if (!ranges || !payload || !frame)
     return QUIC_WIRE_ERR_ARGUMENT;
   return quic_wire_ack_ranges_init_(ranges, payload, payloadlen, frame);
-}
-
-QUIC_WIRE_API int
-quic_wire_ack_ranges_init_unchecked(quic_wire_range_iter *ranges,
-                                    const uint8_t *payload, size_t payloadlen,
-                                    const quic_wire_frame *frame) {
-  if (!ranges || !payload || !frame)
-    return QUIC_WIRE_ERR_ARGUMENT;
-  return quic_wire_ack_ranges_init_unchecked_(ranges, payload, payloadlen,
-                                              frame);
 }
 
 QUIC_WIRE_API int quic_wire_ack_ranges_next(quic_wire_range_iter *ranges,

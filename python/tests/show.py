@@ -30,7 +30,7 @@ def invalid(error):
 def frame_lines(payload, strict):
     error = None
     try:
-        found = q.read_frames(payload, strict=strict)
+        found = q.read_frames(payload, checks=q.Checks.SHORT_TYPES if strict else q.Checks.QUINN)
     except q.FrameError as rejected:
         found, error = rejected.frames, rejected
     for frame in found:
@@ -66,18 +66,12 @@ def packet_line(packet):
 
 
 def is_rejected_by_quinn(packet):
-    """What quic-show rejects, as quinn-proto does, and the package reads (RFC 8999, section 6; RFC 9000, section
-    17.2.1).
-    """
-    if isinstance(packet, q.UnknownVersion) and max(len(packet.dcid), len(packet.scid)) <= 20:
-        if not packet.first & 0x40:
-            return "fixed bit unset"
-        return f"unsupported version {packet.version:x}"
-    if isinstance(packet, (q.UnknownVersion, q.VersionNegotiation)):
-        if not packet.first & 0x40:
-            return "fixed bit unset"
-        return "malformed cid" if max(len(packet.dcid), len(packet.scid)) > 20 else None
-    return None
+    """What quic-show rejects, as quinn-proto does, and the package reads (RFC 8999, section 6)."""
+    if not isinstance(packet, (q.UnknownVersion, q.VersionNegotiation)):
+        return None
+    if max(len(packet.dcid), len(packet.scid)) > 20:
+        return "malformed cid"
+    return f"unsupported version {packet.version:x}" if isinstance(packet, q.UnknownVersion) else None
 
 
 def datagram_lines(datagram, cid_len):

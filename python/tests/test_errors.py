@@ -73,6 +73,14 @@ class Errors(unittest.TestCase):
             ),
             ("04024001", q.Side.CLIENT, 0, "initial_max_data", "malformed", None),
             ("040101" + "05", q.Side.CLIENT, 3, "initial_max_stream_data_bidi_local", "malformed", "it is cut off"),
+            ("040101" + "0a", q.Side.CLIENT, 3, "ack_delay_exponent", "malformed", "it is cut off"),
+            ("040101" + "1bff", q.Side.CLIENT, 3, None, "malformed", "it is cut off"),
+            ("040101" + "40", q.Side.CLIENT, 3, None, "malformed", "it is cut off"),
+            ("0f00" + "0c0100", q.Side.SERVER, 2, "disable_active_migration", "malformed", None),
+            ("0f00" + "1000", q.Side.SERVER, 2, "retry_source_connection_id", "illegal value", None),
+            # min_ack_delay of 25,001 µs, and max_ack_delay of 25 ms after it.
+            ("c0000000ff04de1b04800061a9" + "0b0119", q.Side.CLIENT, 0, "min_ack_delay", "illegal value", None),
+            ("0e0101", q.Side.CLIENT, 0, "active_connection_id_limit", "illegal value", None),
         ]
         for digits, side, at, name, reason, why in rows:
             with self.subTest(digits):

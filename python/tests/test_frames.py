@@ -141,9 +141,9 @@ class Frames(unittest.TestCase):
         self.assertEqual(q.read_frames(b"\x40\x01"), [q.Ping()])
         for read in (q.read_frames, lambda payload, **how: list(q.frames(payload, **how))):
             with self.assertRaisesRegex(q.FrameError, "not in shortest form in PING at 0, Frame Type at 0"):
-                read(b"\x40\x01", strict=True)
+                read(b"\x40\x01", checks=q.Checks.SHORT_TYPES)
             with self.assertRaisesRegex(q.FrameError, "invalid frame ID in IMMEDIATE_ACK at 0"):
-                read(b"\x1f", ack_frequency=False)
+                read(b"\x1f", checks=q.Checks.NO_ACK_FREQUENCY)
             with self.assertRaises(TypeError):
                 read(b"\x01", other=True)
 

@@ -38,8 +38,7 @@ class Packets(unittest.TestCase):
         negotiation = q.write_version_negotiation(bytes(21), bytes(30), [q.Version.V1, q.Version.V2])
         packet = q.read_packet(negotiation, 0)
         self.assertEqual((packet.versions, len(packet.dcid), packet.version), ((1, 0x6B3343CF), 21, 0))
-        self.assertEqual(q.read_packet(b"\x80" + negotiation[1:], 0), q.read_packet(b"\x80" + negotiation[1:], 0))
-        unknown = q.read_packet(bytes.fromhex("8000000009") + b"\x01a\x00rest", 0)
+        unknown = q.read_packet(bytes.fromhex("c000000009") + b"\x01a\x00rest", 0)
         self.assertIsInstance(unknown, q.UnknownVersion)
         self.assertEqual((unknown.version, bytes(unknown.dcid), unknown.end), (9, b"a", 12))
 
@@ -55,8 +54,8 @@ class Packets(unittest.TestCase):
         header = q.write_header(q.PacketType.HANDSHAKE, CID, version=q.Version.V2, fixed_bit=False) + bytes(4)
         data = bytearray(header)
         q.set_length(data, len(data) - 8)
-        self.assertIsInstance(q.read_packet(data, 0, grease=True), q.Handshake)
-        self.assertIsInstance(q.read_packet(data, 0, versions=[1]), q.UnknownVersion)
+        self.assertIsInstance(q.read_packet(data, 0, checks=q.Checks.GREASED_BIT), q.Handshake)
+        self.assertIsInstance(q.read_packet(data, 0, versions=[1], checks=q.Checks.ANY_VERSION), q.UnknownVersion)
         with self.assertRaisesRegex(q.PacketError, "fixed bit unset"):
             q.read_packet(data, 0)
 

@@ -58,6 +58,10 @@ frame = st.one_of(
     st.builds(q.ApplicationClose, number, data),
     st.builds(q.AckFrequency, number, number, number, number),
 )
+checks = st.one_of(st.just(q.Checks.QUINN), st.just(q.Checks.RFC), st.integers(0, 0x3FF).map(q.Checks))
+value = st.one_of(st.builds(q.write_varint, number, st.sampled_from([0, 8])), st.binary(max_size=20))
+parameter = st.builds(q.write_parameter, st.sampled_from([*range(0x12), 0x1B, 0x20, 0x2AB2, 0xFF04DE1B]), value)
+parameter_list = st.one_of(st.binary(max_size=120), st.lists(parameter, max_size=4).map(b"".join))
 
 
 def merged(frames):
@@ -77,21 +81,22 @@ class Written(unittest.TestCase):
     def test_frames_are_read_as_they_were_written(self, frames):
         payload = q.write_frames(frames)
         self.assertEqual(q.read_frames(payload), merged(frames))
-        self.assertEqual(list(q.frames(payload, strict=True)), merged(frames))
+        self.assertEqual(list(q.frames(payload, checks=q.Checks.SHORT_TYPES)), merged(frames))
         self.assertEqual(q.canonical(payload), payload)
 
     @settings(max_examples=800, **PATIENT)
-    @given(st.binary(max_size=200))
-    def test_any_payload_is_read_or_rejected(self, payload):
+    @given(st.binary(max_size=200), checks)
+    def test_any_payload_is_read_or_rejected(self, payload, checks):
         try:
-            found = q.read_frames(payload)
+            found = q.read_frames(payload, checks=checks)
         except q.FrameError as error:
             self.assertEqual(error.frames[-1].end if error.frames else 0, error.offset)
             self.assertTrue(error.section and error.code)
             if payload:
                 self.assertTrue(error.offset <= error.field_offset <= len(payload))
-            with self.assertRaises(q.FrameError):
-                q.canonical(payload)
+            if not checks:
+                with self.assertRaises(q.FrameError):
+                    q.canonical(payload)
         else:
             self.assertEqual((found[0].begin, found[-1].end), (0, len(payload)))
             short = q.canonical(payload)
@@ -100,26 +105,31 @@ class Written(unittest.TestCase):
             self.assertEqual(q.write_frames(found), short)
 
     @settings(max_examples=800, **PATIENT)
-    @given(st.binary(max_size=120), st.integers(0, 20), st.booleans())
-    def test_any_datagram_is_read_or_rejected(self, datagram, cid_len, grease):
+    @given(st.binary(max_size=120), st.integers(0, 20), checks)
+    def test_any_datagram_is_read_or_rejected(self, datagram, cid_len, checks):
         try:
-            found = q.read_packets(datagram, cid_len, grease=grease)
+            found = q.read_packets(datagram, cid_len, checks=checks)
         except q.PacketError as error:
             found = error.packets
             self.assertTrue(error.section and error.offset == (found[-1].end if found else 0))
+            if datagram[error.offset :]:
+                self.assertTrue(error.offset <= error.field_offset <= len(datagram))
         end = 0
         for packet in found:
             self.assertEqual((packet.begin, len(packet.data)), (end, packet.end - packet.begin))
             end = packet.end
 
     @settings(max_examples=800, **PATIENT)
-    @given(st.binary(max_size=120), st.sampled_from(list(q.Side)))
-    def test_any_parameters_are_read_or_rejected(self, data, side):
+    @given(parameter_list, st.sampled_from(list(q.Side)), checks)
+    def test_any_parameters_are_read_or_rejected(self, data, side, checks):
         try:
-            read = q.TransportParameters.read(side, data)
+            read = q.TransportParameters.read(side, data, checks=checks)
         except q.ParameterError as error:
-            self.assertTrue(error.why or error.offset is None)
+            self.assertTrue(error.why and 0 <= error.offset < len(data))
             self.assertEqual(error.code, q.Code.TRANSPORT_PARAMETER_ERROR)
+            if error.value is not None:
+                entry = next(one for one in q.parameters(data) if one.begin == error.offset)
+                self.assertEqual((entry.id, entry.name, entry.value), (error.id, error.name, error.value))
         else:
             self.assertEqual(q.TransportParameters.read(side, read.write(q.Side(1 - side))), read)
 

@@ -10,7 +10,7 @@ from quic_wire.protection import Keys, Opened, open_packet
 
 def stream_bytes(payload: bytes) -> int:
     total = 0
-    for frame in q.frames(payload, strict=True):
+    for frame in q.frames(payload, checks=q.Checks.RFC & ~q.Checks.NO_ACK_FREQUENCY):
         match frame:
             case q.Stream(stream_id=_, data=data):
                 total += len(data)
@@ -20,12 +20,13 @@ def stream_bytes(payload: bytes) -> int:
 
 
 def opened(datagram: bytearray, keys: Keys) -> list[Opened]:
-    return [open_packet(packet, keys) for packet in q.packets(datagram, 8) if packet.number_at is not None]
+    packets = q.packets(datagram, 8, checks=q.Checks.GREASED_BIT | q.Checks.WHOLE_RETRY)
+    return [open_packet(packet, keys) for packet in packets if packet.number_at is not None]
 
 
 def limit(data: memoryview) -> Optional[int]:
     try:
-        read = q.TransportParameters.read(q.Side.SERVER, data)
+        read = q.TransportParameters.read(q.Side.SERVER, data, checks=q.Checks.RFC)
     except q.ParameterError as error:
         field: Optional[str] = error.field
         code: Optional[q.Code] = error.code

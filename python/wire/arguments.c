@@ -59,24 +59,31 @@ int wire_to_uint8(PyObject *value, void *out) {
   return 1;
 }
 
-int wire_flags(PyObject *const *args, Py_ssize_t nargs, PyObject *names,
-               const char *first, int *first_out, const char *second,
-               int *second_out) {
+int wire_to_checks(PyObject *value, void *out) {
+  uint64_t number;
+  if (wire_number(value, "checks", &number) < 0)
+    return 0;
+  if (number > UINT32_MAX) {
+    PyErr_SetString(PyExc_ValueError, "checks must be below 2^32");
+    return 0;
+  }
+  *(uint32_t *)out = (uint32_t)number;
+  return 1;
+}
+
+int wire_checks(PyObject *const *args, Py_ssize_t nargs, PyObject *names,
+                uint32_t *flags) {
   const Py_ssize_t count = names ? PyTuple_Size(names) : 0;
   Py_ssize_t i;
+  *flags = 0;
   for (i = 0; i < count; i++) {
     PyObject *name = PyTuple_GetItem(names, i);
-    const int is_set = PyObject_IsTrue(args[nargs + i]);
-    if (is_set < 0)
-      return -1;
-    if (PyUnicode_CompareWithASCIIString(name, first) == 0)
-      *first_out = is_set;
-    else if (second && PyUnicode_CompareWithASCIIString(name, second) == 0)
-      *second_out = is_set;
-    else {
+    if (PyUnicode_CompareWithASCIIString(name, "checks") != 0) {
       PyErr_Format(PyExc_TypeError, "no such keyword argument: %U", name);
       return -1;
     }
+    if (!wire_to_checks(args[nargs + i], flags))
+      return -1;
   }
   return 0;
 }

@@ -8,7 +8,7 @@
 typedef struct reader {
   uint32_t cid_len, versions[MOST_VERSIONS];
   size_t count;
-  int grease;
+  uint32_t flags;
 } reader;
 
 /* Versions 1 and 2, and the drafts that version 1 was, as the crate has them.
@@ -45,10 +45,8 @@ static int set_versions(reader *how, PyObject *versions) {
 /* The header of the packet that bytes begin with: QUIC_WIRE_OK or an error. */
 static int header_at(const reader *how, const uint8_t *bytes, size_t len,
                      quic_wire_header *h) {
-  const uint32_t flags = QUIC_WIRE_READ_ANY_VERSION |
-                         (how->grease ? QUIC_WIRE_READ_GREASED_BIT : 0);
   int64_t end = quic_wire_header_read(bytes, len, how->cid_len, how->versions,
-                                      how->count, flags, h);
+                                      how->count, how->flags, h);
   if (end == QUIC_WIRE_ERR_PACKET_CID &&
       quic_wire_negotiation_read(bytes, len, h) > 0)
     end = h->end;
@@ -56,7 +54,8 @@ static int header_at(const reader *how, const uint8_t *bytes, size_t len,
     h->end = (uint32_t)len;
     return QUIC_WIRE_OK;
   }
-  if (end <= QUIC_WIRE_ERR_PACKET_END && len && !how->grease &&
+  if (end <= QUIC_WIRE_ERR_PACKET_END && len &&
+      !(how->flags & QUIC_WIRE_READ_GREASED_BIT) &&
       !(bytes[0] & QUIC_WIRE_BIT_FIXED))
     return QUIC_WIRE_ERR_PACKET_FIXED_BIT;
   return end < 0 ? (int)end : QUIC_WIRE_OK;
@@ -116,12 +115,13 @@ static PyObject *read_from(wire_state *state, const reader *how,
 
 static PyObject *read_packets(PyObject *module, PyObject *args,
                               PyObject *keywords) {
-  static char *names[] = {"datagram", "cid_len", "versions", "grease", NULL};
+  static char *names[] = {"datagram", "cid_len", "versions", "checks", NULL};
   PyObject *datagram, *versions = Py_None;
   reader how = {0};
-  if (!PyArg_ParseTupleAndKeywords(args, keywords, "OO&|O$p:read_packets",
+  if (!PyArg_ParseTupleAndKeywords(args, keywords, "OO&|O$O&:read_packets",
                                    names, &datagram, wire_to_uint32,
-                                   &how.cid_len, &versions, &how.grease) ||
+                                   &how.cid_len, &versions, wire_to_checks,
+                                   &how.flags) ||
       set_versions(&how, versions) < 0)
     return NULL;
   return read_from(PyModule_GetState(module), &how, datagram, 0, 1);
@@ -130,13 +130,14 @@ static PyObject *read_packets(PyObject *module, PyObject *args,
 static PyObject *read_packet(PyObject *module, PyObject *args,
                              PyObject *keywords) {
   static char *names[] = {"datagram", "cid_len", "at",
-                          "versions", "grease",  NULL};
+                          "versions", "checks",  NULL};
   PyObject *datagram, *versions = Py_None;
   Py_ssize_t at = 0;
   reader how = {0};
-  if (!PyArg_ParseTupleAndKeywords(args, keywords, "OO&|nO$p:read_packet",
+  if (!PyArg_ParseTupleAndKeywords(args, keywords, "OO&|nO$O&:read_packet",
                                    names, &datagram, wire_to_uint32,
-                                   &how.cid_len, &at, &versions, &how.grease) ||
+                                   &how.cid_len, &at, &versions, wire_to_checks,
+                                   &how.flags) ||
       set_versions(&how, versions) < 0)
     return NULL;
   if (at < 0)
@@ -148,13 +149,12 @@ PyMethodDef wire_packet_functions[] = {
     {"read_packets", WIRE_FAST(read_packets), METH_VARARGS | METH_KEYWORDS,
      PyDoc_STR(
          "read_packets($module, datagram, cid_len, versions=None, *, "
-         "grease=False)\n--\n\nThe packets of a datagram as a list. Ids in "
+         "checks=0)\n--\n\nThe packets of a datagram as a list. Ids in "
          "short headers have cid_len bytes. Raises\nPacketError, with the "
-         "packets before in its attribute packets; grease takes a cleared\n"
-         "fixed bit (RFC 9287).")},
+         "packets before in its attribute packets.")},
     {"read_packet", WIRE_FAST(read_packet), METH_VARARGS | METH_KEYWORDS,
      PyDoc_STR(
          "read_packet($module, datagram, cid_len, at=0, versions=None, *, "
-         "grease=False)\n--\n\nThe packet that begins at a place of a "
+         "checks=0)\n--\n\nThe packet that begins at an offset of a "
          "datagram.")},
     {NULL, NULL, 0, NULL}};

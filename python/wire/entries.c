@@ -23,24 +23,6 @@ static PyObject *entry_at(PyObject *module, PyObject *args) {
                        at + (Py_ssize_t)param.value, at + (Py_ssize_t)end);
 }
 
-/* What reading a list gives, as a number. */
-static PyObject *read_result(PyObject *module, PyObject *args) {
-  PyObject *list;
-  uint32_t side;
-  wire_bytes bytes;
-  quic_wire_params params;
-  int result;
-  (void)module;
-  if (!PyArg_ParseTuple(args, "O&O:_read_result", wire_to_uint32, &side,
-                        &list) ||
-      wire_acquire(list, &bytes) < 0)
-    return NULL;
-  result = quic_wire_params_read(side, 0, bytes.at, bytes.len, &params,
-                                 sizeof params, NULL);
-  wire_release(&bytes);
-  return PyLong_FromLong(result);
-}
-
 static PyObject *write_entry(PyObject *module, PyObject *args) {
   PyObject *number, *value, *out = NULL;
   uint64_t id;
@@ -73,7 +55,6 @@ static PyObject *is_known(PyObject *module, PyObject *number) {
 
 PyMethodDef wire_parameter_functions[] = {
     {"_entry_at", entry_at, METH_VARARGS, NULL},
-    {"_read_result", read_result, METH_VARARGS, NULL},
     {"write_parameter", write_entry, METH_VARARGS,
      PyDoc_STR("write_parameter($module, id, value, /)\n--\n\nAn entry of a "
                "list of transport parameters.")},

@@ -50,8 +50,14 @@ PyObject *wire_packet_error(int result, PyObject *datagram, size_t begin,
                                 packet ? packet : Py_None));
 }
 
-PyObject *wire_parameter_error(int result, unsigned side, PyObject *list) {
+PyObject *wire_parameter_error(int result, uint32_t side, uint32_t flags,
+                               PyObject *list,
+                               const quic_wire_refusal *refusal) {
+  PyObject *id = refusal->id == QUIC_WIRE_NO_PARAM
+                     ? Py_NewRef(Py_None)
+                     : PyLong_FromUnsignedLongLong(refusal->id);
   return raise_by("_parameter_error",
-                  Py_BuildValue("(isIIO)", result, quic_wire_strerror(result),
-                                quic_wire_close_code(result), side, list));
+                  Py_BuildValue("(sIIIOnN)", quic_wire_strerror(result),
+                                quic_wire_close_code(result), side, flags, list,
+                                (Py_ssize_t)refusal->offset, id));
 }

@@ -31,22 +31,36 @@ PyObject *wire_add_type(PyObject *module, PyType_Spec *spec, PyObject *bases,
   return type;
 }
 
-/* Results that quic_wire.errors tells apart. */
-static int add_results(PyObject *module) {
+/* Results that quic_wire.errors distinguishes, and the flags of
+ * quic_wire.Checks. */
+static int add_constants(PyObject *module) {
   static const struct {
     const char *name;
-    int result;
-  } results[] = {{"PAYLOAD_EMPTY", QUIC_WIRE_ERR_PAYLOAD_EMPTY},
-                 {"FRAME_TYPE", QUIC_WIRE_ERR_FRAME_TYPE},
-                 {"FRAME_MALFORMED", QUIC_WIRE_ERR_FRAME_MALFORMED},
-                 {"FRAME_LONG_TYPE", QUIC_WIRE_ERR_FRAME_LONG_TYPE},
-                 {"PACKET_FIXED_BIT", QUIC_WIRE_ERR_PACKET_FIXED_BIT},
-                 {"PACKET_CID", QUIC_WIRE_ERR_PACKET_CID},
-                 {"PACKET_CUT", QUIC_WIRE_ERR_PACKET_CUT},
-                 {"PARAMS_MALFORMED", QUIC_WIRE_ERR_PARAMS_MALFORMED}};
+    int value;
+  } constants[] = {{"PAYLOAD_EMPTY", QUIC_WIRE_ERR_PAYLOAD_EMPTY},
+                   {"FRAME_TYPE", QUIC_WIRE_ERR_FRAME_TYPE},
+                   {"FRAME_MALFORMED", QUIC_WIRE_ERR_FRAME_MALFORMED},
+                   {"FRAME_LONG_TYPE", QUIC_WIRE_ERR_FRAME_LONG_TYPE},
+                   {"FRAME_LIMIT", QUIC_WIRE_ERR_FRAME_LIMIT},
+                   {"PACKET_FIXED_BIT", QUIC_WIRE_ERR_PACKET_FIXED_BIT},
+                   {"PACKET_CID", QUIC_WIRE_ERR_PACKET_CID},
+                   {"PACKET_CUT", QUIC_WIRE_ERR_PACKET_CUT},
+                   {"PACKET_RETRY", QUIC_WIRE_ERR_PACKET_RETRY},
+                   {"READ_SHORT_TYPES", QUIC_WIRE_READ_SHORT_TYPES},
+                   {"READ_DATA_LIMIT", QUIC_WIRE_READ_DATA_LIMIT},
+                   {"READ_STREAM_LIMIT", QUIC_WIRE_READ_STREAM_LIMIT},
+                   {"READ_NO_ACK_FREQUENCY", QUIC_WIRE_READ_NO_ACK_FREQUENCY},
+                   {"READ_TOKENS", QUIC_WIRE_READ_TOKENS},
+                   {"READ_GREASED_BIT", QUIC_WIRE_READ_GREASED_BIT},
+                   {"READ_ANY_VERSION", QUIC_WIRE_READ_ANY_VERSION},
+                   {"READ_WHOLE_RETRY", QUIC_WIRE_READ_WHOLE_RETRY},
+                   {"READ_ANY_WIDTH", QUIC_WIRE_READ_ANY_WIDTH},
+                   {"READ_NO_REPEATS", QUIC_WIRE_READ_NO_REPEATS},
+                   {"READ_RFC", QUIC_WIRE_READ_RFC}};
   size_t i;
-  for (i = 0; i < sizeof results / sizeof *results; i++)
-    if (PyModule_AddIntConstant(module, results[i].name, results[i].result) < 0)
+  for (i = 0; i < sizeof constants / sizeof *constants; i++)
+    if (PyModule_AddIntConstant(module, constants[i].name, constants[i].value) <
+        0)
       return -1;
   return 0;
 }
@@ -58,7 +72,7 @@ static int exec(PyObject *module) {
                     quic_wire_strerror(QUIC_WIRE_ERR_LIBRARY));
     return -1;
   }
-  if (add_results(module) < 0 ||
+  if (add_constants(module) < 0 ||
       PyModule_AddFunctions(module, wire_read_functions) < 0 ||
       PyModule_AddFunctions(module, wire_packet_functions) < 0 ||
       PyModule_AddFunctions(module, wire_number_functions) < 0 ||

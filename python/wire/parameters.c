@@ -349,22 +349,27 @@ static Py_hash_t parameters_hash(PyObject *self) {
 
 /* ---- Lists read and written */
 
-static PyObject *parameters_read(PyObject *type, PyObject *args) {
+static PyObject *parameters_read(PyObject *type, PyObject *args,
+                                 PyObject *keywords) {
+  static char *names[] = {"", "", "checks", NULL};
   PyObject *list;
-  uint32_t side;
+  uint32_t side, flags = 0;
   wire_bytes bytes;
   parameters_object *o;
+  quic_wire_refusal refusal;
   int result;
-  if (!PyArg_ParseTuple(args, "O&O:read", wire_to_uint32, &side, &list) ||
+  if (!PyArg_ParseTupleAndKeywords(args, keywords, "O&O|$O&:read", names,
+                                   wire_to_uint32, &side, &list, wire_to_checks,
+                                   &flags) ||
       wire_acquire(list, &bytes) < 0)
     return NULL;
   o = allocate((PyTypeObject *)type);
   if (o) {
-    result = quic_wire_params_read(side, 0, bytes.at, bytes.len, &o->p,
-                                   sizeof o->p, NULL);
+    result = quic_wire_params_read(side, flags, bytes.at, bytes.len, &o->p,
+                                   sizeof o->p, &refusal);
     if (result < 0) {
       if (result <= QUIC_WIRE_ERR_PARAMS_MALFORMED)
-        wire_parameter_error(result, side, list);
+        wire_parameter_error(result, side, flags, list, &refusal);
       else
         wire_mistake(result);
       Py_CLEAR(o);
@@ -411,10 +416,11 @@ static PyObject *parameters_write(PyObject *self, PyObject *args) {
 }
 
 static PyMethodDef parameters_methods[] = {
-    {"read", parameters_read, METH_VARARGS | METH_CLASS,
-     PyDoc_STR(
-         "read($type, side, data, /)\n--\n\nThe parameters in a list that "
-         "the peer of a side sent. Raises ParameterError.")},
+    {"read", WIRE_FAST(parameters_read),
+     METH_VARARGS | METH_KEYWORDS | METH_CLASS,
+     PyDoc_STR("read($type, side, data, /, *, checks=0)\n--\n\nThe parameters "
+               "in a list that the peer of a side sent. Raises "
+               "ParameterError.")},
     {"_write", parameters_write, METH_VARARGS, NULL},
     {"as_dict", parameters_as_dict, METH_NOARGS,
      PyDoc_STR("as_dict($self, /)\n--\n\nAll parameters by name.")},

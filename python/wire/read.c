@@ -103,20 +103,14 @@ int wire_add_iterator(PyObject *module, wire_state *state) {
   return state->iterator ? 0 : -1;
 }
 
-/* The one argument of these functions, and their options as flags. */
+/* The one argument of these functions, and what they check. */
 static int options(PyObject *const *args, Py_ssize_t nargs, PyObject *names,
                    uint32_t *flags) {
-  int strict = 0, frequency = 1;
   if (nargs != 1) {
     PyErr_SetString(PyExc_TypeError, "one payload is expected");
     return -1;
   }
-  if (names && wire_flags(args, nargs, names, "strict", &strict,
-                          "ack_frequency", &frequency) < 0)
-    return -1;
-  *flags = (strict ? QUIC_WIRE_READ_SHORT_TYPES : 0) |
-           (frequency ? 0 : QUIC_WIRE_READ_NO_ACK_FREQUENCY);
-  return 0;
+  return wire_checks(args, nargs, names, flags);
 }
 
 static PyObject *frames(PyObject *module, PyObject *const *args,
@@ -248,20 +242,14 @@ static PyObject *type_name(PyObject *module, PyObject *number) {
 PyMethodDef wire_read_functions[] = {
     {"frames", WIRE_FAST(frames), METH_FASTCALL | METH_KEYWORDS,
      PyDoc_STR(
-         "frames($module, payload, /, *, strict=False, ack_frequency=True)\n"
-         "--\n\nThe frames of a payload, each read when it is asked for. "
-         "PADDING "
+         "frames($module, payload, /, *, checks=0)\n--\n\n"
+         "The frames of a payload, each read when it is asked for. PADDING "
          "frames that follow\neach other are one. Raises FrameError if there "
-         "is "
-         "no frame, and where one is invalid.\n\nstrict rejects a type that "
-         "isn't in its shortest encoding (RFC 9000, section 12.4);\n"
-         "ack_frequency=False doesn't know the frames of the ACK frequency "
-         "extension.")},
+         "is no frame, and where one is invalid\nor breaks a rule of checks.")},
     {"read_frames", WIRE_FAST(read_frames), METH_FASTCALL | METH_KEYWORDS,
-     PyDoc_STR("read_frames($module, payload, /, *, strict=False, "
-               "ack_frequency=True)\n--\n\nThe frames of a payload as a list. "
-               "Raises FrameError, with the frames before an\ninvalid one in "
-               "its attribute frames.")},
+     PyDoc_STR("read_frames($module, payload, /, *, checks=0)\n--\n\n"
+               "The frames of a payload as a list. Raises FrameError, with the "
+               "frames before an\ninvalid one in its attribute frames.")},
     {"canonical", canonical, METH_O,
      PyDoc_STR("canonical($module, payload, /)\n--\n\nThe one shortest payload "
                "with the same frames in the same order. Raises FrameError.")},

@@ -62,14 +62,15 @@ PyObject *wire_front(PyObject *bytes, size_t len);
 int wire_number(PyObject *value, const char *name, uint64_t *out);
 /* A number below 2^62. */
 int wire_varint(PyObject *value, const char *name, uint64_t *out);
-/* For "O&" of PyArg_ParseTuple: a number below 2^32, a byte. */
+/* For "O&" of PyArg_ParseTuple: a number below 2^32, a byte, the argument
+ * `checks` as flags of readers. */
 int wire_to_uint32(PyObject *value, void *out);
 int wire_to_uint8(PyObject *value, void *out);
-/* Up to two arguments by their names, True or False, after the positional ones
- * of a METH_FASTCALL | METH_KEYWORDS function: -1 with an exception. */
-int wire_flags(PyObject *const *args, Py_ssize_t nargs, PyObject *names,
-               const char *first, int *first_out, const char *second,
-               int *second_out);
+int wire_to_checks(PyObject *value, void *out);
+/* The same, if it is there: the only argument by its name, after the positional
+ * ones of a METH_FASTCALL | METH_KEYWORDS function.  -1 with an exception. */
+int wire_checks(PyObject *const *args, Py_ssize_t nargs, PyObject *names,
+                uint32_t *flags);
 /* The ranges of an iterable of `range` or of pairs, as a set: free it with
  * PyMem_Free.  NULL with an exception. */
 quic_wire_range *wire_ranges(PyObject *ranges, size_t *count);
@@ -85,7 +86,10 @@ PyObject *wire_frame_error(int result, PyObject *payload, size_t begin,
 /* |packet| is what was read of a packet that is cut off, or NULL. */
 PyObject *wire_packet_error(int result, PyObject *datagram, size_t begin,
                             size_t cid_len, PyObject *before, PyObject *packet);
-PyObject *wire_parameter_error(int result, unsigned side, PyObject *list);
+/* |flags| are those that the list was read with. */
+PyObject *wire_parameter_error(int result, uint32_t side, uint32_t flags,
+                               PyObject *list,
+                               const quic_wire_refusal *refusal);
 /* A function of quic_wire.errors or another module, with its arguments, which
  * it takes; what it returns. */
 PyObject *wire_call(const char *module, const char *function, PyObject *args);

@@ -27,9 +27,9 @@ SENTENCES = {
     "every_payload": ("ExactlyOne (IsReadingOf strict bytes)", "a payload has exactly one reading (`Reading`)"),
     "every_datagram": ("ExactlyOne (CutAnswer options bytes)", (
         "a datagram has exactly one answer: its first packet (`Cut`), or an error (`Uncut`)")),
-    "every_list": ("ExactlyOne (IsReadAnswer side bytes)", (
-        "a list of transport parameters has exactly one answer for a side: a record (`IsMeant`, `IsValid`), or an"
-        " error (`IsBadList`)")),
+    "every_list": ("ExactlyOne (IsReadAnswer options side bytes)", (
+        "a list of transport parameters has exactly one answer for a side in each way of reading (`ReadOptions`): a"
+        " record (`IsMeant`, `IsValid`), or an error (`IsBadList`)")),
     "one_shortest": ("ExactlyOne (λ least. IsLeast least payload)", (
         "a payload without an error has exactly one shortest payload of the same frames (`IsLeast`), and no other"
         " payload has one")),
@@ -37,8 +37,8 @@ SENTENCES = {
     "headers_again": ("HeaderAt options", "a written header is read as itself"),
     "packets_again": ("BeginsSealed opening bytes contents rest", (
         "a packet that was sealed with lawful keys is opened to what was sealed")),
-    "parameters_again": ("IsReadAnswer side (written params) (Ok (plain params))", (
-        "written parameters are read as they were, in any order, without grease")),
+    "parameters_again": ("IsReadAnswer options side (written params) (Ok (plain params))", (
+        "written parameters are read as they were, in each way of reading, in any order, without grease")),
     "lasting": ("IsReadingOf strict (bytes ++ more) (followed_by found rest)", (
         "bytes that follow change no frame except one without a length, and no error except an unexpected end")),
 }
@@ -108,10 +108,8 @@ def laws():
         "IsBroken strict before found bytes type reason"))
     stated(LEAST, "IsLeast", "no_other", "(other : List ℕ) → IsSame other payload → AreOrExceed other least")
     stated(SAME, "IsSameValue", "(Ranges some) (Ranges others)", "(n : ℕ) → is_in some n ≡ is_in others n")
-    stated(MEANING, "IsReadAnswerWith", "options side bytes (Ok params)", (
-        "IsMeantWith options params bytes × IsValid side params"))
-    stated(MEANING, "IsReadAnswer", "side bytes answer", "IsReadAnswerWith as_quinn side bytes answer")
-    stated(MEANING, "IsMeant", "params bytes", "IsMeantWith as_quinn params bytes")
+    stated(MEANING, "IsReadAnswer", "options side bytes (Ok params)", (
+        "IsMeant options params bytes × IsValid side params"))
     yield ""
     yield (
         f"All of them in {LAWS}, for all bytes. `ExactlyOne` (crates/{ONE}.antt): there is such a value, and every"

@@ -131,8 +131,7 @@ def page():
     stated(ENTRY, "AreEntries", "(last ∷ earlier) bytes", (
         "Follows (AreEntries earlier) (IsEntry last.number last.bytes) bytes"))
     stated(ENTRY, "IsRepeat", "options id before", (
-        "(once_read options (row_of id).once ≡ true) × IsGiven id before"))
-    stated(OPTIONS, "once_read", "options once", "options.no_repeats || once")
+        "((options.no_repeats || (row_of id).once) ≡ true) × IsGiven id before"))
     stated(OPTIONS, "kind_read", "options kind", "cond options.any_width (in_any_width kind) kind")
     stated(OPTIONS, "in_any_width", "(K.Integer default)", "K.Varint")
     stated(OPTIONS, "as_quinn", "", "reading false false")

@@ -19,8 +19,8 @@ static int ack_of(ngtcp2_ack *dest, const quic_wire_frame *f) {
   dest->ecn.ect0 = f->ack.ect0;
   dest->ecn.ect1 = f->ack.ect1;
   dest->ecn.ce = f->ack.ce;
-  dest->first_ack_range = f->datalen;
-  dest->rangecnt = f->data;
+  dest->first_ack_range = f->first_range;
+  dest->rangecnt = f->ngaps;
   return 0;
 }
 
@@ -385,7 +385,7 @@ ngtcp2_ssize ngtcp2_pkt_encode_ack_frame(uint8_t *out, size_t outlen,
 
   f.kind = QUIC_WIRE_FRAME_ACK;
   f.flags = fr->type == NGTCP2_FRAME_ACK_ECN ? QUIC_WIRE_FLAG_ECN : 0;
-  f.datalen = fr->first_ack_range;
+  f.first_range = fr->first_ack_range;
   f.ack.largest = (uint64_t)fr->largest_ack;
   f.ack.delay = fr->ack_delay;
   f.ack.ect0 = fr->ecn.ect0;

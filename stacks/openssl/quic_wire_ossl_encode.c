@@ -88,7 +88,7 @@ static quic_wire_frame ack_fields(uint32_t ack_delay_exponent,
 
     frame.ack.largest = ack->ack_ranges[0].end;
     frame.ack.delay = ossl_time2ticks(delay);
-    frame.datalen = ack->ack_ranges[0].end - ack->ack_ranges[0].start;
+    frame.first_range = ack->ack_ranges[0].end - ack->ack_ranges[0].start;
     if (ack->ecn_present) {
         frame.flags = QUIC_WIRE_FLAG_ECN;
         frame.ack.ect0 = ack->ect0;

@@ -106,13 +106,13 @@ static void set_ack_ranges(OSSL_QUIC_FRAME_ACK *ack,
     OSSL_QUIC_ACK_RANGE *ranges = ack->ack_ranges;
     size_t i;
 
-    if (frame->data + 1 < ack->num_ack_ranges)
-        ack->num_ack_ranges = frame->data + 1;
+    if (frame->ngaps + 1 < ack->num_ack_ranges)
+        ack->num_ack_ranges = frame->ngaps + 1;
     if (ack->num_ack_ranges == 0)
         return;
 
     ranges[0].end = frame->ack.largest;
-    ranges[0].start = frame->ack.largest - frame->datalen;
+    ranges[0].start = frame->ack.largest - frame->first_range;
     for (i = 1; i < ack->num_ack_ranges; ++i) {
         const quic_wire_gap *gap = (const quic_wire_gap *)&ranges[i];
         QUIC_PN end = ranges[i - 1].start - gap->gap - 2;

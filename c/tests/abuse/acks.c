@@ -13,10 +13,6 @@ static void ranges_nulls(void) {
   WANT(quic_wire_ack_ranges_init(NULL, &byte, 1, &frame) == INVALID);
   WANT(quic_wire_ack_ranges_init(&ranges, NULL, 1, &frame) == INVALID);
   WANT(quic_wire_ack_ranges_init(&ranges, &byte, 1, NULL) == INVALID);
-  WANT(quic_wire_ack_ranges_init_unchecked(NULL, &byte, 1, &frame) == INVALID);
-  WANT(quic_wire_ack_ranges_init_unchecked(&ranges, NULL, 1, &frame) ==
-       INVALID);
-  WANT(quic_wire_ack_ranges_init_unchecked(&ranges, &byte, 1, NULL) == INVALID);
   WANT(quic_wire_ack_ranges_next(NULL, &byte, 1, &range) == INVALID);
   WANT(quic_wire_ack_ranges_next(&ranges, NULL, 1, &range) == INVALID);
   WANT(quic_wire_ack_ranges_next(&ranges, &byte, 1, NULL) == INVALID);
@@ -48,8 +44,8 @@ void ranges_rubbish(const uint8_t *payload, size_t len,
   quic_wire_range_iter ranges;
   quic_wire_range range;
   size_t k;
-  ranges.begin = place();
-  ranges.end = place();
+  ranges.offset = place();
+  ranges.left = any() % 2 ? any() % 50 : edge();
   ranges.largest = edge();
   for (k = 0;
        k < 50 && quic_wire_ack_ranges_next(&ranges, payload, len, &range) == 1;
@@ -58,10 +54,9 @@ void ranges_rubbish(const uint8_t *payload, size_t len,
   WANT(k < 50);
   frame->begin = place();
   frame->end = place();
-  quic_wire_ack_ranges_init(&ranges, payload, len, frame);
-  if (quic_wire_ack_ranges_init_unchecked(&ranges, payload, len, frame) == 0)
-    WANT(frame->begin <= ranges.begin && ranges.begin <= ranges.end &&
-         ranges.end <= frame->end && frame->end <= len);
+  if (quic_wire_ack_ranges_init(&ranges, payload, len, frame) == 0)
+    WANT(frame->begin < ranges.offset && ranges.offset <= frame->end &&
+         frame->end <= len && ranges.left > 0);
 }
 
 /* The ranges of any field values, many with one call, are those of single
@@ -71,8 +66,8 @@ void fill_ranges_rubbish(const uint8_t *payload, size_t len) {
   quic_wire_range range, filled[6], before[6];
   size_t room = 1 + any() % 5, count, k, calls;
   int answer = 0;
-  one.begin = place();
-  one.end = place();
+  one.offset = place();
+  one.left = any() % 2 ? any() % 50 : edge();
   one.largest = edge();
   many = one;
   memset(before, 0xa5, sizeof before);
@@ -106,19 +101,18 @@ void front_ranges(const uint8_t *payload, size_t len,
   size_t k;
   *entry = *frame;
   entry->flags &= ~(uint32_t)QUIC_WIRE_FLAG_MORE;
-  entry->data = entry->end;
-  entry->datalen = 0;
+  entry->ngaps = 0;
   WANT(quic_wire_ack_ranges_init(&left, payload, len, frame) == 0);
   WANT(quic_wire_ack_ranges_next(&left, payload, len, &above) == 1);
-  WANT(above.end - above.start == frame->datalen + 1);
-  for (k = 0; k < frame->data; k++) {
+  WANT(above.end - above.start == frame->first_range + 1);
+  for (k = 0; k < frame->ngaps; k++) {
     WANT(quic_wire_ack_ranges_next(&left, payload, len, &range) == 1);
     WANT(above.start - range.end == gaps[k].gap + 1);
     WANT(range.end - range.start == gaps[k].len + 1);
     above = range;
   }
-  WANT((left.begin < left.end) == (frame->flags >= QUIC_WIRE_FLAG_MORE));
-  WANT(frame->data == room || left.begin == left.end);
+  WANT((left.left > 0) == (frame->flags >= QUIC_WIRE_FLAG_MORE));
+  WANT(frame->ngaps == room || left.left == 0);
 }
 
 /* An ACK that was read, |len| bytes of |payload|, is written from its gaps in
@@ -132,10 +126,10 @@ void gaps_written(const uint8_t *payload, size_t len,
   size_t n = 0, room = sizeof out, k;
   int answer;
   memset(out, 0xa5, sizeof out);
-  below.datalen = (size_t)frame->ack.largest + 1;
-  WANT(quic_wire_ack_gaps_write(&below, gaps, frame->data, out, room, &n) ==
+  below.first_range = (size_t)frame->ack.largest + 1;
+  WANT(quic_wire_ack_gaps_write(&below, gaps, frame->ngaps, out, room, &n) ==
        INVALID);
-  answer = quic_wire_ack_gaps_write(frame, gaps, frame->data, out, room, &n);
+  answer = quic_wire_ack_gaps_write(frame, gaps, frame->ngaps, out, room, &n);
   if (frame->flags & QUIC_WIRE_FLAG_MORE) {
     WANT(answer == INVALID && n == 0);
   } else {
@@ -145,7 +139,7 @@ void gaps_written(const uint8_t *payload, size_t len,
     memset(out, 0xa5, n);
     room = any() % (canon.len + 1);
     n = 0;
-    answer = quic_wire_ack_gaps_write(frame, gaps, frame->data, out, room, &n);
+    answer = quic_wire_ack_gaps_write(frame, gaps, frame->ngaps, out, room, &n);
     WANT(n == canon.len &&
          answer == (room < n ? QUIC_WIRE_ERR_NOBUF : QUIC_WIRE_OK));
     if (answer == 0)

@@ -18,19 +18,21 @@ void canonical_nulls(void) {
 static void same_frame(const uint8_t *a, size_t alen, const quic_wire_frame *x,
                        const uint8_t *b, size_t blen,
                        const quic_wire_frame *y) {
-  quic_wire_range_iter some, others, unchecked;
+  quic_wire_range_iter some, others;
   quic_wire_range one, other;
   WANT(x->kind == y->kind && x->flags == y->flags && x->datalen == y->datalen);
   WANT(!memcmp(x->numbers, y->numbers, sizeof x->numbers));
-  WANT(!x->datalen || !memcmp(a + x->data, b + y->data, x->datalen));
+  if (x->kind == QUIC_WIRE_FRAME_ACK)
+    WANT(x->ngaps == 0 && y->ngaps == 0);
+  else
+    WANT(!x->datalen || !memcmp(a + x->data, b + y->data, x->datalen));
   if (x->kind == QUIC_WIRE_FRAME_NEW_CONNECTION_ID)
     WANT(!memcmp(a + x->data + x->datalen, b + y->data + y->datalen, 16));
   if (x->kind != QUIC_WIRE_FRAME_ACK)
     return;
   WANT(quic_wire_ack_ranges_init(&some, a, alen, x) == 0);
   WANT(quic_wire_ack_ranges_init(&others, b, blen, y) == 0);
-  WANT(quic_wire_ack_ranges_init_unchecked(&unchecked, b, blen, y) == 0);
-  WANT(!memcmp(&others, &unchecked, sizeof others));
+  WANT(some.left == others.left && some.largest == others.largest);
   while (quic_wire_ack_ranges_next(&some, a, alen, &one) == 1) {
     WANT(quic_wire_ack_ranges_next(&others, b, blen, &other) == 1);
     WANT(one.start == other.start && one.end == other.end);

@@ -145,8 +145,11 @@ static void read_on_rubbish(const uint8_t *payload, size_t len,
       break;
     WANT(frame->begin < frame->end && frame->end <= len);
     WANT(refused_by(flags, frame) == 0);
-    WANT(frame->data <= frame->end &&
-         frame->datalen <= frame->end - frame->data);
+    if (frame->kind == QUIC_WIRE_FRAME_ACK)
+      WANT(frame->ngaps == 0 && frame->first_range <= frame->ack.largest);
+    else
+      WANT(frame->data <= frame->end &&
+           frame->datalen <= frame->end - frame->data);
     WANT(quic_wire_varint_read(payload + frame->begin, len - frame->begin,
                                &type) &&
          frame->type == type && type == frames.last_type);

@@ -28,14 +28,15 @@ static void front_is_next(const uint8_t *payload, size_t len, size_t at,
   count = 0;
   if (frame->kind == QUIC_WIRE_FRAME_ACK) {
     front_ranges(payload + at, len - at, frame, gaps, room, &entry);
-    count = frame->data;
+    count = frame->ngaps;
     gaps_written(payload + at, n, frame, gaps);
   }
   WANT(count <= room &&
        !memcmp(gaps + count, before + count, (3 - count) * sizeof *gaps));
   entry.begin += at;
   entry.end += at;
-  entry.data += at;
+  if (entry.kind != QUIC_WIRE_FRAME_ACK)
+    entry.data += at;
   WANT(!memcmp(&entry, &want, sizeof entry));
 }
 

@@ -13,7 +13,7 @@ use Rattle.quic_packets.specs.declared.opening.Opened.{Opened}
 use Rattle.quic_bench.specs.Outgoing.{Carries, IsFoundAgain}
 use Rattle.quic_bench.specs.declared.two_packets.Outgoing.{Outgoing}
 
--- where some bytes follow a packet, they are given
+-- if some bytes follow a packet, they are returned
 pub some_left : (back : List ℕ) (left : Option Filled) → IsRest left back → 0 < length back → left ≡ None → ⊥
 some_left back left is some none =
     let empty : back ≡ [] = subst (λ (o : Option Filled). IsRest o back) none is in absurd (omega (arith, ap length empty))
@@ -24,7 +24,7 @@ pub left_is : (back : List ℕ) (left : Option Filled) (rest : Filled) → IsRes
 left_is back left rest is some =
     let given = subst (λ (o : Option Filled). IsRest o back) some is in given.0 ∙ sym (append-nil back)
 
--- a packet that was sealed has some bytes, where what is cut of them has
+-- a packet that was sealed has some bytes, if what is cut from them has
 pub some_bytes : (back cut : List ℕ) → back ++ [] ≡ cut ++ [] → 0 < length cut → 0 < length back
 some_bytes back cut same some =
     subst (λ (xs : List ℕ). 0 < length xs) (sym (sym (append-nil back) ∙ same ∙ append-nil cut)) some

@@ -73,7 +73,7 @@ sealed_same keys h n frames one other packets payloads before before' start a b 
     let packet : a.0 ≡ b.0 = packets second.payload a.0 b.0 (subst P payload first.sealed) second.sealed in
     a.2 ∙ ap (λ x. x ++ a.0) start ∙ ap (λ x. before' ++ x) packet ∙ sym b.2
 
--- where there are some, there are not none
+-- if there are some, there are not none
 pub are_some : (frames : List Frame) → 0 < length frames → map meaning_of frames ≢ []
 are_some [] some = absurd (omega (arith, some))
 are_some (frame ∷ frames) some = λ none. cc
@@ -85,7 +85,7 @@ bytes_same : (bytes : List ℕ) → pointwise nat_eq bytes bytes ≡ true
 bytes_same [] = refl
 bytes_same (b ∷ bytes) = rw (same_number b, bytes_same bytes) refl
 
--- `==` answers true of equal bytes
+-- `==` returns true for equal bytes
 pub reported_same : (some others x y : List ℕ) → x ≡ some → y ≡ others → some ≡ others → pointwise nat_eq x y ≡ true
 reported_same some others x y is is' same =
     ap (λ (z : List ℕ). pointwise nat_eq z y) (is ∙ same ∙ sym is') ∙ bytes_same y

@@ -5,7 +5,7 @@ use Rattle.std.specs.Prelude.{ℕ, ◌+◌, ◌-◌, ◌%◌, List, [], ◌∷�
 abbrev pub add_byte : ℕ → ℕ → ℕ
 add_byte low x = (x + low) % 256
 
--- what gives that back
+-- what undoes that
 abbrev pub take_byte : ℕ → ℕ → ℕ
 take_byte low x = (x + (256 - low)) % 256
 
@@ -14,7 +14,7 @@ abbrev pub add_sealed : ℕ → List ℕ → List ℕ → List ℕ
 add_sealed number header payload = map (add_byte (number % 256)) payload ++ (length header % 256)
     ∷ (length payload % 256) ∷ []
 
--- the bytes before the last two, where these are the counts
+-- the bytes before the last two, if these are the counts
 abbrev pub add_opened : ℕ → List ℕ → List ℕ → Option (List ℕ)
 add_opened number header sealed =
     let at = length sealed - 2 in

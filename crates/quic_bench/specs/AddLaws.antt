@@ -1,5 +1,5 @@
 -- The laws of the key that adds one byte to each byte. Proofs are here because an implementation proves its trait's
--- laws from definitions alone.
+-- laws only from definitions.
 use Rattle.std.specs.Prelude.{◌≡◌, ℕ, ◌+◌, ◌-◌, ◌%◌, ◌<◌, true, List, [], ◌∷◌, ◌++◌, length, map, take, nat_le, nat_eq, ◌&&◌, Some, None, refl}
 use Rattle.std.proofs.Common.{cond, suc, sym, ap, ◌∙◌, arith, length-append, get_or}
 use Rattle.std.proofs.Math.Seq.{take-append_seam}

@@ -8,14 +8,14 @@ use Rattle.quic_header_decode.specs.Refusal.{Refusal}
 use Rattle.quic_text.specs.Lines.{lines_of, without_return}
 use Rattle.quic_text.specs.Printed.{Printed, line_bytes}
 
--- where all that was given since is one line that encodes these bytes, these lines were printed
+-- if all that was read since is one line that encodes these bytes, these lines were printed
 abbrev pub Prints : List ℕ → List Printed → List ℕ → List ℕ → List ℕ → List ℕ → Type 0
 Prints bytes lines given given' taken taken' =
     (input line : List ℕ) → given' ≡ given ++ input → lines_of input ≡ line ∷ []
     → decode_of (without_return line) ≡ Ok bytes
     → taken' ≡ taken ++ flat_map line_bytes lines
 
--- the datagram is these packets, up to its end or to this refusal, and no others
+-- the datagram is these packets, up to its end or to this error, and no others
 pub record IsOneRow (context : DecodeOptions) (bytes : List ℕ) (packets : List PlacedPacket)
     (refusal : Option Refusal) : Type 0 where
   pub are : ArePackets context 0 bytes packets refusal

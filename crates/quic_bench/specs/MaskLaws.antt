@@ -1,5 +1,5 @@
 -- The laws of the key that XORs one byte of the packet with its first byte and its number. Proofs are here because an
--- implementation proves its trait's laws from definitions alone.
+-- implementation proves its trait's laws only from definitions.
 use Rattle.std.specs.Prelude.{◌≡◌, ℕ, ◌+◌, ◌/◌, ◌%◌, ◌<◌, ◌≤◌, Bool, true, false, List, length, nat_lt, bit_xor, refl, ◌⊎◌}
 use Rattle.std.proofs.Common.{zero, suc, get_or, set, sym, ap, ◌∙◌, arith, length-set, inl, inr, subst}
 use Rattle.std.proofs.lemmas.List.{get_or-set_other, get_or-set_same}
@@ -61,7 +61,7 @@ mask_in at (suc count) s bytes i from below room =
           ∙ ap (λ x. bit_xor x s) (get_or-set_other bytes at i (bit_xor (get_or bytes at 0) s) 0 other)
     ]
 
--- new is old with first in place of its first byte, and so many bytes from a place on XORed with s
+-- new is old with first instead of its first byte, and so many bytes from an offset on XORed with s
 record Masked (at count s head : ℕ) (old new : List ℕ) : Type 0 where
   len : length new ≡ length old
   first : get_or new 0 0 ≡ head
@@ -94,7 +94,7 @@ first_before at count s first old from room =
       outside = λ i pos out. mask_out at count s mid i out ∙ get_or-set_other old 0 i first 0 (omega arith);
     }
 
--- masking twice, with the first byte put back, gives the packet back
+-- masking twice, with the first byte put back, restores the packet
 masked_twice : (at count s x : ℕ) (old mid new : List ℕ) → 0 < at → Masked at count s x old mid
     → Masked at count s (get_or old 0 0) mid new → new ≡ old
 masked_twice at count s x old mid new from there back = same_number_lists new old (back.len ∙ there.len) (λ i lt.
@@ -131,7 +131,7 @@ masked_header at count s old new from bytes fits m = record {
   after = λ i past. m.outside i (omega arith) (inr past);
 }
 
--- where fewer bytes change than may
+-- if fewer bytes change than may
 wider : (at few many : ℕ) (old new : List ℕ) → few ≤ many → ChangesHeader at few old new → ChangesHeader at many old new
 wider at few many old new le c = record
     { len = c.len; bytes = c.bytes; first = c.first; before = c.before; after = λ i past. c.after i (omega arith) }

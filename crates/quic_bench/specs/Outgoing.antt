@@ -24,7 +24,7 @@ pub record CanBeSealed (packet : Outgoing) : Type 0 where
   pub some : 0 < length packet.frames.now
   pub follow : CanFollow packet.frames.now
 
--- A packet that is found again where these bytes follow it: its header is read back, and its number is found by the one
+-- A packet that is found again if these bytes follow it: its header is read back, and its number is found by the one
 -- that is expected in its space.
 pub record IsFoundAgain (opening : Opening) (packet : Outgoing) (rest : List ℕ) : Type 0 where
   pub head : IsReadBack opening.options packet.header.now rest
@@ -46,7 +46,7 @@ pub record Carries (opened : Opened) (packet : Outgoing) : Type 0 where
   pub number : opened.number ≡ Some packet.number
   pub payload : IsPayload packet.frames.now opened.payload.items
 
--- why a packet isn't sealed, where there is so much room
+-- why a packet isn't sealed, if there is so much room
 abbrev pub IsRefusedPacket : (SpaceId → KeyPair) → Outgoing → SealError → Type 0
 IsRefusedPacket keys packet e = (spare : ℕ)
     × SealRefused (keys (space_in packet.header.now)) packet.header.now (payload_of packet.frames.now) spare e

@@ -1,11 +1,11 @@
--- What the parsers of ids of this crate take. Proofs are here because an implementation proves its trait's laws from
--- definitions alone.
+-- What the parsers of ids of this crate accept. Proofs are here because an implementation proves its trait's laws from
+-- definitions only.
 use Rattle.std.specs.Prelude.{◌≡◌, ◌≢◌, ℕ, ◌+◌, ◌≤◌, List, [], ◌∷◌, length, take, Result, Ok, Err, MatchResult, nat_lt, ◌==◌, ◌||◌, if◌then◌else◌, codes}
 use Rattle.std.proofs.Common.{cond, Bool, true, false, arith, refl}
 use Rattle.std.proofs.lemmas.Bool.Decides.{nat_tests}
 use Rattle.quic_header_decode.specs.Refusal.{Refusal, Invalid, NoMemory}
 
--- an answer takes no more bytes than there are, and is never want of memory
+-- a result is of no more bytes than there are, and is never that memory ran out
 abbrev pub IsLawfulParser : List ℕ → Result (List ℕ × ℕ) Refusal → Type 0
 IsLawfulParser bytes answer = MatchResult answer (λ x. x.1 ≤ length bytes) (λ e. e ≢ NoMemory)
 

@@ -1,5 +1,5 @@
 -- The law of a key that adds no tag. Its proof is here because an implementation proves its trait's laws from
--- definitions alone.
+-- definitions only.
 use Rattle.std.specs.Prelude.{◌≡◌, ℕ, ◌+◌, List, length}
 use Rattle.std.proofs.Common.{arith}
 

@@ -5,8 +5,8 @@ ghost use Rattle.quic_bench.specs.MaskLaws.{mask_protects, mask_unprotects, mask
 
 use quic_packets::crypto::HeaderKey;
 
-/// A header key whose sample is one byte, four bytes after the number's place. Each byte of the number is combined with
-/// it by exclusive or, and the first byte with its low bits: four in long headers, five in short ones.
+/// A header key whose sample is one byte, four bytes after the offset of the number. Each byte of the number is
+/// combined with it by exclusive or, and the first byte with its low bits: four in long headers, five in short ones.
 #[derive(Clone, Copy, Debug)]
 pub struct MaskKey;
 

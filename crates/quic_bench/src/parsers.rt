@@ -70,7 +70,7 @@ impl ConnectionIdParser for SelfSized {
     }
 }
 
-/// Always answers that memory ran out.
+/// Always returns that memory ran out.
 #[derive(Clone, Copy, Debug)]
 pub struct WithoutMemory;
 

@@ -10,6 +10,7 @@ ghost use Rattle.quic_frames.specs.Placed as frames;
 ghost use Rattle.quic_header_decode.specs.Datagram.{PlacedPacket, ArePackets};
 ghost use Rattle.quic_header_decode.specs.Refusal.{Refusal};
 ghost use Rattle.quic_params.specs.Meaning.{IsReadAnswer};
+ghost use Rattle.quic_params.specs.Options.{as_quinn};
 ghost use Rattle.quic_params.specs.declared.error.Error.{Error};
 ghost use Rattle.quic_params.specs.declared.record.TransportParameters.{TransportParameters};
 ghost use Rattle.quic_text.specs.DatagramText.{with_ids_of, packet_line, refusal_lines};
@@ -61,7 +62,7 @@ pub fn frames_printed<R: Source, W: Sink>(
     run(alloc, Mode::Frames, source, sink)
 }
 
-/// The same where types must be in their shortest encodings.
+/// The same if types must be in their shortest encodings.
 pub fn strict_printed<R: Source, W: Sink>(
     alloc: Global,
     source: &mut R,
@@ -90,7 +91,7 @@ pub fn least_printed<R: Source, W: Sink>(
     run(alloc, Mode::Canon, source, sink)
 }
 
-/// Of a list of parameters the lines of its one answer are printed.
+/// Of a list of parameters the lines of its record or of its error are printed.
 pub fn parameters_printed<R: Source, W: Sink>(
     alloc: Global,
     side: Side,
@@ -98,7 +99,7 @@ pub fn parameters_printed<R: Source, W: Sink>(
     sink: &mut W,
 ) -> Result<bool, RunError>
     ensures { OnOk result ((list : List ℕ) (answer : Result TransportParameters Error)
-        → AreBytes list → IsReadAnswer side list answer
+        → AreBytes list → IsReadAnswer as_quinn side list answer
         → Prints list (answer_lines answer)
         (R.given source.old) (R.given source.new) (W.taken sink.old) (W.taken sink.new)) }
 {

@@ -18,7 +18,7 @@ use quic_packets::packet::{
 use quic_packets::pairs::{OpeningKeys, PairsOfKeys};
 use std::alloc::Global;
 
-/// Seals a packet twice, and answers whether both times give the same bytes: they do.
+/// Seals a packet twice, and returns whether both times make the same bytes: they do.
 pub fn sealed_alike<H: HeaderKey, P: PacketKey>(
     alloc: Global,
     packet: &Outgoing<'_, '_>,
@@ -37,7 +37,7 @@ pub fn sealed_alike<H: HeaderKey, P: PacketKey>(
     Ok(one.as_slice() == other.as_slice())
 }
 
-/// Seals a packet, and opens the datagram of it alone: exactly that packet is appended. Errors are those of
+/// Seals a packet, and opens the datagram that has only this one: exactly that packet is appended. Errors are those of
 /// `sealed_and_opened`.
 pub fn datagram_opened<C: ConnectionIdParser, H: HeaderKey, P: PacketKey>(
     alloc: Global,

@@ -1,31 +1,33 @@
--- An ACK without counts up to its blocks.
-use Rattle.std.proofs.Common.{◌≡◌, ℕ, ◌-◌, ◌≤◌, ◌<◌, ◌^◌, List, [], ◌∷◌, ◌++◌, length, get_or, refl, sym, ap, subst, ◌∙◌, append_assoc, arith}
-use Rattle.std.specs.Prelude.{slice_range}
+-- The head of an ACK.
+use Rattle.std.proofs.Common.{◌≡◌, ℕ, ◌+◌, ◌-◌, ◌≤◌, ◌<◌, ◌^◌, List, [], ◌∷◌, ◌++◌, length, drop, get_or, refl, sym, ap, subst, ◌∙◌, append_assoc, arith}
+use Rattle.std.specs.Prelude.{◌⊎◌}
 use Rattle.std.proofs.lemmas.List.{append-nil}
 use Rattle.quic_base.specs.Codec.{Takes}
 use Rattle.quic_base.specs.Varint.{Encodes}
-use Rattle.quic_frame_fields.specs.AckPlace.{BeginsWithAck}
-use Rattle.quic_frame_fields.specs.Field.{NoNumber}
+use Rattle.quic_frame_fields.specs.Field.{AreBlocks, NoNumber}
+use Rattle.quic_frame_fields.specs.FirstRange.{AreLeft}
 use Rattle.quic_frame_fields.specs.Numbers.{AreEncoded}
 use Rattle.quic_frame_fields.specs.Reading.{varint_at}
 use Rattle.quic_frame_fields.proofs.Steps.{ok_is}
 use Rattle.quic_frame_fields.proofs.Varints.{varint_again}
 use Rattle.quic_c.specs.declared.words.CFrame.{CFrame}
-use Rattle.quic_c.specs.Answers.{BeginsAsAck, GivesFront, GivesPlace, frame_of_words}
-use Rattle.quic_c.proofs.Places.{at_place, place_given, blocks_placed}
+use Rattle.quic_c.specs.Ranges.{BeginsWithHead, GivesHead, frame_of_words}
+use Rattle.quic_c.proofs.Places.{rest_placed, part_goes_on}
 
 -- the numbers in front of a rest
-pub front_read : (bytes a b c d : List ℕ) (type largest delay count : ℕ) → type ≡ 2 → Takes (Encodes type) bytes a
-    → Takes (Encodes largest) a b → Takes (Encodes delay) b c → Takes (Encodes count) c d → BeginsAsAck bytes largest d
-front_read bytes a b c d type largest delay count is one two three four =
+pub head_read : (bytes a b c d : List ℕ) (type largest delay count : ℕ) → (type ≡ 2) ⊎ (type ≡ 3)
+    → Takes (Encodes type) bytes a → Takes (Encodes largest) a b → Takes (Encodes delay) b c
+    → Takes (Encodes count) c d → BeginsWithHead bytes largest count d
+head_read bytes a b c d type largest delay count is one two three four =
     let third : b ≡ (three.front ++ four.front) ++ d =
     three.split ∙ ap (λ (l : List ℕ). three.front ++ l) four.split ∙ sym (append_assoc three.front four.front d) in
     let second : a ≡ (two.front ++ (three.front ++ four.front)) ++ d =
     two.split ∙ ap (λ (l : List ℕ). two.front ++ l) third
     ∙ sym (append_assoc two.front (three.front ++ four.front) d) in
     record {
+      type = type;
+      is_ack = is;
       delay = delay;
-      count = count;
       header = one.front ++ (two.front ++ (three.front ++ four.front));
       parts = one.split ∙ ap (λ (l : List ℕ). one.front ++ l) second
           ∙ sym (append_assoc one.front (two.front ++ (three.front ++ four.front)) d);
@@ -33,7 +35,7 @@ front_read bytes a b c d type largest delay count is one two three four =
         one.front,
         two.front ++ (three.front ++ four.front),
         refl,
-        subst (λ (n : ℕ). Encodes n one.front) is one.is,
+        one.is,
         (
           two.front,
           three.front ++ four.front,
@@ -86,80 +88,90 @@ same_numbers (n ∷ ns) (m ∷ ms) front header left rest len s t e =
     let others = same_numbers ns ms s.1 one.header left rest (omega (arith, len)) s.4 one.numbers one.parts in
     (ap (λ (k : ℕ). k ∷ ns) one.same ∙ ap (λ (l : List ℕ). m ∷ l) others.0, others.1)
 
--- in an ACK that has nothing after its blocks they are all that follows the count
-whole_ack : (bytes : List ℕ) (largest : ℕ) (rest : List ℕ) (greatest : ℕ) (others : List ℕ)
-    → BeginsAsAck bytes largest rest → BeginsWithAck bytes greatest others [] → BeginsWithAck bytes largest rest []
-whole_ack bytes largest rest greatest others front ack =
-    let same =
-    same_numbers (2 ∷ largest ∷ front.delay ∷ front.count ∷ [])
-    (ack.type ∷ greatest ∷ ack.delay ∷ (length ack.ranges - 1) ∷ []) front.header ack.header rest (others ++ []) refl
-    front.numbers ack.numbers (sym front.parts ∙ ack.parts) in
-    let number : largest ≡ greatest = ap (λ (ns : List ℕ). get_or ns 1 0) same.0 in
-    let blocks : rest ≡ others = same.1 ∙ append-nil others in
-    subst (λ (l : List ℕ). BeginsWithAck bytes largest l []) (sym blocks)
-    (subst (λ (n : ℕ). BeginsWithAck bytes n others []) (sym number) ack)
-
--- ---- where a number is cut off, there is no front
+-- ---- where a number is cut off, there is no head
 
 stops : (m : ℕ) (ns bytes header left : List ℕ) → AreEncoded (m ∷ ns) header → bytes ≡ header ++ left
     → NoNumber bytes → ⊥
 stops m ns bytes header left s whole none =
     none m s.0 (s.1 ++ left) (whole ∙ ap (λ (l : List ℕ). l ++ left) s.2 ∙ append_assoc s.0 s.1 left) s.3
 
--- The bytes don't begin as an ACK without counts.
-abbrev NoFrontOfAck : List ℕ → Type 0
-NoFrontOfAck bytes = (largest : ℕ) (rest : List ℕ) → BeginsAsAck bytes largest rest → ⊥
+-- The bytes don't begin as an ACK.
+abbrev NoHead : List ℕ → Type 0
+NoHead bytes = (largest count : ℕ) (rest : List ℕ) → BeginsWithHead bytes largest count rest → ⊥
 
-pub lacks_type : (bytes : List ℕ) → NoNumber bytes → NoFrontOfAck bytes
-lacks_type bytes cut largest rest b =
-    stops 2 (largest ∷ b.delay ∷ b.count ∷ []) bytes b.header rest b.numbers b.parts cut
+pub lacks_type : (bytes : List ℕ) → NoNumber bytes → NoHead bytes
+lacks_type bytes cut largest count rest h =
+    stops h.type (largest ∷ h.delay ∷ count ∷ []) bytes h.header rest h.numbers h.parts cut
 
-pub has_type : (bytes a : List ℕ) (type : ℕ) → Takes (Encodes type) bytes a → (type ≡ 2 → ⊥) → NoFrontOfAck bytes
-has_type bytes a type one other largest rest b =
-    other (goes type 2 (largest ∷ b.delay ∷ b.count ∷ []) bytes a b.header rest b.numbers b.parts one).same
+pub has_type : (bytes a : List ℕ) (type : ℕ) → Takes (Encodes type) bytes a → ((type ≡ 2) ⊎ (type ≡ 3) → ⊥)
+    → NoHead bytes
+has_type bytes a type one other largest count rest h =
+    let g = goes type h.type (largest ∷ h.delay ∷ count ∷ []) bytes a h.header rest h.numbers h.parts one in
+    other (subst (λ (n : ℕ). (n ≡ 2) ⊎ (n ≡ 3)) (sym g.same) h.is_ack)
 
-pub lacks_largest : (bytes a : List ℕ) (type : ℕ) → Takes (Encodes type) bytes a → NoNumber a → NoFrontOfAck bytes
-lacks_largest bytes a type one cut largest rest b =
-    let g = goes type 2 (largest ∷ b.delay ∷ b.count ∷ []) bytes a b.header rest b.numbers b.parts one in
-    stops largest (b.delay ∷ b.count ∷ []) a g.header rest g.numbers g.parts cut
+pub lacks_largest : (bytes a : List ℕ) (type : ℕ) → Takes (Encodes type) bytes a → NoNumber a → NoHead bytes
+lacks_largest bytes a type one cut largest count rest h =
+    let g = goes type h.type (largest ∷ h.delay ∷ count ∷ []) bytes a h.header rest h.numbers h.parts one in
+    stops largest (h.delay ∷ count ∷ []) a g.header rest g.numbers g.parts cut
 
 pub lacks_delay : (bytes a b : List ℕ) (type n : ℕ) → Takes (Encodes type) bytes a → Takes (Encodes n) a b
-    → NoNumber b → NoFrontOfAck bytes
-lacks_delay bytes a b type n one two cut largest rest ack =
-    let g = goes type 2 (largest ∷ ack.delay ∷ ack.count ∷ []) bytes a ack.header rest ack.numbers ack.parts one in
-    let h = goes n largest (ack.delay ∷ ack.count ∷ []) a b g.header rest g.numbers g.parts two in
-    stops ack.delay (ack.count ∷ []) b h.header rest h.numbers h.parts cut
+    → NoNumber b → NoHead bytes
+lacks_delay bytes a b type n one two cut largest count rest h =
+    let g = goes type h.type (largest ∷ h.delay ∷ count ∷ []) bytes a h.header rest h.numbers h.parts one in
+    let i = goes n largest (h.delay ∷ count ∷ []) a b g.header rest g.numbers g.parts two in
+    stops h.delay (count ∷ []) b i.header rest i.numbers i.parts cut
 
 pub lacks_count : (bytes a b c : List ℕ) (type n delay : ℕ) → Takes (Encodes type) bytes a → Takes (Encodes n) a b
-    → Takes (Encodes delay) b c → NoNumber c → NoFrontOfAck bytes
-lacks_count bytes a b c type n delay one two three cut largest rest ack =
-    let g = goes type 2 (largest ∷ ack.delay ∷ ack.count ∷ []) bytes a ack.header rest ack.numbers ack.parts one in
-    let h = goes n largest (ack.delay ∷ ack.count ∷ []) a b g.header rest g.numbers g.parts two in
-    let i = goes delay ack.delay (ack.count ∷ []) b c h.header rest h.numbers h.parts three in
-    stops ack.count [] c i.header rest i.numbers i.parts cut
+    → Takes (Encodes delay) b c → NoNumber c → NoHead bytes
+lacks_count bytes a b c type n delay one two three cut largest count rest h =
+    let g = goes type h.type (largest ∷ h.delay ∷ count ∷ []) bytes a h.header rest h.numbers h.parts one in
+    let i = goes n largest (h.delay ∷ count ∷ []) a b g.header rest g.numbers g.parts two in
+    let j = goes delay h.delay (count ∷ []) b c i.header rest i.numbers i.parts three in
+    stops count [] c j.header rest j.numbers j.parts cut
 
--- the facts about the words of an ACK whose blocks end where it ends
-pub front_given : (payload : List ℕ) (frame : CFrame) (largest : ℕ) (blocks : List ℕ) → frame.begin ≤ frame.end
-    → frame.end ≤ length payload → BeginsAsAck (frame_of_words frame payload) largest blocks → largest < 2 ^ 62
-    → GivesFront frame payload (at_place (frame.end - length blocks) frame.end largest)
-front_given payload frame largest blocks ordered within front small =
-    let parts_are : frame_of_words frame payload ≡ front.header ++ (blocks ++ []) =
-    front.parts ∙ ap (λ (l : List ℕ). front.header ++ l) (sym (append-nil blocks)) in
-    let s = blocks_placed payload frame.begin frame.end front.header blocks [] ordered within parts_are in
+-- blocks are those of a range at least
+all_left : (greatest : ℕ) (ranges : List (ℕ × ℕ)) (blocks : List ℕ) → AreBlocks greatest ranges blocks
+    → (0 < length ranges) × AreLeft greatest ranges blocks
+all_left greatest [] blocks s = absurd s
+all_left greatest (range ∷ ranges) blocks s = (omega arith, s)
+
+-- the facts about the iterator behind the head of a frame
+pub head_given : (payload : List ℕ) (frame : CFrame) (largest count : ℕ) (rest : List ℕ) → frame.begin ≤ frame.end
+    → frame.end ≤ length payload → BeginsWithHead (frame_of_words frame payload) largest count rest → largest < 2 ^ 62
+    → GivesHead frame payload (record { offset = frame.end - length rest; left = count + 1; largest = largest })
+head_given payload frame largest count rest ordered within head small =
+    let s = rest_placed payload frame.begin frame.end head.header rest ordered within head.parts in
     let sum = s.0 in
-    let no_more : frame.end - length {A = ℕ} [] ≡ frame.end = omega arith in
-    let are : slice_range payload (frame.end - length blocks) frame.end ≡ blocks =
-    subst (λ (n : ℕ). slice_range payload (n - length blocks) n ≡ blocks) no_more s.1 in
+    let offset : ℕ = frame.end - length rest in
+    let goes_on = part_goes_on payload offset frame.end (omega arith) in
+    let here : drop offset payload ≡ rest ++ drop (frame.end - offset) (drop offset payload) =
+    goes_on ∙ ap (λ (l : List ℕ). l ++ drop (frame.end - offset) (drop offset payload)) s.1 in
     record {
       ordered = ordered;
       ends = within;
-      front = rw are front;
-      stop = refl;
-      within = record { ordered = omega arith; ends = within };
       begins = omega arith;
+      within = omega arith;
       small = small;
-      ack = λ greatest others ack. subst
-          (λ (n : ℕ). GivesPlace frame payload (at_place (n - length blocks) n largest)) no_more
-          (place_given payload frame largest blocks [] ordered within
-          (whole_ack (frame_of_words frame payload) largest blocks greatest others front ack) small);
+      count = count;
+      left = refl;
+      head = rw s.1 head;
+      ack = λ greatest blocks behind ack.
+          let same =
+          same_numbers (head.type ∷ largest ∷ head.delay ∷ count ∷ [])
+          (ack.type ∷ greatest ∷ ack.delay ∷ (length ack.ranges - 1) ∷ []) head.header ack.header rest
+          (blocks ++ behind) refl head.numbers ack.numbers (sym head.parts ∙ ack.parts) in
+          let number : largest ≡ greatest = ap (λ (ns : List ℕ). get_or ns 1 0) same.0 in
+          let counted : count ≡ length ack.ranges - 1 = ap (λ (ns : List ℕ). get_or ns 3 0) same.0 in
+          let all = all_left greatest ack.ranges blocks ack.encoded in
+          let some = all.0 in
+          record {
+            count = omega arith;
+            within = omega arith;
+            small = small;
+            blocks = blocks;
+            behind = behind ++ drop (frame.end - offset) (drop offset payload);
+            parts = here ∙ ap (λ (l : List ℕ). l ++ drop (frame.end - offset) (drop offset payload)) same.1
+                ∙ append_assoc blocks behind (drop (frame.end - offset) (drop offset payload));
+            encoded = subst (λ (n : ℕ). AreLeft n ack.ranges blocks) (sym number) all.1;
+          };
     }

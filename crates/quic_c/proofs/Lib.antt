@@ -1,9 +1,11 @@
 mod Unset
+mod Shown
 pub mod Places
 mod Shapes
 mod Meanings
 mod Filling
 mod Fronts
+mod RangeSteps
 mod RangeFilling
 mod GapFilling
 mod AckGaps

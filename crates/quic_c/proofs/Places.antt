@@ -1,13 +1,7 @@
 -- Places in a payload.
-use Rattle.std.proofs.Common.{◌≡◌, ℕ, ◌+◌, ◌-◌, ◌≤◌, ◌<◌, ◌^◌, List, ◌++◌, length, take, drop, refl, sym, ap, ◌∙◌, arith}
-use Rattle.std.proofs.lemmas.List.{length-take-le, length-drop, length-append, drop-take, drop-drop, drop_at, take-take, take_at}
+use Rattle.std.proofs.Common.{◌≡◌, ℕ, ◌+◌, ◌-◌, ◌≤◌, List, ◌++◌, length, take, drop, refl, sym, ap, ◌∙◌, arith}
+use Rattle.std.proofs.lemmas.List.{length-take-le, length-drop, length-append, drop-take, drop-drop, drop_at, take-append-drop, take_all}
 use Rattle.std.specs.Prelude.{slice_range}
-use Rattle.quic_frame_fields.specs.FirstRange.{BeginsWithRange, SplitsRanges}
-use Rattle.quic_c.specs.declared.words.CRange.{CRange}
-use Rattle.quic_c.specs.declared.words.CRangeIter.{CRangeIter}
-use Rattle.quic_c.specs.declared.words.CFrame.{CFrame}
-use Rattle.quic_c.specs.Answers.{GivesRange, GivesPlace, frame_of_words}
-use Rattle.quic_frame_fields.specs.AckPlace.{BeginsWithAck}
 
 pub length-part : (bytes : List ℕ) (start stop : ℕ) → stop ≤ length bytes
     → length (slice_range bytes start stop) ≡ stop - start
@@ -23,78 +17,38 @@ part_of_part bytes start stop k le =
     ap (λ (i : ℕ). drop k (take i (drop start bytes))) n ∙ drop-take k (stop - (start + k)) (drop start bytes)
     ∙ ap (take (stop - (start + k))) (drop-drop k start bytes)
 
-abbrev pub at_place : ℕ → ℕ → ℕ → CRangeIter
-at_place begin end largest = record { begin = begin; end = end; largest = largest }
+-- a part up to the end
+pub to_end : (bytes : List ℕ) (start : ℕ) → slice_range bytes start (length bytes) ≡ drop start bytes
+to_end bytes start = take_all (length bytes - start) (drop start bytes) (simp length-drop (omega arith))
 
-abbrev pub range_words : ℕ → ℕ → CRange
-range_words start end = record { start = start; end = end }
-
--- what a step over the blocks at a place means for the words
-pub range_given : (payload : List ℕ) (begin end largest least next : ℕ) (rest : List ℕ) → begin < end
-    → end ≤ length payload → largest < 2 ^ 62
-    → BeginsWithRange largest (slice_range payload begin end) least next rest
-    → length rest < length (slice_range payload begin end)
-    → drop (length (slice_range payload begin end) - length rest) (slice_range payload begin end) ≡ rest
-    → SplitsRanges largest (slice_range payload begin end) least next rest
-    → GivesRange (at_place begin end largest) payload (at_place (end - length rest) end next) (range_words least (largest + 1))
-range_given payload begin end largest least next rest some within small begins shorter tail ranges =
-    let len = length-part payload begin end within in
-    let k : begin + (length (slice_range payload begin end) - length rest) ≡ end - length rest = omega arith in
-    let left : slice_range payload (end - length rest) end ≡ rest =
-    sym (ap (λ (n : ℕ). slice_range payload n end) k)
-    ∙ sym (part_of_part payload begin end (length (slice_range payload begin end) - length rest) (omega arith))
-    ∙ tail in
-    record {
-      some = some;
-      small = small;
-      begins = rw left begins;
-      above = refl;
-      last = refl;
-      further = omega arith;
-      within = record { ordered = omega arith; ends = within };
-      ranges = rw left ranges;
-    }
-
--- bytes in a part, before what ends it
-pub blocks_placed : (payload : List ℕ) (begin end : ℕ) (front blocks rest : List ℕ) → begin ≤ end → end ≤ length payload
-    → slice_range payload begin end ≡ front ++ (blocks ++ rest)
-    → (begin + (length front + (length blocks + length rest)) ≡ end)
-    × (slice_range payload (end - length rest - length blocks) (end - length rest) ≡ blocks)
-blocks_placed payload begin end front blocks rest ordered within parts =
-    let len = length-part payload begin end within in
-    let sizes : length (slice_range payload begin end) ≡ length front + (length blocks + length rest) =
-    ap length parts ∙ length-append front (blocks ++ rest)
-    ∙ ap (λ (n : ℕ). length front + n) (length-append blocks rest) in
-    let all : begin + (length front + (length blocks + length rest)) ≡ end = omega arith in
-    let start : end - length rest - length blocks ≡ begin + length front = omega arith in
-    let width : end - length rest - (begin + length front) ≡ length blocks = omega arith in
-    let behind : slice_range payload (begin + length front) end ≡ blocks ++ rest =
-    sym (part_of_part payload begin end (length front) (omega arith)) ∙ ap (drop (length front)) parts
-    ∙ drop_at front (blocks ++ rest) (length front) refl in
-    let room : length blocks ≤ end - (begin + length front) = omega arith in
-    let cut : take (length blocks) (drop (begin + length front) payload) ≡ blocks =
-    sym (take-take (length blocks) (end - (begin + length front)) (drop (begin + length front) payload) room)
-    ∙ ap (take (length blocks)) behind ∙ take_at blocks rest (length blocks) refl in (
+-- what is behind a front of a part
+pub rest_placed : (bytes : List ℕ) (start stop : ℕ) (front rest : List ℕ) → start ≤ stop → stop ≤ length bytes
+    → slice_range bytes start stop ≡ front ++ rest
+    → (start + (length front + length rest) ≡ stop) × (slice_range bytes (stop - length rest) stop ≡ rest)
+rest_placed bytes start stop front rest ordered within parts =
+    let len = length-part bytes start stop within in
+    let sizes : length (slice_range bytes start stop) ≡ length front + length rest =
+    ap length parts ∙ length-append front rest in
+    let all : start + (length front + length rest) ≡ stop = omega arith in
+    let place : stop - length rest ≡ start + length front = omega arith in (
       all,
-      ap (λ (n : ℕ). slice_range payload n (end - length rest)) start
-          ∙ ap (λ (n : ℕ). take n (drop (begin + length front) payload)) width ∙ cut,
+      ap (λ (n : ℕ). slice_range bytes n stop) place
+          ∙ sym (part_of_part bytes start stop (length front) (omega arith)) ∙ ap (drop (length front)) parts
+          ∙ drop_at front rest (length front) refl,
     )
 
--- the facts about the words of an ACK, whose blocks are in it
-pub place_given : (payload : List ℕ) (frame : CFrame) (largest : ℕ) (blocks rest : List ℕ) → frame.begin ≤ frame.end
-    → frame.end ≤ length payload
-    → BeginsWithAck (frame_of_words frame payload) largest blocks rest → largest < 2 ^ 62
-    → GivesPlace frame payload (at_place (frame.end - length rest - length blocks) (frame.end - length rest) largest)
-place_given payload frame largest blocks rest ordered within ack small =
-    let s = blocks_placed payload frame.begin frame.end ack.header blocks rest ordered within ack.parts in
-    let all = s.0 in
-    record {
-      ordered = ordered;
-      ends = within;
-      rest = rest;
-      begins_with = rw s.1 ack;
-      stop = omega arith;
-      begins = omega arith;
-      within = record { ordered = omega arith; ends = omega arith };
-      small = small;
-    }
+-- a part goes on behind its end
+pub part_goes_on : (bytes : List ℕ) (start stop : ℕ) → start ≤ stop
+    → drop start bytes ≡ slice_range bytes start stop ++ drop (stop - start) (drop start bytes)
+part_goes_on bytes start stop ordered = sym (take-append-drop (stop - start) (drop start bytes))
+
+-- the end of the end of a list is its end
+pub end_of_end : (bytes : List ℕ) (start : ℕ) (rest : List ℕ) → start ≤ length bytes
+    → length rest ≤ length (drop start bytes)
+    → drop (length (drop start bytes) - length rest) (drop start bytes) ≡ rest
+    → drop (length bytes - length rest) bytes ≡ rest
+end_of_end bytes start rest within short tail =
+    let len = length-drop start bytes in
+    let k : start + (length (drop start bytes) - length rest) ≡ length bytes - length rest = omega arith in
+    ap (λ (n : ℕ). drop n bytes) (sym k)
+    ∙ sym (drop-drop (length (drop start bytes) - length rest) start bytes) ∙ tail

@@ -13,7 +13,8 @@ use Rattle.quic_c.specs.declared.words.CFrame.{CFrame}
 use Rattle.quic_c.specs.Shown.{state_of, frame_kind_of, frame_words, at_front, rules_in}
 use Rattle.quic_c.specs.declared.words.CRange.{CRange}
 use Rattle.quic_c.specs.declared.words.CRangeIter.{CRangeIter}
-use Rattle.quic_c.specs.Answers.{GivesInvalid, GivesRange, NamesNone}
+use Rattle.quic_c.specs.Answers.{GivesInvalid}
+use Rattle.quic_c.specs.Ranges.{GivesRange, LacksRange}
 use Rattle.quic_results.specs.declared.results.Failure.TheVariants as failure
 use Rattle.quic_results.specs.Results.{failed}
 
@@ -94,9 +95,9 @@ further state offset last = record state { offset = offset; last = last }
 abbrev pub StepsOver : List ℕ → CRangeIter → CRange → CRangeIter → Type 0
 StepsOver payload old range new = GivesRange old payload new range
 
--- No byte is left, or the bytes don't begin with a range.
+-- No range is left, or none is there.
 abbrev pub HasNoRange : CRangeIter → List ℕ → Type 0
-HasNoRange ranges payload = (ranges.begin ≡ ranges.end) ⊎ NamesNone ranges payload
+HasNoRange ranges payload = (ranges.left ≡ 0) ⊎ LacksRange ranges payload
 
 -- So many entries were filled with ranges (RFC 9000, section 19.3.1), and those after them don't change; more were not
 -- filled, as there was no room or no range.

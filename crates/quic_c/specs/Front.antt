@@ -40,17 +40,15 @@ pub record FillsGaps (low : ℕ) (ranges : List (ℕ × ℕ)) (before after : Li
 abbrev pub more_flag : ℕ → List (ℕ × ℕ) → ℕ
 more_flag count ranges = if nat_lt count (length ranges) then 4 else 0
 
--- The words of an ACK of this type up to a place: its data's length is its first range, less one, and their offset is
--- how many entries were filled with the ranges below it.
+-- The words of an ACK of this type up to a place; the offset of its data is how many entries were filled with the ranges
+-- below its first.
 pub record ShowsAck (stop type : ℕ) (ack : Ack) (before : List CGap) (words : CFrame) (after : List CGap) : Type 0 where
   pub least : ℕ
   pub below : List (ℕ × ℕ)
   pub ranges : ranges_acked ack ≡ (least, ack.largest) ∷ below
-  pub first : least + words.data_len ≡ ack.largest
   pub gaps : FillsGaps least below before after words.data_offset
-  pub flags : words.flags ≡ counts_flag ack.ecn + more_flag words.data_offset below
   pub others : words ≡ record (frame_words 0 stop type (frames.Ack ack))
-      { flags = words.flags; data_offset = words.data_offset; data_len = words.data_len }
+      { flags = counts_flag ack.ecn + more_flag words.data_offset below; data_offset = words.data_offset }
 
 -- The words of a frame of this type up to a place; only an ACK fills entries.
 abbrev pub ShowsFront : ℕ → ℕ → Frame → List CGap → CFrame → List CGap → Type 0

@@ -7,6 +7,7 @@ use Rattle.quic_frames.specs.declared.frame.Frame.TheVariants as frames
 use Rattle.quic_frames.specs.declared.frame.rules.Rules.{Rules}
 use Rattle.quic_frame_fields.specs.declared.frame.close.Close.TheVariants as closes
 use Rattle.quic_frame_fields.specs.declared.frame.ack.EcnCounts.{EcnCounts}
+use Rattle.quic_frame_fields.specs.Acks.{ranges_acked}
 use Rattle.quic_frames.specs.IterState.{IterState}
 use Rattle.quic_c.specs.declared.words.CFrameIter.{CFrameIter}
 use Rattle.quic_c.specs.declared.words.CFrame.{CFrame}
@@ -127,6 +128,21 @@ data_of (frames.Close (closes.Connection c)) = c.reason.now
 data_of (frames.Close (closes.Application c)) = c.reason.now
 data_of frame = []
 
+-- the length of the first of these ranges, less one: First ACK Range (RFC 9000, section 19.3)
+abbrev pub first_length : List (ℕ × ℕ) → ℕ
+first_length [] = 0
+first_length (range ∷ ranges) = range.1 - range.0
+
+-- the word for the length of data: of an ACK, which has none, its first range, less one
+abbrev pub data_len_of : Frame → ℕ
+data_len_of (frames.Ack a) = first_length (ranges_acked a)
+data_len_of frame = length (data_of frame)
+
+-- the word for the place of data in a payload, of a frame that ends at stop: of an ACK 0, as none of its gaps was written
+abbrev pub data_offset_of : ℕ → Frame → ℕ
+data_offset_of stop (frames.Ack a) = 0
+data_offset_of stop frame = stop - tail_of frame - length (data_of frame)
+
 -- the words of a frame that goes from start to stop in a payload and begins with this type
 abbrev pub frame_words : ℕ → ℕ → ℕ → Frame → CFrame
 frame_words start stop type frame = record {
@@ -135,8 +151,8 @@ frame_words start stop type frame = record {
   flags = flags_of frame;
   begin = start;
   end = stop;
-  data_offset = stop - tail_of frame - length (data_of frame);
-  data_len = length (data_of frame);
+  data_offset = data_offset_of stop frame;
+  data_len = data_len_of frame;
   numbers = frame_numbers_of frame;
 }
 
@@ -152,3 +168,10 @@ invalid_words start ty = record {
   data_len = 0;
   numbers = ty ∷ 0 ∷ 0 ∷ 0 ∷ 0 ∷ [];
 }
+
+-- ---- No public clause cites what follows.
+
+-- how far data end before a frame; of an ACK, whose words have no place, further than any payload goes
+abbrev pub back_of : Frame → ℕ
+back_of (frames.Ack a) = 2 ^ 64 - 1
+back_of frame = tail_of frame

@@ -1,7 +1,6 @@
 //! Reads the frame at the front of the rest of a payload, and the first ranges of an ACK as gap and length.
 ghost use Rattle.std.specs.Prelude.{◌≡◌, ◌↔◌, ◌⊎◌, ◌<◌, ◌≤◌, ℕ, List, [], Bool, Option, drop, map, IsTrue, length, true, false, if◌then◌else◌};
 ghost use Rattle.quic_frame_fields.specs.Field.{AreBelow};
-ghost use Rattle.quic_frames.specs.declared.frame.Frame.TheVariants as frames;
 ghost use Rattle.quic_frames.specs.Padding.{PassesPadding};
 ghost use Rattle.quic_frames.specs.Rules.{no_rules};
 ghost use Rattle.quic_frames.specs.Walk.{left, first_of, resumed};
@@ -11,9 +10,8 @@ ghost use Rattle.quic_results.specs.Results.{failed, frame_failure};
 
 use crate::flags::{breach_by, broken, is_broken, no_rules, rules_in};
 use crate::frames::{show_invalid, type_read};
-use crate::show::{parts_of, show};
+use crate::show::{parts_of, show, split_blocks, with_first};
 use crate::words::{CFrame, CGap};
-use quic_base::coding::are_bytes;
 use quic_base::varint::split_var;
 use quic_frames::frame::{Ack, Frame, InvalidFrame, Iter, Rules};
 use quic_results::results::{Failure, frame_failure};
@@ -54,25 +52,21 @@ fn more_flag(is_whole: bool) -> u32
 
 // The words of an ACK at the front, and as many of the ranges below its first as there are entries.
 #[inline(always)]
-fn show_ack(words: CFrame, ack: &Ack<'_>, gaps: &mut [CGap]) -> CFrame
-    requires { words ≡ frame_words 0 words.end words.ty (frames.Ack ack.now) }
-    ensures { ShowsAck words.end words.ty ack.now gaps.old result gaps.new }
+fn show_ack(end: usize, ty: u16, ack: &Ack<'_>, gaps: &mut [CGap]) -> CFrame
+    ensures { ShowsAck end ty ack.now gaps.old result gaps.new }
 {
-    let blocks = ack.additional();
-    are_bytes(blocks);
-    let Ok((first, below)) = split_var(blocks) else {
-        unreachable!()
-    };
+    let (first, below) = split_blocks(ack);
+    let parts = with_first(ack, first);
+    let numbers = parts.numbers;
     let (count, is_whole) = fill_gaps(below, gaps);
-    let numbers = words.numbers;
     CFrame {
-        kind: words.kind,
-        ty: words.ty,
-        flags: words.flags + more_flag(is_whole),
-        begin: words.begin,
-        end: words.end,
+        kind: parts.kind,
+        ty,
+        flags: parts.flags + more_flag(is_whole),
+        begin: 0,
+        end,
         data_offset: count,
-        data_len: first as usize,
+        data_len: parts.data_len,
         numbers,
     }
 }
@@ -82,10 +76,9 @@ fn show_ack(words: CFrame, ack: &Ack<'_>, gaps: &mut [CGap]) -> CFrame
 fn show_front(end: usize, ty: u16, frame: &Frame<'_>, gaps: &mut [CGap]) -> CFrame
     ensures { ShowsFront end ty frame.now gaps.old result gaps.new }
 {
-    let words = show(0, end, ty, frame);
     match frame {
-        Frame::Ack(ack) => show_ack(words, ack, gaps),
-        _ => words,
+        Frame::Ack(ack) => show_ack(end, ty, ack, gaps),
+        _ => show(0, end, ty, frame),
     }
 }
 
@@ -183,11 +176,10 @@ fn read_other(payload: &[u8], flags: u32, out: &mut CFrame, gaps: &mut [CGap]) -
 
 /// Reads the frame at the front of the rest of a payload (RFC 9000, section 19), by the rules of these flags. It returns
 /// where the frame ends, with its words, whose places count from this front; a run of PADDING, each byte of which is a
-/// frame, is one. For an ACK the length of data is the first range, less one, and the ranges below it are filled into
-/// `gaps` as gap and length, as many as there is room for; the offset of data is how many were filled, and `flags` has 4
-/// if there are more. It returns `PayloadEmpty` exactly if nothing is left; the reason, with the type in `out`, if the
-/// bytes don't begin with a valid frame or begin with one that breaks a rule. `out` doesn't change with `PayloadEmpty`,
-/// and `gaps` changes only for an ACK.
+/// frame, is one. The ranges of an ACK below the first are filled into `gaps` as gap and length, as many as there is room
+/// for; the offset of data is how many were filled, and `flags` has 4 if there are more. It returns `PayloadEmpty` exactly
+/// if nothing is left; the reason, with the type in `out`, if the bytes don't begin with a valid frame or begin with one
+/// that breaks a rule. `out` doesn't change with `PayloadEmpty`, and `gaps` changes only for an ACK.
 #[unsafe(no_mangle)]
 pub extern "C" fn quic_wire_frame_read_(
     payload: &[u8],

@@ -1,11 +1,15 @@
 //! Frames as words.
-ghost use Rattle.std.specs.Prelude.{◌≡◌, ◌+◌, ◌-◌, ◌<◌, ◌^◌, [], ◌∷◌, length, if◌then◌else◌};
+ghost use Rattle.std.specs.Prelude.{◌≡◌, ◌+◌, ◌-◌, ◌<◌, ◌^◌, ℕ, List, [], ◌∷◌, length, if◌then◌else◌};
+ghost use Rattle.quic_frame_fields.specs.Acks.{ranges_acked};
+ghost use Rattle.quic_frame_fields.specs.Field.{AreBelow};
 ghost use Rattle.quic_base.specs.Ids.{dir_number};
 ghost use Rattle.quic_frames.specs.declared.frame.Frame.TheVariants as frames;
-ghost use Rattle.quic_c.specs.Shown.{frame_kind_of, flags_of, frame_numbers_of, data_of, tail_of, frame_words, counts_flag, counts_numbers};
+ghost use Rattle.quic_c.specs.Shown.{frame_kind_of, flags_of, first_length, frame_numbers_of, data_of, data_len_of, back_of, frame_words, counts_flag, counts_numbers};
 
 use crate::words::CFrame;
+use quic_base::coding::are_bytes;
 use quic_base::ids::Dir;
+use quic_base::varint::split_var;
 use quic_frames::frame::{Ack, AckFrequency, Close, Frame, NewConnectionId};
 
 // The words that depend on the frame alone.
@@ -13,7 +17,9 @@ use quic_frames::frame::{Ack, AckFrequency, Close, Frame, NewConnectionId};
 pub(crate) struct Parts {
     pub(crate) kind: u16,
     pub(crate) flags: u32,
+    // How far the data end before the frame; of an ACK, which has no place of data, as far as can be.
     pub(crate) tail: usize,
+    // How many bytes of data it has; of an ACK its first range, less one.
     pub(crate) data_len: usize,
     pub(crate) numbers: [u64; 5],
 }
@@ -70,26 +76,63 @@ fn by_dir(bi: u16, dir: Dir, n: u64) -> Parts
     }
 }
 
+// The first range of an ACK, less one, and what follows that: the ranges below, as gap and length.
+#[inline(always)]
+pub(crate) fn split_blocks<'a>(ack: &Ack<'a>) -> (u64, &'a [u8])
+    ensures first { result.0 ≡ first_length (ranges_acked ack.now) }
+    ensures below { (least : ℕ) × (ranges : List (ℕ × ℕ)) × (ranges_acked ack.now ≡ (least, ack.now.largest) ∷ ranges)
+        × AreBelow least ranges result.1.now }
+{
+    let blocks = ack.additional();
+    are_bytes(blocks);
+    let Ok((first, below)) = split_var(blocks) else {
+        unreachable!()
+    };
+    (first, below)
+}
+
+// The words of an ACK with this first range, less one.
+#[inline(always)]
+pub(crate) fn with_first(ack: &Ack<'_>, first: u64) -> Parts
+    ensures { result ≡ record {
+      kind = 0x02;
+      flags = counts_flag ack.now.ecn;
+      tail = 2 ^ 64 - 1;
+      data_len = first;
+      numbers = ack.now.largest ∷ ack.now.delay ∷ counts_numbers ack.now.ecn;
+    } }
+{
+    let data_len = first as usize;
+    match ack.ecn() {
+        Some(e) => Parts {
+            kind: 0x02,
+            flags: 2,
+            tail: usize::MAX,
+            data_len,
+            numbers: [ack.largest(), ack.delay(), e.ect0, e.ect1, e.ce],
+        },
+        None => Parts {
+            kind: 0x02,
+            flags: 0,
+            tail: usize::MAX,
+            data_len,
+            numbers: [ack.largest(), ack.delay(), 0, 0, 0],
+        },
+    }
+}
+
 #[inline(always)]
 fn of_ack(ack: &Ack<'_>) -> Parts
     ensures { result ≡ record {
       kind = 0x02;
       flags = counts_flag ack.now.ecn;
-      tail = 0;
-      data_len = 0;
+      tail = 2 ^ 64 - 1;
+      data_len = first_length (ranges_acked ack.now);
       numbers = ack.now.largest ∷ ack.now.delay ∷ counts_numbers ack.now.ecn;
     } }
 {
-    match ack.ecn() {
-        Some(e) => Parts {
-            kind: 0x02,
-            flags: 2,
-            tail: 0,
-            data_len: 0,
-            numbers: [ack.largest(), ack.delay(), e.ect0, e.ect1, e.ce],
-        },
-        None => both(0x02, ack.largest(), ack.delay()),
-    }
+    let (first, _) = split_blocks(ack);
+    with_first(ack, first)
 }
 
 #[inline(always)]
@@ -165,8 +208,8 @@ pub(crate) fn parts_of(frame: &Frame<'_>) -> Parts
     ensures { result ≡ record {
       kind = frame_kind_of frame.now;
       flags = flags_of frame.now;
-      tail = tail_of frame.now;
-      data_len = length (data_of frame.now);
+      tail = back_of frame.now;
+      data_len = data_len_of frame.now;
       numbers = frame_numbers_of frame.now;
     } }
 {

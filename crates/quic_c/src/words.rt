@@ -28,9 +28,9 @@ pub struct CFrame {
     pub begin: usize,
     /// Where it ends.
     pub end: usize,
-    /// Where its data begin in the payload.
+    /// Where its data begin in the payload. Of an ACK: how many of its gaps were written.
     pub data_offset: usize,
-    /// How many bytes of data it has.
+    /// How many bytes of data it has. Of an ACK: its first range, less one.
     pub data_len: usize,
     /// Its numbers.
     pub numbers: [u64; 5],
@@ -60,10 +60,10 @@ pub struct CGap {
 #[repr(C)]
 #[derive(Clone, Copy)]
 pub struct CRangeIter {
-    /// Where the blocks that are left begin in the payload.
-    pub begin: usize,
-    /// Where they end.
-    pub end: usize,
+    /// Where the next block begins in the payload.
+    pub offset: usize,
+    /// How many ranges are left.
+    pub left: u64,
     /// The greatest number of the next range.
     pub largest: u64,
 }

@@ -3,6 +3,7 @@ ghost use Rattle.std.specs.Prelude.{◌≡◌, ◌<◌, ◌≤◌, ◌^◌, ◌�
 ghost use Rattle.quic_frame_fields.specs.Numbers.{AreNumeric};
 ghost use Rattle.quic_frames.specs.declared.frame.Frame.{Frame};
 ghost use Rattle.quic_frames.specs.declared.frame.Frame.TheVariants as frames;
+ghost use Rattle.quic_frames.specs.InRange.{IsNoAck};
 ghost use Rattle.quic_frames.specs.Meaning.{meaning_of};
 ghost use Rattle.quic_frame_fields.specs.declared.frame.close.Close.TheVariants as closes;
 ghost use Rattle.quic_c.specs.Shapes.{IsSound, FillsShape, AreDataAndToken, IsShown, LacksData, LacksDataOrToken, shape_of, token_room};
@@ -276,7 +277,9 @@ fn data_and_token<'a>(words: &CFrame, data: &'a [u8]) -> Option<(&'a [u8], &'a [
 }
 
 // Whether the frame has the flags, the numbers and the length in the words.
+#[tactic(auto, using(crate::proofs::Shapes::len_is))]
 fn is_shown(frame: &Frame<'_>, words: &CFrame) -> bool
+    requires { IsNoAck frame.now }
     ensures { IsTrue result ↔ IsShown words.now frame.now }
 {
     let parts = parts_of(frame);

@@ -6,7 +6,7 @@ use Rattle.std.specs.Net.Socket.{v6_ip, v6_port, v6_flowinfo, v6_scope_id}
 use Rattle.std.specs.declared.net.ipv6_addr.Ipv6Addr.{Ipv6Addr}
 use Rattle.std.specs.declared.net.socket_addr.SocketAddrV6.{SocketAddrV6}
 use Rattle.quic_params.specs.Range.{IsEncodableV6, IsTypedAs, IsTypedAddress, plain}
-use Rattle.quic_params.specs.Record.{kept}
+use Rattle.std.specs.Option.{option_map}
 use Rattle.quic_params.specs.Reserved.{Reserved}
 use Rattle.quic_params.specs.Table.{row_of}
 use Rattle.quic_params.specs.declared.parameter.TransportParameterId.TheVariants as ids
@@ -134,18 +134,18 @@ same_fields p x0 x1 x2 x3 x4 x5 x6 x7 x8 x9 x10 x11 x12 x13 x14 x15 x16 x17 x18 
     whole ∙ plain_is p g o
 
 -- what the types of a record's fields hold
-pub typed_number : (o : Option ℕ) → IfSome (kept V.Number o) (IsTypedAs (row_of ids.MaxDatagramFrameSize).kind)
+pub typed_number : (o : Option ℕ) → IfSome (option_map V.Number o) (IsTypedAs (row_of ids.MaxDatagramFrameSize).kind)
     → IfSome o (λ n. n < 2 ^ 62)
 typed_number None t = tt
 typed_number (Some n) t = t
 
 pub typed_id : (o : Option (List ℕ))
-    → IfSome (kept V.Id o) (IsTypedAs (row_of ids.OriginalDestinationConnectionId).kind)
+    → IfSome (option_map V.Id o) (IsTypedAs (row_of ids.OriginalDestinationConnectionId).kind)
     → IfSome o (λ id. length id ≤ 20)
 typed_id None t = tt
 typed_id (Some id) t = t
 
 pub typed_address : (o : Option PreferredAddress)
-    → IfSome (kept V.Address o) (IsTypedAs (row_of ids.PreferredAddress).kind) → IfSome o IsTypedAddress
+    → IfSome (option_map V.Address o) (IsTypedAs (row_of ids.PreferredAddress).kind) → IfSome o IsTypedAddress
 typed_address None t = tt
 typed_address (Some a) t = t

@@ -22,7 +22,7 @@ pub begins : (n : ℕ) (x b r : List ℕ) (es : List Entry) → Takes (IsEntry n
     → AreInOrder (taken n x ∷ es) b
 begins n x b r es t h = record { front = t.front; back = r; whole = t.split; first = t.is; second = h }
 
--- no entry is there where one is cut off
+-- no entry is there if one is cut off
 pub none_cut : (b : List ℕ) (es : List Entry) → IsCutEntry b → AreInOrder es b → es ≡ []
 none_cut b [] c h = refl
 none_cut b (e ∷ es) c h = absurd (c e.number e.bytes h.front h.back h.whole h.first)
@@ -82,7 +82,7 @@ pub counted_none : (list : List ℕ) → Counted list list 0
 counted_none list =
     record { back = λ es h o. (es, h, o, omega arith); on = λ es h o. (es, h, o, omega arith); few = omega arith }
 
--- an entry that was taken can be written
+-- an entry that was read can be written
 other_taken : (n : ℕ) (x b r : List ℕ) → Takes (IsEntry n x) b r
     → ((id : TransportParameterId) → ¬ (IsKnownParameter id n)) → IsOther (taken n x)
 other_taken n x b r t u =
@@ -121,7 +121,7 @@ counted_all list rest count e lt c =
     let a = c.back [] e tt in
     (a.0, record { encoded = a.1; others = a.2; few = omega (arith, a.3, c.few); short = lt }, a.3 ∙ omega arith)
 
--- what was looked up
+-- what was found
 known_there : (n : ℕ) (r : Option TransportParameterId) → is_some r ≡ true
     → MatchOption r ((id : TransportParameterId) → ¬ (IsKnownParameter id n)) (λ id. IsKnownParameter id n)
     → (id : TransportParameterId) × IsKnownParameter id n
@@ -134,7 +134,7 @@ pub unknown_there : (n : ℕ) (r : Option TransportParameterId) → is_some r �
 unknown_there n (Some id) e h = absurd (false≢true (sym e))
 unknown_there n None e h = h
 
--- what refuses a list
+-- what rejects a list
 pub cut_off : (list rest : List ℕ) (count : ℕ) → IsCutEntry rest → rest ≢ [] → Counted list rest count
     → (es : List Entry) → IsFurther es list → ⊥
 cut_off list rest count cut some c es f =

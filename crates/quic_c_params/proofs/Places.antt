@@ -5,7 +5,7 @@ use Rattle.quic_base.specs.Codec.{Takes}
 use Rattle.quic_params.specs.Entry.{IsEntry}
 use Rattle.quic_c_params.specs.Lists.{GivesParameter}
 
--- where the value of the first entry is
+-- the byte range of the first entry's value
 pub gives_entry : (list value rest : List ℕ) (id : ℕ) → Takes (IsEntry id value) list rest
     → GivesParameter list (record { id = id; value = length list - length rest - length value; value_len = length value })
 gives_entry list value rest id t =
@@ -37,7 +37,7 @@ gives_entry list value rest id t =
       within = omega (arith, long);
     }
 
--- the entry ends where its value does
+-- the entry ends with its value
 pub entry_end : (list value rest : List ℕ) (id : ℕ) → Takes (IsEntry id value) list rest
     → length list - length rest - length value + length value ≡ length list - length rest
 entry_end list value rest id t =

@@ -202,7 +202,7 @@ stored_to_all p further order old new count k at le l any has same o es h =
     sym (take-append-drop at new) ∙ ap (λ r. r ++ drop at new) (l.front es h ∙ whole)
     ∙ ap (λ r. listed p es order ++ r) (l.back ∙ ap (λ (n : ℕ). drop n old) (l.count es h ∙ ap length whole))
 
--- the rest of a slice in the place of what it was
+-- the rest of a slice instead of what it was
 pub put_end : (at : ℕ) (d ys : List ℕ) → put_mid at (length d - at) d ys ≡ take at d ++ ys
 put_end at d ys =
     ap (λ r. take at d ++ (ys ++ r)) (drop_all (length d - at) (drop at d) (omega (arith, length-drop at d)))

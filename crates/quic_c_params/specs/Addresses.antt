@@ -12,13 +12,13 @@ use Rattle.quic_c_params.specs.Lists.{BytesNeedMore, WroteBytes}
 use Rattle.quic_c_params.specs.Shown.{params_words}
 use Rattle.quic_c_params.specs.Written.{DescribesParams}
 
--- The words are those of a record that has this address, and else what the list of no bytes gives.
+-- The struct is that of a record that has this address, and else the defaults.
 pub record GivesAddress (address : PreferredAddress) (words : CParams) : Type 0 where
   pub default : TransportParameters
   pub is_default : IsRecord [] default
   pub words_are : words ≡ params_words (record default { preferred_address = Some address })
 
--- The words describe a record that a client reads back, which has this address.
+-- The struct describes a record that a client reads back, which has this address.
 pub record DescribesAddress (words : CParams) (address : PreferredAddress) : Type 0 where
   pub params : TransportParameters
   pub described : DescribesParams words params

@@ -1,8 +1,8 @@
--- What the calls answer.
+-- What the calls return.
 use Rattle.std.specs.Prelude.{◌≡◌, ℕ, ◌/◌, ◌%◌, ◌-◌, ◌^◌, nat_eq, List, Option, Some, None, Ok, Err}
 use Rattle.quic_base.specs.declared.ids.Side.{Side}
 use Rattle.quic_base.specs.declared.ids.Side.TheVariants.{Client, Server}
-use Rattle.quic_params.specs.Meaning.{IsReadAnswerWith}
+use Rattle.quic_params.specs.Meaning.{IsReadAnswer}
 use Rattle.quic_params.specs.Refusal.{IsPlacedAnswer}
 use Rattle.quic_params.specs.declared.error.Error.{Error}
 use Rattle.quic_params.specs.declared.error.Error.TheVariants.{IllegalValue, Malformed}
@@ -15,7 +15,7 @@ use Rattle.quic_c_params.specs.Shown.{params_words}
 use Rattle.quic_results.specs.declared.results.Failure.{Failure}
 use Rattle.quic_results.specs.declared.results.Failure.TheVariants as failure
 
--- the word of a side
+-- the number of a side
 abbrev pub IsSide : ℕ → Side → Type 0
 IsSide word Client = word ≡ 0
 IsSide word Server = word ≡ 1
@@ -37,17 +37,17 @@ number_word_of None = 2 ^ 64 - 1
 abbrev pub refusal_words : Refusal → CRefusal
 refusal_words refusal = record { id = number_word_of refusal.id; offset = refusal.offset }
 
--- The side takes the list, read in this way, and the words of its record were given.
+-- The side accepts the list, read in this way, and the struct of its record was returned.
 pub record GivesParams (side flags : ℕ) (bytes : List ℕ) (new : CParams) : Type 0 where
   pub reader : Side
   pub is_side : IsSide side reader
   pub params : TransportParameters
-  pub answer : IsReadAnswerWith (options_of flags) reader bytes (Ok params)
+  pub answer : IsReadAnswer (options_of flags) reader bytes (Ok params)
   pub words : new ≡ params_words params
 
--- The side refuses the list, read in this way, with this error there.
+-- The side rejects the list, read in this way, with this error there.
 pub record RefusesList (side flags : ℕ) (bytes : List ℕ) (refusal : Refusal) : Type 0 where
   pub reader : Side
   pub is_side : IsSide side reader
-  pub answer : IsReadAnswerWith (options_of flags) reader bytes (Err refusal.error)
+  pub answer : IsReadAnswer (options_of flags) reader bytes (Err refusal.error)
   pub place : IsPlacedAnswer (options_of flags) reader bytes (Err refusal)

@@ -7,24 +7,25 @@ use Rattle.quic_params.specs.declared.record.TransportParameters.{TransportParam
 use Rattle.quic_params.specs.Entry.{Entry, IsCutEntry, IsEntry, IsKnownParameter}
 use Rattle.quic_params.specs.Further.{AreInOrder, AreOthers, IsOrderOf, asked, listed}
 use Rattle.quic_params.specs.Meaning.{IsReadAnswer}
+use Rattle.quic_params.specs.Options.{as_quinn}
 use Rattle.quic_params.specs.Table.{parameter_count}
 use Rattle.quic_c_params.specs.declared.words.CEntry.{CEntry}
 use Rattle.quic_c_params.specs.declared.words.CParams.{CParams}
 use Rattle.quic_c_params.specs.Written.{CanWriteParams}
 
--- 1 where a record has the parameter of this number, and 0 where it doesn't
+-- 1 if a record has the parameter of this number, and 0 if it doesn't
 abbrev pub TellsKnown : ℕ → ℕ → Type 0
 TellsKnown known number = ((known ≡ 1) × (id : TransportParameterId) × IsKnownParameter id number) ⊎ (known ≡ 0)
     × ((id : TransportParameterId) → ¬ (IsKnownParameter id number))
 
--- The words describe the entry at the front of a list: its number, and the place of its value, after which the next
--- entry begins.
+-- The struct describes the entry at the front of a list: its number, and the byte range of its value, after which the
+-- next entry begins.
 pub record GivesParameter (list : List ℕ) (words : CEntry) : Type 0 where
   pub entry : Takes (IsEntry words.id (take words.value_len (drop words.value list))) list
       (drop (words.value + words.value_len) list)
   pub within : words.value + words.value_len ≤ length list
 
--- The words describe that entry, whose value is this number in some width.
+-- The struct describes that entry, whose value is this number in some width.
 pub record GivesNumber (list : List ℕ) (words : CEntry) (number : ℕ) : Type 0 where
   pub entry : GivesParameter list words
   pub value : Encodes number (take words.value_len (drop words.value list))
@@ -65,7 +66,7 @@ pub record IsFurther (entries : List Entry) (list : List ℕ) : Type 0 where
   pub few : parameter_count + length entries ≤ 256
   pub short : length list < 2 ^ 40
 
--- The words describe a record that the side reads back, the list has further entries, and the order is one of all of
+-- The struct describes a record that the side reads back, the list has further entries, and the order is one of all of
 -- them, or empty.
 pub record CanList (side : ℕ) (words : CParams) (further order : List ℕ) (params : TransportParameters)
     (entries : List Entry) : Type 0 where
@@ -79,7 +80,7 @@ pub record WroteList (side : ℕ) (words : CParams) (further order old new : Lis
   pub entries : List Entry
   pub can : CanList side words further order params entries
   pub wrote : WroteBytes (listed params entries order) old new count
-  pub read_back : IsReadAnswer can.record_is.reader (listed params entries order) (Ok params)
+  pub read_back : IsReadAnswer as_quinn can.record_is.reader (listed params entries order) (Ok params)
 
 -- There is less room than that list needs, and how much that is was reported.
 pub record ListNeedsMore (side : ℕ) (words : CParams) (further order old : List ℕ) (needed : ℕ) : Type 0 where

@@ -1,4 +1,4 @@
--- Transport parameters as words: RFC 9000, section 18.2.
+-- Transport parameters as the fields of a struct: RFC 9000, section 18.2.
 use Rattle.std.specs.Prelude.{ℕ, ◌+◌, ◌*◌, ◌-◌, Bool, true, false, List, [], ◌∷◌, ◌++◌, length, replicate, Option, Some, None, is_some}
 use Rattle.std.specs.Net.Addr.{ipv4_octets, ipv6_octets}
 use Rattle.std.specs.Net.Socket.{v4_ip, v4_port, v6_ip, v6_port}
@@ -88,7 +88,7 @@ present_in params =
     ∷ is_some params.min_ack_delay
     ∷ []
 
--- the words of a record; what is never read, grease and an order of writing, isn't reported
+-- the struct of a record; what is never read, grease and an order of writing, isn't reported
 abbrev pub params_words : TransportParameters → CParams
 params_words params = record {
   present = bits (present_in params);

@@ -1,7 +1,8 @@
--- The parameters that words describe, and the answers of the call that writes them.
+-- The parameters that a struct describes, and the results of the call that writes them.
 use Rattle.std.specs.Prelude.{◌≡◌, ℕ, ◌<◌, List, ◌++◌, length, drop, Ok, None, is_some}
 use Rattle.quic_base.specs.declared.ids.Side.{Side}
 use Rattle.quic_params.specs.Meaning.{IsReadAnswer}
+use Rattle.quic_params.specs.Options.{as_quinn}
 use Rattle.quic_params.specs.Range.{IsTypedRecord, IsRecordInRange}
 use Rattle.quic_params.specs.Writing.{written}
 use Rattle.quic_params.specs.declared.record.TransportParameters.{TransportParameters}
@@ -10,7 +11,7 @@ use Rattle.quic_c_params.specs.declared.write.Flags.{Flags}
 use Rattle.quic_c_params.specs.Answers.{IsSide}
 use Rattle.quic_c_params.specs.Shown.{params_words, v4_in, v6_in}
 
--- The words are those of the record, whose fields hold what their types do; it has neither grease nor an order of
+-- The struct is that of the record, whose fields hold what their types do; it has neither grease nor an order of
 -- writing.
 pub record DescribesParams (words : CParams) (params : TransportParameters) : Type 0 where
   pub words_are : words ≡ params_words params
@@ -18,13 +19,13 @@ pub record DescribesParams (words : CParams) (params : TransportParameters) : Ty
   pub no_grease : params.grease_transport_parameter ≡ None
   pub no_order : params.write_order ≡ None
 
--- The words describe a record that the side reads back.
+-- The struct describes a record that the side reads back.
 pub record CanWriteParams (side : ℕ) (words : CParams) (params : TransportParameters) : Type 0 where
   pub reader : Side
   pub is_side : IsSide side reader
   pub described : DescribesParams words params
   pub in_range : IsRecordInRange reader params
-  pub read_back : IsReadAnswer reader (written params) (Ok params)
+  pub read_back : IsReadAnswer as_quinn reader (written params) (Ok params)
 
 -- The list of such a record was written at the front, the bytes after it didn't change, and its length is given.
 pub record WroteParams (side : ℕ) (words : CParams) (old new : List ℕ) (count : ℕ) : Type 0 where
@@ -40,7 +41,7 @@ pub record ParamsNeedMore (side : ℕ) (words : CParams) (old : List ℕ) (neede
   pub count_is : needed ≡ length (written params)
   pub full : length old < needed
 
--- The words describe no such record.
+-- The struct describes no such record.
 abbrev pub DescribesNoParams : ℕ → CParams → Type 0
 DescribesNoParams side words = (params : TransportParameters) → CanWriteParams side words params → ⊥
 

@@ -15,7 +15,7 @@ use quic_base::ids::Side;
 use quic_params::transport_parameters::{PreferredAddress, TransportParameters};
 use quic_results::results::Failure;
 
-// The words of a record of which the address alone isn't as by default.
+// The struct of a record of which only the address isn't as by default.
 fn show_address(address: PreferredAddress) -> CParams
     ensures { GivesAddress address result }
 {
@@ -25,7 +25,7 @@ fn show_address(address: PreferredAddress) -> CParams
 }
 
 /// Reads the value of a preferred address, all of these bytes, as a client gets it (RFC 9000, section 18.2). It returns
-/// 0 with the words of parameters that have this address and no other value but defaults; `ParametersIllegal` if it
+/// 0 with the struct of parameters that have this address and else only defaults; `ParametersIllegal` if it
 /// has neither an address of IPv4 nor one of IPv6, or no connection id, and `ParametersMalformed` if the bytes are no
 /// such value. Nothing changes then.
 #[unsafe(no_mangle)]

@@ -26,9 +26,9 @@ pub extern "C" fn quic_wire_param_is_known_(id: u64) -> u32
 }
 
 /// Reads the entry at the front of a list of transport parameters, one that the record has or another (RFC 9000,
-/// section 18). It returns where the entry ends, which is where the next one begins, with its number and the place and
-/// the length of its value; 0 exactly if the list is empty; `ParametersMalformed` exactly if its first entry is cut off.
-/// `entry` changes only with the first. Whether the value is valid for its parameter isn't tested.
+/// section 18). It returns the offset of the entry's end, at which the next one begins, with its number and the offset
+/// and the length of its value; 0 exactly if the list is empty; `ParametersMalformed` exactly if its first entry is cut
+/// off. `entry` changes only with the first. Whether the value is valid for its parameter isn't tested.
 #[unsafe(no_mangle)]
 pub extern "C" fn quic_wire_param_read_(list: &[u8], entry: &mut CEntry) -> i64
     ensures { (result ≡ pos (entry.new.value + entry.new.value_len)) × GivesParameter list.now entry.new
@@ -51,9 +51,9 @@ pub extern "C" fn quic_wire_param_read_(list: &[u8], entry: &mut CEntry) -> i64
 }
 
 /// Writes an entry in its least widths at the front of `dest`: its number, how many bytes its value has, and these (RFC
-/// 9000, section 18). It returns 0 with how many bytes were written, and the bytes after them don't change; `NoRoom` with
-/// how many are needed if `dest` has fewer; `Number` exactly if the number is 2^62 or more; else `Length` exactly if the
-/// value has 2^62 bytes or more. `dest` changes only with 0, and `written` only with 0 and `NoRoom`.
+/// 9000, section 18). It returns 0 with how many bytes were written, and the bytes after them don't change; `NoRoom`
+/// with how many are needed if `dest` has fewer; `Number` exactly if the number is 2^62 or more; else `Length` exactly
+/// if the value has 2^62 bytes or more. `dest` changes only with 0, and `written` only with 0 and `NoRoom`.
 #[unsafe(no_mangle)]
 pub extern "C" fn quic_wire_param_write_(
     id: u64,
@@ -103,8 +103,8 @@ fn number_of(list: &[u8], read: &CEntry) -> Option<u64>
 }
 
 /// Reads the entry at the front of a list as `quic_wire_param_read_` does, whose value must be one number, in any width
-/// (RFC 9000, sections 16 and 18), and gives that too. It returns `ParametersMalformed` also where the value isn't one.
-/// `entry` and `value` change only where an entry was read.
+/// (RFC 9000, sections 16 and 18), and returns that too. It returns `ParametersMalformed` also if the value isn't one.
+/// `entry` and `value` change only if an entry was read.
 #[unsafe(no_mangle)]
 pub extern "C" fn quic_wire_param_read_number_(
     list: &[u8],

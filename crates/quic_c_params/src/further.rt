@@ -89,7 +89,7 @@ pub(crate) fn is_order(count: usize, order: &[u8]) -> bool
     order.is_empty() || has_each(count, order)
 }
 
-// The index at a place of an order.
+// The index at a position of an order.
 #[inline(always)]
 pub(crate) fn index_at(count: usize, order: &[u8], place: usize) -> usize
     requires order { IsOrderOf count (asked count order.now) }

@@ -129,13 +129,13 @@ fn store_list(
 }
 
 /// Writes the list of the parameters in a struct, with further entries, in an order, at the front of `dest`, each in
-/// its least widths (RFC 9000, sections 7.4 and 18): `side` is 0 if a client is to read it, 1 if a server is.
-/// `further` is a list of entries that no record has, none of them twice, as `quic_wire_param_write_` writes them. The
-/// rows of the table (quinn-proto's `SUPPORTED`) have the numbers 0 to 20, and the further entries those from 21 on,
-/// 235 at most; `order` has each of these numbers once, or is empty, and then the entries are in the order of their
-/// numbers. It returns 0 with how many bytes were written, and the bytes after them don't change: reading them for this
-/// side gives the same words. It returns `NoRoom` with how many bytes are needed if `dest` has fewer; `Kind` exactly if
-/// `side` is above 1; `Parameter` where `quic_wire_params_write_` does, or if `further` or `order` aren't such, or
+/// its least widths (RFC 9000, sections 7.4 and 18): `side` is 0 if a client is to read it, 1 if a server is. `further`
+/// is a list of entries that no record has, none of them twice, as `quic_wire_param_write_` writes them. The rows of
+/// the table (quinn-proto's `SUPPORTED`) have the numbers 0 to 20, and the further entries those from 21 on, 235 at
+/// most; `order` has each of these numbers once, or is empty, and then the entries are in the order of their numbers.
+/// It returns 0 with how many bytes were written, and the bytes after them don't change: reading them for this side
+/// gives the same struct. It returns `NoRoom` with how many bytes are needed if `dest` has fewer; `Kind` exactly if
+/// `side` is above 1; `Parameter` if `quic_wire_params_write_` does, or if `further` or `order` aren't such, or
 /// `further` has 2^40 bytes or more. `dest` changes only with 0, and `written` only with 0 and `NoRoom`.
 #[unsafe(no_mangle)]
 pub extern "C" fn quic_wire_params_write_with_(

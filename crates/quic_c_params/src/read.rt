@@ -1,4 +1,4 @@
-//! Reads a list of transport parameters into a struct of words.
+//! Reads a list of transport parameters into a struct for C.
 ghost use Rattle.std.specs.Prelude.{◌≡◌, ◌⊎◌, ◌<◌, ℕ, Option, pos, MatchOption};
 ghost use Rattle.quic_c_params.specs.Answers.{IsSide, failure_of, number_word_of, options_of, refusal_words, GivesParams, RefusesList};
 ghost use Rattle.quic_params.specs.declared.error.Refusal.{Refusal};
@@ -10,7 +10,7 @@ use quic_base::ids::Side;
 use quic_params::transport_parameters::{Error, ReadOptions, Refusal, TransportParameters};
 use quic_results::results::Failure;
 
-// The side of a word.
+// The side of a number.
 pub(crate) fn side_of(word: u32) -> Option<Side>
     ensures { MatchOption result (1 < word) (IsSide word) }
 {
@@ -51,7 +51,7 @@ fn number_word_of(number: Option<u64>) -> u64
     }
 }
 
-// A refusal as words.
+// A refusal as a struct for C.
 fn refusal_words(refusal: &Refusal) -> CRefusal
     ensures { result ≡ refusal_words refusal.now }
 {
@@ -63,10 +63,10 @@ fn refusal_words(refusal: &Refusal) -> CRefusal
 
 /// Reads a list of transport parameters that a side got from its peer, to the list's end (RFC 9000, sections 7.4 and
 /// 18): `side` is 0 if a client reads the list of a server, 1 if a server reads that of a client. It returns 0 with the
-/// words of the record: numbers that are not in the list have their defaults, and other values that are absent are 0 in
-/// all of their words and bytes, without a bit. It returns `ParametersMalformed` if the first entry that the side
-/// refuses is cut off, has an invalid value, or is a repeat, and `ParametersIllegal` if it refuses a value, both with
-/// the refusal: the number of the parameter, or 2^64 - 1 if the list ends within that, and where its entry begins;
+/// fields of the record: numbers that are not in the list have their defaults, and other values that are absent are 0
+/// in all of their fields and bytes, without a bit. It returns `ParametersMalformed` if the first entry that the side
+/// rejects is cut off, has an invalid value, or is a repeat, and `ParametersIllegal` if it rejects a value, both with
+/// the refusal: the number of the parameter, or 2^64 - 1 if the list ends within that, and the offset of its entry;
 /// `Kind` exactly if `side` is above 1. Nothing else changes.
 ///
 /// With 0 in `flags` an integer that has a default and isn't in its shortest encoding is an invalid value, as in

@@ -1,4 +1,4 @@
-//! Transport parameters as words.
+//! Transport parameters as the fields of a struct for C.
 ghost use Rattle.std.specs.Prelude.{◌≡◌, ◌+◌, ◌*◌, ◌<◌, ◌≤◌, ◌^◌};
 ghost use Rattle.quic_c_params.specs.Shown.{flag_bit, number_word, reset_token_of, id_of, len_of, octets_of_v4, port_of_v4, octets_of_v6, port_of_v6, v4_in, v6_in, id_in, token_in, bits, present_in, params_words};
 
@@ -143,7 +143,7 @@ fn present(p: &TransportParameters) -> u32
     bit(p.stateless_reset_token.is_some(), above)
 }
 
-// The words of a record.
+// The struct of a record.
 pub(crate) fn show(p: &TransportParameters) -> CParams
     ensures { result ≡ params_words p.now }
 {

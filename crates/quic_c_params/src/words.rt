@@ -1,6 +1,6 @@
 //! The structs that C sees. Each of their fields may have any value: no call relies on them.
 
-/// Transport parameters (RFC 9000, section 18.2). Values that are absent are 0 in all of their words and bytes, except
+/// Transport parameters (RFC 9000, section 18.2). Values that are absent are 0 in all of their fields and bytes, except
 /// numbers that have a default: these hold it then.
 #[repr(C)]
 #[derive(Clone, Copy, PartialEq, Eq)]
@@ -73,19 +73,19 @@ pub struct CParams {
 pub struct CEntry {
     /// Its number, below 2^62.
     pub id: u64,
-    /// Where its value begins in the bytes that were read.
+    /// The offset of its value in the bytes that were read.
     pub value: usize,
     /// How many bytes its value has. The next entry begins after them.
     pub value_len: usize,
 }
 
-/// Where a list of parameters is refused.
+/// At which entry a list of parameters is rejected.
 #[repr(C)]
 #[derive(Clone, Copy, PartialEq, Eq)]
 pub struct CRefusal {
     /// The number of the parameter, or 2^64 - 1 if the list ends within that.
     pub id: u64,
-    /// Where its entry begins in the list.
+    /// The offset of its entry in the list.
     pub offset: usize,
 }
 

@@ -1,10 +1,11 @@
-//! Writes a struct of words as a list of transport parameters.
+//! Writes a struct of C as a list of transport parameters.
 ghost use Rattle.std.specs.Prelude.{◌≡◌, ◌⊎◌, ◌<◌, ◌≤◌, ◌^◌, ℕ, List, Bool, Option, pos, length, IsTrue, ◌↔◌, IfSome, IsNone, is_some, None, Ok};
 ghost use Rattle.std.specs.declared.net.socket_addr.SocketAddrV4.{SocketAddrV4};
 ghost use Rattle.std.specs.declared.net.socket_addr.SocketAddrV6.{SocketAddrV6};
 ghost use Rattle.quic_base.specs.declared.ids.Side.{Side};
 ghost use Rattle.quic_params.specs.Range.{IsEncodableV6, IsEncodableAddress, IsTypedAddress, IsRecordInRange};
 ghost use Rattle.quic_params.specs.Meaning.{IsReadAnswer};
+ghost use Rattle.quic_params.specs.Options.{as_quinn};
 ghost use Rattle.quic_params.specs.Writing.{written};
 ghost use Rattle.quic_params.specs.declared.record.TransportParameters.{TransportParameters};
 ghost use Rattle.quic_c_params.specs.Shown.{flag_bit, bits, present_in, number_word, reset_token_of, padded, id_of, len_of, octets_of_v4, port_of_v4, octets_of_v6, port_of_v6, params_words};
@@ -28,7 +29,7 @@ fn split(word: u32) -> (bool, u32)
     (word % 2 == 1, word / 2)
 }
 
-// What is present, by the bits of a word.
+// What is present, by the bits of a field.
 #[derive(Clone, Copy)]
 pub(crate) struct Flags {
     token: bool,
@@ -73,7 +74,7 @@ pub(crate) fn flags_in(word: u32) -> Flags
     }
 }
 
-// Each of these gives the value that the words describe, if they describe one.
+// Each of these returns the value that the fields describe, if they describe one.
 fn varint(n: u64) -> VarInt
     ensures { (m : ℕ) → m < 2 ^ 62 → n ≡ m → result ≡ m }
 {
@@ -156,7 +157,7 @@ fn address_in(words: &CParams, flags: Flags) -> Option<PreferredAddress>
     })
 }
 
-// The record that the words describe, if they describe one.
+// The record that the struct describes, if it describes one.
 fn record_in(words: &CParams) -> TransportParameters
     ensures described { (side : Side) (p : TransportParameters) → DescribesParams words.now p → IsRecordInRange side p
         → result ≡ p }
@@ -205,10 +206,10 @@ fn same_words(a: &CParams, b: &CParams) -> bool
     a == b
 }
 
-// The record that the words describe, if the side reads it back.
+// The record that the struct describes, if the side reads it back.
 pub(crate) fn described(side: Side, words: &CParams) -> Option<TransportParameters>
     ensures some { IfSome result
-        (λ p. DescribesParams words.now p × IsRecordInRange side p × IsReadAnswer side (written p) (Ok p)) }
+        (λ p. DescribesParams words.now p × IsRecordInRange side p × IsReadAnswer as_quinn side (written p) (Ok p)) }
     ensures none { IsNone result → (p : TransportParameters) → DescribesParams words.now p → IsRecordInRange side p
         → ⊥ }
 {
@@ -224,11 +225,11 @@ pub(crate) fn described(side: Side, words: &CParams) -> Option<TransportParamete
 /// Writes the list of the parameters in a struct at the front of `dest`, those that differ from their defaults and
 /// those that are present, each in its least widths (RFC 9000, section 18): `side` is 0 if a client is to read it, 1 if
 /// a server is. It returns 0 with how many bytes were written, and the bytes after them don't change: reading them for
-/// this side gives the same words. It returns `NoRoom` with how many bytes are needed if `dest` has fewer; `Kind` exactly
-/// if `side` is above 1; `Parameter` if the side wouldn't read the struct back: a number is out of range, a bit or a byte
-/// of an absent value is not 0, an id is longer than 20 bytes, a value is there that only servers send, an address is
-/// unspecified with port 0, or a preferred address has no address or no id. `dest` changes only with 0, and `written`
-/// only with 0 and `NoRoom`.
+/// this side gives the same struct. It returns `NoRoom` with how many bytes are needed if `dest` has fewer; `Kind`
+/// exactly if `side` is above 1; `Parameter` if the side wouldn't read the struct back: a number is out of range, a bit
+/// or a byte of an absent value is not 0, an id is longer than 20 bytes, a value is there that only servers send, an
+/// address is unspecified with port 0, or a preferred address has no address or no id. `dest` changes only with 0, and
+/// `written` only with 0 and `NoRoom`.
 #[unsafe(no_mangle)]
 pub extern "C" fn quic_wire_params_write_(
     side: u32,

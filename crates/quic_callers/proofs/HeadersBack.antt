@@ -11,7 +11,7 @@ ok_same : (one other : ProtectedHeader × ℕ × ℕ)
     → (let r : Result (ProtectedHeader × ℕ × ℕ) Refusal = Ok one in r) ≡ Ok other → one ≡ other
 ok_same one other same = cc
 
--- where such a packet was cut, it is this one
+-- if such a packet was cut, it is this one
 pub is_alone : (h got : ProtectedHeader) (p end p' len : ℕ)
     → (let r : Result (ProtectedHeader × ℕ × ℕ) Refusal = Ok (h, p, end) in r) ≡ Ok (got, p', len)
     → (got ≡ h) × (len ≡ end)
@@ -41,7 +41,7 @@ begins context bytes front n h is long head =
     let there = subst (λ (xs : List ℕ). HeaderAt context (n + length (drop n bytes)) xs h (drop n bytes)) parts head in
     (whole, subst (λ (k : ℕ). HeaderAt context k bytes h (drop n bytes)) whole there)
 
--- where a header says how long the packet is, a packet that was cut is as long as that
+-- if a header says how long the packet is, a packet that was cut is as long as that
 pub says_len : (context : DecodeOptions) (bytes : List ℕ) (n len : ℕ) (h : ProtectedHeader) (found : Option ℕ)
     → ((a b : Result (ProtectedHeader × ℕ × ℕ) Refusal) → CutAnswer context bytes a → CutAnswer context bytes b → a ≡ b)
     → n + length (drop n bytes) ≡ length bytes → HeaderAt context (length bytes) bytes h (drop n bytes)

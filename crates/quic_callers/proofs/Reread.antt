@@ -46,7 +46,7 @@ one_left found bytes payload it f is first =
     let one : AreFrames false (found ∷ []) bytes = (bytes, [], sym (append-nil bytes), f, λ opens. refl, refl) in
     frames_first false payload it (found ∷ []) first (subst (AreFrames false (found ∷ [])) (sym is) one)
 
--- The first item that it gives is that frame.
+-- The first item that it returns is that frame.
 pub gives_it : (found : TypedFrame) (it new : IterState) (item : Option (Result Frame InvalidFrame))
     → map unplaced (left it) ≡ map given (found ∷ [])
     → Advances it item new

@@ -5,11 +5,11 @@ use Rattle.std.specs.Range.{range_inclusive_start, range_inclusive_end, range_in
 use Rattle.std.specs.declared.ops.RangeInclusive.{RangeInclusive}
 use Rattle.quic_ranges.specs.Numbers.{count_from}
 
--- the distance of two numbers, as ranges take it
+-- the distance of two numbers, as ranges have it
 abbrev pub gap : ℕ → ℕ → ℕ
 gap a b = b - a
 
--- the numbers that a range still gives
+-- the numbers that remain in a range
 abbrev pub left_in : RangeInclusive ℕ → List ℕ
 left_in range = count_from (range_inclusive_start range) (range_inclusive_left gap range)
 

@@ -41,7 +41,7 @@ pub fn is_acked(ack: &Ack<'_>, number: u64) -> bool
 }
 
 /// Writes an acknowledgement of a set as a payload of its own, reads it, and makes a set of its ranges, the same one,
-/// which it gives with the delay. The caller must ensure that the set has a number, that its numbers and the delay
+/// which it returns with the delay. The caller must ensure that the set has a number, that its numbers and the delay
 /// are below 2^62, and that the buffer is empty.
 pub fn set_again(
     alloc: Global,

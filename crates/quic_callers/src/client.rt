@@ -68,7 +68,7 @@ pub fn first_number(bytes: &[u8]) -> Result<(u64, &[u8])>
     Ok((n, rest))
 }
 
-/// Two values of any type that has a codec, by its bound alone.
+/// Two values of any type that has a codec, proved only from its bound.
 #[tactic(auto, using(quic_base::proofs::PublicLaws::in_turn))]
 pub fn read_two<T: Codec + Drop, B: Buf>(buf: &mut B) -> Result<(T, T)>
     ensures ok { IfOk result (λ r. Takes (Follows (T.encoded r.0) (T.encoded r.1))

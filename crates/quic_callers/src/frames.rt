@@ -10,7 +10,7 @@ use quic_base::coding::NoRoom;
 use quic_frames::frame::{Ack, AckError, AckIter, Frame, Iter};
 use quic_frames::laws;
 
-/// Writes a frame as a payload of its own and gives the frame that is read from it, which has the same meaning.
+/// Writes a frame as a payload of its own and returns the frame that is read from it, which has the same meaning.
 /// The caller must ensure that the frame can be written, and that the buffer is empty.
 pub fn written_and_read<'a>(frame: &Frame<'_>, out: &'a mut Vec<u8>) -> Result<Frame<'a>, NoRoom>
     requires stands { CanStand true frame.now }

@@ -1,5 +1,5 @@
-//! Datagrams that are cut, and packets whose length is filled in: what callers learn from contracts and from the laws of
-//! headers, for every lawful parser of ids and all lawful keys.
+//! Datagrams that are cut, and packets whose length is filled in: what callers learn from contracts and from the laws
+//! of headers, for every lawful parser of ids and all lawful keys.
 ghost use Rattle.std.specs.Prelude.{◌≡◌, ◌+◌, ◌-◌, ◌∷◌, [], ◌++◌, ◌≤◌, ℕ, true, IsTrue, IfSome, IsOk, OnOk, Contains, length, option_map, take, vec_capacity};
 ghost use Rattle.quic_header_encode.specs.Writing.{HasRoom, IsWritable, has_length, header_size, header_with, encoding_in, sealed_packet, size_in};
 ghost use Rattle.quic_header_decode.specs.declared.protected.ProtectedHeader.{ProtectedHeader};
@@ -16,7 +16,7 @@ use quic_header_decode::parser::ConnectionIdParser;
 use quic_header_encode::header::Header;
 use quic_header_encode::laws::length_later;
 
-// Cuts the first packet, and answers how many bytes it has.
+// Cuts the first packet, and returns how many bytes it has.
 fn cut_len<C: ConnectionIdParser>(
     datagram: BytesMut,
     parser: &C,
@@ -32,7 +32,7 @@ fn cut_len<C: ConnectionIdParser>(
     }
 }
 
-/// Cuts two datagrams of the same bytes, and answers whether both packets have the same length: they have, unless
+/// Cuts two datagrams of the same bytes, and returns whether both packets have the same length: they have, unless
 /// memory runs out.
 pub fn cut_twice<C: ConnectionIdParser>(
     one: BytesMut,
@@ -52,7 +52,7 @@ pub fn cut_twice<C: ConnectionIdParser>(
 }
 
 /// Cuts the first packet of a datagram that begins with the header of the client's first Initial packet in RFC 9001,
-/// section A.2, and answers how many bytes the packet has: 1200. The caller must give version 1 as a known one, and a
+/// section A.2, and returns how many bytes the packet has: 1200. The caller must give version 1 as a known one, and a
 /// datagram that is no shorter than the packet.
 pub fn client_initial_len<C: ConnectionIdParser>(
     datagram: BytesMut,
@@ -75,9 +75,9 @@ pub fn client_initial_len<C: ConnectionIdParser>(
 
 /// Writes a header and its payload into an empty buffer, and then fills in the length, seals the payload by the number
 /// and key of `crypto`, if there is one, and protects the header: on success, the packet is the same as if its header
-/// had been written with its length at once. It succeeds if the buffer has spare room for both. The caller must ensure
-/// that the header can be written and has a length, and that the packet has the room that `PartialEncode::finish`
-/// requires; the payload's last bytes are room for the tag.
+/// had been written with its length from the start. It succeeds if the buffer has spare room for both. The caller must
+/// ensure that the header can be written and has a length, and that the packet has the room that
+/// `PartialEncode::finish` requires; the payload's last bytes are room for the tag.
 pub fn packet_with_length<H: HeaderKey, P: PacketKey>(
     header: &Header,
     payload: &[u8],

@@ -1,4 +1,4 @@
-//! Callers of sets, frames, headers and transport parameters, each proved from public contracts alone.
+//! Callers of sets, frames, headers and transport parameters, each proved only from public contracts.
 #![tactic(auto)]
 
 pub mod acks;

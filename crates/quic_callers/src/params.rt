@@ -4,6 +4,7 @@ ghost use Rattle.std.specs.Prelude.{◌≡◌, ◌<◌, IfSome, OnOk, Ok, Some, 
 ghost use Rattle.quic_params.specs.Entry.{Entry};
 ghost use Rattle.quic_params.specs.Further.{IsRecordOf};
 ghost use Rattle.quic_params.specs.Meaning.{IsReadAnswer};
+ghost use Rattle.quic_params.specs.Options.{as_quinn};
 ghost use Rattle.quic_params.specs.Resumption.{Resumes};
 ghost use Rattle.quic_params.specs.Table.{ids};
 ghost use Rattle.quic_params.specs.declared.record.TransportParameters.{TransportParameters};
@@ -14,10 +15,10 @@ use quic_params::laws;
 use quic_params::transport_parameters::{TransportParameterId, TransportParameters, split_entry};
 
 /// The number of the first entry of a list that a side accepts, of a known parameter or another: `None` if the side
-/// refuses the list, or it has no entry. What the record has came from that entry and the ones after it.
+/// rejects the list, or it has no entry. What the record has came from that entry and the ones after it.
 pub fn first_read(side: Side, list: &[u8]) -> Option<u64>
     ensures { IfSome result (λ number. (p : TransportParameters) × (first : Entry) × (others : List Entry)
-        × IsReadAnswer side list.now (Ok p) × (first.number ≡ number) × IsRecordOf (first ∷ others) p) }
+        × IsReadAnswer as_quinn side list.now (Ok p) × (first.number ≡ number) × IsRecordOf (first ∷ others) p) }
 {
     laws::entries();
     let mut rest = list;
@@ -51,7 +52,7 @@ pub fn keeps_itself(params: &TransportParameters) {
     }
 }
 
-/// The parameter that is written at a place, counted from 0 and below 21.
+/// The parameter that is written at an index, counted from 0 and below 21.
 pub fn written_at(place: usize) -> TransportParameterId
     requires { place < length ids }
     ensures { slice_get ids place ≡ Some result }

@@ -48,7 +48,7 @@ pub fn first_by_rules(payload: &[u8], rules: Rules) -> Option<Frame<'_>>
 }
 
 /// How many bytes of stream data a valid payload has, or 2^64 - 1 if that is less; else the error to close the
-/// connection with, which is the one that the grammar gives.
+/// connection with, which is the one that the grammar has.
 pub fn all_stream_data(payload: &[u8]) -> Result<usize, Error>
     ensures ok { IfOk result (λ count. (found : List TypedFrame) × AreFrames false found payload.now
         × (count ≡ min (streams_len found) (2 ^ 64 - 1))) }

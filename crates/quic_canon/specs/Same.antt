@@ -17,8 +17,7 @@ abbrev pub is_ack : Name → Bool
 is_ack Ack = true
 is_ack name = false
 
--- The values by which frames are compared: for an ACK, all except the first, its greatest number, which its ranges
--- determine.
+-- The values by which frames are compared: for an ACK all except its greatest number, which its ranges determine.
 abbrev pub compared_values : Meaning → List Value
 compared_values frame = if is_ack frame.name then drop 1 frame.values else frame.values
 

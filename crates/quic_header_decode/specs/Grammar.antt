@@ -146,8 +146,7 @@ HeaderAt options datagram_len bytes h rest =
     × AreHeaderFields options (header_row_of first (num (take 4 text))) [] values text rest
     × IsHeader datagram_len first values h
 
--- The bytes begin with no header, and this is the error: that of the first byte, or of the first field that isn't
--- there.
+-- The bytes begin with no header, and this is the error: of the first byte, or of the first field that isn't there.
 abbrev pub Refused : DecodeOptions → List ℕ → Refusal → Type 0
 Refused options [] e = e ≡ Invalid (codes "unexpected end of packet")
 Refused options (first ∷ text) e =

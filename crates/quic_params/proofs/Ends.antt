@@ -1,5 +1,6 @@
 -- Lemmas on where a reader stops.
 use Rattle.std.proofs.Common.{◌≡◌, ℕ, ◌<◌, ◌≤◌, Bool, true, false, List, [], ◌++◌, length, take, drop, get_or, refl, sym, ◌∙◌, ap, inl, arith, append_assoc, subst, inr}
+use Rattle.std.specs.Prelude.{◌||◌}
 use Rattle.std.proofs.lemmas.List.{take-append-drop, length-take, drop-append-le, append_cancel_right}
 use Rattle.quic_base.specs.Codec.{Takes, Follows}
 use Rattle.quic_base.specs.Varint.{Encodes}
@@ -10,7 +11,7 @@ use Rattle.quic_params.specs.declared.parameter.Kind.{Kind}
 use Rattle.quic_params.specs.declared.parameter.Row.{Row}
 use Rattle.quic_params.specs.declared.parameter.TransportParameterId.{TransportParameterId}
 use Rattle.quic_params.specs.declared.record.TransportParameters.{TransportParameters}
-use Rattle.quic_params.specs.Options.{kind_read, once_read}
+use Rattle.quic_params.specs.Options.{kind_read}
 use Rattle.quic_params.specs.Table.{row_of}
 use Rattle.quic_params.specs.Value.{IsNoValue}
 use Rattle.quic_params.specs.Entry.{Given, IsEnd, IsKnownParameter, RefusesList, StopsAtEntry, StopsAt, StopsIn, within_entry}
@@ -39,7 +40,7 @@ drop_within count len mid le fits =
 
 -- ---- stops
 
--- at an entry that is refused, whose header was read, and so many bytes of its value
+-- at an entry that is rejected, whose header was read, and so many bytes of its value
 entry_left : (opt : ReadOptions) (before : List Given) (old mid new : List ℕ) (n len count : ℕ) (error : Error)
     → Takes (Follows (Encodes n) (Encodes len)) old mid → len ≤ length mid
     → RefusesList opt before (at n (take len mid)) error → count ≤ len → new ≡ drop count mid → StopsAt opt before old error new
@@ -69,11 +70,11 @@ pub repeat_left : (opt : ReadOptions) (p : TransportParameters) (seen : List Boo
     (i : TransportParameterId) (w : Row)
     → w ≡ row_of i
     → Takes (Follows (Encodes n) (Encodes len)) old mid → len ≤ length mid → IsKnownParameter i n
-    → once_read opt w.once ≡ true
+    → (opt.no_repeats || w.once) ≡ true
     → get_or seen w.index false ≡ true → Holds p seen before
     → StopsAt opt before old Malformed mid
 repeat_left opt p seen before old mid n len i w e t le k once seen_it h =
-    let again : once_read opt (row_of i).once ≡ true = sym (ap (λ r. once_read opt r.once) e) ∙ once in
+    let again : (opt.no_repeats || (row_of i).once) ≡ true = sym (ap (λ r. opt.no_repeats || r.once) e) ∙ once in
     let marked : get_or seen (row_of i).index false ≡ true = sym (ap (λ r. get_or seen r.index false) e) ∙ seen_it in
     entry_left opt before old mid mid n len 0 Malformed t le (record
     { id = i; known = k; cause = inl ((again, h.given_there i marked), refl) }) (omega arith) refl
@@ -83,12 +84,12 @@ pub value_left : (opt : ReadOptions) (p : TransportParameters) (seen : List Bool
     (n len count : ℕ) (i : TransportParameterId) (error : Error) (w : Row)
     → w ≡ row_of i
     → Takes (Follows (Encodes n) (Encodes len)) old mid → len ≤ length mid → IsKnownParameter i n
-    → ¬ ((once_read opt w.once ≡ true) × (get_or seen w.index false ≡ true))
+    → ¬ (((opt.no_repeats || w.once) ≡ true) × (get_or seen w.index false ≡ true))
     → (k : Kind) → k ≡ kind_read opt w.kind → IsNoValue k (take len mid) error → Holds p seen before → count ≤ len → new ≡ drop count mid
     → StopsAt opt before old error new
 value_left opt p seen before old mid new n len count i error w e t le k once x kind_is bad h within rest =
-    let once_there : ¬ ((once_read opt (row_of i).once ≡ true) × (get_or seen (row_of i).index false ≡ true)) =
-    subst (λ (r : Row). ¬ ((once_read opt r.once ≡ true) × (get_or seen r.index false ≡ true))) e once in
+    let once_there : ¬ (((opt.no_repeats || (row_of i).once) ≡ true) × (get_or seen (row_of i).index false ≡ true)) =
+    subst (λ (r : Row). ¬ (((opt.no_repeats || r.once) ≡ true) × (get_or seen r.index false ≡ true))) e once in
     let none : IsNoValue (kind_read opt (row_of i).kind) (take len mid) error =
     subst (λ (y : Kind). IsNoValue y (take len mid) error) (kind_is ∙ ap (λ (r : Row). kind_read opt r.kind) e) bad in
     entry_left opt before old mid new n len count error t le (record
@@ -103,12 +104,13 @@ stops_in opt whole old left p seen e h lt stop at = record {
   bad = record {
     entries = h.entries;
     given = h.given;
-    front = h.front;
-    rest = old;
-    whole = h.parts;
-    list = h.list;
-    some = λ n. let z : length old ≡ 0 = ap length n in omega arith;
-    stops = stop h.given h.holds;
+    parts = record {
+      front = h.front;
+      back = old;
+      whole = h.parts;
+      first = h.list;
+      second = (λ n. let z : length old ≡ 0 = ap length n in omega arith, stop h.given h.holds);
+    };
   };
   stops_at = at h.given h.holds;
 }

@@ -22,7 +22,7 @@ use Rattle.quic_params.specs.Writing.{shortest_entry, written_for}
 use Rattle.quic_params.specs.Further.{AreInOrder, IsRecordOf, IsOther, AreOthers, encoded_entries, IsOrderOf}
 use Rattle.quic_params.proofs.Entries.{entry_unique}
 use Rattle.quic_params.proofs.Progress.{entry_some}
-use Rattle.quic_params.proofs.Least.{is_entry}
+use Rattle.quic_params.proofs.Least.{is_entry, strictest}
 use Rattle.quic_params.proofs.Orders.{downward, all_once, downward_below}
 use Rattle.quic_params.proofs.ReadBack.{IsSound, Reads, add, at_itself, all_given, given_after, given_by, gives, is_at, plain_valid, reads_entry, reads_none, reads_parameter, sound_of, times}
 
@@ -170,7 +170,7 @@ reads_mixed p es (i ∷ os) s h b =
     reads_either (nat_lt i parameter_count) p es i os (own os) refl s h b.0 (reads_mixed p es os s h b.1)
 
 pub read_further : (p : TransportParameters) (es : List Entry) (order : List ℕ) → IsSound p → AreOthers es
-    → IsOrderOf (parameter_count + length es) order → IsMeant (plain p) (flat_map (encoded_at p es) order)
+    → IsOrderOf (parameter_count + length es) order → IsMeant strictest (plain p) (flat_map (encoded_at p es) order)
 read_further p es order s h o =
     let start : Reads [] [] = record { entries = []; list = record { encoded = refl; gives = refl } } in
     let one = own_once (length es) order o in
@@ -187,7 +187,7 @@ read_further p es order s h o =
 
 pub answers_further : (side : Side) (p : TransportParameters) (es : List Entry) (order : List ℕ) → IsTypedRecord p
     → IsRecordInRange side p → AreOthers es → IsOrderOf (parameter_count + length es) order
-    → IsReadAnswer side (flat_map (encoded_at p es) order) (Ok (plain p))
+    → IsReadAnswer strictest side (flat_map (encoded_at p es) order) (Ok (plain p))
 answers_further side p es order t h others o =
     (read_further p es order (sound_of side p t h) others o, plain_valid side p h.valid)
 
@@ -223,10 +223,10 @@ in_order_from (e ∷ es) fs a b p q =
     (in_order_from es (e ∷ fs) p.front (p.back ++ b) p.first
     (record { front = p.back; back = b; whole = refl; first = p.second; second = q }))
 
-pub of_record : (side : Side) (b : List ℕ) (p : TransportParameters) → IsReadAnswer side b (Ok p)
+pub of_record : (side : Side) (b : List ℕ) (p : TransportParameters) → IsReadAnswer as_quinn side b (Ok p)
     → (es : List Entry) × AreInOrder es b × IsRecordOf es p
 of_record side b p h =
-    let m : IsMeant p b = h.0 in (
+    let m : IsMeant as_quinn p b = h.0 in (
       reverse m.entries,
       subst (AreInOrder (reverse m.entries)) (append-nil b) (in_order_from m.entries [] b [] m.list.encoded refl),
       record {
@@ -252,7 +252,7 @@ pub record Next (n : ℕ) (x r : List ℕ) (es : List Entry) : Type 0 where
   pub bytes : first.bytes ≡ x
   pub behind : AreInOrder others r
 
--- entries that begin with one that was taken
+-- entries that begin with one that was read
 pub next : (n : ℕ) (x b r : List ℕ) (es : List Entry) → Takes (IsEntry n x) b r → AreInOrder es b → Next n x r es
 next n x b r [] t h = absurd (none_taken n x b r t h)
 next n x b r (e ∷ es) t h =

@@ -1,4 +1,4 @@
--- What one way of reading takes, another takes too.
+-- What one way of reading accepts, another accepts too.
 use Rattle.std.proofs.Common.{◌≡◌, ℕ, ◌+◌, Bool, true, false, List, [], ◌∷◌, ◌++◌, length, Ok, Err, refl, sym, ◌∙◌, ap, subst, arith, inl, inr, append_assoc, length-append}
 use Rattle.std.specs.Prelude.{◌⊎◌}
 use Rattle.std.proofs.lemmas.List.{append-nil}
@@ -17,12 +17,13 @@ use Rattle.quic_params.specs.Options.{in_any_width, kind_read, reading}
 use Rattle.quic_params.specs.Table.{row_of}
 use Rattle.quic_params.specs.Value.{IsEncoded}
 use Rattle.quic_params.specs.Entry.{Entry, Given, IsGiven, IsKnownParameter, IsRepeat, Passed, Taken, AreEntries, Give, IsBadList}
-use Rattle.quic_params.specs.Meaning.{IsMeantWith, IsReadAnswerWith}
+use Rattle.quic_params.specs.Meaning.{IsMeant, IsReadAnswer}
+use Rattle.quic_params.proofs.Least.{strictest}
 use Rattle.quic_params.proofs.Progress.{entry_some}
 use Rattle.quic_params.proofs.ReadBack.{index_cases}
 use Rattle.quic_params.proofs.Rows.{index_once}
 
--- ---- a reading that takes more
+-- ---- a reading that accepts more
 
 give_more : (o q : ReadOptions)
     → ((k : Kind) (v : Value) (b : List ℕ) → IsEncoded (kind_read o k) v b → IsEncoded (kind_read q k) v b)
@@ -39,9 +40,9 @@ give_more o q kinds repeats (e ∷ es) g h =
 
 answer_more : (o q : ReadOptions) (side : Side) (b : List ℕ) (p : TransportParameters)
     → ((es : List Entry) (g : List Given) → Give o es g → Give q es g)
-    → IsReadAnswerWith o side b (Ok p) → IsReadAnswerWith q side b (Ok p)
+    → IsReadAnswer o side b (Ok p) → IsReadAnswer q side b (Ok p)
 answer_more o q side b p more h =
-    let m : IsMeantWith o p b = h.0 in (
+    let m : IsMeant o p b = h.0 in (
       record {
         entries = m.entries;
         given = m.given;
@@ -63,19 +64,19 @@ wider K.Address v b h = h
 wider K.Skipped v b h = h
 
 pub any_width_takes : (repeats : Bool) (side : Side) (b : List ℕ) (p : TransportParameters)
-    → IsReadAnswerWith (reading false repeats) side b (Ok p) → IsReadAnswerWith (reading true repeats) side b (Ok p)
+    → IsReadAnswer (reading false repeats) side b (Ok p) → IsReadAnswer (reading true repeats) side b (Ok p)
 any_width_takes repeats side b p =
     answer_more (reading false repeats) (reading true repeats) side b p
     (give_more (reading false repeats) (reading true repeats) wider (λ id before r. r))
 
 -- a list without repeats has no forbidden ones
 pub repeats_taken : (width : Bool) (side : Side) (b : List ℕ) (p : TransportParameters)
-    → IsReadAnswerWith (reading width true) side b (Ok p) → IsReadAnswerWith (reading width false) side b (Ok p)
+    → IsReadAnswer (reading width true) side b (Ok p) → IsReadAnswer (reading width false) side b (Ok p)
 repeats_taken width side b p =
     answer_more (reading width true) (reading width false) side b p
     (give_more (reading width true) (reading width false) (λ k v b h. h) (λ id before r. (refl, r.1)))
 
--- ---- a reading that takes no repeats
+-- ---- a reading that accepts no repeats
 
 given_cases : (id : TransportParameterId) (before : List Given) → IsGiven id before ⊎ ¬ (IsGiven id before)
 given_cases id [] = inr (λ h. h)
@@ -98,20 +99,24 @@ bad_repeat : (width : Bool) (e : Entry) (es : List Entry) (g : List Given) (b re
 bad_repeat width e es g b rest i v a gives k there = record {
   entries = es;
   given = g;
-  front = a.front;
-  rest = a.back ++ rest;
-  whole = ap (λ l. l ++ rest) a.whole ∙ append_assoc a.front a.back rest;
-  list = record { encoded = a.first; gives = gives };
-  some = λ n. let l : length a.back + length rest ≡ 0 = sym (length-append a.back rest) ∙ ap length n in
-      omega (arith, l, entry_some e.number e.bytes a.back a.second);
-  stops = inr (record {
-    entry = e;
-    front = a.back;
-    rest = rest;
-    whole = refl;
-    encoded = a.second;
-    refused = record { id = i; known = k; cause = inl ((refl, there), refl) };
-  });
+  parts = record {
+    front = a.front;
+    back = a.back ++ rest;
+    whole = ap (λ l. l ++ rest) a.whole ∙ append_assoc a.front a.back rest;
+    first = record { encoded = a.first; gives = gives };
+    second = (
+      λ n. let l : length a.back + length rest ≡ 0 = sym (length-append a.back rest) ∙ ap length n in
+          omega (arith, l, entry_some e.number e.bytes a.back a.second),
+      inr (record {
+        entry = e;
+        front = a.back;
+        rest = rest;
+        whole = refl;
+        encoded = a.second;
+        refused = record { id = i; known = k; cause = inl ((refl, there), refl) };
+      }),
+    );
+  };
 }
 
 abbrev Repeats : Bool → List ℕ → Type 0
@@ -134,10 +139,10 @@ without_repeats width (e ∷ es) g b a h =
     ]
 
 pub or_repeated : (width : Bool) (side : Side) (b : List ℕ) (p : TransportParameters)
-    → IsReadAnswerWith (reading width false) side b (Ok p)
-    → IsReadAnswerWith (reading width true) side b (Ok p) ⊎ IsReadAnswerWith (reading width true) side b (Err Malformed)
+    → IsReadAnswer (reading width false) side b (Ok p)
+    → IsReadAnswer (reading width true) side b (Ok p) ⊎ IsReadAnswer (reading width true) side b (Err Malformed)
 or_repeated width side b p h =
-    let m : IsMeantWith (reading width false) p b = h.0 in
+    let m : IsMeant (reading width false) p b = h.0 in
     elim (without_repeats width m.entries m.given b m.list.encoded m.list.gives) [
       | inl gives ↦ inl (
         record {
@@ -150,3 +155,16 @@ or_repeated width side b p h =
       )
       | inr bad ↦ inr (inl (subst (λ (l : List ℕ). IsBadList (reading width true) l Malformed) (append-nil b) (bad [])))
     ]
+
+-- ---- what each reading accepts
+
+of_both : (width repeats : Bool) (side : Side) (b : List ℕ) (p : TransportParameters)
+    → IsReadAnswer strictest side b (Ok p) → IsReadAnswer (reading width repeats) side b (Ok p)
+of_both false true side b p h = h
+of_both false false side b p h = repeats_taken false side b p h
+of_both true true side b p h = any_width_takes true side b p h
+of_both true false side b p h = repeats_taken true side b p (any_width_takes true side b p h)
+
+pub each_takes : (opt : ReadOptions) (side : Side) (b : List ℕ) (p : TransportParameters)
+    → IsReadAnswer strictest side b (Ok p) → IsReadAnswer opt side b (Ok p)
+each_takes opt side b p h = of_both opt.any_width opt.no_repeats side b p h

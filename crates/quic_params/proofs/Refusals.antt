@@ -1,4 +1,4 @@
--- Where a list is refused.
+-- At which entry a list is rejected.
 use Rattle.std.proofs.Common.{◌≡◌, ◌≢◌, ℕ, ◌-◌, List, [], ◌∷◌, ◌++◌, length, take, drop, reverse, Option, Some, None, Result, Ok, Err, refl, sym, ◌∙◌, ap, subst, arith, inl, inr, append_assoc, length-append}
 use mathlib.Core.List.{reverse_aux}
 use Rattle.std.specs.Prelude.{◌⊎◌, MatchOption}
@@ -15,7 +15,7 @@ use Rattle.quic_params.specs.declared.record.TransportParameters.{TransportParam
 use Rattle.quic_params.specs.Answer.{rules}
 use Rattle.quic_params.specs.Entry.{Entry, IsEntry, IsCutEntry}
 use Rattle.quic_params.specs.Further.{AreInOrder, HasEntryNumber}
-use Rattle.quic_params.specs.Meaning.{IsMeantWith, IsValid}
+use Rattle.quic_params.specs.Meaning.{IsMeant, IsValid}
 use Rattle.quic_params.specs.Refusal.{IsNumberAt, IsLastEntry, IsRefusedFrom, IsRefusedEntry, IsRefusedRecord, IsPlacedAnswer, first_broken}
 use Rattle.quic_params.specs.Table.{row_of}
 use Rattle.quic_params.proofs.Entries.{entry_unique}
@@ -59,7 +59,7 @@ has_reversed n (e ∷ es) fs (inr h) = has_reversed n es (e ∷ fs) (inr (inr h)
 
 -- the parameter of a broken rule is in the list
 pub broken_there : (opt : ReadOptions) (side : Side) (p : TransportParameters) (b : List ℕ) (id : TransportParameterId)
-    → IsMeantWith opt p b → first_broken (rules side p) ≡ Some id
+    → IsMeant opt p b → first_broken (rules side p) ≡ Some id
     → (es : List Entry) × AreInOrder es b × HasEntryNumber (row_of id).number es
 broken_there opt side p b id m e = (
   reverse m.entries,
@@ -67,7 +67,7 @@ broken_there opt side p b id m e = (
   has_reversed (row_of id).number m.entries [] (inl (broken_entry opt side p id m.entries m.given e m.list.gives m.is_record)),
 )
 
--- ---- an entry that is refused
+-- ---- an entry that is rejected
 
 rest_is : (n : ℕ) (b front rest : List ℕ) → b ≡ front ++ rest → n ≡ length front → drop n b ≡ rest
 rest_is n b front rest w l =
@@ -76,9 +76,9 @@ rest_is n b front rest w l =
     same_back (take n b) front (drop n b) rest fits (take-append-drop n b ∙ w)
 
 left_of : (opt : ReadOptions) (b : List ℕ) (e : Error) (left : ℕ) → (r : IsRefusedFrom opt b e left)
-    → length b - left ≡ length r.bad.front
+    → length b - left ≡ length r.bad.parts.front
 left_of opt b e left r =
-    omega (arith, r.left_is, ap length r.bad.whole, length-append r.bad.front r.bad.rest)
+    omega (arith, r.left_is, ap length r.bad.parts.whole, length-append r.bad.parts.front r.bad.parts.back)
 
 pub refused_number : (opt : ReadOptions) (b mid : List ℕ) (e : Error) (left n : ℕ) → IsRefusedFrom opt b e left
     → Takes (Encodes n) (drop (length b - left) b) mid
@@ -90,7 +90,7 @@ refused_number opt b mid e left n r t =
       offset_is = at;
       number_is = (
         mid,
-        subst (λ (l : List ℕ). Takes (Encodes n) l mid) (rest_is (length b - left) b r.bad.front r.bad.rest r.bad.whole at) t,
+        subst (λ (l : List ℕ). Takes (Encodes n) l mid) (rest_is (length b - left) b r.bad.parts.front r.bad.parts.back r.bad.parts.whole at) t,
       );
     }
 
@@ -102,7 +102,7 @@ refused_cut opt b e left r cut =
     record {
       bad = r.bad;
       offset_is = at;
-      number_is = λ n. subst (NoFront (Encodes n)) (rest_is (length b - left) b r.bad.front r.bad.rest r.bad.whole at) (cut n);
+      number_is = λ n. subst (NoFront (Encodes n)) (rest_is (length b - left) b r.bad.parts.front r.bad.parts.back r.bad.parts.whole at) (cut n);
     }
 
 -- ---- the last entry of a number
@@ -245,7 +245,7 @@ last_once n m o b p q =
     p.offset_is ∙ front_once p.before p.front q.front p.rest q.rest (sym p.whole ∙ q.whole) p.begins
     (subst (λ (l : List Entry). AreInOrder l q.front) before q.begins) ∙ sym q.offset_is
 
--- ---- there is one answer
+-- ---- there is one result
 
 number_at_once : (b : List ℕ) (x y : Option ℕ) → IsNumberAt b x → IsNumberAt b y → x ≡ y
 number_at_once b None None p q = refl
@@ -264,12 +264,12 @@ entry_refused_once : (opt : ReadOptions) (b : List ℕ) (x y : Refusal) → IsRe
     → x ≡ y
 entry_refused_once opt b x y p q =
     let u = bad_once opt b x.error y.error p.bad q.bad in
-    let l : length p.bad.front ≡ length q.bad.front =
-    omega (arith, ap length p.bad.whole, ap length q.bad.whole, length-append p.bad.front p.bad.rest, length-append q.bad.front q.bad.rest, u.1) in
-    let rest : q.bad.rest ≡ p.bad.rest =
-    same_back q.bad.front p.bad.front q.bad.rest p.bad.rest (sym l) (sym q.bad.whole ∙ p.bad.whole) in
+    let l : length p.bad.parts.front ≡ length q.bad.parts.front =
+    omega (arith, ap length p.bad.parts.whole, ap length q.bad.parts.whole, length-append p.bad.parts.front p.bad.parts.back, length-append q.bad.parts.front q.bad.parts.back, u.1) in
+    let rest : q.bad.parts.back ≡ p.bad.parts.back =
+    same_back q.bad.parts.front p.bad.parts.front q.bad.parts.back p.bad.parts.back (sym l) (sym q.bad.parts.whole ∙ p.bad.parts.whole) in
     same_refusal x y u.0
-    (number_at_once p.bad.rest x.id y.id p.number_is (subst (λ (r : List ℕ). IsNumberAt r y.id) rest q.number_is))
+    (number_at_once p.bad.parts.back x.id y.id p.number_is (subst (λ (r : List ℕ). IsNumberAt r y.id) rest q.number_is))
     (p.offset_is ∙ l ∙ sym q.offset_is)
 
 some_same : (i j : TransportParameterId) → Some i ≡ Some j → i ≡ j
@@ -288,7 +288,7 @@ record_refused_once opt side b x y p q =
     (last_once (row_of p.id).number x.offset y.offset b p.entry entry)
 
 valid_unrefused : (opt : ReadOptions) (side : Side) (b : List ℕ) (p : TransportParameters) (x : Refusal)
-    → IsMeantWith opt p b → IsValid side p → IsRefusedRecord opt side b x → ⊥
+    → IsMeant opt p b → IsValid side p → IsRefusedRecord opt side b x → ⊥
 valid_unrefused opt side b p x m v r =
     let same : p ≡ r.params = meant_once opt b p r.params m r.meant in
     let none : first_broken (rules side r.params) ≡ None =

@@ -1,5 +1,6 @@
 -- The rules that a side's records keep, and the parameter of one that is broken.
 use Rattle.std.proofs.Common.{◌≡◌, ℕ, ◌*◌, ◌^◌, Bool, true, false, List, [], ◌∷◌, Option, Some, None, refl, sym, ◌∙◌, ap, subst, inl, inr}
+use Rattle.std.specs.Option.{option_map}
 use Rattle.std.specs.Prelude.{⊤, nat_le, nat_lt, ◌⊎◌, MatchBool}
 use Rattle.quic_base.specs.declared.ids.Side.{Side}
 use Rattle.quic_base.specs.declared.ids.Side.TheVariants.{Client, Server}
@@ -13,7 +14,7 @@ use Rattle.quic_params.specs.Answer.{delay_at, address_at, absent_at, all_kept, 
 use Rattle.quic_params.specs.Entry.{Entry, Given, IsGiven, Passed, Taken, Give}
 use Rattle.quic_params.specs.Further.{HasEntryNumber}
 use Rattle.quic_params.specs.Meaning.{IsValid}
-use Rattle.quic_params.specs.Record.{IsRecord, kept, value_of, value_given}
+use Rattle.quic_params.specs.Record.{IsRecord, value_of, value_given}
 use Rattle.quic_params.specs.Refusal.{first_broken}
 use Rattle.quic_params.specs.Table.{row_of}
 use Rattle.quic_params.specs.Value.{default_of}
@@ -83,15 +84,15 @@ broken_of p j ((id, t) ∷ others) h e = one_broken p t id j others h.0 (broken_
 number_is : (m n : ℕ) → Some (V.Number m) ≡ Some (V.Number n) → m ≡ n
 number_is m n e = cc
 
-no_delay : (o : Option ℕ) (m : ℕ) → kept V.Number o ≡ None → delay_at o m ≡ true
+no_delay : (o : Option ℕ) (m : ℕ) → option_map V.Number o ≡ None → delay_at o m ≡ true
 no_delay None m e = refl
 no_delay (Some d) m e = absurd cc
 
-no_address : (o : Option PreferredAddress) → kept V.Address o ≡ None → address_at o ≡ true
+no_address : (o : Option PreferredAddress) → option_map V.Address o ≡ None → address_at o ≡ true
 no_address None e = refl
 no_address (Some a) e = absurd cc
 
-is_absent : {A : Type 0} (as_value : A → Value) (side : Side) (o : Option A) → kept as_value o ≡ None
+is_absent : {A : Type 0} (as_value : A → Value) (side : Side) (o : Option A) → option_map as_value o ≡ None
     → absent_at side o ≡ true
 is_absent as_value Client o e = refl
 is_absent as_value Server None e = refl

@@ -15,7 +15,7 @@ abbrev pub AreInOrder : List Entry → List ℕ → Type 0
 AreInOrder [] bytes = bytes ≡ []
 AreInOrder (first ∷ others) bytes = Follows (IsEntry first.number first.bytes) (AreInOrder others) bytes
 
--- the record has what the entries give, each accepted after those before it
+-- the record has the values of the entries, each accepted after those before it
 pub record IsRecordOf (entries : List Entry) (params : TransportParameters) : Type 0 where
   pub given : List Given
   pub gives : Give as_quinn (reverse entries) given

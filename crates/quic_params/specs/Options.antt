@@ -1,5 +1,5 @@
--- How lists are read, where RFC 9000 and quinn-proto differ.
-use Rattle.std.specs.Prelude.{Bool, true, false, cond, ◌||◌}
+-- How lists are read in what RFC 9000 and quinn-proto differ.
+use Rattle.std.specs.Prelude.{Bool, true, false, cond}
 use Rattle.quic_params.specs.declared.options.ReadOptions.{ReadOptions}
 use Rattle.quic_params.specs.declared.parameter.Kind.{Kind}
 use Rattle.quic_params.specs.declared.parameter.Kind.TheVariants as K
@@ -21,7 +21,3 @@ in_any_width kind = kind
 -- the kind by which a value is read: an integer in any width as other numbers are
 abbrev pub kind_read : ReadOptions → Kind → Kind
 kind_read options kind = cond options.any_width (in_any_width kind) kind
-
--- whether a list may have a parameter but once
-abbrev pub once_read : ReadOptions → Bool → Bool
-once_read options once = options.no_repeats || once

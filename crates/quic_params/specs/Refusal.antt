@@ -1,4 +1,4 @@
--- Where a list is refused.
+-- At which entry a list is rejected.
 use Rattle.std.specs.Prelude.{◌≡◌, ℕ, ◌⊎◌, Bool, cond, List, [], ◌∷◌, ◌++◌, length, Option, Some, None, Result, Ok, Err}
 use Rattle.quic_base.specs.Codec.{Takes, NoFront}
 use Rattle.quic_base.specs.Varint.{Encodes}
@@ -12,24 +12,24 @@ use Rattle.quic_params.specs.declared.record.TransportParameters.{TransportParam
 use Rattle.quic_params.specs.Table.{row_of}
 use Rattle.quic_params.specs.Entry.{Entry, IsBadList}
 use Rattle.quic_params.specs.Further.{AreInOrder, HasEntryNumber}
-use Rattle.quic_params.specs.Meaning.{IsMeantWith, IsValid}
+use Rattle.quic_params.specs.Meaning.{IsMeant, IsValid}
 use Rattle.quic_params.specs.Answer.{rules}
 
--- an entry is refused or cut off, from which on so many bytes are left
+-- an entry is rejected or cut off, from which on so many bytes are left
 pub record IsRefusedFrom (options : ReadOptions) (bytes : List ℕ) (error : Error) (left : ℕ) : Type 0 where
   pub bad : IsBadList options bytes error
-  pub left_is : left ≡ length bad.rest
+  pub left_is : left ≡ length bad.parts.back
 
 -- the number that bytes begin with, if they begin with a whole one
 abbrev pub IsNumberAt : List ℕ → Option ℕ → Type 0
 IsNumberAt bytes None = (number : ℕ) → NoFront (Encodes number) bytes
 IsNumberAt bytes (Some number) = (rest : List ℕ) × Takes (Encodes number) bytes rest
 
--- an entry is refused or cut off: how many bytes are before it, and its number, if that is whole
+-- an entry is rejected or cut off: how many bytes are before it, and its number, if that is whole
 pub record IsRefusedEntry (options : ReadOptions) (bytes : List ℕ) (refusal : Refusal) : Type 0 where
   pub bad : IsBadList options bytes refusal.error
-  pub offset_is : refusal.offset ≡ length bad.front
-  pub number_is : IsNumberAt bad.rest refusal.id
+  pub offset_is : refusal.offset ≡ length bad.parts.front
+  pub number_is : IsNumberAt bad.parts.back refusal.id
 
 -- the parameter of the first rule that isn't kept
 abbrev pub first_broken : List (TransportParameterId × Bool) → Option TransportParameterId
@@ -50,18 +50,18 @@ pub record IsLastEntry (number : ℕ) (offset : ℕ) (bytes : List ℕ) : Type 0
   pub number_is : entry.number ≡ number
   pub last : ¬ (HasEntryNumber number after)
 
--- the side doesn't take the record: the parameter of the first rule that it breaks, and where that one's value is
+-- The side doesn't accept the record: the parameter of the first rule that it breaks, and the offset of its entry.
 pub record IsRefusedRecord (options : ReadOptions) (side : Side) (bytes : List ℕ) (refusal : Refusal) : Type 0 where
   pub params : TransportParameters
-  pub meant : IsMeantWith options params bytes
+  pub meant : IsMeant options params bytes
   pub id : TransportParameterId
   pub broken : first_broken (rules side params) ≡ Some id
   pub error_is : refusal.error ≡ IllegalValue
   pub number_is : refusal.id ≡ Some (row_of id).number
   pub entry : IsLastEntry (row_of id).number refusal.offset bytes
 
--- a valid record, or what is refused and where
+-- a valid record, or what is rejected, with its offset
 abbrev pub IsPlacedAnswer : ReadOptions → Side → List ℕ → Result TransportParameters Refusal → Type 0
-IsPlacedAnswer options side bytes (Ok params) = IsMeantWith options params bytes × IsValid side params
+IsPlacedAnswer options side bytes (Ok params) = IsMeant options params bytes × IsValid side params
 IsPlacedAnswer options side bytes (Err refusal) = IsRefusedEntry options bytes refusal
     ⊎ IsRefusedRecord options side bytes refusal

@@ -14,7 +14,7 @@ use quic_base::ids::{ConnectionId, MAX_CID_SIZE};
 use std::net::{SocketAddrV4, SocketAddrV6};
 
 impl TransportParameters {
-    /// Tells the prover that each field is within its type's bound. It changes nothing at run time.
+    /// Proves that each field is within its type's bound. It does nothing at run time.
     pub fn type_bounds(&self)
         ensures { IsTypedRecord self.now }
     {

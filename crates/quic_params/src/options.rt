@@ -1,16 +1,16 @@
 //! How lists of parameters are read.
-ghost use Rattle.std.specs.Prelude.{◌≡◌};
-ghost use Rattle.quic_params.specs.Options.{as_quinn, kind_read, once_read};
+ghost use Rattle.std.specs.Prelude.{◌≡◌, ◌||◌};
+ghost use Rattle.quic_params.specs.Options.{as_quinn, kind_read};
 
 use crate::parameter::Kind;
 
-/// How a list is read, where RFC 9000 and quinn-proto differ. The default is quinn-proto's reading: both `false`.
+/// How a list is read in what RFC 9000 and quinn-proto differ. The default is quinn-proto's reading: both `false`.
 #[derive(Clone, Copy, Debug, PartialEq, Eq)]
 pub struct ReadOptions {
-    /// Takes an integer that has a default in an encoding of any width (RFC 9000, section 16), in place of the shortest
-    /// one alone.
+    /// Accepts an integer that has a default in an encoding of any width (RFC 9000, section 16), not only in the
+    /// shortest one.
     pub any_width: bool,
-    /// Refuses each known parameter that is there twice (RFC 9000, section 7.4), `grease_quic_bit` and `min_ack_delay`
+    /// Rejects each known parameter that is there twice (RFC 9000, section 7.4), `grease_quic_bit` and `min_ack_delay`
     /// too, whose last value counts otherwise.
     pub no_repeats: bool,
 }
@@ -42,10 +42,10 @@ impl ReadOptions {
         }
     }
 
-    // Whether a parameter that is there twice is refused, from what its row says.
+    // Whether a parameter that is there twice is rejected, from what its row says.
     #[inline(always)]
     pub(crate) fn once_read(self, once: bool) -> bool
-        ensures { result ≡ once_read self once }
+        ensures { result ≡ (self.no_repeats || once) }
     {
         self.no_repeats || once
     }

@@ -1,9 +1,9 @@
-//! Where a list is refused.
+//! At which entry a list is rejected.
 ghost use Rattle.std.specs.Prelude.{◌≡◌, ◌+◌, ◌*◌, List, Bool, Option, Result, Ok, Err, cond, MatchResult, Some};
 ghost use Rattle.quic_params.specs.Answer.{absent_at, address_at, delay_at, rules};
 ghost use Rattle.quic_params.specs.Entry.{Entry};
 ghost use Rattle.quic_params.specs.Further.{AreInOrder, HasEntryNumber};
-ghost use Rattle.quic_params.specs.Meaning.{IsMeantWith, IsReadAnswerWith, IsValid};
+ghost use Rattle.quic_params.specs.Meaning.{IsMeant, IsReadAnswer, IsValid};
 ghost use Rattle.quic_params.specs.Refusal.{IsLastEntry, IsPlacedAnswer, IsRefusedEntry, IsRefusedFrom, IsRefusedRecord, first_broken};
 
 use crate::error::{Error, Refusal};
@@ -16,7 +16,7 @@ use quic_base::coding::BufExt;
 use quic_base::ids::{ConnectionId, ResetToken, Side};
 use quic_base::varint::VarInt;
 
-// The refusal of an entry from which on so many bytes are left.
+// What is reported of a rejected entry, which begins so many bytes before the end of the list.
 fn refused_entry(options: ReadOptions, list: &[u8], error: Error, left: usize) -> Refusal
     requires { IsRefusedFrom options list.now error left }
     ensures { IsRefusedEntry options list.now result }
@@ -30,7 +30,7 @@ fn refused_entry(options: ReadOptions, list: &[u8], error: Error, left: usize) -
     Refusal { error, id, offset }
 }
 
-// Where the last entry of a number begins in a list that has one.
+// The offset of the last entry of a number, in a list that has one.
 fn last_entry(list: &[u8], number: u64) -> usize
     requires { (entries : List Entry) × AreInOrder entries list.now × HasEntryNumber number entries }
     ensures { IsLastEntry number result list.now }
@@ -49,7 +49,7 @@ fn last_entry(list: &[u8], number: u64) -> usize
     }
 }
 
-// The parameter of a rule that isn't kept, else what the rules after it give.
+// The parameter of a rule that isn't kept, or else that of the rules after it.
 fn or_broken(
     id: TransportParameterId,
     kept: bool,
@@ -138,9 +138,9 @@ impl TransportParameters {
         or_broken(AckDelayExponent, kept, broken)
     }
 
-    // The refusal of a record that the side doesn't take.
+    // What is reported of a record that the side doesn't accept.
     fn refused_record(&self, options: ReadOptions, side: Side, list: &[u8]) -> Refusal
-        requires meant { IsMeantWith options self.now list.now }
+        requires meant { IsMeant options self.now list.now }
         requires refused { ¬ (IsValid side self.now) }
         ensures { IsRefusedRecord options side list.now result }
     {
@@ -157,8 +157,8 @@ impl TransportParameters {
         }
     }
 
-    /// Reads a list as `read_with` does, and says of one that is refused at which parameter (RFC 9000, sections 7.4 and
-    /// 18): the first invalid or forbidden entry; or, if the side doesn't accept the record, the last entry of the
+    /// Reads a list as `read_with` does, and says of one that is rejected at which parameter (RFC 9000, sections 7.4
+    /// and 18): the first invalid or forbidden entry; or, if the side doesn't accept the record, the last entry of the
     /// parameter whose value it doesn't accept, the first one in the order in which values are validated. It allocates
     /// no memory.
     pub fn read_list(
@@ -166,8 +166,8 @@ impl TransportParameters {
         options: ReadOptions,
         list: &[u8],
     ) -> Result<TransportParameters, Refusal>
-        ensures meant { MatchResult result (λ params. IsReadAnswerWith options side list.now (Ok params))
-            (λ refusal. IsReadAnswerWith options side list.now (Err refusal.error)) }
+        ensures meant { MatchResult result (λ params. IsReadAnswer options side list.now (Ok params))
+            (λ refusal. IsReadAnswer options side list.now (Err refusal.error)) }
         ensures place { IsPlacedAnswer options side list.now result }
         // This is the only possible answer.
         ensures only { (answer : Result TransportParameters Refusal) → IsPlacedAnswer options side list.now answer

@@ -105,7 +105,7 @@ impl TransportParameters {
         }
     }
 
-    /// Stores the bytes that `write` appends at the front of a slice, and answers how many they are (RFC 9000, section
+    /// Stores the bytes that `write` appends at the front of a slice, and returns how many they are (RFC 9000, section
     /// 18); the bytes after them don't change. If the slice is shorter, and only then, nothing changes, and the error
     /// is how many bytes are needed. It allocates no memory.
     pub fn write_into(&self, dest: &mut [u8]) -> Result<usize, usize>
@@ -132,7 +132,7 @@ impl TransportParameters {
         }
     }
 
-    /// Stores the bytes that `write_one` appends at the front of a slice, and answers how many they are (RFC 9000,
+    /// Stores the bytes that `write_one` appends at the front of a slice, and returns how many they are (RFC 9000,
     /// section 18); the bytes after them don't change. If the slice is shorter, and only then, nothing changes, and
     /// the error is how many bytes are needed. It allocates no memory.
     pub fn write_one_into(&self, id: TransportParameterId, dest: &mut [u8]) -> Result<usize, usize>
@@ -164,7 +164,7 @@ fn fill_header(number: u64, len: u64, room: &mut Room<HEADER_ROOM>)
 }
 
 /// Stores an entry up to its value, in the least widths of its number and of its length, at the front of a slice, and
-/// answers how many bytes it has (RFC 9000, section 18); the bytes after them don't change. The value, of `len` bytes,
+/// returns how many bytes it has (RFC 9000, section 18); the bytes after them don't change. The value, of `len` bytes,
 /// makes it the entry that `write_entry_into` stores. The caller must ensure that the number and the length are below
 /// 2^62. If the slice is shorter, and only then, nothing changes, and the error is how many bytes are needed. It
 /// allocates no memory.
@@ -225,8 +225,8 @@ impl PreferredAddress {
         }
     }
 
-    /// Stores the value of `preferred_address`, of at most 61 bytes, at the front of a slice, and answers how many bytes
-    /// it has (RFC 9000, section 18.2); the bytes after them don't change. If the slice is shorter, and only then,
+    /// Stores the value of `preferred_address`, of at most 61 bytes, at the front of a slice, and returns how many
+    /// bytes it has (RFC 9000, section 18.2); the bytes after them don't change. If the slice is shorter, and only then,
     /// nothing changes, and the error is how many bytes are needed. It allocates no memory.
     pub fn encode_into(&self, dest: &mut [u8]) -> Result<usize, usize>
         ensures count { IfOk result (λ n. n ≡ length (encoding (Value.Address self.now))) }
@@ -241,7 +241,7 @@ impl PreferredAddress {
     }
 }
 
-/// Stores an entry in its least widths at the front of a slice, and answers how many bytes it has (RFC 9000, section
+/// Stores an entry in its least widths at the front of a slice, and returns how many bytes it has (RFC 9000, section
 /// 18); the bytes after them don't change. The caller must ensure that the number and the length are below 2^62. If
 /// the slice is shorter, and only then, nothing changes, and the error is how many bytes are needed. It allocates no
 /// memory.

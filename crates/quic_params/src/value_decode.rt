@@ -130,7 +130,7 @@ fn v4_of(ip: Ipv4Addr, port: u16) -> Option<SocketAddrV4>
     Some(SocketAddrV4::new(ip, port))
 }
 
-// Those of IPv6, likewise.
+// Those of IPv6, `None` if all is zero.
 #[tactic(auto, using(crate::proofs::Hosts::v6_hosts))]
 fn v6_of(ip: Ipv6Addr, port: u16) -> Option<SocketAddrV6>
     ensures { (i p : List ℕ) → IsOctets 16 (ipv6_octets ip) i → IsNumber 2 port p → IsV6 result (i ++ p) }
@@ -141,7 +141,7 @@ fn v6_of(ip: Ipv6Addr, port: u16) -> Option<SocketAddrV6>
     Some(SocketAddrV6::new(ip, port, 0, 0))
 }
 
-// Takes the next sixteen bytes.
+// Reads the next sixteen bytes.
 fn take_token<B: Buf>(buf: &mut B) -> Option<ResetToken>
     ensures some { IfSome result (λ t. (B.unread buf.old ≡ t ++ B.unread buf.new) × (length t ≡ 16)) }
     ensures none { IsNone result → length (B.unread buf.old) < 16 }

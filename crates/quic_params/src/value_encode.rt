@@ -13,7 +13,7 @@ use quic_base::coding::{BufMutExt, Codec, NoRoom};
 use quic_base::ids::{ConnectionId, ResetToken};
 use std::net::{SocketAddrV4, SocketAddrV6};
 
-// Bytes as they are. Here and below `NoRoom` is answered only if the spare room is less than what is to be written;
+// Bytes as they are. Here and below `NoRoom` is returned only if the spare room is less than what is to be written;
 // then a prefix of that may have been written.
 pub(crate) fn write_bytes<W: BufMut>(bytes: &[u8], out: &mut W) -> Result<(), NoRoom>
     ensures { WritesTo W.written W.spare bytes.now out.old out.new result }
@@ -128,8 +128,8 @@ fn write_after_v4<W: BufMut>(address: &PreferredAddress, out: &mut W) -> Result<
 }
 
 impl PreferredAddress {
-    /// Appends the value of the parameter: both addresses with their ports, zeros where there is none, the id
-    /// after its length, and the token (RFC 9000, section 18.2). Answers `NoRoom` only if the spare room is less
+    /// Appends the value of the parameter: both addresses with their ports, zeros for an absent one, the id after
+    /// its length, and the token (RFC 9000, section 18.2). Returns `NoRoom` only if the spare room is less
     /// than that: the buffer then keeps its contents, and may have a prefix of the value after them.
     pub fn encode<W: BufMut>(&self, out: &mut W) -> Result<(), NoRoom>
         ensures { WritesTo W.written W.spare (encoding (Value.Address self.now)) out.old out.new result }

@@ -105,7 +105,7 @@ plain_frames strict found bytes some s =
     ap (list_all is_plain) (lines_some strict bytes some)
     ∙ plain_items found (items_of strict 0 None bytes) (frames_are_items strict found 0 None bytes s)
 
--- the bytes of a line alone, and whether it is no `error` line
+-- the bytes of one line, and whether it is no `error` line
 pub line_shown : (payload : List ℕ) (line : Printed) → canon_lines payload ≡ line ∷ []
     → line_bytes line ≡ flat_map line_bytes (canon_lines payload)
 line_shown payload line e = sym (append-nil (line_bytes line)) ∙ ap (flat_map line_bytes) (sym e)

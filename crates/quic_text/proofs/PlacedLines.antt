@@ -1,4 +1,4 @@
--- The lines of frames at their places, by the items that these are.
+-- The lines of frames at their offsets, by the items that these are.
 use Rattle.std.proofs.Common.{◌≡◌, ◌≢◌, ℕ, Bool, List, [], ◌∷◌, ◌++◌, None, Option, map, refl, ap, ◌∙◌}
 use Rattle.quic_base.specs.Number.{AreBytes}
 use Rattle.quic_frame_fields.specs.declared.frame.fault.Fault.{Fault}

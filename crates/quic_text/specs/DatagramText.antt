@@ -36,7 +36,7 @@ abbrev pub long_text : List ℕ → List ℕ → List ℕ → ℕ → List ℕ
 long_text kind dst src version = kind ++ codes " dst " ++ id_or_dash dst ++ codes " src " ++ id_or_dash src
     ++ codes " version " ++ eight_digits version
 
--- what a header says; the place of an Initial packet's token counts from the packet's first byte
+-- what a header says; the byte range of an Initial packet's token counts from the packet's first byte
 abbrev pub header_text : ProtectedHeader → List ℕ
 header_text (protected.Initial h) = long_text (codes "initial") h.dst_cid h.src_cid h.version ++ codes " token "
     ++ decimal h.token_pos.start ++ codes ".." ++ decimal h.token_pos.end
@@ -58,7 +58,7 @@ abbrev pub refusal_lines : Option Refusal → List Printed
 refusal_lines None = []
 refusal_lines (Some e) = Error (refusal_text e) ∷ []
 
--- a line for each packet, and an `error` line if the rest is refused
+-- a line for each packet, and an `error` line if the rest is rejected
 abbrev pub row_lines : List PlacedPacket → Option Refusal → List Printed
 row_lines packets refusal = map packet_line packets ++ refusal_lines refusal
 

@@ -19,7 +19,7 @@ item_line (Broken i) = Error (i.reason ++ in_type i.type)
 abbrev pub empty_line : Printed
 empty_line = Error (codes "packet payload is empty")
 
--- what `frames` prints for a payload, and `strict`, where a type must be in its shortest encoding
+-- what `frames` prints for a payload, and `strict`, which wants each type in its shortest encoding
 abbrev pub frame_lines : Bool → List ℕ → List Printed
 frame_lines strict [] = empty_line ∷ []
 frame_lines strict (byte ∷ bytes) = map item_line (items_of strict 0 None (byte ∷ bytes))

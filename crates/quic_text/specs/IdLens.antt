@@ -1,4 +1,4 @@
--- A length of connection ids as a word says it.
+-- A length of connection ids as an argument has it.
 use Rattle.std.specs.Prelude.{◌≡◌, ◌⊎◌, ℕ, ◌+◌, ◌/◌, ◌%◌, ◌<◌, ◌≤◌, List, [], ◌∷◌}
 use Rattle.quic_text.specs.declared.id_len.IdLen.{IdLen}
 

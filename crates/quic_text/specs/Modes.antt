@@ -4,7 +4,7 @@ use Rattle.quic_text.specs.declared.mode.Mode.{Mode}
 use Rattle.quic_text.specs.declared.mode.Mode.TheVariants.{Datagram}
 use Rattle.quic_text.specs.IdLens.{count}
 
--- how long the ids of short headers are, where the mode is `datagram`
+-- how long the ids of short headers are, if the mode is `datagram`
 abbrev pub asked_len : Option Mode → Option ℕ
 asked_len (Some (Datagram len)) = Some (count len)
 asked_len (Some mode) = None

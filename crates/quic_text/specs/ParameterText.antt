@@ -5,6 +5,7 @@ use Rattle.std.specs.Fmt.{decimal}
 use Rattle.hex.specs.Hex.{encode_lower}
 use Rattle.quic_base.specs.declared.ids.Side.{Side}
 use Rattle.quic_params.specs.Answer.{answer_at}
+use Rattle.quic_params.specs.Options.{as_quinn}
 use Rattle.quic_params.specs.Errors.{error_text_of}
 use Rattle.quic_params.specs.Table.{ids}
 use Rattle.quic_params.specs.Writing.{encoding, value_written}
@@ -75,7 +76,7 @@ value_text (V.Token token) = digits_of token
 value_text (V.Id id) = digits_of id
 value_text (V.Address a) = digits_of (encoding (V.Address a))
 
--- `NAME VALUE`, where there is a value
+-- `NAME VALUE`, if there is a value
 abbrev pub value_lines : TransportParameterId → Option Value → List Printed
 value_lines id None = []
 value_lines id (Some value) = Plain (parameter_name_of id ++ codes " " ++ value_text value) ∷ []
@@ -84,11 +85,11 @@ value_lines id (Some value) = Plain (parameter_name_of id ++ codes " " ++ value_
 abbrev pub record_lines : TransportParameters → List Printed
 record_lines p = flat_map (λ id. value_lines id (value_written p id)) ids
 
--- what is printed for an answer
+-- what is printed of a record or an error
 abbrev pub answer_lines : Result TransportParameters params.Error → List Printed
 answer_lines (Ok p) = record_lines p ++ (Plain (codes "ok") ∷ [])
 answer_lines (Err e) = Error (error_text_of e) ∷ []
 
 -- what is printed for a list by `params`
 abbrev pub parameter_lines : Side → List ℕ → List Printed
-parameter_lines side list = answer_lines (answer_at side list)
+parameter_lines side list = answer_lines (answer_at as_quinn side list)

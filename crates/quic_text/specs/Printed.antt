@@ -1,7 +1,7 @@
 -- The lines that the program prints.
 use Rattle.std.specs.Prelude.{Bool, true, false, List, ◌++◌, ℕ, codes}
 
--- A line that is printed: a plain one, or an `error` line with what follows that word.
+-- A line that is printed: a plain one, or an `error` line with what follows `error`.
 pub data Printed : Type 0 where
   Plain : List ℕ → Printed
   Error : List ℕ → Printed

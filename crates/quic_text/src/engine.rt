@@ -1,4 +1,4 @@
-//! Reads all that a source gives, and writes its text to a sink.
+//! Reads all that a source has, and writes its text to a sink.
 ghost use Rattle.std.specs.Prelude.{◌≡◌, ◌++◌, ◌↔◌, ℕ, List, ◌||◌, true, false, IsTrue, IfOk, OnOk, OnErr, IsErrOf, is_err, MatchResult};
 ghost use Rattle.quic_text.specs.Text.{text_of, is_clean};
 ghost use Rattle.quic_text.specs.Whole.{AppendsBeginning, WritesText, WritesBeginning};
@@ -42,7 +42,7 @@ impl From<Failed> for RunError {
     }
 }
 
-/// Writes the text of all that the source gives, and answers whether it has no `error` line.
+/// Writes the text of all that the source has, and returns whether it has no `error` line.
 pub fn run<R: Source, W: Sink>(
     alloc: Global,
     mode: Mode,
@@ -62,7 +62,7 @@ pub fn run<R: Source, W: Sink>(
     print_all(alloc, mode, input.as_slice(), sink)
 }
 
-// All that the source gives, until it ends.
+// All that the source has, until it ends.
 fn read_all<R: Source>(alloc: Global, source: &mut R) -> Result<Vec<u8>, RunError>
     ensures ok { IfOk result (λ input. IsTrue (R.has_ended source.new)
         × (R.given source.new ≡ R.given source.old ++ input.items)) }

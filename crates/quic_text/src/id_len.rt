@@ -1,4 +1,4 @@
-//! The length of the connection ids in short headers, from a word on the command line.
+//! The length of the connection ids in short headers, from an argument of the program.
 ghost use Rattle.std.specs.Prelude.{◌≡◌, ◌↔◌, ◌≤◌, ℕ, Some, option_map};
 
 /// A length of connection ids in bytes: at most 20.
@@ -11,7 +11,7 @@ pub struct IdLen {
 impl IdLen {
     ghost use Rattle.quic_text.specs.IdLens.{IsIdLen, count};
 
-    /// The length in one or two decimal digits. `None` for every other word, and above 20.
+    /// The length in one or two decimal digits. `None` for every other text, and above 20.
     pub fn of_word(word: &str) -> Option<IdLen>
         ensures { (n : ℕ) → (option_map count result ≡ Some n) ↔ IsIdLen n word.now }
     {

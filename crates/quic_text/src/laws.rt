@@ -17,6 +17,7 @@ ghost use Rattle.quic_text.specs.FrameText.{item_line, empty_line};
 ghost use Rattle.quic_text.specs.Printed.{Plain, is_plain};
 ghost use Rattle.quic_base.specs.declared.ids.Side.{Side};
 ghost use Rattle.quic_params.specs.Meaning.{IsReadAnswer};
+ghost use Rattle.quic_params.specs.Options.{as_quinn};
 ghost use Rattle.quic_params.specs.declared.error.Error.{Error};
 ghost use Rattle.quic_params.specs.declared.record.TransportParameters.{TransportParameters};
 ghost use Rattle.quic_text.specs.ParameterText.{answer_lines, parameter_lines};
@@ -28,7 +29,7 @@ use quic_frames::laws::items_in_place;
 use quic_params::laws;
 
 /// If a datagram is these packets, or these and then an error, `datagram` prints exactly their lines, with these
-/// places. Each datagram is one or the other.
+/// offsets. Each datagram is one or the other.
 pub fn packets_printed()
     ensures lines { (len : IdLen) (bytes : List ℕ) (packets : List PlacedPacket) (refusal : Option Refusal)
         → AreBytes bytes
@@ -40,7 +41,7 @@ pub fn packets_printed()
 {}
 
 /// If a payload is these frames, or these and then an invalid one, `frames` prints exactly their lines, with these
-/// places.
+/// offsets.
 pub fn frames_printed()
     ensures frames { (some : List frames.Placed) (bytes : List ℕ) → bytes ≢ [] → frames.ArePlaced false 0 some bytes
         → payload_lines Mode.Frames bytes ≡ map (λ p. item_line (frames.whole p)) some }
@@ -80,10 +81,10 @@ pub fn canonical_printed()
     canonical::one_least();
 }
 
-/// `params` prints of a list the lines of the answer that the grammar gives to it.
+/// `params` prints of a list the lines of its record, or of its error, as the grammar has them.
 pub fn parameter_lines()
     ensures { (side : Side) (list : List ℕ) (answer : Result TransportParameters Error) → AreBytes list
-        → IsReadAnswer side list answer
+        → IsReadAnswer as_quinn side list answer
         → parameter_lines side list ≡ answer_lines answer }
 {
     laws::one_answer();

@@ -21,7 +21,7 @@ pub enum Mode {
     Params(Side),
 }
 
-/// The mode that the words after the program's name ask for. `None` is wrong arguments.
+/// The mode that the arguments after the program's name ask for. `None` for wrong arguments.
 pub fn mode_of(words: &[&str]) -> Option<Mode>
     ensures frames { (result ≡ Some Mode.Frames) ↔ (map (λ word. word.now) words.now ≡ codes "frames" ∷ []) }
     ensures strict { (result ≡ Some Mode.Strict) ↔ (map (λ word. word.now) words.now ≡ codes "strict" ∷ []) }
@@ -45,7 +45,7 @@ pub fn mode_of(words: &[&str]) -> Option<Mode>
     }
 }
 
-// The mode `datagram` with the length in the word.
+// The mode `datagram` with the length in its argument.
 fn datagram_mode(word: &str) -> Option<Mode>
     ensures frames { result ≢ Some Mode.Frames }
     ensures strict { result ≢ Some Mode.Strict }

@@ -5,7 +5,7 @@ ghost use Rattle.quic_text.specs.Whole.{AppendsAllBut, AppendsBeginning};
 
 use crate::transfer::{Failed, Sink};
 
-// How much is read at once, and from how much on text is passed on.
+// The most bytes of one read, and the least bytes of text that are passed on.
 pub(crate) const PIECE: usize = 16384;
 
 // Passes on the buffered text, if it is as long as a piece.

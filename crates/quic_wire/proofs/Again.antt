@@ -10,6 +10,7 @@ use Rattle.quic_frames.specs.Least.{frame_in}
 use Rattle.quic_frames.specs.Meaning.{meaning_of}
 use Rattle.quic_frames.specs.Written.{IsShortestOf}
 use Rattle.quic_params.specs.Meaning.{IsReadAnswer}
+use Rattle.quic_params.specs.Options.{as_quinn}
 use Rattle.quic_params.specs.Range.{plain}
 use Rattle.quic_params.specs.Writing.{written}
 use Rattle.quic_params.specs.declared.error.Error.{Error}
@@ -56,9 +57,9 @@ given_again frames others error payload read gives =
 -- ---- parameters
 
 pub list_again : (side : Side) (params : TransportParameters) (list : List ℕ) (result : Result TransportParameters Error)
-    → list ≡ written params → IsReadAnswer side (written params) (Ok (plain params))
-    → ReturnsOne (IsReadAnswer side list) (λ answer. result ≡ answer) → result ≡ Ok (plain params)
+    → list ≡ written params → IsReadAnswer as_quinn side (written params) (Ok (plain params))
+    → ReturnsOne (IsReadAnswer as_quinn side list) (λ answer. result ≡ answer) → result ≡ Ok (plain params)
 list_again side params list result are is gives =
-    let answer : IsReadAnswer side list (Ok (plain params)) =
-    subst (λ (bytes : List ℕ). IsReadAnswer side bytes (Ok (plain params))) (sym are) is in
+    let answer : IsReadAnswer as_quinn side list (Ok (plain params)) =
+    subst (λ (bytes : List ℕ). IsReadAnswer as_quinn side bytes (Ok (plain params))) (sym are) is in
     gives.returned ∙ sym (gives.one.only (Ok (plain params)) answer)

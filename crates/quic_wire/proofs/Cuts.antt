@@ -1,4 +1,4 @@
--- What a cut returns, and that a lawful parser takes no more bytes than there are.
+-- What a cut returns, and that a lawful parser reads no more bytes than there are.
 use Rattle.std.specs.Prelude.{◌≡◌, ◌≢◌, ◌≤◌, ℕ, Bool, List, length, Option, Result, Ok, Err, IfOk, IfErr, MatchResult}
 use Rattle.std.proofs.Common.{subst, sym}
 use Rattle.bytes.specs.Filled.{Filled}
@@ -20,7 +20,7 @@ pub takes_within : (options : DecodeOptions)
     → TakesWithin options
 takes_within options lawful text id count e = within text id count (options.parsed text) (lawful text) e
 
--- ---- the one answer
+-- ---- the one result
 
 abbrev View : Type 0
 View = CutPacket × Option Filled

@@ -48,7 +48,7 @@ Again options = (header : Header) (rest : List ℕ) → IsPlainInRange options h
     → (read : ProtectedHeader) × IsWithoutNumber read header
     × HeaderAt options (length (header_bytes header ++ rest)) (header_bytes header ++ rest) read rest
 
--- the one answer for a datagram that begins with such a header
+-- the one result for a datagram that begins with such a header
 pub plain_answer : (options : DecodeOptions) (bytes : List ℕ) → Again options → (header : Header) (rest : List ℕ)
     → bytes ≡ header_bytes header ++ rest → IsPlainInRange options header
     → (read : ProtectedHeader) × IsWithoutNumber read header

@@ -18,6 +18,7 @@ ghost use Rattle.quic_packets.specs.Opening.{AreExpected, BeginsSealed, Opens, R
 ghost use Rattle.quic_packets.specs.Pairs.{IsLawful};
 ghost use Rattle.quic_packets.specs.Sealing.{IsAppended, PacketContents};
 ghost use Rattle.quic_params.specs.Meaning.{IsReadAnswer};
+ghost use Rattle.quic_params.specs.Options.{as_quinn};
 ghost use Rattle.quic_params.specs.Range.{IsRecordInRange, plain};
 ghost use Rattle.quic_wire.specs.Plain.{IsPlainInRange};
 ghost use Rattle.quic_wire.specs.Reading.{IsReturnedAs, MayGoOn};
@@ -98,7 +99,7 @@ pub fn cut_first<P: ConnectionIdParser>(
 
 /// Reads a list of transport parameters with `TransportParameters::read`. It doesn't allocate.
 pub fn read_parameters(side: Side, list: &[u8]) -> Result<TransportParameters, Error>
-    ensures one { ReturnsOne (IsReadAnswer side list.now) (λ answer. result ≡ answer) }
+    ensures one { ReturnsOne (IsReadAnswer as_quinn side list.now) (λ answer. result ≡ answer) }
 {
     every_list();
     are_bytes(list);

@@ -28,7 +28,7 @@ ghost use Rattle.quic_wire.specs.Plain.{IsPlainInRange};
 
 use quic_base::ids::Side;
 use quic_packets::packet::Header;
-use quic_params::transport_parameters::TransportParameters;
+use quic_params::transport_parameters::{ReadOptions, TransportParameters};
 
 // ---- What bytes are.
 
@@ -39,7 +39,7 @@ pub fn every_payload()
     quic_frames::laws::one_reading();
 }
 
-/// Every datagram begins with one packet, or is refused for one reason.
+/// Every datagram begins with one packet, or is rejected for one reason.
 pub fn every_datagram()
     ensures { (options : DecodeOptions) (bytes : List ℕ) → AreBytes bytes → TakesWithin options
         → ExactlyOne (CutAnswer options bytes) }
@@ -47,9 +47,10 @@ pub fn every_datagram()
     quic_header_decode::laws::one_answer();
 }
 
-/// Every list of transport parameters has one answer for a side: a record, or an error.
+/// Every list of transport parameters has, for a side and a way of reading, one record or one error.
 pub fn every_list()
-    ensures { (side : Side) (bytes : List ℕ) → AreBytes bytes → ExactlyOne (IsReadAnswer side bytes) }
+    ensures { (options : ReadOptions) (side : Side) (bytes : List ℕ) → AreBytes bytes
+        → ExactlyOne (IsReadAnswer options side bytes) }
 {
     quic_params::laws::one_answer();
     quic_params::laws::answer_as_a_function();
@@ -104,14 +105,15 @@ pub fn packets_again()
     quic_packets::laws::sealed_opens();
 }
 
-/// Parameters in range for a side are read by it as they were written, except for grease and the order.
+/// Parameters in range for a side are read by it, in each way of reading, as they were written, except for grease and
+/// the order.
 pub fn parameters_again()
-    ensures own { (side : Side) (params : TransportParameters) → IsTypedRecord params → IsRecordInRange side params
-        → IsReadAnswer side (written params) (Ok (plain params)) }
+    ensures own { (options : ReadOptions) (side : Side) (params : TransportParameters) → IsTypedRecord params
+        → IsRecordInRange side params → IsReadAnswer options side (written params) (Ok (plain params)) }
     // The order in which they are written doesn't matter.
-    ensures any { (side : Side) (params : TransportParameters) (order : List ℕ) → IsTypedRecord params
-        → IsRecordInRange side params → IsOrder order
-        → IsReadAnswer side (written_in params order) (Ok (plain params)) }
+    ensures any { (options : ReadOptions) (side : Side) (params : TransportParameters) (order : List ℕ)
+        → IsTypedRecord params → IsRecordInRange side params → IsOrder order
+        → IsReadAnswer options side (written_in params order) (Ok (plain params)) }
 {
     quic_params::laws::read_back();
 }

@@ -8,10 +8,14 @@ from __future__ import annotations
 from collections.abc import Iterable, Iterator
 from typing import NamedTuple, NoReturn, Optional
 
-from ._wire import FRAME_LONG_TYPE, FRAME_TYPE, PACKET_CUT, PACKET_FIXED_BIT, _entry_at, varint_at
+from ._wire import (
+    FRAME_LIMIT, FRAME_LONG_TYPE, FRAME_MALFORMED, FRAME_TYPE, PACKET_CUT, PACKET_FIXED_BIT, PACKET_RETRY, _entry_at,
+    varint_at,
+)  # fmt: skip
 
 MAX_CID_LEN = 20
 RESET_TOKEN_LEN = 16
+_RETRY_TAG_LEN = 16
 _VERSION_2 = 0x6B3343CF
 
 
@@ -33,10 +37,12 @@ class Fault(Exception):
 class Walk:
     """Fields that are read one behind the other, up to the one at fault."""
 
-    __slots__ = ("data", "at")
+    __slots__ = ("data", "at", "last")
 
     def __init__(self, data: memoryview, at: int) -> None:
         self.data, self.at = data, at
+        self.last: Optional[Place] = None
+        """The last number that was read."""
 
     def fail(self, field: str, at: int) -> NoReturn:
         raise Fault(Place(field, at))
@@ -46,6 +52,7 @@ class Walk:
         read = varint_at(self.data, self.at)
         if read is None:
             self.fail(field, self.at)
+        self.last = Place(field, self.at)
         value, self.at = read
         return value
 
@@ -153,11 +160,13 @@ def of_frame(result: int, payload: memoryview, begin: int) -> Optional[Place]:
     """The field at fault in the frame that begins there, by the library's result."""
     if result in (FRAME_TYPE, FRAME_LONG_TYPE):
         return Place("Frame Type", begin)
+    walk = Walk(payload, begin)
     try:
-        _walk_frame(Walk(payload, begin))
+        _walk_frame(walk)
     except Fault as fault:
         return fault.place
-    return None
+    # A rule of Checks that the frame breaks by its last number: an offset, a length or a limit.
+    return walk.last if result in (FRAME_LIMIT, FRAME_MALFORMED) else None
 
 
 # ---- Headers of packets (RFC 9000, section 17; RFC 8999)
@@ -178,8 +187,10 @@ def _walk_header(walk: Walk, cid_len: int) -> None:
         walk.take(field, count)
     # Initial, 0-RTT, Handshake, Retry; in version 2 Retry is the first.
     kind = ((first >> 4) - (version == _VERSION_2)) & 3
-    if version == 0 or kind == 3:
+    if version == 0:
         return
+    if kind == 3:
+        walk.fail("Retry Integrity Tag" if len(walk.data) - walk.at < _RETRY_TAG_LEN else "Retry Token", walk.at)
     if kind == 0:
         walk.counted("Token Length", "Token")
     at = walk.at
@@ -195,6 +206,8 @@ def of_header(result: int, datagram: memoryview, begin: int, cid_len: int) -> tu
     try:
         _walk_header(Walk(datagram, begin), cid_len)
     except Fault as fault:
+        if result == PACKET_RETRY:
+            return fault.place, "RFC 9000, section 17.2.5.2"
         # A length above 20, if it is there.
         is_length = fault.place.field.endswith("ID Length") and fault.place.at < len(datagram)
         section = "17.2" if is_length and result != PACKET_CUT else "12.2"

@@ -17,6 +17,7 @@ from typing import BinaryIO, Optional, Union
 from . import pcap
 from ._tls import Handshake as TlsHandshake
 from ._wire import Crypto, Frame, Packet, read_frames, read_packet
+from .checks import Checks
 from .errors import Error, FrameError, PacketError
 from .keylog import KeyLog, Label
 from .packets import PacketType, Version
@@ -230,7 +231,7 @@ def _read(data: memoryview, at: int, cid_len: Optional[int]) -> tuple[Optional[P
     if cid_len is None and not data[at] & _LONG:
         return None, None, "the length of its id isn't known"
     try:
-        packet = read_packet(data, cid_len or 0, at, _VERSIONS, grease=True)
+        packet = read_packet(data, cid_len or 0, at, _VERSIONS, checks=Checks.GREASED_BIT)
     except PacketError as error:
         return error.packet, error, error.reason
     return packet, None, "unsupported version" if packet.kind == PacketType.UNKNOWN_VERSION else None

@@ -6,13 +6,16 @@ import enum
 from typing import TYPE_CHECKING, NoReturn, Optional
 
 from . import _faults, _parameter_table
-from ._wire import FRAME_LONG_TYPE, FRAME_MALFORMED, FRAME_TYPE, PAYLOAD_EMPTY, type_name
+from ._wire import FRAME_LIMIT, FRAME_LONG_TYPE, FRAME_MALFORMED, FRAME_TYPE, PAYLOAD_EMPTY, type_name
+from .checks import Checks
 
 if TYPE_CHECKING:
     from ._types import Buffer
     from ._wire import Frame, Packet
 
-_NEW_CONNECTION_ID = 0x18
+_NEW_TOKEN, _NEW_CONNECTION_ID = 0x07, 0x18
+# Of the types of frames with a limit, except those of STREAM, the sections that have it.
+_LIMITS = {0x06: "19.6", 0x12: "19.11", 0x13: "19.11", 0x16: "19.14", 0x17: "19.14"}
 
 
 class Code(enum.IntEnum):
@@ -122,9 +125,12 @@ def frame_name(frame_type: int) -> str:
 def _frame_section(result: int, frame_type: Optional[int]) -> str:
     if result in (PAYLOAD_EMPTY, FRAME_TYPE, FRAME_LONG_TYPE):
         return "RFC 9000, section 12.4"
+    section = "20.1"
     if result == FRAME_MALFORMED:
-        return f"RFC 9000, section {'19.15' if frame_type == _NEW_CONNECTION_ID else '19.3.1'}"
-    return "RFC 9000, section 20.1"
+        section = {_NEW_TOKEN: "19.7", _NEW_CONNECTION_ID: "19.15"}.get(frame_type or 0, "19.3.1")
+    elif result == FRAME_LIMIT:
+        section = _LIMITS.get(frame_type or 0, "19.8")
+    return f"RFC 9000, section {section}"
 
 
 def _frame_error(
@@ -157,8 +163,10 @@ def _packet_error(
     return error
 
 
-def _parameter_error(result: int, reason: str, code: int, side: int, data: Buffer) -> ParameterError:
-    found = _parameter_table.fault_in(result, side, memoryview(bytes(data)))
+def _parameter_error(
+    reason: str, code: int, side: int, flags: int, data: Buffer, begin: int, number: Optional[int]
+) -> ParameterError:
+    found = _parameter_table.fault_of(side, Checks(flags), memoryview(bytes(data)), begin, number)
     return _parameter_fault(reason, Code(code), found)
 
 

@@ -8,6 +8,7 @@ from typing import Optional
 
 from ._types import Buffer
 from ._wire import Packet, read_packet
+from .checks import Checks
 
 __all__ = ["PacketType", "Version", "packets"]
 
@@ -32,15 +33,15 @@ class Version(enum.IntEnum):
 
 
 def packets(
-    datagram: Buffer, cid_len: int, versions: Optional[Sequence[int]] = None, *, grease: bool = False
+    datagram: Buffer, cid_len: int, versions: Optional[Sequence[int]] = None, *, checks: Checks = Checks.QUINN
 ) -> Iterator[Packet]:
     """The packets of a datagram, each read when it is asked for. Raises PacketError where none begins.
 
     Ids in short headers have cid_len bytes. versions are those that are read, by default 1, its drafts 29 to 34, and
-    2; a packet of another one is an UnknownVersion. grease takes a cleared fixed bit (RFC 9287).
+    2; a packet of another one is an UnknownVersion.
     """
     at, end = 0, len(memoryview(datagram).cast("B"))
     while at < end or at == 0:
-        packet = read_packet(datagram, cid_len, at, versions, grease=grease)
+        packet = read_packet(datagram, cid_len, at, versions, checks=checks)
         yield packet
         at = packet.end

@@ -9,9 +9,9 @@ from dataclasses import dataclass
 from typing import Any, NamedTuple, Optional
 
 from . import _faults
-from ._parameter_table import KNOWN, ROWS, of_cut_off
+from ._parameter_table import KNOWN, ROWS, cut_off
 from ._types import Buffer
-from ._wire import _Parameters, is_known_parameter, write_parameter
+from ._wire import _Parameters, is_known_parameter, varint_at, write_parameter
 from .errors import Code, _parameter_fault
 
 __all__ = ["Parameter", "PreferredAddress", "Side", "TransportParameters", "parameters"]
@@ -86,7 +86,9 @@ def parameters(data: Buffer) -> Iterator[Parameter]:
         end = entry.end
         yield Parameter(entry.id, view[entry.value : end], entry.begin, end)
     if end != len(view):
-        raise _parameter_fault("malformed", Code.TRANSPORT_PARAMETER_ERROR, of_cut_off(view, end))
+        number = varint_at(view, end)
+        found = cut_off(end, number[0] if number else None)
+        raise _parameter_fault("malformed", Code.TRANSPORT_PARAMETER_ERROR, found)
 
 
 def _of_dict(values: dict[str, Any]) -> TransportParameters:

@@ -182,8 +182,7 @@ impl<'a> Ack<'a> {
     /// # Ok::<(), quic_wire::frame::AckError>(())
     /// ```
     pub fn additional(&self) -> &'a [u8] {
-        let state = self.ranges();
-        self.bytes.get(state.begin..state.end).unwrap_or_default()
+        self.iter().blocks()
     }
 
     /// The ranges of acknowledged numbers, the greatest first.
@@ -201,9 +200,9 @@ impl<'a> Ack<'a> {
 
     fn ranges(&self) -> sys::Ranges {
         let frame = sys::Frame { end: self.bytes.len(), ..super::encode::NO_FRAME };
-        let mut state = sys::Ranges { begin: 0, end: 0, largest: 0 };
-        // The bytes were read as an ACK, so they are one, and needn't be checked again.
-        sys::ack_ranges_init_unchecked(&mut state, self.bytes, &frame);
+        let mut state = sys::Ranges { offset: 0, left: 0, largest: 0 };
+        // The bytes were read as an ACK, so they are one again.
+        sys::ack_ranges_init(&mut state, self.bytes, &frame);
         state
     }
 
@@ -341,12 +340,21 @@ pub struct AckIter<'a> {
     state: sys::Ranges,
 }
 
+impl<'a> AckIter<'a> {
+    // The bytes of the ranges that are left, up to where the last one ends.
+    fn blocks(&self) -> &'a [u8] {
+        let mut last = self.clone();
+        while last.next().is_some() {}
+        self.bytes.get(self.state.offset..last.state.offset).unwrap_or_default()
+    }
+}
+
 impl Iterator for AckIter<'_> {
     type Item = RangeInclusive<u64>;
 
     #[inline]
     fn next(&mut self) -> Option<RangeInclusive<u64>> {
-        if self.state.begin >= self.state.end {
+        if self.state.left == 0 {
             return None;
         }
         let mut range = sys::Range { start: 0, end: 0 };
@@ -361,7 +369,6 @@ impl FusedIterator for AckIter<'_> {}
 
 impl fmt::Debug for AckIter<'_> {
     fn fmt(&self, f: &mut fmt::Formatter<'_>) -> fmt::Result {
-        let left = self.bytes.get(self.state.begin..self.state.end).unwrap_or_default();
-        f.debug_struct("AckIter").field("largest", &self.state.largest).field("left", &Short(left)).finish()
+        f.debug_struct("AckIter").field("largest", &self.state.largest).field("left", &Short(self.blocks())).finish()
     }
 }

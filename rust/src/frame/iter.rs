@@ -401,13 +401,15 @@ impl fmt::Debug for Batch<'_, '_> {
 // Slices are bounds-checked by Rust, although the library proves the offsets.
 #[inline(always)]
 fn frame_of<'a>(payload: &'a [u8], f: &sys::Frame) -> Frame<'a> {
+    if f.kind == 0x02 {
+        return Frame::Ack(Ack::of(&payload[f.begin..f.end], f));
+    }
     let data = &payload[f.data..f.data + f.datalen];
     let [a, b, c, ..] = f.numbers;
     let id = StreamId(a);
     match f.kind {
         0x00 => Frame::Padding,
         0x01 => Frame::Ping,
-        0x02 => Frame::Ack(Ack::of(&payload[f.begin..f.end], f)),
         0x04 => Frame::ResetStream(ResetStream { id, error_code: b, final_offset: c }),
         0x05 => Frame::StopSending(StopSending { id, error_code: b }),
         0x06 => Frame::Crypto(Crypto { offset: b, data }),

@@ -5,7 +5,7 @@ use super::words::{Canon, Frame, Frames, HeaderFields, HeaderPlaces, Param, Para
 
 extern "C" {
     /// An archive of another version lacks this symbol, so that it can't be linked.
-    pub static quic_wire_abi_8: u8;
+    pub static quic_wire_abi_9: u8;
 
     pub fn quic_wire_frames_fill_(
         frames: *mut Frames,
@@ -16,12 +16,7 @@ extern "C" {
         count: *mut usize,
     ) -> i32;
     pub fn quic_wire_frames_next_(frames: *mut Frames, payload: *const u8, len: usize, out: *mut Frame) -> i32;
-    pub fn quic_wire_ack_ranges_init_unchecked_(
-        ranges: *mut Ranges,
-        payload: *const u8,
-        len: usize,
-        frame: *const Frame,
-    ) -> i32;
+    pub fn quic_wire_ack_ranges_init_(ranges: *mut Ranges, payload: *const u8, len: usize, frame: *const Frame) -> i32;
     pub fn quic_wire_ack_ranges_next_(ranges: *mut Ranges, payload: *const u8, len: usize, out: *mut Range) -> i32;
     pub fn quic_wire_frame_write_(
         frame: *const Frame,
@@ -191,7 +186,6 @@ extern "C" {
         gaps: *mut Gap,
         room: usize,
     ) -> i64;
-    pub fn quic_wire_ack_ranges_init_(ranges: *mut Ranges, payload: *const u8, len: usize, frame: *const Frame) -> i32;
     pub fn quic_wire_ack_ranges_fill_(
         ranges: *mut Ranges,
         payload: *const u8,

@@ -33,12 +33,6 @@ fn frame_read(payload: &[u8], flags: u32, out: &mut Frame, gaps: &mut [Gap]) -> 
     unsafe { c::quic_wire_frame_read_(bytes, len, flags, out, gaps, room) }
 }
 
-fn ack_ranges_init(ranges: &mut Ranges, payload: &[u8], frame: &Frame) -> i32 {
-    // SAFETY: `payload` passes its own pointer and length; `ranges` is borrowed exclusively. Any values in `frame` are
-    // valid. The library accesses no other memory and keeps no pointer.
-    unsafe { c::quic_wire_ack_ranges_init_(ranges, payload.as_ptr(), payload.len(), frame) }
-}
-
 fn ack_ranges_fill(ranges: &mut Ranges, payload: &[u8], out: &mut [Range], count: &mut usize) -> i32 {
     let (bytes, len, entries, room) = (payload.as_ptr(), payload.len(), out.as_mut_ptr(), out.len());
     // SAFETY: `payload` and `out` each pass their own pointer and length; `ranges`, `out` and `count` are borrowed
@@ -219,8 +213,9 @@ fn ack_at_front(random: &mut Random, bytes: &[u8], reported: Frame, frame: Frame
     let count = all.len().min(room);
     assert!(gaps[..count] == all[..count] && gaps[count..].iter().all(|gap| *gap == NO_GAP));
     let flags = reported.flags | if count < all.len() { 4 } else { 0 };
-    let datalen = (ranges[0].end - ranges[0].start - 1) as usize;
-    assert_eq!(frame, Frame { flags, data: count, datalen, ..reported });
+    let first = (ranges[0].end - ranges[0].start - 1) as usize;
+    assert_eq!((reported.data, reported.datalen), (0, first));
+    assert_eq!(frame, Frame { flags, data: count, ..reported });
 
     let mut shortest = [0; 200];
     let len = crate::frame::Frame::Ack(ack).encode(false, &mut shortest).unwrap();
@@ -229,12 +224,12 @@ fn ack_at_front(random: &mut Random, bytes: &[u8], reported: Frame, frame: Frame
     let frame = Frame { ty: other.ty, begin: other.begin, end: other.end, data: other.data, ..frame };
     assert_eq!(written(random, &frame, &gaps[..count]), wanted);
 
-    let init = [ack_ranges_init, super::ack_ranges_init_unchecked][random.below(2)];
-    let mut state = Ranges { begin: 7, end: 7, largest: 7 };
-    assert_eq!(init(&mut state, bytes, &reported), OK);
+    let mut state = Ranges { offset: 7, left: 7, largest: 7 };
+    assert_eq!(super::ack_ranges_init(&mut state, bytes, &reported), OK);
+    assert_eq!(state.left, ranges.len() as u64);
     let mut filled = vec![];
     while filled_from(random, &mut state, bytes, &mut filled) == ITEM {}
-    assert_eq!((filled, state.begin), (ranges, state.end));
+    assert_eq!((filled, state.left, state.largest), (ranges, 0, 0));
 }
 
 // One call of `quic_wire_ack_ranges_fill_`, and its result.
@@ -253,7 +248,20 @@ fn filled_from(random: &mut Random, state: &mut Ranges, bytes: &[u8], filled: &m
     answer
 }
 
-/// `quic_wire_ack_ranges_init_` begins at each ACK, and changes nothing if it finds none.
+// The largest number of the ACK that the bytes begin with, how many ranges are below its first one, and the offset of
+// their blocks.
+fn head_of(bytes: &[u8]) -> Option<(u64, u64, usize)> {
+    let (mut numbers, mut at) = ([0; 4], 0);
+    for number in &mut numbers {
+        let (read, len) = varint::read(&bytes[at..])?;
+        *number = read;
+        at += len;
+    }
+    let [ty, largest, _, count] = numbers;
+    (ty == 2 || ty == 3).then_some((largest, count, at))
+}
+
+/// `quic_wire_ack_ranges_init_` begins after the head of each ACK, and changes nothing if it finds none.
 #[test]
 fn ranges_begin_at_an_ack() {
     rounds(|random| {
@@ -265,16 +273,19 @@ fn ranges_begin_at_an_ack() {
             payload[damaged] ^= 1 << random.below(8);
         }
         frame.end = [payload.len(), random.place()][random.below(2)];
-        let before = Ranges { begin: 7, end: 7, largest: 7 };
-        let (mut ranges, mut unchecked) = (before, before);
-        let answer = ack_ranges_init(&mut ranges, &payload, &frame);
-        if payload.get(frame.begin..frame.end).is_some_and(|bytes| Ack::from_bytes(bytes).is_ok()) {
-            let other = super::ack_ranges_init_unchecked(&mut unchecked, &payload, &frame);
-            assert_eq!((answer, other, ranges), (OK, OK, unchecked));
-        } else if answer == OK {
-            assert!(frame.begin < ranges.begin && ranges.begin < ranges.end && ranges.end <= frame.end);
-        } else {
-            assert_eq!((answer, ranges), (NOT_THERE, before));
+        let before = Ranges { offset: 7, left: 7, largest: 7 };
+        let mut ranges = before;
+        let answer = super::ack_ranges_init(&mut ranges, &payload, &frame);
+        let bytes = payload.get(frame.begin..frame.end).unwrap_or_default();
+        if let Ok(ack) = Ack::from_bytes(bytes) {
+            assert_eq!((answer, ranges.left, ranges.largest), (OK, ack.iter().count() as u64, ack.largest()));
+        }
+        match head_of(bytes) {
+            Some((largest, count, len)) => {
+                let wanted = Ranges { offset: frame.begin + len, left: count + 1, largest };
+                assert_eq!((answer, ranges), (OK, wanted));
+            }
+            None => assert_eq!((answer, ranges), (NOT_THERE, before)),
         }
     });
 }
@@ -284,7 +295,8 @@ fn ranges_begin_at_an_ack() {
 fn ranges_are_filled_as_single_calls_give_them() {
     rounds(|random| {
         let payload = random.payload();
-        let before = Ranges { begin: random.place(), end: random.place(), largest: random.number() };
+        let left = [random.below(9) as u64, random.number()][random.below(2)];
+        let before = Ranges { offset: random.place(), left, largest: random.number() };
         let (mut many, mut one, mut filled) = (before, before, vec![]);
         let answer = loop {
             let answer = filled_from(random, &mut many, &payload, &mut filled);
@@ -299,7 +311,7 @@ fn ranges_are_filled_as_single_calls_give_them() {
         assert_eq!((super::ack_ranges_next(&mut one, &payload, &mut range), one), (answer, many));
         let (mut none, mut count) = (before, 77);
         let answer = ack_ranges_fill(&mut none, &payload, &mut [], &mut count);
-        assert!([OK, NOT_THERE, NO_ROOM].contains(&answer) && (none, count) == (before, 77));
+        assert_eq!((answer, none, count), (NO_ROOM, before, 77));
     });
 }
 

@@ -83,7 +83,7 @@ struct Linked(#[allow(dead_code)] *const u8);
 unsafe impl Sync for Linked {}
 
 #[used]
-static LINKED: Linked = Linked(&raw const c::quic_wire_abi_8);
+static LINKED: Linked = Linked(&raw const c::quic_wire_abi_9);
 
 // The result of a writer: the bytes at the front of its room, or its error and how many it needs.
 fn wrote(answer: i32, written: usize) -> Result<Filled, (i32, usize)> {
@@ -125,11 +125,10 @@ pub fn frames_next<'r>(
 }
 
 #[inline]
-pub fn ack_ranges_init_unchecked(ranges: &mut Ranges, payload: &[u8], frame: &Frame) -> i32 {
-    // SAFETY: `payload` passes its own pointer and length; `ranges` is borrowed exclusively. "Unchecked" omits a second
-    // check of the blocks, not of offsets: any values in `frame` are valid. The library accesses no other memory and
-    // keeps no pointer.
-    unsafe { c::quic_wire_ack_ranges_init_unchecked_(ranges, payload.as_ptr(), payload.len(), frame) }
+pub fn ack_ranges_init(ranges: &mut Ranges, payload: &[u8], frame: &Frame) -> i32 {
+    // SAFETY: `payload` passes its own pointer and length; `ranges` is borrowed exclusively. Any values in `frame` are
+    // valid. The library accesses no other memory and keeps no pointer.
+    unsafe { c::quic_wire_ack_ranges_init_(ranges, payload.as_ptr(), payload.len(), frame) }
 }
 
 #[inline]

@@ -54,8 +54,8 @@ pub struct Gap {
 #[repr(C)]
 #[derive(Clone, Copy, Debug, PartialEq, Eq, Hash)]
 pub struct Ranges {
-    pub begin: usize,
-    pub end: usize,
+    pub offset: usize,
+    pub left: u64,
     pub largest: u64,
 }
 
@@ -171,7 +171,7 @@ layout!(Frame, 80, 8: kind 0 2, ty 2 2, flags 4 4, begin 8 8, end 16 8, data 24 
 layout!(Range, 16, 8: start 0 8, end 8 8,);
 #[cfg(test)]
 layout!(Gap, 16, 8: gap 0 8, len 8 8,);
-layout!(Ranges, 24, 8: begin 0 8, end 8 8, largest 16 8,);
+layout!(Ranges, 24, 8: offset 0 8, left 8 8, largest 16 8,);
 layout!(Canon, 16, 8: len 0 8, last_type 8 8,);
 layout!(HeaderPlaces, 32, 8: kind 0 1, first 1 1, dcidlen 2 1, scidlen 3 1, version 4 4, header_end 8 4, end 12 4, token 16 4,
     tokenlen 20 4, len 24 8,);

@@ -84,9 +84,11 @@ def frame(read):
 
 
 def answer_payload(payload, context):
-    how = {"strict": "strict" in context, "ack_frequency": "without" not in context}
+    checks = q.Checks.SHORT_TYPES if "strict" in context else q.Checks.QUINN
+    if "without" in context:
+        checks |= q.Checks.NO_ACK_FREQUENCY
     try:
-        return valid([frame(one) for one in q.read_frames(payload, **how)])
+        return valid([frame(one) for one in q.read_frames(payload, checks=checks)])
     except q.FrameError as error:
         before = [frame(one) for one in error.frames]
         return f"invalid {error.code.name} {json.dumps({'at': error.offset, 'before': before})}"
@@ -115,8 +117,9 @@ def packet(read):
 
 def answer_datagram(datagram, context):
     versions = [q.Version.V1] if "versions" in context else list(q.Version)
+    checks = q.Checks.GREASED_BIT if "grease" in context else q.Checks.ANY_VERSION
     try:
-        read = q.read_packets(datagram, int(context.get("cid_len", 8)), versions, grease="grease" in context)
+        read = q.read_packets(datagram, int(context.get("cid_len", 8)), versions, checks=checks)
         return valid([packet(one) for one in read])
     except q.PacketError as error:
         return f"invalid DROP {json.dumps({'at': error.offset, 'before': [packet(one) for one in error.packets]})}"

@@ -21,7 +21,7 @@ use quic_header_decode::protected::ProtectedHeader;
 use quic_header_encode::long_type::LongType;
 use std::alloc::{AllocError, Global};
 
-// Prints a line for each packet, and an `error` line if the rest is refused. Ids of short headers have the given
+// Prints a line for each packet, and an `error` line if the rest is rejected. Ids of short headers have the given
 // length.
 pub(super) fn print_datagram<W: Sink>(
     alloc: Global,
@@ -119,7 +119,7 @@ fn print_header(head: &ProtectedHeader, text: &mut String) -> Result<(), AllocEr
     Ok(())
 }
 
-// The place of an Initial packet's token in the packet.
+// The byte range of an Initial packet's token in the packet.
 fn print_token(start: usize, end: usize, text: &mut String) -> Result<(), AllocError>
     ensures { OnOk result (string_bytes text.new ≡ string_bytes text.old
         ++ (codes " token " ++ decimal start ++ codes ".." ++ decimal end)) }
@@ -165,7 +165,7 @@ fn print_id(id: &ConnectionId, text: &mut String) -> Result<(), AllocError>
     Ok(())
 }
 
-// The `error` line of a refusal.
+// The `error` line of a packet that is rejected.
 fn print_refusal(error: &PacketDecodeError, text: &mut String) -> Result<(), AllocError>
     ensures bytes { OnOk result
         (string_bytes text.new ≡ string_bytes text.old ++ line_bytes (Error (refusal_text (refusal_of error.now)))) }

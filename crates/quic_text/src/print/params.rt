@@ -4,6 +4,7 @@ ghost use Rattle.std.specs.String.{string_bytes};
 ghost use Rattle.std.specs.List.{flat_map, list_all};
 ghost use Rattle.quic_base.specs.Number.{AreBytes};
 ghost use Rattle.quic_params.specs.Answer.{answer_at};
+ghost use Rattle.quic_params.specs.Options.{as_quinn};
 ghost use Rattle.quic_params.specs.Writing.{encoding, value_written};
 ghost use Rattle.quic_params.specs.declared.value.Value.TheVariants as values;
 ghost use Rattle.quic_text.specs.Printed.{line_bytes, is_plain};
@@ -44,9 +45,9 @@ pub(super) fn print_params(
     }
 }
 
-// The answer to a list.
+// The record of a list, or its error.
 fn answer(side: Side, list: &[u8]) -> Result<TransportParameters, Error>
-    ensures { result ≡ answer_at side list.now }
+    ensures { result ≡ answer_at as_quinn side list.now }
 {
     laws::answer_as_a_function();
     are_bytes(list);

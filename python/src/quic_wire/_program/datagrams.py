@@ -6,7 +6,8 @@ from collections import deque
 from typing import Optional, Union
 
 from .. import (
-    Handshake, Initial, OneRtt, Packet, PacketError, Retry, UnknownVersion, VersionNegotiation, ZeroRtt, read_packet,
+    Checks, Handshake, Initial, OneRtt, Packet, PacketError, Retry, UnknownVersion, VersionNegotiation, ZeroRtt,
+    read_packet,
 )  # fmt: skip
 from .._wire import PACKET_CID
 from ..errors import _packet_error
@@ -82,8 +83,9 @@ def _show_packets(datagram: bytes, begin: int, args: Args, ids: Ids, output: Out
 
 
 def _read(datagram: bytes, begin: int, cid_len: int, args: Args) -> Union[Packet, PacketError]:
+    checks = Checks.GREASED_BIT if args.grease else Checks.ANY_VERSION
     try:
-        read = read_packet(datagram, cid_len, begin, args.versions, grease=args.grease)
+        read = read_packet(datagram, cid_len, begin, args.versions, checks=checks)
     except PacketError as error:
         return error
     if isinstance(read, VersionNegotiation) and max(len(read.dcid), len(read.scid)) > _MAX_CID_LEN:

@@ -6,7 +6,7 @@ import operator
 from typing import Any, Optional
 
 from .. import (
-    Ack, AckFrequency, ApplicationClose, Code, ConnectionClose, Crypto, Datagram, DataBlocked, Error, Frame,
+    Ack, AckFrequency, ApplicationClose, Checks, Code, ConnectionClose, Crypto, Datagram, DataBlocked, Error, Frame,
     FrameError, MaxData, MaxStreamData, MaxStreamsBidi, MaxStreamsUni, NewConnectionId, NewToken, Padding,
     ParameterError, PathChallenge, PathResponse, RangeSet, ResetStream, RetireConnectionId, Side, StopSending, Stream,
     StreamDataBlocked, StreamsBlockedBidi, StreamsBlockedUni, TransportParameters, canonical, expand_packet_number,
@@ -28,7 +28,7 @@ _VALUE_MOST = 64  # bytes of a parameter's value that are shown
 def show_frames(payload: bytes, strict: bool, output: Output) -> None:
     """Prints the frames of a payload."""
     try:
-        for frame in frames(payload, strict=strict):
+        for frame in frames(payload, checks=Checks.SHORT_TYPES if strict else Checks.QUINN):
             raw_type, _ = read_varint(payload, frame.begin)
             more = [("raw_type", out.number(raw_type))]
             output.item(frame.begin, frame.end, ("type", frame_name(frame.kind)), fields_of(frame, payload), more)

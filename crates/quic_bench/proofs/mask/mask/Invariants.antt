@@ -1,4 +1,4 @@
--- The bytes that are left to mask give the whole.
+-- Masking the bytes that are left makes the whole.
 use Rattle.std.proofs.Common.{◌≡◌, ◌+◌, ◌-◌}
 use Rattle.quic_bench.specs.Mask.{mask_at}
 use Rattle.quic_bench.proofs.mask.mask.Given as goal

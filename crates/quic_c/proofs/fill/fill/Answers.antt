@@ -1,10 +1,11 @@
-use Rattle.std.proofs.Common.{◌≡◌, inl, inr, Some, refl, subst, ap, arith}
+use Rattle.std.proofs.Common.{◌≡◌, ℕ, ◌∙◌, inl, inr, Some, refl, subst, ap, arith}
 use Rattle.quic_frames.specs.Checking.{IsRefusedFrame}
 use Rattle.quic_frames.specs.Rules.{breach_text}
 use Rattle.quic_frame_fields.specs.Reading.{Invalid}
 use Rattle.quic_frames.specs.Walk.{invalid_of, Finds, Advances}
 use Rattle.quic_frames.proofs.Checking.{breach_found}
 use Rattle.quic_c.specs.Shown.{frame_kind_of, frame_words}
+use Rattle.quic_c.proofs.Shown.{place_is}
 use Rattle.quic_c.proofs.Filling.{filling_ends, filling_goes_on, none_filled}
 use Rattle.quic_c.proofs.Types.{is_refused, keeps}
 use Rattle.quic_c.proofs.fill.fill.Goals as goal
@@ -23,7 +24,8 @@ loop-count-preserved g c =
     let ty = c.type_read-ty.result in
     let begins = c.type_read-ty.ensures.value here.iter frame finds in
     let words : c.show_parts.result ≡ frame_words here.end stop ty frame =
-    rw c.parts_of-parts.ensures at c.show_parts.ensures in
+    rw c.parts_of-parts.ensures at c.show_parts.ensures
+    ∙ ap (λ (n : ℕ). record (frame_words here.end stop ty frame) { data_offset = n }) (place_is stop frame (omega arith)) in
     let kind : c.parts_of-parts.result.kind ≡ frame_kind_of frame = ap (λ p. p.kind) c.parts_of-parts.ensures in
     let goes_on = filling_goes_on c.args.rules c.args.iter.now c.args.out.now here.iter here.out here.count here.end
     c.next.new.self c.if-parts-eq0.iter frame

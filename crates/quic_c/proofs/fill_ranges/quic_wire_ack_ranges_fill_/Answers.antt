@@ -11,8 +11,5 @@ returns-then-filled-eq0-clause-invalid c = grind (arith, common_steps)
 pub returns-then-filled-eq0-clause-ranges : goal.returns-then-filled-eq0-clause-ranges
 returns-then-filled-eq0-clause-ranges c = grind (arith, common_steps)
 
-pub returns-then-from-2-clause-ranges : goal.returns-then-from-2-clause-ranges
-returns-then-from-2-clause-ranges c = grind (arith, common_steps)
-
 pub returns-then-is_empty-clause-ranges : goal.returns-then-is_empty-clause-ranges
 returns-then-is_empty-clause-ranges c = grind (arith, common_steps)

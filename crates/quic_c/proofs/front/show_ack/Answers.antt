@@ -1,43 +1,42 @@
-use Rattle.std.proofs.Common.{◌≡◌, ◌+◌, ap, arith}
-use Rattle.quic_c.specs.declared.words.CFrame.{CFrame}
-use Rattle.quic_c.specs.Shown.{counts_flag}
-use Rattle.quic_frame_fields.proofs.Varints.{varint_found, varint_none}
-use Rattle.quic_c.proofs.GapFilling.{first_reads, first_is_there, more_is}
+use Rattle.std.proofs.Common.{ℕ, ◌+◌, ap, ◌∙◌}
+use Rattle.quic_frames.specs.declared.frame.Frame.TheVariants as frames
+use Rattle.quic_c.specs.Shown.{counts_flag, frame_words}
+use Rattle.quic_c.proofs.GapFilling.{more_is}
 use Rattle.quic_c.proofs.front.show_ack.Goals as goal
-
-pub unreachable-requires : goal.unreachable-requires
-unreachable-requires c =
-    first_is_there c.args.ack.now c.additional-blocks.result.now _ c.additional-blocks.ensures c.are_bytes.ensures
-    (varint_none _ c.in_default.ensures.found)
 
 pub fill_gaps-count-requires : goal.fill_gaps-count-requires
 fill_gaps-count-requires c =
-    let f =
-    first_reads c.args.ack.now c.additional-blocks.result.now c.in-Ok.first c.in-Ok.below.now
-    c.additional-blocks.ensures c.are_bytes.ensures (varint_found _ _ c.in-Ok.ensures.found) in
-    (f.least, f.below, f.encoded)
+    let f = c.split_blocks-first.ensures.below in
+    (f.0, f.1, f.3)
 
 pub returns : goal.returns
 returns c =
-    let f =
-    first_reads c.args.ack.now c.additional-blocks.result.now c.in-Ok.first c.in-Ok.below.now
-    c.additional-blocks.ensures c.are_bytes.ensures (varint_found _ _ c.in-Ok.ensures.found) in
-    let filled = c.fill_gaps-count.ensures.fills f.least f.below f.encoded in
-    let whole = c.fill_gaps-count.ensures.whole f.least f.below f.encoded in
+    let f = c.split_blocks-first.ensures.below in
+    let filled = c.fill_gaps-count.ensures.fills f.0 f.1 f.3 in
+    let whole = c.fill_gaps-count.ensures.whole f.0 f.1 f.3 in
     let count = c.fill_gaps-count.result.0 in
     let more =
-    more_is count f.below c.fill_gaps-count.result.1 c.more_flag.result filled.one_each whole c.more_flag.ensures.value in
-    let flags : c.args.words.flags ≡ counts_flag c.args.ack.now.ecn = ap (λ (w : CFrame). w.flags) c.requires in
+    more_is count f.1 c.fill_gaps-count.result.1 c.more_flag.result filled.one_each whole c.more_flag.ensures.value in
+    let words = frame_words 0 c.args.end c.args.ty (frames.Ack c.args.ack.now) in
     record {
-      least = f.least;
-      below = f.below;
-      ranges = f.ranges;
-      first = f.first;
+      least = f.0;
+      below = f.1;
+      ranges = f.2;
       gaps = filled;
-      flags = omega (arith, flags, more);
-      others = ap (λ (w : CFrame). record w {
-        flags = c.args.words.flags + c.more_flag.result;
+      others = ap (λ p. record {
+        kind = p.kind;
+        ty = c.args.ty;
+        flags = p.flags + c.more_flag.result;
+        begin = 0;
+        end = c.args.end;
         data_offset = count;
-        data_len = c.in-Ok.first;
-      }) c.requires;
+        data_len = p.data_len;
+        numbers = p.numbers;
+      }) c.with_first-parts.ensures
+          ∙ ap (λ (n : ℕ). record words {
+            flags = counts_flag c.args.ack.now.ecn + c.more_flag.result;
+            data_offset = count;
+            data_len = n;
+          }) c.split_blocks-first.ensures.first
+          ∙ ap (λ (n : ℕ). record words { flags = counts_flag c.args.ack.now.ecn + n; data_offset = count }) more;
     }

@@ -2,6 +2,7 @@ use Rattle.std.proofs.Common.{◌≡◌, ℕ, List, ◌+◌, ◌++◌, length, d
 use Rattle.std.specs.Prelude.{Ok}
 use Rattle.quic_params.specs.Further.{IsOrderOf, asked, listed}
 use Rattle.quic_params.specs.Meaning.{IsReadAnswer}
+use Rattle.quic_params.specs.Options.{as_quinn}
 use Rattle.quic_params.specs.Table.{parameter_count}
 use Rattle.quic_params.specs.declared.record.TransportParameters.{TransportParameters}
 use Rattle.quic_c_params.proofs.DescribedParams.{plain_is}
@@ -16,7 +17,7 @@ returns-clause-wrote c = λ _.
     let list : List ℕ = listed p r.0 c.args.order.now in
     let len : c.list_len-len.result ≡ length list = c.list_len-len.ensures r.0 r.1.encoded in
     let read =
-    c.further.ensures c.in-Some.reader p r.0 (asked (parameter_count + length r.0) c.args.order.now)
+    c.further.ensures as_quinn c.in-Some.reader p r.0 (asked (parameter_count + length r.0) c.args.order.now)
     c.type_bounds-2.ensures s.1 r.1.others order in
     record {
       params = p;
@@ -31,6 +32,6 @@ returns-clause-wrote c = λ _.
         front = c.store_list.ensures r.0 r.1.encoded
             ∙ ap (λ (n : ℕ). list ++ drop n c.args.dest.now) (sym len);
       };
-      read_back = subst (λ (q : TransportParameters). IsReadAnswer c.in-Some.reader list (Ok q))
+      read_back = subst (λ (q : TransportParameters). IsReadAnswer as_quinn c.in-Some.reader list (Ok q))
           (plain_is p s.0.no_grease s.0.no_order) read;
     }

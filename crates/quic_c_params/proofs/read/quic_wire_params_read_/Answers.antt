@@ -1,6 +1,6 @@
--- What the side refuses is reported.
+-- What the side rejects is reported.
 use Rattle.std.proofs.Common.{◌≡◌, Err, inr, of_z, refl, rules, subst, to_z, w32}
-use Rattle.quic_params.specs.Meaning.{IsReadAnswerWith}
+use Rattle.quic_params.specs.Meaning.{IsReadAnswer}
 use Rattle.quic_params.specs.Refusal.{IsPlacedAnswer}
 use Rattle.quic_params.specs.declared.options.ReadOptions.{ReadOptions}
 use Rattle.quic_c_params.specs.Answers.{failure_of}
@@ -16,7 +16,7 @@ returns-in-Err c =
       record {
         reader = c.in-Some.reader;
         is_side = c.in-Some.ensures;
-        answer = subst (λ (o : ReadOptions). IsReadAnswerWith o c.in-Some.reader c.args.bytes.now (Err c.in-Err.refused.error))
+        answer = subst (λ (o : ReadOptions). IsReadAnswer o c.in-Some.reader c.args.bytes.now (Err c.in-Err.refused.error))
             c.options_of.ensures c.in-Err.ensures.meant;
         place = subst (λ (o : ReadOptions). IsPlacedAnswer o c.in-Some.reader c.args.bytes.now (Err c.in-Err.refused))
             c.options_of.ensures c.in-Err.ensures.place;

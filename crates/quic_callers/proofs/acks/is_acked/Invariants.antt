@@ -3,7 +3,7 @@ use Rattle.quic_frame_fields.specs.Acks.{ranges_acked, ranges_left}
 use Rattle.quic_frame_fields.specs.Sets.{is_in}
 use Rattle.quic_callers.proofs.acks.is_acked.Given as goal
 
--- the number is in the ranges that are left just where it is acknowledged
+-- the number is in the ranges that are left exactly when it is acknowledged
 abbrev pub invariant-loop-range : goal.invariant-loop-range
 invariant-loop-range l =
     (goal.iterator-loop-range).can_next l.range-iterator ×

@@ -1,4 +1,4 @@
--- By the law of examples and that of one answer.
+-- By the law of examples and that of one result.
 use Rattle.std.proofs.Common.{ℕ, List, [], ◌∷◌, drop, refl, subst}
 use Rattle.quic_base.specs.Number.{AreBytes}
 use Rattle.quic_header_decode.specs.declared.protected.ProtectedHeader.{ProtectedHeader}

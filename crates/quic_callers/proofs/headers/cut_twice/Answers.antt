@@ -1,4 +1,4 @@
--- By the law of one answer.
+-- By the law of one result.
 use Rattle.std.proofs.Common.{ℕ, List, sym, subst, eq-eqb}
 use Rattle.quic_base.specs.Number.{AreBytes}
 use Rattle.quic_header_decode.specs.Grammar.{Cut}

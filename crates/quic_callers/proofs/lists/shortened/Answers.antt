@@ -1,5 +1,6 @@
 use Rattle.std.proofs.Common.{◌≡◌, ◌≤◌, List, ℕ, None, length, refl, sym, ap, subst, ◌∙◌}
 use Rattle.quic_params.specs.Meaning.{IsMeant}
+use Rattle.quic_params.specs.Options.{as_quinn}
 use Rattle.quic_params.specs.Range.{plain}
 use Rattle.quic_params.specs.Writing.{written}
 use Rattle.quic_params.specs.declared.record.TransportParameters.{TransportParameters}
@@ -18,7 +19,7 @@ returns c =
     let meant = c.in-Ok.ensures.meant in
     let same = plain_is p meant.0.is_record.no_grease meant.0.is_record.no_order in
     let least =
-    c.shortest.ensures.least p c.args.list.now (subst (λ q. IsMeant q c.args.list.now) (sym same) meant.0) in
+    c.shortest.ensures.least p c.args.list.now (subst (λ q. IsMeant as_quinn q c.args.list.now) (sym same) meant.0) in
     let shorter : length (written p) ≤ length c.args.list.now =
     subst (λ q. length (written q) ≤ length c.args.list.now) same least in
     let content =

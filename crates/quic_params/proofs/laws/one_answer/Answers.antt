@@ -1,6 +1,5 @@
-use Rattle.quic_params.specs.Options.{as_quinn}
 use Rattle.quic_params.proofs.Records.{answer_once}
 use Rattle.quic_params.proofs.laws.one_answer.Goals as goal
 
 pub returns : goal.returns
-returns c = answer_once as_quinn
+returns c = answer_once

@@ -1,9 +1,5 @@
 use Rattle.quic_params.proofs.Readings.{any_width_takes, or_repeated, repeats_taken}
-use Rattle.quic_params.proofs.Records.{answer_once}
 use Rattle.quic_params.proofs.laws.readings.Goals as goal
-
-pub returns-clause-one : goal.returns-clause-one
-returns-clause-one c = answer_once
 
 pub returns-clause-width : goal.returns-clause-width
 returns-clause-width c = any_width_takes

@@ -1,4 +1,4 @@
--- The word after `datagram` is the only one.
+-- The argument after `datagram` is the only one.
 use Rattle.std.proofs.Common.{◌≡◌, ◌≤◌, ◌<◌, ℕ, List, [], ◌∷◌, Bor, codes, map, length, get_or, ap, sym, subst, ◌∙◌, arith}
 use Rattle.quic_text.specs.IdLens.{IsIdLen}
 use Rattle.std.proofs.lemmas.Grind.{common_steps}

@@ -2,10 +2,10 @@ use Rattle.quic_params.specs.Answer.{answer_at}
 use Rattle.quic_wire.proofs.laws.every_list.Goals as goal
 
 pub returns : goal.returns
-returns c = λ side bytes fits.
-    let found = c.answer_as_a_function.ensures side bytes fits in
+returns c = λ options side bytes fits.
+    let found = c.answer_as_a_function.ensures options side bytes fits in
     record {
-      it = answer_at side bytes;
+      it = answer_at options side bytes;
       is = found;
-      only = λ other is. c.one_answer.ensures side bytes other (answer_at side bytes) is found;
+      only = λ other is. c.one_answer.ensures options side bytes other (answer_at options side bytes) is found;
     }

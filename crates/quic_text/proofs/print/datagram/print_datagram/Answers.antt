@@ -1,4 +1,4 @@
--- A packet is cut and its line printed, until nothing is left or what is left is refused.
+-- A packet is cut and its line printed, until nothing is left or what is left is rejected.
 use Rattle.std.proofs.Common.{rules, ◌≡◌, ◌+◌, ◌<◌, ◌++◌, ℕ, List, [], length, drop, refl, sym, ap, ◌∙◌, arith, subst, length-drop}
 use Rattle.std.proofs.Math.Bool.{or-false}
 use Rattle.std.specs.String.{string_bytes}

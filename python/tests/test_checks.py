@@ -1,0 +1,171 @@
+"""What readers check: of each flag what is read without it and rejected with it, or the other way round."""
+
+import functools
+import operator
+import unittest
+
+import quic_wire as q
+
+FLAGS = list(q.Checks)
+FEE, PV, TPE = q.Code.FRAME_ENCODING_ERROR, q.Code.PROTOCOL_VIOLATION, q.Code.TRANSPORT_PARAMETER_ERROR
+RETRY = "f0000000010000"
+# What is rejected with a flag only: the flag, bytes, reason, field and where, code, section of RFC 9000.
+FRAMES = [
+    ("SHORT_TYPES", "4001", "frame type not in shortest form", "Frame Type", 0, PV, "12.4"),
+    ("SHORT_TYPES", "80000001", "frame type not in shortest form", "Frame Type", 0, PV, "12.4"),
+    ("DATA_LIMIT", "06ffffffffffffffff01aa", "limit exceeded", "Length", 9, FEE, "19.6"),
+    ("DATA_LIMIT", "0e00ffffffffffffffff0161", "limit exceeded", "Length", 10, FEE, "19.8"),
+    ("DATA_LIMIT", "0c00ffffffffffffffff61", "limit exceeded", "Offset", 2, FEE, "19.8"),
+    ("STREAM_LIMIT", "12d000000000000001", "limit exceeded", "Maximum Streams", 1, FEE, "19.11"),
+    ("STREAM_LIMIT", "13ffffffffffffffff", "limit exceeded", "Maximum Streams", 1, FEE, "19.11"),
+    ("STREAM_LIMIT", "16d000000000000001", "limit exceeded", "Maximum Streams", 1, FEE, "19.14"),
+    ("STREAM_LIMIT", "17ffffffffffffffff", "limit exceeded", "Maximum Streams", 1, FEE, "19.14"),
+    ("NO_ACK_FREQUENCY", "1f", "invalid frame ID", "Frame Type", 0, FEE, "12.4"),
+    ("NO_ACK_FREQUENCY", "40af00000000", "invalid frame ID", "Frame Type", 0, FEE, "12.4"),
+    ("TOKENS", "0700", "malformed", "Token Length", 1, FEE, "19.7"),
+    ("TOKENS", "074000", "malformed", "Token Length", 1, FEE, "19.7"),
+]
+# What no flag rejects: the greatest of each, and a field that could be shorter.
+ALLOWED = ["06ffffffffffffffff00", "0e00fffffffffffffffe0161", "0c00fffffffffffffffe61", "12d000000000000000",
+           "16d000000000000000", "074001aa", "104001"]  # fmt: skip
+PACKETS = [
+    ("WHOLE_RETRY", RETRY, "Retry without a token or a tag", "Retry Integrity Tag", 7, None, "17.2.5.2"),
+    ("WHOLE_RETRY", RETRY + "00" * 15, "Retry without a token or a tag", "Retry Integrity Tag", 7, None, "17.2.5.2"),
+    ("WHOLE_RETRY", RETRY + "00" * 16, "Retry without a token or a tag", "Retry Token", 7, None, "17.2.5.2"),
+]
+# What is rejected without a flag only, and with which flags it is read.
+UNSET = "fixed bit unset"
+GREASED = [
+    (["GREASED_BIT"], "0011223344", UNSET, "Fixed Bit", 0, None, "17.3.1"),
+    (["GREASED_BIT"], "80000000010000000100", UNSET, "Fixed Bit", 0, None, "17.2"),
+    (["GREASED_BIT", "ANY_VERSION"], "8000000000016100" + "00000001", UNSET, "Fixed Bit", 0, None, "17.2"),
+    (["GREASED_BIT", "ANY_VERSION"], "8000000009016100", UNSET, "Fixed Bit", 0, None, "17.2"),
+]
+GREASE, DELAY = "6ab200", "c0000000ff04de1b0107"
+LONG = "its integer isn't in its shortest encoding, which RFC 9000, section 16, allows and quinn-proto rejects"
+# Lists that have a parameter twice, and where it is again.
+REPEATS = [("0f00" + GREASE + "040105" + GREASE, "grease_quic_bit", 8), (DELAY * 2, "min_ack_delay", 10)]
+# Lists with an integer that could be shorter, and what it is.
+WIDE = [("01024001", "max_idle_timeout", 1), ("030244b0" + "0408c000000000000005", "initial_max_data", 5)]
+
+
+class Flags(unittest.TestCase):
+    def test_the_flags_are_these(self):
+        names = "SHORT_TYPES DATA_LIMIT STREAM_LIMIT NO_ACK_FREQUENCY TOKENS GREASED_BIT ANY_VERSION WHOLE_RETRY"
+        self.assertEqual([one.name for one in FLAGS], [*names.split(), "ANY_WIDTH", "NO_REPEATS"])
+        self.assertEqual(q.Checks.QUINN, 0)
+        self.assertEqual(set(q.Checks.RFC), {*FLAGS} - {q.Checks.GREASED_BIT})
+        self.assertEqual(sorted(one.bit_length() for one in FLAGS), list(range(1, 11)))
+
+    def rejected(self, call, flags, row):
+        reason, field, field_at, code, section = row
+        with self.assertRaises(q.Error) as caught:
+            call(flags)
+        error = caught.exception
+        found = (error.reason, error.field, error.field_offset, error.code, error.section)
+        self.assertEqual(found, (reason, field, field_at, code, f"RFC 9000, section {section}"))
+
+    def test_frames_are_read_without_a_flag_and_rejected_with_it(self):
+        for name, digits, *row in FRAMES:
+            flag, payload = q.Checks[name], bytes.fromhex(digits)
+            reads = [
+                lambda checks: q.read_frames(payload, checks=checks),
+                lambda checks: list(q.frames(payload, checks=checks)),
+            ]
+            for read in reads:
+                with self.subTest(name), self.subTest(digits):
+                    self.assertEqual((len(read(q.Checks.QUINN)), len(read(~flag))), (1, 1))
+                    for flags in (flag, q.Checks.RFC):
+                        self.rejected(read, flags, row)
+
+    def test_frames_up_to_the_limits_are_read(self):
+        for digits in ALLOWED:
+            with self.subTest(digits):
+                self.assertEqual(len(q.read_frames(bytes.fromhex(digits), checks=q.Checks.RFC)), 1)
+
+    def test_the_frames_before_are_in_the_error(self):
+        with self.assertRaises(q.FrameError) as caught:
+            q.read_frames(bytes.fromhex("01" + "12d000000000000001"), checks=q.Checks.RFC)
+        self.assertEqual((caught.exception.frames, caught.exception.offset), ([q.Ping()], 1))
+        self.assertEqual((caught.exception.field_offset, caught.exception.frame_type), (2, 0x12))
+
+    def test_packets_are_read_without_a_flag_and_rejected_with_it(self):
+        for name, digits, *row in PACKETS:
+            flag, datagram = q.Checks[name], bytes.fromhex(digits)
+            for read in self.readers(datagram):
+                with self.subTest(name), self.subTest(digits):
+                    self.assertEqual((len(read(q.Checks.QUINN)), len(read(~flag))), (1, 1))
+                    for flags in (flag, q.Checks.RFC):
+                        self.rejected(read, flags, row)
+        whole = bytes.fromhex(RETRY + "aa" + "00" * 16)
+        self.assertEqual(bytes(q.read_packet(whole, 0, checks=q.Checks.RFC).token), b"\xaa")
+
+    def readers(self, datagram):
+        return [
+            lambda checks: q.read_packets(datagram, 0, checks=checks),
+            lambda checks: list(q.packets(datagram, 0, checks=checks)),
+            lambda checks: [q.read_packet(datagram, 0, checks=checks)],
+        ]
+
+    def test_the_fixed_bit_may_be_clear_with_a_flag(self):
+        for names, digits, *row in GREASED:
+            for read in self.readers(bytes.fromhex(digits)):
+                with self.subTest(digits):
+                    allowed = [q.Checks[name] for name in names]
+                    self.rejected(read, q.Checks.QUINN, row)
+                    self.rejected(read, ~functools.reduce(operator.or_, allowed), row)
+                    for flag in allowed:
+                        self.assertEqual(len(read(flag)), 1)
+                    if "ANY_VERSION" in names:
+                        self.assertEqual(len(read(q.Checks.RFC)), 1)
+                    else:
+                        self.rejected(read, q.Checks.RFC, row)
+
+    def parameters(self, digits, checks):
+        return q.TransportParameters.read(q.Side.CLIENT, bytes.fromhex(digits), checks=checks)
+
+    def test_an_integer_may_have_any_width_with_a_flag(self):
+        for digits, name, value in WIDE:
+            for flags in (q.Checks.QUINN, ~q.Checks.ANY_WIDTH):
+                with self.subTest(name), self.assertRaises(q.ParameterError) as caught:
+                    self.parameters(digits, flags)
+                error = caught.exception
+                self.assertEqual((error.name, error.why, error.code), (name, LONG, TPE))
+                self.assertEqual((error.reason, error.section), ("malformed", "RFC 9000, section 18.2"))
+            for flags in (q.Checks.ANY_WIDTH, q.Checks.RFC):
+                self.assertEqual(getattr(self.parameters(digits, flags), name), value)
+        with self.assertRaises(q.ParameterError) as caught:
+            self.parameters("0304800000ff", q.Checks.RFC)
+        shown = ("its value is invalid", "illegal value")
+        self.assertEqual((caught.exception.why, caught.exception.reason), shown)
+
+    def test_a_repeat_is_rejected_with_a_flag(self):
+        for digits, name, at in REPEATS:
+            for flags in (q.Checks.QUINN, ~q.Checks.NO_REPEATS):
+                self.assertTrue(getattr(self.parameters(digits, flags), name))
+            for flags in (q.Checks.NO_REPEATS, q.Checks.RFC):
+                with self.subTest(name), self.assertRaises(q.ParameterError) as caught:
+                    self.parameters(digits, flags)
+                error = caught.exception
+                self.assertEqual((error.name, error.why, error.code), (name, "it occurs twice", TPE))
+                self.assertEqual((error.reason, error.offset), ("malformed", at))
+                self.assertEqual(error.section, "RFC 9000, section 7.4")
+        self.assertEqual(self.parameters("1b00" * 2, q.Checks.RFC), q.TransportParameters())
+
+    def test_what_is_no_flag_is_not_taken(self):
+        for call in (
+            lambda **how: q.read_frames(b"\x01", **how),
+            lambda **how: q.frames(b"\x01", **how),
+            lambda **how: q.read_packets(b"\x40", 0, **how),
+            lambda **how: q.read_packet(b"\x40", 0, **how),
+            lambda **how: q.TransportParameters.read(q.Side.CLIENT, b"", **how),
+        ):
+            for kind, value in ((TypeError, "1"), (TypeError, None), (ValueError, -1), (ValueError, 1 << 32)):
+                with self.assertRaisesRegex(kind, "^checks must be"):
+                    call(checks=value)
+            with self.assertRaises(TypeError):
+                call(check=q.Checks.RFC)
+
+
+if __name__ == "__main__":
+    unittest.main()

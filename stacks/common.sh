@@ -6,10 +6,10 @@ top=$(dirname -- "$here")
 lists=$WORK/lists
 suite=bookworm mirror=${DEBIAN_MIRROR:-http://deb.debian.org/debian}
 
-# row WHAT OWN OVER: a row of the table, of the stack as it is and over the library.
+# row WHAT OWN OVER: a row of the table, for the stack as it is and with the library.
 row() { printf '%s\t%s\t%s\n' "$@" >>"$WORK/table"; }
 
-# step NAME COMMAND..: a step, whose output is kept in a log; where it fails the log's end is shown. It is never called
+# step NAME COMMAND..: a step, whose output goes to a log; if it fails, the end of the log is shown. It is never called
 # as a condition, in which bash would go on after a failure.
 step() {
     local log=$WORK/logs/$1.log status

@@ -96,7 +96,8 @@ static void range(uint64_t least, uint64_t greatest) {
 }
 static void ack_end(void) { put("]"); }
 
-/* Answers, each 0, so that it can end a function.  What an object that is open has isn't told. */
+/* Answers, each 0, so that it can end a function.  What an open object has
+ * isn't printed. */
 static int accept_read(void) {
   int is_list = strcmp(form, "params") != 0;
   printf("valid %s%s%s\n", is_list ? "[" : "{", told, is_list ? "]" : "}");

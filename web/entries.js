@@ -5,7 +5,8 @@ import { readDumps, reading, readText } from "./bytes.js";
 import { answerOf, eachLine, Pace } from "./slices.js";
 import { refusalOf, withoutNames } from "./written.js";
 
-// A line of a log is looked at for pairs of digits in a row; what is shorter than this is a time, a length or the like.
+// A line of a log is searched for consecutive pairs of digits; what is shorter than this is a time, a length or the
+// like.
 const LOG_RUN = /(?<![0-9a-z_])(?:0x)?((?:[0-9a-f]{2}[ :]?)*[0-9a-f]{2})(?![0-9a-z_])/gi;
 const LOG_DIGITS = 8;
 const IN_LOG = "hexadecimal in a line of a log";

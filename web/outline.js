@@ -112,7 +112,7 @@ export class Outline {
     this.refresh();
   }
 
-  // Draws the lines anew, since what is open or what an item says has changed.
+  // Draws the lines again, since what is open or the text of an item has changed.
   refresh() {
     const { scrollTop } = this.box;
     this.layOut();

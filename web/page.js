@@ -24,7 +24,7 @@ import { count } from "./walk.js";
 // In milliseconds.
 const LINK_DELAY = 300;
 const SHOWN_FOR = 3000;
-// So many inputs, and packets of each, are looked at for ids.
+// How many inputs, and packets of each, are searched for connection IDs.
 const MOST_LOOKED_AT = 32;
 // A text of more characters than these is read step by step, between which the browser does what else it has to.
 const MOST_AT_ONCE = 1 << 18;
@@ -201,8 +201,8 @@ class Page {
     this.later();
   }
 
-  // Ids from which keys of Initial packets may follow: the one that was written, then the destination ids of Initial
-  // packets in all inputs, as far as they are looked at.
+  // Connection IDs from which keys of Initial packets may be derived: the one that was entered, then the destination
+  // connection IDs of Initial packets in all inputs that are searched.
   knownIds(library) {
     const { bytes } = readText(byId("first-id").value);
     const ids = new Set(bytes?.length > 0 ? [toHex(bytes)] : []);
@@ -258,7 +258,7 @@ class Page {
 
   // ---- showing
 
-  // Shows the reading anew, unless one is under way.
+  // Reads and shows again, unless a reading is under way.
   again() {
     if (document.documentElement.dataset.state === "ready") {
       this.go(this.show(), 0);

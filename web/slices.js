@@ -1,16 +1,16 @@
-// Long texts and bytes in parts, between which whoever reads them may pause. A function with pauses is a generator that
-// yields nothing and returns its answer.
+// Long texts and bytes in parts, between which the reader may pause. A function with pauses is a generator that yields
+// nothing and returns its result.
 
-// So many characters are looked at between two pauses, and a few more.
+// How many characters are read between two pauses, with a few more.
 export const AT_ONCE = 1 << 15;
 // So many milliseconds a task takes steps, and one step more.
 const TASK_TIME = 10;
 
-// Counts what has been looked at since the last pause.
+// Counts what was read since the last pause.
 export class Pace {
   done = 0;
 
-  // Whether the next pause is due, once |count| characters more are looked at.
+  // Whether the next pause is due after |count| more characters are read.
   isDue(count) {
     this.done += count + 1;
     if (this.done < AT_ONCE) {

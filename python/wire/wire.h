@@ -83,7 +83,7 @@ PyObject *wire_range(const quic_wire_range *range);
 PyObject *wire_mistake(int result);
 PyObject *wire_frame_error(int result, PyObject *payload, size_t begin,
                            uint64_t type, PyObject *before);
-/* |packet| is what was read of a packet that is cut off, or NULL. */
+/* |packet| is what was read from a truncated packet, or NULL. */
 PyObject *wire_packet_error(int result, PyObject *datagram, size_t begin,
                             size_t cid_len, PyObject *before, PyObject *packet);
 /* |flags| are those that the list was read with. */

@@ -1,9 +1,9 @@
 #!/usr/bin/env python3
-"""Proves for all words what is done without a call of the proved library: the expressions of c/include/quic_wire_inline.h
-and the ends of a set in rust/src/range_set/ends.rs. Their text is read and given to the solver z3 as it is; what it
-must be is written here, in numbers of 72 bits, which nothing wraps in.
+"""Proves for all values what is computed without a call of the proved library: the expressions of
+c/include/quic_wire_inline.h, and those for the ends of a set in rust/src/range_set/ends.rs. Their text is given to the
+solver z3 as it is. What they must equal is written here, in numbers of 72 bits, in which nothing wraps.
 
-all_words.py   needs gcc, and of Debian python3-z3 and python3-pycparser
+all_words.py   needs gcc and Debian's python3-z3 and python3-pycparser
 """
 import pathlib
 import re
@@ -17,7 +17,7 @@ from pycparser import c_ast, c_parser
 TOP = pathlib.Path(__file__).resolve().parents[2]
 LOWEST = z3.BitVecVal(0, 64)
 WIDE = 72
-# What the header includes, for a parser that knows C99 alone.
+# What the header includes, for a parser that only knows C99.
 HEADERS = {
     "stdint.h": "\n".join(
         [f"typedef unsigned {kind} uint{bits}_t; typedef signed {kind} int{bits}_t;"

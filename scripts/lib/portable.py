@@ -1,10 +1,10 @@
 #!/usr/bin/env python3
-"""Makes quic_wire_proved.c of what wasm2c printed of one module that was linked twice, for stacks of 64 KiB and of
-128: the functions that c/include/quic_wire_inline.h declares with an underscore at their end, and those that they
+"""Makes quic_wire_proved.c from what wasm2c printed for one module that was linked twice, for stacks of 64 KiB and of
+128 KiB: the functions that c/include/quic_wire_inline.h declares with an underscore at their end, and those that they
 call, as C that works on the caller's own memory. Each number in which the two differ is the address of constant data,
-which become an array; the stack pointer becomes an argument, and each call from outside has a stack of just the bytes
-that it may use. What the generated C has no name for is in quic_wire_portable.h. Anything that isn't as it is known
-here ends it with a message.
+which become an array. The stack pointer becomes an argument, and each call from outside has a stack of exactly the
+bytes that it can use. What the generated C has no name for is in quic_wire_portable.h. Input of another form than
+expected ends the script with a message.
 
 scripts/lib/portable.py HEAD FIRST.c SECOND.c INCLUDE >quic_wire_proved.c
 

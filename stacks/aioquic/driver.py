@@ -261,7 +261,7 @@ def answer(form, context, digits):
         "varint-read": lambda: read_varint(data),
         "number-expand": lambda: expanded(words),
     }
-    # A client reads these frames; of datagrams it is told who reads, which packet.py isn't.
+    # A client reads these frames; a datagram's line says who reads it, which packet.py doesn't know.
     if form not in calls or form == "payload" and words.get("side") == "server":
         return "skip"
     return calls[form]()

@@ -1,5 +1,7 @@
-/* A driver over the wire layer of ngtcp2 1.11, whose library is compiled beside this file as it is.  What ngtcp2 looks
- * at when it uses a frame or sets parameters is done here: an ACK's ranges, Retire Prior To, who sent parameters. */
+/* A driver over the wire layer of ngtcp2 1.11, whose library is compiled beside
+ * this file as it is.  What ngtcp2 checks when it uses a frame or sets
+ * parameters is done here: an ACK's ranges, Retire Prior To, who sent
+ * parameters. */
 #include <ngtcp2/ngtcp2.h>
 #include "ngtcp2_pkt.h"
 #include "ngtcp2_transport_params.h"
@@ -107,7 +109,7 @@ static void show(const ngtcp2_frame *f) {
   }
 }
 
-/* What the connection looks at of a frame that was read: 0, or the error. */
+/* What the connection checks in a frame that was read: 0, or the error. */
 static int look_at(const ngtcp2_frame *f) {
   const ngtcp2_new_connection_id *id = &f->new_connection_id;
   if ((f->ping.type & 0xfe) == NGTCP2_FRAME_ACK) return ngtcp2_pkt_validate_ack(&f->ack, 0);
@@ -138,7 +140,8 @@ static void show_id(const char *name, int is_there, const ngtcp2_cid *id) {
   if (is_there) bytes(name, id->data, id->datalen);
 }
 
-/* Reads parameters, and looks at them as ngtcp2_conn_set_remote_transport_params does, but for the handshake's ids. */
+/* Reads parameters, and checks them as ngtcp2_conn_set_remote_transport_params
+ * does, except the handshake's connection IDs. */
 static int are_read(ngtcp2_transport_params *p, int is_server) {
   memset(p, 0, sizeof *p);
   if (ngtcp2_transport_params_decode(p, input, input_len) || p->active_connection_id_limit < 2 ||
@@ -235,7 +238,8 @@ static int datagram(size_t cidlen) {
   return accept_read();
 }
 
-/* ngtcp2 knows DATAGRAM and both versions, and may be told to clear the fixed bit, which isn't done here. */
+/* ngtcp2 knows DATAGRAM and both versions, and can be set to clear the fixed
+ * bit, which isn't done here. */
 static int answer(void) {
   const char *extension = context("extension"), *cidlen = context("cid_len");
   int is_known = !extension || !strcmp(extension, "datagram") || !strcmp(extension, "version-2") ||

@@ -9,9 +9,9 @@
 
 /* ---- Read */
 
-/* The ranges of an ACK are in |dest| already, as ngtcp2 keeps them: each as
- * the gap above it and how many numbers it has after its first, both less
- * one.  Those that there was no room for were looked at, and are left out. */
+/* The ranges of an ACK are in |dest| already, as ngtcp2 keeps them: each as the
+ * gap above it and how many numbers it has after its first, both less one.
+ * Those that don't fit were checked, and are left out. */
 static int ack_of(ngtcp2_ack *dest, const quic_wire_frame *f) {
   dest->largest_ack = (int64_t)f->ack.largest;
   dest->ack_delay = f->ack.delay;
@@ -54,7 +54,7 @@ static void datagram_of(NG_BESIDE(ngtcp2_frame_decoder *room)
 #endif
 }
 
-/* What |f|, a frame without data that was read of |payload|, is to ngtcp2. */
+/* What |f|, a frame without data that was read from |payload|, is to ngtcp2. */
 static int numbers_of(ngtcp2_frame *dest, const quic_wire_frame *f,
                       const uint8_t *payload) {
   switch (f->kind) {
@@ -115,7 +115,7 @@ static int numbers_of(ngtcp2_frame *dest, const quic_wire_frame *f,
 #define OUT_OF_LINE
 #endif
 
-/* What |f|, read of |payload|, is to ngtcp2. */
+/* What |f|, read from |payload|, is to ngtcp2. */
 OUT_OF_LINE static int frame_of(NG_BESIDE(ngtcp2_frame_decoder *room)
                                     ngtcp2_frame *dest,
                                 const quic_wire_frame *f,
@@ -336,7 +336,7 @@ static inline ngtcp2_ssize put_pieces(uint8_t *out, size_t outlen,
   return p - out;
 }
 
-/* What is looked at of a frame whose header alone is written. */
+/* What is used from a frame of which only the header is written. */
 static inline void header_of(quic_wire_frame *f, uint16_t kind, uint32_t flags,
                              uint64_t id, uint64_t offset) {
   f->kind = kind;

@@ -165,7 +165,7 @@ int ngtcp2_pkt_decode_version_cid(ngtcp2_version_cid *dest, const uint8_t *data,
 
 /* ---- Written */
 
-/* One struct for all kinds: what a kind lacks isn't looked at. */
+/* One struct for all kinds: what a kind lacks is ignored. */
 static quic_wire_header_fields fields_of(const ngtcp2_pkt_hd *hd,
                                          uint8_t kind) {
   quic_wire_header_fields fields = {.kind = kind,

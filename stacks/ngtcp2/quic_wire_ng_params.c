@@ -252,7 +252,7 @@ static size_t put_versions(uint8_t out[64], const ngtcp2_transport_params *p) {
 static ngtcp2_ssize write_params(uint8_t *dest, size_t destlen, uint32_t side,
                                  const ngtcp2_transport_params *params) {
   quic_wire_params w;
-  uint8_t front[64]; /* of version_information, but for the other versions */
+  uint8_t front[64]; /* of version_information, except the other versions */
   size_t frontlen = put_versions(front, params);
   size_t otherlen = frontlen ? params->version_info.available_versionslen : 0;
   size_t more = frontlen + otherlen, written = 0;

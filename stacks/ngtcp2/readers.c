@@ -1,7 +1,7 @@
 /*
  * readers frames | datagrams LEN | params client|server: what ngtcp2's own
- * functions read of lines of hexadecimal, a line for each.  It is compiled over
- * ngtcp2 as it is and over the changed one; both must print the same.
+ * functions read from lines of hexadecimal, a line for each.  It is compiled
+ * over ngtcp2 as it is and over the changed one; both must print the same.
  */
 #include <stdio.h>
 #include <stdlib.h>
@@ -148,8 +148,8 @@ static int is_valid(const ngtcp2_ack *ack) {
 #endif
 }
 
-/* An ACK counts as read once it was seen to be valid: ngtcp2 looks at that when
- * it uses the frame. */
+/* An ACK counts as read once it is found valid: ngtcp2 checks that when it uses
+ * the frame. */
 static void show_frames(size_t len) {
   union {
     ngtcp2_frame frame;
@@ -214,8 +214,8 @@ static void show_datagram(size_t len, size_t cidlen) {
   }
 }
 
-/* Reads parameters as a client or as a server does: of 1.x whoever sets those
- * of its peer looks at what a client may not send. */
+/* Reads parameters as a client or as a server does: in 1.x, the call that sets
+ * the peer's parameters checks what a client must not send. */
 static int read_params(ngtcp2_transport_params *p, size_t len, int is_client) {
 #if QUIC_WIRE_NG_1
   int rv = ngtcp2_transport_params_decode(p, bytes, len);

@@ -1,6 +1,8 @@
-/* A driver over the wire layer of OpenSSL 4.0, whose built tree it is linked with.  ssl/quic/quic_channel.c, which has
- * the reader of transport parameters, is included, since that is static.  What OpenSSL looks at when it uses a frame
- * (quic_rx_depack.c) is done here: types that aren't shortest, counts of streams, empty tokens. */
+/* A driver over the wire layer of OpenSSL 4.0, whose built tree it is linked
+ * with. ssl/quic/quic_channel.c, which has the reader of transport parameters,
+ * is included, since that is static.  What OpenSSL checks when it uses a frame
+ * (quic_rx_depack.c) is done here: types that aren't shortest, counts of
+ * streams, empty tokens. */
 #include "ssl/quic/quic_channel.c"
 #include <openssl/ssl.h>
 #include "internal/quic_ssl.h"

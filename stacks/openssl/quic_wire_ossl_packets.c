@@ -274,7 +274,8 @@ int ossl_quic_wire_get_pkt_hdr_dst_conn_id(const unsigned char *buf,
         return 1;
     }
 
-    /* IDs alone are read of a version that isn't among those given. */
+    /* Only connection IDs are read from a version that isn't among those
+     * given. */
     end = quic_wire_header_read(buf, buf_len, 0, NULL, 0,
         QUIC_WIRE_READ_GREASED_BIT, &h);
     if (end < 0 && end != QUIC_WIRE_ERR_PACKET_VERSION

@@ -896,19 +896,20 @@ QUIC_WIRE_API int quic_wire_frame_header_write(const quic_wire_frame *frame,
                                                size_t destlen, size_t *written);
 
 /**
- * Writes an ACK in its shortest form at the front of |dest|, as
- * quic_wire_frame_read tells one: |ack->ack| has the greatest number, the delay
- * and, where |ack->flags| is QUIC_WIRE_FLAG_ECN and not 0, the counts;
- * |ack->first_range| is the first range, less one, and the |ngaps| entries of
- * |gaps| are the ranges below it.  Nothing else of |ack| is looked at but its
- * kind.
+ * Writes an ACK in its shortest form at the front of |dest|.  |ack| is as
+ * quic_wire_frame_read returns it: |ack->ack| has the greatest number, the delay
+ * and, if |ack->flags| is QUIC_WIRE_FLAG_ECN and not 0, the counts;
+ * |ack->first_range| is the first range less one; and the |ngaps| entries of
+ * |gaps| are the ranges below it.  Of the other fields only |kind| counts.
  *
- * Returns 0, and in |*written| how many bytes were written;
- * QUIC_WIRE_ERR_NOBUF where |destlen| is less, and in |*written| how many are
- * needed; QUIC_WIRE_ERR_ARGUMENT for NULL, or where they are no ACK: a
- * range goes below 0, a number is 2^62 or more, or the flags are others, as
- * with QUIC_WIRE_FLAG_MORE, where ranges are missing.  Bytes of |dest| after
- * those written don't change, and none if nothing was written.
+ * Returns:
+ *  - 0, and in |*written| how many bytes were written
+ *  - QUIC_WIRE_ERR_NOBUF if |destlen| is less, and in |*written| how many are
+ *    needed
+ *  - QUIC_WIRE_ERR_ARGUMENT for NULL, or if this is no ACK: a range goes below
+ *    0, a number is 2^62 or more, or there are other flags, such as
+ *    QUIC_WIRE_FLAG_MORE, with which ranges are missing
+ * Nothing changes unless something was written; bytes of |dest| after it don't.
  */
 QUIC_WIRE_API int quic_wire_ack_gaps_write(const quic_wire_frame *ack,
                                            const quic_wire_gap *gaps,

@@ -1,15 +1,17 @@
 //! Payloads: what a capture reader and a connection do with their frames.
-ghost use Rattle.std.specs.Prelude.{◌≡◌, ◌≢◌, ◌↔◌, ◌<◌, ◌^◌, ◌-◌, ◌++◌, List, None, false, length, min, IfErr, IfOk, IfSome, IsTrue, MatchBool, OnOk};
+ghost use Rattle.std.specs.Prelude.{◌≡◌, ◌≢◌, ◌↔◌, ◌<◌, ◌^◌, ◌-◌, ◌++◌, ◌⊎◌, List, [], None, false, length, min, IfErr, IfOk, IfSome, IsTrue, MatchBool, MatchOption, OnOk};
 ghost use Rattle.quic_callers.specs.Data.{streams_len};
 ghost use Rattle.quic_callers.specs.Reported.{IsReported};
 ghost use Rattle.quic_errors.specs.Codes.{long_type_reason};
 ghost use Rattle.quic_frame_fields.specs.Payload.{TypedFrame, AreFrames};
-ghost use Rattle.quic_frame_fields.specs.Reading.{reason_text};
+ghost use Rattle.quic_frame_fields.specs.Reading.{Invalid, reason_text};
 ghost use Rattle.quic_frame_fields.specs.Shortest.{shortest_frame};
 ghost use Rattle.quic_frame_fields.specs.declared.frame.fault.Fault.{Fault};
 ghost use Rattle.quic_frame_fields.specs.declared.frame.fault.Fault.TheVariants.{LongType};
+ghost use Rattle.quic_frames.specs.Checking.{FindsKept, IsRefusedFrame};
+ghost use Rattle.quic_frames.specs.IterState.{IterState};
 ghost use Rattle.quic_frames.specs.Meaning.{meaning_of};
-ghost use Rattle.quic_frames.specs.Rules.{breach_of};
+ghost use Rattle.quic_frames.specs.Walk.{first_of};
 ghost use Rattle.quic_frames.specs.declared.frame.Frame.TheVariants as frames;
 
 use quic_base::coding::NoRoom;
@@ -33,9 +35,13 @@ pub fn stream_data(payload: &[u8]) -> (usize, Option<FrameType>) {
     (count, None)
 }
 
-/// The first frame of a payload, if it breaks none of these rules.
+/// The first frame of a payload, if it breaks none of these rules. `None` if it breaks one, and if the payload is empty
+/// or doesn't begin with a frame.
 pub fn first_by_rules(payload: &[u8], rules: Rules) -> Option<Frame<'_>>
-    ensures { IfSome result (λ frame. breach_of rules (meaning_of frame) ≡ None) }
+    ensures { MatchOption result
+        ((payload.now ≡ [])
+        ⊎ ((reported : Invalid) × IsRefusedFrame rules (first_of rules.short_types payload.now) reported))
+        (λ frame. (rest : IterState) × FindsKept rules (first_of rules.short_types payload.now) frame rest) }
 {
     let Ok(mut frames) = Iter::with_rules(payload, rules) else {
         return None;

@@ -897,8 +897,8 @@ QUIC_WIRE_API int quic_wire_frame_header_write(const quic_wire_frame *frame,
 
 /**
  * Writes an ACK in its shortest form at the front of |dest|.  |ack| is as
- * quic_wire_frame_read returns it: |ack->ack| has the greatest number, the delay
- * and, if |ack->flags| is QUIC_WIRE_FLAG_ECN and not 0, the counts;
+ * quic_wire_frame_read returns it: |ack->ack| has the greatest number, the
+ * delay and, if |ack->flags| is QUIC_WIRE_FLAG_ECN and not 0, the counts;
  * |ack->first_range| is the first range less one; and the |ngaps| entries of
  * |gaps| are the ranges below it.  Of the other fields only |kind| counts.
  *
@@ -909,7 +909,7 @@ QUIC_WIRE_API int quic_wire_frame_header_write(const quic_wire_frame *frame,
  *  - QUIC_WIRE_ERR_ARGUMENT for NULL, or if this is no ACK: a range goes below
  *    0, a number is 2^62 or more, or there are other flags, such as
  *    QUIC_WIRE_FLAG_MORE, with which ranges are missing
- * Nothing changes unless something was written; bytes of |dest| after it don't.
+ * Bytes of |dest| change only if something was written, and only those.
  */
 QUIC_WIRE_API int quic_wire_ack_gaps_write(const quic_wire_frame *ack,
                                            const quic_wire_gap *gaps,

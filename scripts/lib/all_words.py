@@ -223,11 +223,17 @@ def constants_of(tree):
     return found
 
 
+def members(items):
+    """The members of a struct, with those of unions without a name."""
+    for item in items:
+        yield from members(item.type.decls) if isinstance(item.type, c_ast.Union) and not item.name else [item]
+
+
 def fields_of(tree):
-    """The width of each member of a struct by its name, which has the same in all structs that are looked at."""
+    """The width of each struct member by its name, which has the same width in all structs that are read here."""
     found = {}
     for each in tree.ext:
-        for item in getattr(getattr(getattr(each, "type", None), "type", None), "decls", None) or []:
+        for item in members(getattr(getattr(getattr(each, "type", None), "type", None), "decls", None) or []):
             kind = getattr(item.type, "type", None)
             if isinstance(item.type, c_ast.TypeDecl) and isinstance(kind, c_ast.IdentifierType):
                 found.setdefault(item.name, WIDTHS.get(kind.names[0], 0))

@@ -2,10 +2,9 @@
 use Rattle.std.proofs.Common.{◌≡◌, ℕ, zero, suc, ◌+◌, ◌*◌, ◌/◌, ◌%◌, ◌^◌, ◌<◌, List, [], ◌∷◌, ◌++◌, length, take, drop, get_or, refl, sym, ◌∙◌, ap, arith, lit<, length-append}
 use Rattle.std.proofs.Math.Nat.{pow-suc}
 use Rattle.std.proofs.Math.Seq.{take-append_seam, drop-append_seam}
-use Rattle.std.proofs.lemmas.Nat.{mul-add-lt, pow-add, div-mul-add, mod-mul-add, mod_below, div-add-mod', from_be_bytes-to_be_bytes_2, from_be_bytes-to_be_bytes_4, from_be_bytes-to_be_bytes_8}
+use Rattle.std.proofs.lemmas.Nat.{mul-add-lt, div-mul-add, mod-mul-add, mod_below, div-add-mod', from_be_bytes-to_be_bytes_2, from_be_bytes-to_be_bytes_4, from_be_bytes-to_be_bytes_8}
 use Rattle.std.specs.Int.{w16, w32, w64, from_be_bytes, to_be_bytes, byte_at}
-use Rattle.std.specs.Net.Addr.{segments_of, octets_of, ipv4_octets, ipv6_octets}
-use Rattle.std.specs.declared.net.ipv4_addr.Ipv4Addr.{Ipv4Addr}
+use Rattle.std.specs.Net.Addr.{segments_of, octets_of, ipv6_octets}
 use Rattle.std.specs.declared.net.ipv6_addr.Ipv6Addr.{Ipv6Addr}
 use Rattle.quic_base.specs.Number.{AreBytes, num, IsNumber, IsOctets, bytes_of}
 use Rattle.quic_base.specs.Codec.{Takes, NoFront}
@@ -37,15 +36,6 @@ num_below (x ∷ xs) h =
     let ih : num xs < 256 ^ length xs = num_below xs (tail_bytes x xs h) in
     let hx : x < 256 = h 0 in
     rw pow-suc (mul-add-lt x (256 ^ length xs) (num xs) 256 hx ih)
-
--- the number of two parts
-pub num-append : (a b : List ℕ) → num (a ++ b) ≡ num a * 256 ^ length b + num b
-num-append [] b = omega arith
-num-append (x ∷ xs) b =
-    let e : x * 256 ^ length (xs ++ b) + num (xs ++ b) ≡ x * 256 ^ (length xs + length b) + (num xs * 256 ^ length b + num b) =
-    rw (length-append xs b, num-append xs b) refl in
-    let p : 256 ^ (length xs + length b) ≡ 256 ^ length xs * 256 ^ length b = pow-add 256 (length xs) (length b) in
-    e ∙ rw p (grind arith)
 
 same_lead : (x y p m n : ℕ) → m < p → n < p → x * p + m ≡ y * p + n → x ≡ y
 same_lead x y p m n hm hn e = sym (div-mul-add x p m hm) ∙ ap (λ z. z / p) e ∙ div-mul-add y p n hn
@@ -173,12 +163,6 @@ segments_of-octets_of (x ∷ xs) =
     rw (e, ih) refl
 
 -- an address has one encoding
-pub ipv4_unique : (x y : Ipv4Addr) (b c r s : List ℕ) → b ++ r ≡ c ++ s → IsOctets 4 (ipv4_octets x) b
-    → IsOctets 4 (ipv4_octets y) c → (x ≡ y) × (b ≡ c) × (r ≡ s)
-ipv4_unique x y b c r s e p q =
-    let u = octets_unique 4 (ipv4_octets x) (ipv4_octets y) b c r s e p q in
-    (ap (λ (o : List ℕ). let a : Ipv4Addr = record { octets = o } in a) u.0, u.1, u.2)
-
 pub ipv6_unique : (x y : Ipv6Addr) (b c r s : List ℕ) → b ++ r ≡ c ++ s → IsOctets 16 (ipv6_octets x) b
     → IsOctets 16 (ipv6_octets y) c → (x ≡ y) × (b ≡ c) × (r ≡ s)
 ipv6_unique x y b c r s e p q =

@@ -1,7 +1,6 @@
 -- The laws of numbers and ids that proofs of the crates above cite. All other files here are this crate's own.
-use Rattle.std.proofs.Common.{◌≡◌, ℕ, ◌+◌, ◌*◌, ◌<◌, ◌≤◌, ◌^◌, List, ◌∷◌, ◌++◌, length, None, Some, Result, Ok, OnErr, IfOk}
-use Rattle.std.specs.Net.Addr.{ipv4_octets, ipv6_octets}
-use Rattle.std.specs.declared.net.ipv4_addr.Ipv4Addr.{Ipv4Addr}
+use Rattle.std.proofs.Common.{◌≡◌, ℕ, ◌+◌, ◌<◌, ◌≤◌, ◌^◌, List, ◌∷◌, ◌++◌, length, None, Some, Result, Ok, OnErr, IfOk}
+use Rattle.std.specs.Net.Addr.{ipv6_octets}
 use Rattle.std.specs.declared.net.ipv6_addr.Ipv6Addr.{Ipv6Addr}
 use Rattle.quic_base.specs.Number.{AreBytes, num, IsNumber, IsOctets, bytes_of}
 use Rattle.quic_base.specs.Codec.{Takes, NoFront, IsBegun, Follows, IsPrefixFree}
@@ -28,10 +27,7 @@ same_front = numbers.same_front
 pub same_back : (b c r s : List ℕ) → length b ≡ length c → b ++ r ≡ c ++ s → r ≡ s
 same_back = numbers.same_back
 
--- the number of two parts; a number of k bytes is below 256 to the k, and has one encoding in k bytes
-pub num-append : (a b : List ℕ) → num (a ++ b) ≡ num a * 256 ^ length b + num b
-num-append = numbers.num-append
-
+-- a number of k bytes is below 256 to the k, and has one encoding in k bytes
 pub num_below : (b : List ℕ) → AreBytes b → num b < 256 ^ length b
 num_below = numbers.num_below
 
@@ -57,9 +53,6 @@ length-bytes_of = numbers.length-bytes_of
 -- of fixed numbers, addresses and ids after their length no encoding begins another
 pub number_unique : (k : ℕ) → IsPrefixFree (IsNumber k)
 number_unique = numbers.number_unique
-
-pub ipv4_unique : IsPrefixFree (λ (a : Ipv4Addr). IsOctets 4 (ipv4_octets a))
-ipv4_unique = numbers.ipv4_unique
 
 pub ipv6_unique : IsPrefixFree (λ (a : Ipv6Addr). IsOctets 16 (ipv6_octets a))
 ipv6_unique = numbers.ipv6_unique

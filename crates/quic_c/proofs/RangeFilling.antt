@@ -1,8 +1,8 @@
 -- Ranges that are filled one after the other.
-use Rattle.std.proofs.Common.{◌≡◌, ℕ, ◌+◌, ◌-◌, ◌<◌, ◌≤◌, List, ◌∷◌, ◌++◌, length, take, drop, set, refl, sym, ap, ◌∙◌, inr, arith}
+use Rattle.std.proofs.Common.{◌≡◌, ℕ, ◌+◌, ◌-◌, ◌<◌, ◌≤◌, List, ◌∷◌, ◌++◌, length, take, drop, set, ◌∙◌, inr, arith}
 use Rattle.std.specs.Prelude.{◌⊎◌, ◌^◌, []}
 use Rattle.quic_frame_fields.specs.declared.frame.fault.Fault.{Fault}
-use Rattle.std.proofs.lemmas.List.{take_more_set, drop-set-lt, length-drop}
+use Rattle.std.proofs.lemmas.List.{take_more_set, drop-set-lt}
 use Rattle.std.proofs.Math.ListN.{length-set}
 use Rattle.std.proofs.lemmas.Grind.{drop_more_same}
 use Rattle.quic_c.specs.declared.words.CRange.{CRange}
@@ -28,21 +28,6 @@ pub record RangeFilling (old : CRangeIter) (payload : List ℕ) (before : List C
   pub shows : Shows (StepsOver payload) old (take count after) (left_at payload bytes left largest)
   pub kept : drop count after ≡ drop count before
 
-pub ranges_begin : (old : CRangeIter) (payload : List ℕ) (before : List CRange) → old.offset ≤ length payload
-    → old.largest < 2 ^ 62
-    → RangeFilling old payload before (drop old.offset payload) old.left old.largest before 0
-ranges_begin old payload before within small =
-    let len = length-drop old.offset payload in
-    let here : old.offset ≡ length payload - length (drop old.offset payload) = omega arith in
-    record {
-      few = omega arith;
-      all = refl;
-      short = omega arith;
-      is_end = ap (λ (n : ℕ). drop n payload) (sym here);
-      small = small;
-      shows = ap (λ (n : ℕ). iter_at n old.left old.largest) here;
-      kept = refl;
-    }
 
 -- what a step over the bytes that are left means for the words
 pub range_of_left : (payload : List ℕ) (left largest least next : ℕ) (bytes rest : List ℕ)

@@ -300,16 +300,3 @@ pub none_there : (it : CRangeIter) (payload : List ℕ) (reason : Fault) → 0 <
     → CutRange it.largest (it.left - 1) (drop it.offset payload) reason → LacksRange it payload
 none_there it payload reason some cut =
     record { some = some; why = inr (inr (reason, cut)); none = none_left it payload reason some cut }
-
-pub none_outside : (it : CRangeIter) (payload : List ℕ) → 0 < it.left
-    → (length payload < it.offset) ⊎ (2 ^ 62 ≤ it.largest) → LacksRange it payload
-none_outside it payload some (inl past) = record {
-  some = some;
-  why = inl past;
-  none = λ ranges h. absurd (omega (arith, past, h.within));
-}
-none_outside it payload some (inr large) = record {
-  some = some;
-  why = inr (inl large);
-  none = λ ranges h. absurd (omega (arith, large, h.small));
-}

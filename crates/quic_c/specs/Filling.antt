@@ -56,7 +56,7 @@ pub record ReportsInvalid (rules : Rules) (old : CFrameIter) (payload : List ℕ
 
 -- What a call for the next frames returns and leaves, by rules: 1 with how many entries were filled, at least one; 0 if no frame is left; the reason why a frame isn't given, with its
 -- type in the first entry; that there is no entry, and the place is in the payload; that it is outside. Nothing changes
--- with the last three but for that entry, and the count changes only with 1.
+-- with the last three except that entry, and the count changes only with 1.
 pub record AnswersFill (rules : Rules) (old : CFrameIter) (payload : List ℕ) (before : List CFrame) (count_before : ℕ)
     (result : ℤ) (new : CFrameIter) (after : List CFrame) (count : ℕ) : Type 0 where
   pub returns : (result ≡ pos 1) ⊎ (result ≡ pos 0) ⊎ (result ≡ failed failure.NoRoom) ⊎ (result ≡ failed failure.Place)

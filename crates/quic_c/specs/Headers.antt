@@ -26,8 +26,8 @@ abbrev pub second_in : List ℕ → ℕ
 second_in (a ∷ b ∷ numbers) = b
 second_in numbers = 0
 
--- The words describe such a frame, which can be written as the last of its payload or not; where its data are isn't
--- looked at.
+-- The words describe such a frame, which can be written as the last of its payload or not; where its data are doesn't
+-- matter.
 pub record HasHeader (words : CFrame) (last : Bool) : Type 0 where
   pub kind : IsHeaded words.kind
   pub two : AreTwo words.numbers

@@ -16,7 +16,7 @@ token_of (frames.NewConnectionId n) = n.reset_token
 token_of frame = []
 
 -- The words describe the frame, whose data are in the bytes at the place in the words, followed by the reset token. If
--- there are neither, the place isn't looked at; where the frame begins and ends in a payload never is.
+-- there are neither, the place doesn't matter; where the frame begins and ends in a payload never does.
 pub record DescribesFrame (words : CFrame) (bytes : List ℕ) (frame : Frame) : Type 0 where
   pub kind : words.kind ≡ frame_kind_of frame
   pub flags : words.flags ≡ flags_of frame

@@ -238,7 +238,7 @@ fn write_counted(ack: &CFrame, gaps: &[CGap], out: &mut [u8], written: &mut usiz
 /// Writes an ACK in its shortest encoding at the front of `out`, from the words and gaps that `quic_wire_frame_read_`
 /// fills: the numbers have the greatest packet number, the delay and, with flag 2, the counts; the length of data is
 /// the first range, less one; and `gaps` has the ranges below it, as gap and length. Of the other words only the kind
-/// and the flags are looked at. It returns 0 with how many bytes were written, and bytes after those don't change;
+/// and the flags are read. It returns 0 with how many bytes were written, and bytes after those don't change;
 /// `NoRoom` with how many are needed, if `out` has fewer; `Argument` exactly if the words and gaps describe no ACK: the
 /// kind is another, the flags are neither 0 nor 2, a range goes below 0, or a number is 2^62 or more. `out` changes only
 /// with 0, and `written` doesn't change with `Argument`.

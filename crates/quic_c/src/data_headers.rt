@@ -92,7 +92,7 @@ fn put_header(words: &CFrame, last: bool, dest: &mut [u8]) -> Result<usize, usiz
 
 /// Writes the shortest encoding of a STREAM, CRYPTO or DATAGRAM, without its data, at the front of `out`; if `last`
 /// isn't 0, as the last frame of its payload (RFC 9000, sections 19.6 and 19.8; RFC 9221, section 4). The words have
-/// the length of the data; their place isn't looked at. It returns 0 with how many bytes were written, and bytes after
+/// the length of the data; their place isn't read. It returns 0 with how many bytes were written, and bytes after
 /// those don't change; `NoRoom` with how many are needed, if `out` has fewer; `Argument` if the words describe no such
 /// frame that can be written. `out` changes only with 0, and `written` doesn't change with `Argument`.
 #[unsafe(no_mangle)]

@@ -256,7 +256,7 @@ fn token_room(kind: u16) -> usize
 }
 
 // The data at the place in the words, and the reset token after them, which only a NEW_CONNECTION_ID has. If there are
-// neither, `data` isn't looked at.
+// neither, `data` isn't read.
 fn data_and_token<'a>(words: &CFrame, data: &'a [u8]) -> Option<(&'a [u8], &'a [u8])>
     ensures some { IfSome result (λ p. AreDataAndToken words.now data.now p.0.now p.1.now) }
     ensures none { IsNone result → LacksDataOrToken words.now data.now }
@@ -314,7 +314,7 @@ fn described<'a>(words: &CFrame, data: &'a [u8], last: bool) -> Option<Frame<'a>
 /// Writes the shortest encoding of the frame that the words describe at the front of `out`; if `last` isn't 0, as the
 /// last frame of its payload (RFC 9000, section 19). Its data are read from `data` at the place in the words; for a
 /// NEW_CONNECTION_ID they are the id, and the sixteen bytes of its token follow it. If the words describe no data, or a
-/// kind that has none, neither `data` nor that place is looked at; the words for where the frame begins and ends never
+/// kind that has none, neither `data` nor that place is read; the words for where the frame begins and ends never
 /// are. It returns 0 with how many bytes were written, and bytes after those don't change; `NoRoom` with how many are
 /// needed, if `out` has fewer; `Argument` if the words describe no frame that can be written, or an ACK: ACKs are written
 /// from sets. `out` changes only with 0, and `written` doesn't change with `Argument`.

@@ -192,10 +192,6 @@ pub record StoredOn (versions : List ℕ) (at : ℕ) (old : List ℕ) (i end : �
   pub back : drop end new ≡ drop end old
   pub len : length new ≡ length old
 
-pub stored_none : (versions : List ℕ) (at : ℕ) (old : List ℕ) → StoredOn versions at old 0 at old
-stored_none versions at old =
-    record { count = omega arith; front = sym (append-nil (take at old)); back = refl; len = refl }
-
 version_more : (versions : List ℕ) (i : ℕ) → i < length versions
     → version_bytes (take (i + 1) versions) ≡ version_bytes (take i versions) ++ bytes_of 4 (get_or versions i 0)
 version_more versions i lt =

@@ -78,10 +78,6 @@ pub record Counted (list rest : List ℕ) (count : ℕ) : Type 0 where
       × AreOthers left × (length es ≡ count + length left)
   pub few : parameter_count + count ≤ 256
 
-pub counted_none : (list : List ℕ) → Counted list list 0
-counted_none list =
-    record { back = λ es h o. (es, h, o, omega arith); on = λ es h o. (es, h, o, omega arith); few = omega arith }
-
 -- an entry that was read can be written
 other_taken : (n : ℕ) (x b r : List ℕ) → Takes (IsEntry n x) b r
     → ((id : TransportParameterId) → ¬ (IsKnownParameter id n)) → IsOther (taken n x)

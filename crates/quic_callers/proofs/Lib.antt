@@ -4,6 +4,5 @@ mod Reread
 mod Again
 mod Counts
 mod HeadersBack
-mod Values
 mod Lowest
 mod LongTypes

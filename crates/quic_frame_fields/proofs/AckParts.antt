@@ -99,7 +99,7 @@ set_parts delay whole runs run counts ty size e ty_is size_is delay_fits maximal
       parts = λ last. rw (ranges, ty_is, count) (ack_parts last (run.end - 1) delay (ends_of run) (ranges_in runs) counts);
     }
 
--- ---- what is read of an ACK
+-- ---- what is read from an ACK
 
 same_counts : (some others : Option EcnCounts) → counts_of some ≡ counts_of others → some ≡ others
 same_counts None None e = refl

@@ -1,23 +1,17 @@
 -- The blocks of an ACK in the bytes of its frame.
-use Rattle.std.proofs.Common.{◌≡◌, ℕ, ◌+◌, ◌-◌, ◌≤◌, Bool, true, false, cond, eqb, List, [], ◌∷◌, ◌++◌, length, take, drop, Result, Ok, Err, refl, sym, ap, subst, ◌∙◌, append_assoc, inl, inr, arith}
-use Rattle.std.specs.Prelude.{◌⊎◌, ◌||◌}
-use Rattle.std.proofs.lemmas.Bool.{eqb-true}
+use Rattle.std.proofs.Common.{◌≡◌, ℕ, ◌+◌, ◌-◌, ◌≤◌, List, [], ◌∷◌, ◌++◌, length, take, drop, Ok, refl, sym, ap, subst, ◌∙◌, append_assoc, arith}
 use Rattle.std.proofs.lemmas.List.{append-nil, length-append, length-take, take-append-drop, take_at}
 use Rattle.quic_base.specs.Number.{AreBytes}
 use Rattle.quic_base.proofs.PublicLaws.{back_bytes}
 use Rattle.quic_base.specs.Varint.{Encodes}
 use Rattle.quic_frame_fields.specs.declared.frame.ack.Ack.{Ack}
-use Rattle.quic_frame_fields.specs.AckPlace.{BlocksStand, BeginsWithAck, ReadsBlocks, behind_ack_type, ack_at}
+use Rattle.quic_frame_fields.specs.AckPlace.{BlocksStand, ReadsBlocks}
 use Rattle.quic_frame_fields.specs.Acks.{parts_of, ranges_acked}
-use Rattle.quic_base.specs.Reading.{◌>>=◌}
-use Rattle.quic_frame_fields.specs.declared.frame.fault.Fault.{Fault}
-use Rattle.quic_frame_fields.specs.declared.frame.fault.Fault.TheVariants.{InvalidFrameId}
 use Rattle.quic_frame_fields.specs.Field.{AreBlocks}
 use Rattle.quic_frame_fields.specs.Numbers.{AreEncoded}
 use Rattle.quic_frame_fields.specs.Reading.{varint_at, blocks_at}
-use Rattle.quic_frame_fields.proofs.Varints.{varint_takes, varint_again}
-use Rattle.quic_frame_fields.proofs.Blocks.{blocks_take, blocks_again, read_again}
-use Rattle.quic_frame_fields.proofs.Steps.{bind_ok, ok_is, ok_is_not_err}
+use Rattle.quic_frame_fields.proofs.Varints.{varint_takes}
+use Rattle.quic_frame_fields.proofs.Blocks.{blocks_take, read_again}
 
 -- Four numbers, the last of which counts the ranges below the first, in front of the blocks and a rest.
 record HasHeader (bytes : List ℕ) (type largest delay : ℕ) (blocks rest : List ℕ) : Type 0 where
@@ -68,85 +62,6 @@ header_read bytes a b c type largest delay blocks rest fits one two three four =
       );
       encoded = k.blocks;
     }
-
--- ---- an ACK in front of other bytes
-
-abbrev ack_or : {A : Type 0} → ℕ → Result A Fault → Result A Fault
-ack_or type r = cond (eqb type 2 || eqb type 3) r (Err InvalidFrameId)
-
-type_is : {A : Type 0} (type : ℕ) (r : Result A Fault) (x : A) → ack_or type r ≡ Ok x
-    → ((type ≡ 2) ⊎ (type ≡ 3)) × (r ≡ Ok x)
-type_is type r x e = by_tests (eqb type 2) (eqb type 3) refl refl e
-  where
-    by_tests : (b c : Bool) → eqb type 2 ≡ b → eqb type 3 ≡ c → cond (b || c) r (Err InvalidFrameId) ≡ Ok x
-        → ((type ≡ 2) ⊎ (type ≡ 3)) × (r ≡ Ok x)
-    by_tests true c two three e = (inl (eqb-true type 2 two), e)
-    by_tests false true two three e = (inr (eqb-true type 3 three), e)
-    by_tests false false two three e = absurd cc
-
-of_type : {A : Type 0} (type : ℕ) (r : Result A Fault) → (type ≡ 2) ⊎ (type ≡ 3) → ack_or type r ≡ r
-of_type type r (inl is) = rw is refl
-of_type type r (inr is) = rw is refl
-
-pub ack_takes : (bytes : List ℕ) (x : ℕ × List ℕ × List ℕ) → AreBytes bytes → ack_at bytes ≡ Ok x
-    → BeginsWithAck bytes x.0 x.1 x.2
-unfolding ack_at
-ack_takes bytes x fits e =
-    let a = bind_ok (varint_at bytes) (λ type. ack_or type.0 (behind_ack_type type.1)) x e in
-    let is = type_is a.0.0 (behind_ack_type a.0.1) x a.2 in
-    let l = bind_ok (varint_at a.0.1) (λ largest. varint_at largest.1 >>= λ delay. blocks_at largest.0 delay.1 >>= λ blocks. Ok (largest.0, blocks.0, blocks.1)) x is.1 in
-    let d = bind_ok (varint_at l.0.1) (λ delay. blocks_at l.0.0 delay.1 >>= λ blocks. Ok (l.0.0, blocks.0, blocks.1)) x l.2 in
-    let b = bind_ok (blocks_at l.0.0 d.0.1) (λ blocks. Ok (l.0.0, blocks.0, blocks.1)) x d.2 in
-    let h = header_read bytes a.0.1 l.0.1 d.0.1 a.0.0 l.0.0 d.0.0 b.0.0 b.0.1 fits a.1 l.1 d.1 b.1 in
-    subst (λ (y : ℕ × List ℕ × List ℕ). BeginsWithAck bytes y.0 y.1 y.2) (ok_is (l.0.0, b.0.0, b.0.1) x b.2)
-    (record {
-      type = a.0.0;
-      is_ack = is.0;
-      delay = d.0.0;
-      ranges = h.ranges;
-      header = h.header;
-      parts = h.parts;
-      numbers = h.numbers;
-      encoded = h.encoded;
-    })
-
--- a number in front of others
-number_in : (n : ℕ) (header front back left : List ℕ) → header ≡ front ++ back → Encodes n front
-    → varint_at (header ++ left) ≡ Ok (n, back ++ left)
-number_in n header front back left e s =
-    ap (λ (l : List ℕ). varint_at (l ++ left)) e ∙ ap varint_at (append_assoc front back left)
-    ∙ varint_again n front (back ++ left) s
-
-count_in : (largest : ℕ) (ranges : List (ℕ × ℕ)) (header front back blocks rest : List ℕ) → header ≡ front ++ back
-    → Encodes (length ranges - 1) front → back ≡ [] → AreBlocks largest ranges blocks
-    → blocks_at largest (header ++ (blocks ++ rest)) ≡ Ok (blocks, rest)
-count_in largest [] header front back blocks rest e s none encoded = absurd encoded
-count_in largest (range ∷ ranges) header front back blocks rest e s none encoded =
-    let count : length (range ∷ ranges) - 1 ≡ length ranges = omega arith in
-    let whole : header ≡ front = e ∙ ap (λ (l : List ℕ). front ++ l) none ∙ append-nil front in
-    ap (λ (l : List ℕ). blocks_at largest (l ++ (blocks ++ rest))) whole
-    ∙ ap (blocks_at largest) (sym (append_assoc front blocks rest))
-    ∙ blocks_again largest range ranges front blocks rest (subst (λ (n : ℕ). Encodes n front) count s) encoded
-
-ack_again : (bytes : List ℕ) (largest : ℕ) (blocks rest : List ℕ) → BeginsWithAck bytes largest blocks rest
-    → ack_at bytes ≡ Ok (largest, blocks, rest)
-unfolding ack_at
-ack_again bytes largest blocks rest b =
-    let t = b.numbers in
-    let l = t.4 in
-    let d = l.4 in
-    let k = d.4 in
-    let left = blocks ++ rest in
-    let one = ap varint_at b.parts ∙ number_in b.type b.header t.0 t.1 left t.2 t.3 in
-    let two = number_in largest t.1 l.0 l.1 left l.2 l.3 in
-    let three = number_in b.delay l.1 d.0 d.1 left d.2 d.3 in
-    let four = count_in largest b.ranges d.1 k.0 k.1 blocks rest k.2 k.3 k.4 b.encoded in
-    ap (λ (r : Result (ℕ × List ℕ) Fault). r >>= λ type. ack_or type.0 (behind_ack_type type.1)) one
-    ∙ of_type b.type (behind_ack_type (t.1 ++ left)) b.is_ack ∙ rw (two, three, four) refl
-
-pub no_ack : (bytes : List ℕ) (e : Fault) → ack_at bytes ≡ Err e → (largest : ℕ) (blocks rest : List ℕ)
-    → BeginsWithAck bytes largest blocks rest → ⊥
-no_ack bytes e h largest blocks rest b = ok_is_not_err (sym (ack_again bytes largest blocks rest b) ∙ h)
 
 -- ---- the blocks of an ACK in its frame
 

@@ -1,5 +1,5 @@
 -- Numbers in their shortest encodings, one after the other.
-use Rattle.std.proofs.Common.{◌≡◌, ℕ, zero, suc, ◌<◌, ◌≤◌, ◌^◌, List, [], ◌∷◌, ◌++◌, length, take, drop, get_or, refl, sym, ap, ◌∙◌, append_assoc, arith}
+use Rattle.std.proofs.Common.{◌≡◌, ℕ, zero, suc, ◌<◌, ◌≤◌, ◌^◌, List, [], ◌∷◌, ◌++◌, length, take, get_or, refl, sym, ap, ◌∙◌, append_assoc, arith}
 use Rattle.std.proofs.lemmas.List.{append-nil}
 use Rattle.quic_base.specs.Varint.{shortest_varint}
 use Rattle.quic_frame_fields.specs.Numbers.{shortest_varints, AreNumeric}
@@ -16,15 +16,6 @@ all_short-at (m ∷ ns) zero lt = append-nil (shortest_varint m)
 all_short-at (m ∷ ns) (suc i) lt =
     ap (λ (l : List ℕ). shortest_varint m ++ l) (all_short-at ns i (omega (arith, lt)))
     ∙ sym (append_assoc (shortest_varint m) (shortest_varints (take i ns)) (shortest_varint (get_or ns i 0)))
-
-pub all_short-parts : (ns : List ℕ) (i : ℕ) → i < length ns
-    → shortest_varints ns ≡ shortest_varints (take i ns) ++ (shortest_varint (get_or ns i 0) ++ shortest_varints (drop (suc i) ns))
-all_short-parts [] i lt = absurd (omega (arith, lt))
-all_short-parts (m ∷ ns) zero lt = refl
-all_short-parts (m ∷ ns) (suc i) lt =
-    ap (λ (l : List ℕ). shortest_varint m ++ l) (all_short-parts ns i (omega (arith, lt)))
-    ∙ sym (append_assoc (shortest_varint m) (shortest_varints (take i ns))
-    (shortest_varint (get_or ns i 0) ++ shortest_varints (drop (suc i) ns)))
 
 pub take_whole : (ns : List ℕ) (i : ℕ) → length ns ≤ i → take i ns ≡ ns
 take_whole [] zero le = refl

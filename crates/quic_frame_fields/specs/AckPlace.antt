@@ -1,12 +1,9 @@
 -- Where the blocks of an ACK are in the bytes of its frame (RFC 9000, section 19.3).
-use Rattle.std.specs.Prelude.{◌≡◌, ◌≤◌, ◌⊎◌, ℕ, ◌-◌, List, [], ◌∷◌, ◌++◌, length, Result, Ok, Err, ◌==◌, ◌||◌, if◌then◌else◌}
+use Rattle.std.specs.Prelude.{◌≡◌, ◌≤◌, ◌⊎◌, ℕ, ◌-◌, List, [], ◌∷◌, ◌++◌, length, Ok}
 use Rattle.quic_frame_fields.specs.declared.frame.ack.Ack.{Ack}
 use Rattle.quic_frame_fields.specs.Acks.{AckParts, parts_of, ranges_acked}
 use Rattle.quic_frame_fields.specs.Field.{AreBlocks}
 use Rattle.quic_frame_fields.specs.Numbers.{AreEncoded}
-use Rattle.quic_frame_fields.specs.declared.frame.fault.Fault.{Fault}
-use Rattle.quic_frame_fields.specs.declared.frame.fault.Fault.TheVariants.{InvalidFrameId}
-use Rattle.quic_base.specs.Reading.{◌>>=◌}
 use Rattle.quic_frame_fields.specs.Reading.{varint_at, blocks_at}
 
 -- The blocks of an ACK are in the bytes of its frame: after the type, the greatest number, the delay, and how many
@@ -29,22 +26,6 @@ pub record BeginsWithAck (bytes : List ℕ) (largest : ℕ) (blocks rest : List 
   pub parts : bytes ≡ header ++ (blocks ++ rest)
   pub numbers : AreEncoded (type ∷ largest ∷ delay ∷ (length ranges - 1) ∷ []) header
   pub encoded : AreBlocks largest ranges blocks
-
--- ---- as readers find them. No public clause cites what follows.
-
--- what follows the type: the greatest number, the delay, the blocks with their count
-abbrev pub behind_ack_type : List ℕ → Result (ℕ × List ℕ × List ℕ) Fault
-behind_ack_type bytes = do
-  largest ← varint_at bytes
-  delay ← varint_at largest.1
-  blocks ← blocks_at largest.0 delay.1
-  Ok (largest.0, blocks.0, blocks.1)
-
--- the greatest number of an ACK, with or without ECN counts, the bytes of its blocks, and what follows these
-unfoldable pub ack_at : List ℕ → Result (ℕ × List ℕ × List ℕ) Fault
-ack_at bytes = do
-  type ← varint_at bytes
-  if (type.0 == 2) || (type.0 == 3) then behind_ack_type type.1 else Err InvalidFrameId
 
 -- These are the greatest number, the delay and the blocks that the bytes after a type begin with; no more bytes remain
 -- than follow the blocks.

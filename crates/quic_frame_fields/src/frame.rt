@@ -5,7 +5,6 @@ use quic_base::varint::VarInt;
 
 mod ack;
 pub mod ack_encode;
-mod ack_place;
 mod close;
 mod datagrams;
 pub mod encode;
@@ -17,7 +16,6 @@ pub mod write;
 pub mod write_into;
 
 pub use ack::{Ack, AckError, AckIter, EcnCounts};
-pub use ack_place::split_ack;
 pub use close::{ApplicationClose, Close, ConnectionClose};
 pub use first_range::split_first_range;
 pub use quic_errors::frame_type::FrameType;

@@ -23,7 +23,7 @@ pub use quic_errors::invalid_frame::InvalidFrame;
 pub use quic_frame_fields::frame::{
     Ack, AckError, AckFrequency, AckIter, ApplicationClose, Close, ConnectionClose, Crypto,
     Datagram, EcnCounts, NewConnectionId, NewToken, ResetStream, StopSending, Stream, StreamMeta,
-    StreamMetaVec, split_ack, split_first_range,
+    StreamMetaVec, split_first_range,
 };
 pub use rules::{Breach, Rules};
 pub use size_bound::{FrameStruct, RETIRE_CONNECTION_ID_SIZE_BOUND};

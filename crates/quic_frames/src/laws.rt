@@ -104,7 +104,7 @@ pub fn set_acknowledged()
         → IsMaximalRuns runs → runs ≢ [] → ((n : ℕ) → member runs n ≡ true → n < 2 ^ 62)
         → delay < 2 ^ 62 → AreCounts counts
         → IsFrame strict (as_written last (ack_of delay runs counts)) (shortest_frame last (ack_of delay runs counts)) }
-    // and what is read of that: its ranges, its delay and its counts.
+    // and what is read from that: its ranges, its delay and its counts.
     ensures read { (ack : Ack) (delay : ℕ) (runs : List (Range ℕ)) (counts : Option EcnCounts)
         → meaning_of (frames.Ack ack) ≡ ack_of delay runs counts
         → (ranges_acked ack ≡ ranges_in runs) × ((parts_of ack).delay ≡ delay) × ((parts_of ack).ecn ≡ counts) }

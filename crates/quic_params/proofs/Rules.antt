@@ -28,15 +28,6 @@ Rules = List (TransportParameterId × Bool)
 
 -- ---- all are kept
 
-none_test : (t : Bool) (id : TransportParameterId) (others : Rules) → (first_broken others ≡ None → all_kept others ≡ true)
-    → first_broken ((id, t) ∷ others) ≡ None → all_kept ((id, t) ∷ others) ≡ true
-none_test true id others h e = h e
-none_test false id others h e = absurd cc
-
-none_broken : (all : Rules) → first_broken all ≡ None → all_kept all ≡ true
-none_broken [] e = refl
-none_broken ((id, t) ∷ others) e = none_test t id others (none_broken others) e
-
 kept_test : (t : Bool) (id : TransportParameterId) (others : Rules) → (all_kept others ≡ true → first_broken others ≡ None)
     → all_kept ((id, t) ∷ others) ≡ true → first_broken ((id, t) ∷ others) ≡ None
 kept_test true id others h e = h e
@@ -45,10 +36,6 @@ kept_test false id others h e = absurd cc
 kept_none : (all : Rules) → all_kept all ≡ true → first_broken all ≡ None
 kept_none [] e = refl
 kept_none ((id, t) ∷ others) e = kept_test t id others (kept_none others) e
-
-pub valid_unbroken : (side : Side) (p : TransportParameters) → first_broken (rules side p) ≡ None → IsValid side p
-valid_unbroken side p e =
-    subst (λ (t : Bool). MatchBool t (IsValid side p) (¬ (IsValid side p))) (none_broken (rules side p) e) (valid_is side p)
 
 truth : (t : Bool) (A : Type 0) → MatchBool t A (¬ A) → A → t ≡ true
 truth true A m a = refl

@@ -4,7 +4,11 @@
  * captures are read.  A datagram is taken for QUIC if it begins with a long
  * header of version 1, 2, 0 (a version negotiation) or a reserved version (RFC
  * 9000, section 15), or if an earlier one of its flow did.  What can't be read
- * is reported after a colon. */
+ * is reported after a colon.  To build it:
+ *
+ *   cc -o capture capture.c -IPREFIX/include PREFIX/lib/libquic_wire.a \
+ *     $(pkg-config --cflags --libs libcrypto libpcap)
+ */
 #define _DEFAULT_SOURCE
 #include <inttypes.h>
 #include <stdio.h>

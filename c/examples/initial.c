@@ -2,7 +2,11 @@
  * hexadecimal, prints its frames, and seals it again, which must result in the
  * same bytes.  The ciphers are libcrypto's; the keys come from the packet's own
  * id (RFC 9001, section 5.2). initial.hex is the example of that RFC's appendix
- * A.2. */
+ * A.2.  To build it:
+ *
+ *   cc -o initial initial.c -IPREFIX/include PREFIX/lib/libquic_wire.a \
+ *     $(pkg-config --cflags --libs libcrypto)
+ */
 #define _POSIX_C_SOURCE 200809L
 #include <inttypes.h>
 #include <stdio.h>

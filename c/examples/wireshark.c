@@ -4,7 +4,13 @@
  * the shortest form has.  For a rejected payload it adds the reason, the type
  * of the frame, where it begins, and the code that closes the connection, also
  * as an expert error.  A type must be in its shortest encoding (RFC 9000,
- * section 12.4). */
+ * section 12.4).  To build it for Wireshark 4.0:
+ *
+ *   cc -shared -fPIC -o quic_wire.so wireshark.c \
+ *     $(pkg-config --cflags wireshark) \
+ *     -IPREFIX/include -LPREFIX/lib -lquic_wire -Wl,-rpath,PREFIX/lib
+ *
+ * Move quic_wire.so to ~/.local/lib/wireshark/plugins/4.0/epan. */
 #define WS_BUILD_DLL
 #include <epan/expert.h>
 #include <epan/packet.h>

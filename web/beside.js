@@ -1,4 +1,4 @@
-// What is shown beside the bytes: their shortest form, or another input. What differs is marked in both grids.
+// What is shown beside the bytes: their shortest form, or another input. Both grids mark what differs.
 
 import { Comparison } from "./compare.js";
 import { Grid } from "./grid.js";
@@ -6,12 +6,12 @@ import { inspect } from "./inspector.js";
 import { spotIn } from "./views.js";
 
 export class Beside {
-  // |views| has what it is shown beside.
+  // |views| are the views beside which it is shown.
   constructor(gridBox, views, inspector) {
     this.views = views;
     this.inspector = inspector;
     this.reading = null;
-    // Whether what is lit was chosen here.
+    // Whether what is lit was chosen in this grid.
     this.isOwn = false;
     this.grid = new Grid(gridBox, {
       hover: (place) => this.point(place, false), select: (place) => this.point(place, true),
@@ -19,7 +19,7 @@ export class Beside {
     });
   }
 
-  // Shows a reading. |isPaired| says that its items are those of the other one, by their index.
+  // Shows a reading. If |isPaired|, its items correspond to those of the other reading by index.
   show(reading, columns, isPaired) {
     this.reading = reading;
     this.isPaired = isPaired;
@@ -33,7 +33,7 @@ export class Beside {
     this.views.grid.compare(null);
   }
 
-  // Lights what is shown beside a spot of the views.
+  // Lights what corresponds to a spot of the views.
   light(spot) {
     if (!this.reading || this.isOwn) {
       return;
@@ -47,7 +47,7 @@ export class Beside {
     this.grid.light({ item, begin, end, place: -1, isActive: false });
   }
 
-  // Lights, and with |isActive| chooses, a byte here and what it is shown beside.
+  // Lights a byte here and what corresponds to it; if |isActive|, also chooses them.
   point(place, isActive) {
     const item = this.reading ? this.reading.indexAt(place) : -1;
     if (item < 0) {

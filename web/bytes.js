@@ -1,23 +1,25 @@
-// Bytes out of pasted text: hexadecimal with or without separators, dumps with offsets, base64.
+// Reads bytes from pasted text: hexadecimal with or without separators, dumps with offsets, base64. Functions "with
+// pauses" are generators (slices.js).
 
 import { answerOf, AT_ONCE, eachLine, Pace, partsOf } from "./slices.js";
 import { fromDecimals, fromLiteral, isHeading, refusalOf, withoutNames } from "./written.js";
 
 const HEX_DIGITS = /^[0-9a-f]*$/i;
-// What may be between digits: blanks, the signs of lists in source code, 0x and \x.
+// What may be between digits: blanks, the separators of lists in source code, 0x and \x.
 const SEPARATORS = /0x|\\x|[\s:,;{}()[\]"']+/gi;
-// Its lines may end anywhere, but no line has a blank.
+// base64: its lines may end anywhere, but no line has a blank.
 const BASE64_LINE = /^[A-Za-z0-9+/_-]+$/;
 const BASE64_END = /={0,2}$/;
 
-// A line of a dump: its offset, a colon or blanks, and the rest; and as od prints it, with one blank between them.
+// A line of a dump: its offset, a colon or blanks, and the rest; and a line as od prints it, with one blank between
+// these.
 const DUMP_LINE = /^\s*(?:0x)?([0-9a-f]{4,16})(:\s+|\s{2,})(.*)$/i;
 const OD_LINE = /^\s*([0-9a-f]{6,16}) ((?:[0-9a-f]{2} )*[0-9a-f]{2})\s*(?:>.*<)?$/i;
-// The line that says where a dump ends, and the one that stands for lines like the one before.
+// The line at the end of a dump, which is only an offset, and the one that stands for lines like the one before.
 const END_LINE = /^\s*([0-9a-f]{4,16})\s*$/i;
 const LIKE_BEFORE = /^\s*\*\s*$/;
 
-// The greatest number of bytes that a line of a dump may mean that says: as before.
+// The greatest number of bytes that a line may stand for that means "as before".
 const MAX_FILLED = 1 << 20;
 
 const DIGIT = new Int8Array(128).fill(-1);
@@ -26,7 +28,7 @@ for (let value = 0; value < 16; value += 1) {
   DIGIT[value.toString(16).toUpperCase().charCodeAt(0)] = value;
 }
 
-// The bytes of an even number of digits, with pauses.
+// The bytes in an even number of digits, with pauses.
 function* fromDigits(digits) {
   const bytes = new Uint8Array(digits.length / 2);
   for (let place = 0; place < bytes.length; place += 1) {
@@ -66,7 +68,7 @@ function dumpDigits(separator, rest) {
   return /^(?:[0-9a-f]{2}(?:\s{1,2}|$))*$/i.test(column) ? column.replace(/\s+/g, "") : "?";
 }
 
-// What a line of a dump says: its offset and its digits, which the last line lacks.
+// The offset and the digits in a line of a dump; the last line has no digits.
 function dumpLine(line, base) {
   const od = OD_LINE.exec(line);
   if (od) {
@@ -80,7 +82,7 @@ function dumpLine(line, base) {
   return end && { offset: parseInt(end[1], base), digits: "", isOd: false };
 }
 
-// A dump, line by line.
+// Reads a dump, line by line.
 class Dump {
   constructor(offset, line) {
     this.offset = offset;
@@ -95,7 +97,7 @@ class Dump {
     return this.offset + this.digits.length / 2;
   }
 
-  // Repeats the line before as far as |offset|. Returns whether that is a whole number of times.
+  // Repeats the previous line up to |offset|. Returns whether the bytes up to there are a whole number of lines.
   fill(offset) {
     const missing = 2 * (offset - this.next);
     const times = missing / this.before.length;
@@ -113,14 +115,15 @@ class Dump {
     this.isEnded = digits === "";
   }
 
-  // A dump of od ends with a line that says how long it is; without it digits may be meant.
+  // A dump of od ends with a line that says how long it is. Without that line, the text may be plain digits.
   get isWhole() {
     return this.digits !== "" && (!this.isOd || this.isEnded);
   }
 }
 
-// The dumps in a text whose offsets have this base, or null where a line belongs to none, with pauses. The next one
-// begins where offsets begin with 0 again, or, after an empty line, with any offset but the one that would go on.
+// The dumps in a text whose offsets have this base, or null if a line belongs to none, with pauses. The next dump
+// begins when offsets begin with 0 again or, after an empty line, with any offset except the one that would continue
+// the dump.
 function* dumpsWithBase(all, base) {
   const dumps = [];
   const pace = new Pace();
@@ -157,7 +160,7 @@ function* dumpsWithBase(all, base) {
   return !isLikeBefore && dumps.length > 0 && dumps.every((dump) => dump.isWhole) ? dumps : null;
 }
 
-// The dumps in a text, with pauses: of each its bytes, and the line where it begins. Null where a line belongs to none.
+// The dumps in a text, with pauses: for each its bytes, and the line where it begins. Null if a line belongs to none.
 // od counts offsets in octal digits.
 export function* readDumps(text) {
   const dumps = (yield* dumpsWithBase(text, 16)) ?? (yield* dumpsWithBase(text, 8));
@@ -168,7 +171,7 @@ export function* readDumps(text) {
   return dumps && entries;
 }
 
-// The digits of base64 in a text, with pauses, or null where something else is in it.
+// The digits of base64 in a text, with pauses, or null if anything else is in it.
 function* base64Digits(text) {
   const trimmed = text.trim().replace(BASE64_END, "");
   const lines = [];
@@ -186,7 +189,7 @@ function* base64Digits(text) {
   return /\s$/.test(trimmed) ? null : lines.join("");
 }
 
-// The bytes of digits of base64, with pauses, or null.
+// The bytes in digits of base64, with pauses, or null.
 function* bytesOfBase64(digits) {
   if (digits.length % 4 === 1) {
     return null;
@@ -206,7 +209,7 @@ function* bytesOfBase64(digits) {
 
 export const fromBase64 = (text) => answerOf(bytesOfBase64(answerOf(base64Digits(text))));
 
-// The digits in a text without names, with pauses, or null where something else is in it.
+// The digits in a text without names, with pauses, or null if anything else is in it.
 function* hexDigits(bare) {
   const parts = [];
   for (const part of partsOf(bare)) {
@@ -222,7 +225,7 @@ function* hexDigits(bare) {
   return parts.join("");
 }
 
-// Whether a text is digits alone, with pauses.
+// Whether a text is only digits, with pauses.
 function* isPlain(text) {
   for (const part of text.length % 2 === 0 ? partsOf(text) : []) {
     if (!HEX_DIGITS.test(part)) {
@@ -256,8 +259,8 @@ function* faultOf(text, digits) {
 const found = (bytes, form) => ({ bytes, form, fault: null });
 const refused = (fault) => ({ bytes: null, form: null, fault });
 
-// Returns the bytes and how they were written, or what is wrong, with pauses. |dumps| is what readDumps said, if it was
-// asked before.
+// Returns the bytes and how they were written, or what is wrong, with pauses. |dumps| is what readDumps returned, if it
+// was called before.
 export function* reading(text, dumps) {
   if (yield* isPlain(text)) {
     return found(yield* fromDigits(text), "hexadecimal");

@@ -1,20 +1,20 @@
-// What differs between the bytes of two readings: as few bytes as can be, where these are not too many. Else equal
-// items are looked for first, so that a change in one of them doesn't reach the others, and bytes between these.
+// Compares the bytes of two readings. If few enough bytes differ, the least number of them is found. Otherwise equal
+// items are found first, so that a change in one of them doesn't affect the others, and then bytes between these.
 
-// More changes than that in one run are not looked for: all of its bytes count as changed then.
+// If one run has more changes, they aren't searched for: all of its bytes count as changed.
 const MOST_CHANGES = 400;
 const MIDDLE = MOST_CHANGES + 1;
 
-// The diagonal from which the way of so many changes came to this one (Myers, "An O(ND) difference algorithm").
-// |reach| says how far a way comes on a diagonal with one change less.
+// The diagonal from which the path with this many changes came to this one (Myers, "An O(ND) difference algorithm").
+// |reach| returns how far a path with one change less comes on a diagonal.
 function cameFrom(reach, diagonal, changes) {
   const isDown = diagonal === -changes
     || (diagonal !== changes && reach(diagonal - 1) < reach(diagonal + 1));
   return isDown ? diagonal + 1 : diagonal - 1;
 }
 
-// The pairs of equal places on the shortest way from |left| entries to |right| entries, or null where it has more
-// changes than are looked for. |isSame| compares two places.
+// The pairs of equal indices on the shortest path from |left| entries to |right| entries, or null if it has more
+// changes than are searched for. |isSame| compares the entries at two indices.
 function samePlaces(left, right, isSame) {
   const far = new Int32Array(2 * MIDDLE + 1).fill(-1);
   const reach = (diagonal) => far[MIDDLE + diagonal];
@@ -38,7 +38,7 @@ function samePlaces(left, right, isSame) {
   return null;
 }
 
-// The pairs on the way that led to the end: |before| has how far ways came with each number of changes.
+// The pairs on the path that led to the end. |before| has how far paths came with each number of changes.
 function wayBack(before, left, right) {
   const pairs = [];
   let x = left;
@@ -66,15 +66,15 @@ function onesIn(marks) {
 }
 
 export class Comparison {
-  // Where |isPaired|, each item is compared with the one of the same index, as in a shortest form.
+  // If |isPaired|, each item is compared with the one of the same index, as in a shortest form.
   constructor(left, right, isPaired) {
     this.left = left;
     this.right = right;
-    // Of each byte whether it differs, and where the left ones are on the right.
+    // For each byte whether it differs, and for the left ones their offset on the right.
     this.leftDiffers = new Uint8Array(left.bytes.length).fill(1);
     this.rightDiffers = new Uint8Array(right.bytes.length).fill(1);
     this.places = new Int32Array(left.bytes.length).fill(-1);
-    // Whether a search was given up, so that bytes count as changed that may be the same.
+    // Whether a search was given up, so that some bytes count as changed that may be equal.
     this.isRough = false;
     if (isPaired && left.count === right.count) {
       for (let item = 0; item < left.count; item += 1) {
@@ -88,7 +88,7 @@ export class Comparison {
     this.rightCount = onesIn(this.rightDiffers);
   }
 
-  // Items that are the same on both sides, and in the gaps between them bytes.
+  // Finds items that are equal on both sides, and compares the bytes in the gaps between them.
   compareItems() {
     const { left, right } = this;
     const found = samePlaces(left.count, right.count, (a, b) => this.isSameItem(a, b));
@@ -117,7 +117,7 @@ export class Comparison {
     return true;
   }
 
-  // So many bytes are the same from here on.
+  // This many bytes are equal from here on.
   match(left, right, length) {
     for (let place = 0; place < length; place += 1) {
       this.leftDiffers[left + place] = 0;
@@ -126,7 +126,7 @@ export class Comparison {
     }
   }
 
-  // Compares bytes, and returns false where there are too many changes.
+  // Compares bytes, and returns false if there are too many changes.
   compareBytes(left, leftEnd, right, rightEnd) {
     const [lefts, rights] = [this.left.bytes, this.right.bytes];
     const most = Math.min(leftEnd - left, rightEnd - right);
@@ -143,7 +143,7 @@ export class Comparison {
     return this.search(left + begin, leftEnd - end, right + begin, rightEnd - end);
   }
 
-  // Compares bytes of which neither the first nor the last ones are the same.
+  // Compares bytes of which neither the first nor the last are equal.
   search(left, leftEnd, right, rightEnd) {
     if (left === leftEnd || right === rightEnd) {
       return true;
@@ -167,14 +167,14 @@ export class Comparison {
     return -1;
   }
 
-  // Where bytes of the left are on the right, as far as the first and the last of them are.
+  // The first and the last offset on the right that bytes of the left correspond to.
   rangeBeside(begin, end) {
     const first = this.places[begin] ?? -1;
     const last = this.places[end - 1] ?? -1;
     return first < 0 || last < 0 ? [0, 0] : [first, last + 1];
   }
 
-  // The byte on the left that is at |place| on the right, or -1.
+  // The byte on the left that corresponds to the byte at |place| on the right, or -1.
   placeBeside(place) {
     return this.rightDiffers[place] ? -1 : this.places.indexOf(place);
   }

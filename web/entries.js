@@ -1,19 +1,18 @@
-// Inputs out of pasted text: one, or a list of them, where the text has several dumps, blocks or lines that are bytes,
-// or is a log whose lines have bytes in them.
+// Finds the inputs in pasted text: one, or a list of them if the text has several dumps, blocks or lines of bytes, or
+// is a log with bytes in its lines.
 
 import { readDumps, reading, readText } from "./bytes.js";
 import { answerOf, eachLine, Pace } from "./slices.js";
 import { refusalOf, withoutNames } from "./written.js";
 
-// A line of a log is searched for consecutive pairs of digits; what is shorter than this is a time, a length or the
-// like.
+// In a line of a log, consecutive pairs of digits are searched for; a shorter run is a time, a length or the like.
 const LOG_RUN = /(?<![0-9a-z_])(?:0x)?((?:[0-9a-f]{2}[ :]?)*[0-9a-f]{2})(?![0-9a-z_])/gi;
 const LOG_DIGITS = 8;
 const IN_LOG = "hexadecimal in a line of a log";
-// The signs behind which a line goes on in the next one, in source code.
+// The characters after which, in source code, a line continues in the next one.
 const GOES_ON = [",", "\\", "(", "{", "["];
 
-// Lines that aren't empty, each with its number, with pauses.
+// The lines that aren't empty, each with its number, with pauses.
 function* filledLines(text) {
   const filled = [];
   const pace = new Pace();
@@ -30,7 +29,7 @@ function* filledLines(text) {
   return filled;
 }
 
-// Neighbouring lines that aren't empty as lists of them.
+// Groups of neighbouring lines that aren't empty.
 function blocksOf(lines) {
   const blocks = [];
   let before = null;
@@ -45,8 +44,8 @@ function blocksOf(lines) {
   return blocks;
 }
 
-// Whether lines look like one input that was wrapped: by a comma or a bracket at the end of one, or since all have the
-// same number of characters and the last one no more.
+// Whether lines look like one input that was wrapped: if one ends with a comma or a bracket, or if all have the same
+// number of characters and the last one no more.
 function isWrapped(lines) {
   const widths = lines.map(({ text }) => text.trim().length);
   const last = widths.pop();
@@ -59,8 +58,8 @@ function* read({ text, line }) {
 }
 const isBytes = ({ bytes }) => bytes !== null && bytes.length > 0;
 
-// The longest run of digits in a line of a log, the last one of these, or null. What begins the line is no such run:
-// that is meant to be bytes alone.
+// The longest run of digits in a line of a log, of several the last, or null. A run at the beginning of the line
+// doesn't count, since such a line is meant to be only bytes.
 function runOf({ text, line }) {
   let longest = "";
   for (const match of text.trim().matchAll(LOG_RUN)) {
@@ -88,7 +87,7 @@ function* readLog(lines) {
   return entries;
 }
 
-// Texts as bytes, with pauses; null where one of them is none, unless |any| are taken.
+// Texts as bytes, with pauses; null if one of them isn't bytes, unless |any| are accepted.
 function* readAll(texts, any = false) {
   const entries = [];
   const pace = new Pace();
@@ -105,14 +104,14 @@ function* readAll(texts, any = false) {
   return entries;
 }
 
-// Blocks between empty lines, each of them one input or one for each of its lines; or null where one is no bytes.
+// Blocks between empty lines, each as one input or as one for each of its lines; null if one isn't bytes.
 function* readBlocks(lines) {
   return yield* readAll(blocksOf(lines).flatMap((block) => (block.length === 1 || isWrapped(block)
     ? [{ line: block[0].line, text: block.map(({ text }) => text).join("\n") }]
     : block)));
 }
 
-// The inputs in lines that are apart, as far as they are bytes.
+// The inputs in separate lines, as far as these are bytes.
 function* apart(lines) {
   const blocks = yield* readBlocks(lines);
   if (blocks && blocks.length > 1) {
@@ -122,12 +121,12 @@ function* apart(lines) {
   return each ?? (yield* readLog(lines));
 }
 
-// Whether lines that can be taken both ways look like one input.
+// Whether lines that can be read both ways look like one input.
 function looksWhole(lines) {
   return blocksOf(lines).length === 1 && isWrapped(lines);
 }
 
-// Of lines that are no dumps: whether they are one input.
+// For lines that aren't dumps, whether they are one input.
 function isOne(one, several, lines, filled) {
   if (several.length === 0) {
     return lines !== "each";
@@ -136,8 +135,8 @@ function isOne(one, several, lines, filled) {
 }
 
 // The inputs in a text, with pauses. |lines| says whether its lines belong together ("one") or not ("each"), or is
-// "auto". Returned are the inputs, how many lines have none, whether the lines can be taken both ways, and how they
-// were.
+// "auto". Returns the inputs, how many lines have none, whether the lines can be read both ways, and how they were
+// read.
 export function* entriesOf(text, lines) {
   const refusal = yield* refusalOf(text, yield* withoutNames(text));
   if (refusal) {

@@ -1,14 +1,14 @@
-// The form: what it says as a state, and a state put into it.
+// The form: reads it into a state, and puts a state into it.
 
 import { versionsOf, versionsText } from "./link.js";
 import { VERSIONS } from "./names.js";
 
-// Of a text of more characters than these the box has the beginning alone, since browsers take seconds to lay it out.
+// If a text has more characters than this, the box holds only its beginning, since browsers take seconds to lay it out.
 const MOST_IN_BOX = 1 << 18;
 const BEGINNING = 1 << 14;
 
 export class Form {
-  // |held| says of a text that the box has its beginning alone.
+  // |held| is the note that says that the box has only the beginning of the text.
   constructor(form, other, held, firstId) {
     this.form = form;
     this.other = other;
@@ -16,10 +16,10 @@ export class Form {
     this.firstId = firstId;
     // The whole of such a text, or null.
     this.whole = null;
-    // What has no control: which of several inputs is shown, and what packets are opened by.
+    // What has no control of its own: which of several inputs is shown, and what packets are opened with.
     this.at = 0;
     this.opened = {};
-    // Whether the user chose how lines are taken.
+    // Whether the user chose how lines are read.
     this.lines = "auto";
   }
 
@@ -72,7 +72,7 @@ export class Form {
       + "are read. Clear it, or paste another text, to go on." : "";
   }
 
-  // Takes a text that is pasted where the box would not have it all. Returns whether it did.
+  // Takes a pasted text if it is too long for the box. Returns whether it did.
   paste(text) {
     const { value, selectionStart, selectionEnd } = this.elements.input;
     if (this.whole === null && value.length + text.length <= MOST_IN_BOX) {
@@ -90,7 +90,7 @@ export class Form {
     this.opened = {};
   }
 
-  // Shows the choices of the mode, and which of what is written can't be read.
+  // Shows the choices of the mode, and which entries can't be read.
   mark(isText, entries) {
     const { elements } = this;
     for (const choices of this.form.querySelectorAll(".choices")) {

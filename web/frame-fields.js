@@ -1,9 +1,10 @@
-// The fields of frames (RFC 9000, section 19; RFC 9221, section 4; the ACK frequency extension), by their names there.
+// The fields of frames (RFC 9000, section 19; RFC 9221, section 4; the ACK frequency extension), with the names that
+// they have there.
 
 import { errorName, kindOfType, typeName } from "./names.js";
 import { bytesText, count, Walk } from "./walk.js";
 
-// How many gaps and lengths of an ACK are fields of their own.
+// How many gaps and lengths of an ACK are shown as separate fields.
 const FIELD_RANGES = 1000;
 
 function streamBits(type) {
@@ -35,12 +36,12 @@ function showCode(code) {
 
 const showApplicationCode = (code) => `${code} (0x${code.toString(16)})`;
 
-// The length of data and the data, of which the length counts.
+// The length of data, and the data.
 function counted(walk, lengthName, name, more = { opaque: true }) {
   walk.take(name, walk.varint(lengthName), more);
 }
 
-// A gap and a length. Returns the smallest number of the range, or null where there can be none.
+// A gap and a length. Returns the smallest number of the range, or null if there can't be one.
 function rangeFields(walk, smallest) {
   const gap = walk.varint("Gap");
   const greatest = gap === null ? null : smallest - gap - 2n;
@@ -58,7 +59,7 @@ function rangeFields(walk, smallest) {
   return greatest - length;
 }
 
-// The ranges after those that have fields of their own, as one field.
+// The ranges after those that are separate fields, as one field.
 function moreRanges(walk, count) {
   const begin = walk.place;
   let numbers = 2n * count;
@@ -72,7 +73,7 @@ function moreRanges(walk, count) {
   }
 }
 
-// The field is scaled by the sender's ack_delay_exponent, which is 3 where it sends none.
+// The sender's ack_delay_exponent scales the field; if it isn't sent, it is 3.
 const showDelay = (delay) => `${delay} (${delay * 8n} µs at exponent 3)`;
 
 function ackFields(walk, type) {
@@ -148,7 +149,7 @@ function ackFrequencyFields(walk) {
 
 const stream = (walk) => walk.varint("Stream ID", showStream);
 
-// Of each kind the fields after the type.
+// For each kind, the fields after the type.
 const BEHIND_TYPE = {
   0x01: () => {},
   0x02: ackFields,
@@ -199,7 +200,7 @@ const BEHIND_TYPE = {
   0xaf: ackFrequencyFields,
 };
 
-// The walk along the frame that begins at |begin|. For an invalid frame |end| is the payload's.
+// The walk along the frame that begins at |begin|. For an invalid frame, |end| is the end of the payload.
 export function frameFields(bytes, begin, end) {
   const walk = new Walk(bytes, begin, end);
   const type = walk.varint("Type", showType);
@@ -229,7 +230,7 @@ export function paddingRun(bytes, begin, end) {
   return { frames, fields: [{ name: "Type", begin, end, value, note }] };
 }
 
-// What a frame says, in a few words, by the library's words of it.
+// A short description of a frame, from the library's values.
 export function frameSummary(frame, ranges) {
   const [n0, n1, n2, n3] = frame.numbers;
   switch (frame.kind) {
@@ -253,7 +254,7 @@ export function frameSummary(frame, ranges) {
   }
 }
 
-// Whether the numbers that the walk found are those of the library. Numbers are compared in the order of the wire.
+// Whether the numbers that the walk found are the library's. They are compared in wire order.
 export function agrees(frame, { walk, kind }) {
   const end = walk.missing || walk.wrong ? -1 : walk.place;
   if (frame.kind !== kind || end !== frame.end) {

@@ -1,17 +1,17 @@
-// The bytes, each in the tone of its item. It is a grid of ARIA whose active cell moves by the arrow keys.
+// The bytes, each in the tone of its item: an ARIA grid whose active cell moves with the arrow keys.
 
 import { hexOfByte } from "./bytes.js";
 import { element, Rows } from "./rows.js";
 
 export class Grid {
-  // |on| has hover(place or -1), select(place) and enter(place).
+  // |on| has hover(offset or -1), select(offset) and enter(offset).
   constructor(box, on) {
     this.box = box;
     this.on = on;
     this.reading = null;
     this.columns = 16;
     this.spot = null;
-    // Whether the byte at a place differs from the one beside it, where two inputs are compared.
+    // Whether the byte at an offset differs from the corresponding one, if two inputs are compared.
     this.differs = null;
     this.rows = new Rows(box, (index) => this.line(index));
     box.addEventListener("pointerover", (event) => on.hover(this.placeOf(event.target)));
@@ -109,7 +109,7 @@ export class Grid {
     cell.classList.toggle("here", spot !== null && spot.isActive && spot.place === place);
   }
 
-  // Lights the bytes of a spot: its item, and from |begin| to |end| its field.
+  // Lights the bytes of a spot: its item, and its field from |begin| to |end|.
   light(spot) {
     this.spot = spot;
     for (const cell of this.box.querySelectorAll(".byte")) {
@@ -153,7 +153,7 @@ export class Grid {
     }
   }
 
-  // Where a key leads to from |here|, or null.
+  // Where a key leads from |here|, or null.
   moved({ key, ctrlKey }, here, length) {
     const { columns } = this;
     const line = here - (here % columns);

@@ -1,9 +1,9 @@
-// Opens Initial packets of versions 1 and 2 by the browser's Web Crypto: their keys follow from the destination id of
-// the client's first one (RFC 9001, section 5.2; RFC 9369, section 3.3), so that anyone can.
+// Opens Initial packets of versions 1 and 2 with the browser's Web Crypto. Anyone can open them, since their keys
+// follow from the destination id of the client's first packet (RFC 9001, section 5.2; RFC 9369, section 3.3).
 
 import { fromHex } from "./bytes.js";
 
-// Of each version the salt of its secrets, and what the labels of its keys begin with.
+// For each version, the salt of its secrets and the prefix of the labels of its keys.
 const INITIAL_SALTS = new Map([
   [0x00000001, ["38762cf7f55934b34d179ae6a4c80cadccbb7f0a", "quic"]],
   [0x6b3343cf, ["0dede3def700a6db819381be6e269dcbf9bd2ed9", "quicv2"]],
@@ -11,10 +11,10 @@ const INITIAL_SALTS = new Map([
 const BLOCK = 16;
 const MASKED = 5;
 const SECRET = 32;
-// A sample begins so many bytes after the packet number does (RFC 9001, section 5.4.2).
+// How many bytes after the beginning of the packet number a sample begins (RFC 9001, section 5.4.2).
 const BEFORE_SAMPLE = 4;
 
-// Why the browser opens nothing, if it doesn't.
+// Why the browser can't open anything.
 export const NO_CIPHERS = "This page can’t open it: browsers give ciphers (Web Crypto) to pages from https, from the "
   + "browser’s own machine or from a file alone, and this one came otherwise. ";
 
@@ -26,7 +26,7 @@ async function hmac(key, bytes) {
   return new Uint8Array(await crypto.subtle.sign("HMAC", imported, bytes));
 }
 
-// HKDF-Expand-Label without a context (RFC 8446, section 7.1) for at most 32 bytes, which are one block of HKDF.
+// HKDF-Expand-Label without a context (RFC 8446, section 7.1), for at most 32 bytes, which are one block of HKDF.
 async function expanded(secret, label, length) {
   const name = new TextEncoder().encode(`tls13 ${label}`);
   const block = await hmac(secret, Uint8Array.from([0, length, name.length, ...name, 0, 1]));
@@ -40,7 +40,7 @@ async function initialKeys(version, id, side) {
   return Promise.all(lengths.map(([name, length]) => expanded(secret, `${prefix} ${name}`, length)));
 }
 
-// The mask of a header. Web Crypto has AES on one block as the first block of CBC that begins with zeros.
+// The mask of a header. Web Crypto has no AES on one block, so this is the first block of CBC that begins with zeros.
 async function maskOf(key, sample) {
   const imported = await crypto.subtle.importKey("raw", key, "AES-CBC", false, ["encrypt"]);
   const blocks = await crypto.subtle.encrypt({ name: "AES-CBC", iv: new Uint8Array(BLOCK) }, imported, sample);
@@ -57,8 +57,8 @@ function plainHeader(bytes, { begin, number }, { first, numberLength, number: wr
   return header;
 }
 
-// The payload without protection, or null where the tag is wrong. The number as it is written is the whole one: an
-// endpoint doesn't send so many Initial packets that it would be cut.
+// The payload without protection, or null if the tag is wrong. The truncated number is taken as the full one, since no
+// endpoint sends so many Initial packets that they would differ.
 async function plainPayload(key, iv, { number }, header, sealed) {
   const nonce = iv.slice();
   for (let place = 0; place < 8; place += 1) {
@@ -73,8 +73,8 @@ async function plainPayload(key, iv, { number }, header, sealed) {
   }
 }
 
-// Opens the packet by the keys that follow from one of the ids, of either side. Returns the id, the side, the mask and
-// the payload, or null. |unprotect| takes the protection off the header by a mask.
+// Opens the packet with the keys that follow from one of the ids, as either side's. Returns the id, the side, the mask
+// and the payload, or null. |unprotect| removes header protection with a mask.
 export async function openInitial(bytes, packet, ids, unprotect) {
   const begin = packet.number + BEFORE_SAMPLE;
   const sample = bytes.slice(begin, begin + BLOCK);

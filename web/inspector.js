@@ -1,4 +1,4 @@
-// The line that says what is lit: the field and its value in full, of which item, where, and which section of an RFC
+// The line about what is lit: the field and its full value, its item, its offsets, and the section of an RFC that
 // describes it.
 
 import { linesOf } from "./outline.js";
@@ -11,7 +11,7 @@ const FULL_BYTES = 256;
 
 const placeText = (begin, end) => `${count(end - begin, "byte")}, ${begin}..${end}`;
 
-// The value of a field in full, as far as a few lines hold it.
+// The full value of a field, as far as it fits into a few lines.
 function valueOf(field, bytes) {
   if (field.ranges) {
     return rangesText(field.ranges);
@@ -22,7 +22,7 @@ function valueOf(field, bytes) {
   return field.value;
 }
 
-// A link that is followed by a click alone, and tells the server of the RFC nothing of this page.
+// A link that is followed only by a click, and sends nothing about this page to the server of the RFC.
 function sectionLink(unit, item, field) {
   const { text, address } = sectionOf(unit, item, field);
   const link = element("a", "section", text);

@@ -1,5 +1,6 @@
-/* Prints the structs of quic_wire.h that the page looks into: a line for each with its size, and one for each field
- * with its offset and its bytes.  Where pointers and sizes have 64 bits these are those of the WebAssembly module. */
+/* Prints the structs of quic_wire.h that the page reads: a line for each with
+ * its size, and one for each field with its offset and its bytes.  If pointers
+ * and sizes have 64 bits, they are those of the WebAssembly module. */
 #include <stdio.h>
 
 #include "quic_wire.h"

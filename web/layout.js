@@ -1,7 +1,7 @@
-// The structs of c/include/quic_wire.h as they lie in the module's memory, whose pointers and sizes have 64 bits. No
-// other file knows where a field stands. scripts/test-web compares this table with what layout.c prints of the header.
+// The structs of c/include/quic_wire.h as they are in the module's memory, whose pointers and sizes have 64 bits. No
+// other file knows a field's offset. scripts/test-web compares this table with what layout.c prints of the header.
 
-// Of each struct its size, and of each field its offset and how many bytes it has, an array's all.
+// For each struct its size, and for each field its offset and how many bytes it has; for an array, all of them.
 export const LAYOUT = {
   frame_iter: { size: 24, fields: { offset: [0, 8], last_type: [8, 8], ended: [16, 4], flags: [20, 4] } },
   frame: {
@@ -55,7 +55,7 @@ export class Struct {
     this.fields = LAYOUT[name].fields;
   }
 
-  // A field's value as a number, which places, lengths, kinds and flags are below 2^53.
+  // A field's value as a number; offsets, lengths, kinds and flags are below 2^53.
   number(field) {
     return Number(this.big(field));
   }
@@ -72,7 +72,7 @@ export class Struct {
     }
   }
 
-  // The entry of an array of 64-bit words.
+  // An element of an array of 64-bit integers.
   entry(field, index) {
     return new DataView(this.memory.buffer).getBigUint64(this.place + this.fields[field][0] + 8 * index, true);
   }

@@ -1,11 +1,11 @@
-// The calls of the proved library, as they stand in c/include/quic_wire.h, over bytes that lie in the module's memory.
+// The calls of the proved library, as c/include/quic_wire.h declares them, on bytes in the module's memory.
 
 import {
   FRAME_REASONS, PACKET_MALFORMED_CID, PACKET_REASONS, PACKET_UNSUPPORTED_VERSION, PADDING,
 } from "./names.js";
 import { EMPTY, ITEM, LAYOUT, NO_TYPE, OK, Struct } from "./layout.js";
 
-// How many frames, and how many ranges of an ACK, one call gives at most.
+// How many frames, and how many ranges of an ACK, one call returns at most.
 const ROOM = 1024;
 const MAX_VERSIONS = 64;
 // QUIC_WIRE_READ_SHORT_TYPES.
@@ -19,7 +19,7 @@ const PAGE = 65536;
 
 const aligned = (place) => (place + 15) & ~15;
 
-// Grows a memory whose addresses have 64 bits by so many pages: a BigInt, which engines as old as node 20 don't take.
+// Grows a memory with 64-bit addresses by this many pages: a BigInt, which engines as old as node 20 reject.
 function growBy(memory, pages) {
   try {
     memory.grow(BigInt(pages));
@@ -58,7 +58,7 @@ export class Words {
 }
 
 export class Library {
-  // So many libraries of one module, whose bytes are |module|, each with a memory of its own. Nothing is imported.
+  // This many libraries from one module, whose bytes are |module|, each with its own memory. Nothing is imported.
   static async load(module, count) {
     const compiled = await WebAssembly.compile(module);
     const instances = Array.from({ length: count }, () => WebAssembly.instantiate(compiled, {}));
@@ -86,7 +86,7 @@ export class Library {
     return place;
   }
 
-  // Sees to it that the memory has bytes up to |end|.
+  // Ensures that the memory has bytes up to |end|.
   reserve(end) {
     const missing = end - this.memory.buffer.byteLength;
     if (missing > 0) {
@@ -122,8 +122,8 @@ export class Library {
     this.frame_iter.set("flags", strict ? SHORT_TYPES : 0);
   }
 
-  // Where all frames begin, then where the last one ends; their kinds; and what ended them, or null. PADDING frames
-  // that follow each other are one.
+  // The offsets where frames begin, then where the last one ends; their kinds; and the error that ended them, or null.
+  // Consecutive PADDING frames are one.
   readFrames(strict) {
     const begins = new Words();
     const kinds = new Words();
@@ -156,7 +156,7 @@ export class Library {
       const kind = view.getUint16(place + fields.kind[0], true);
       if (kind !== PADDING || kinds.last !== PADDING) {
         kinds.push(kind);
-        // The bytes are fewer than 2^32, so the lower half of the word is the place.
+        // There are fewer than 2^32 bytes, so the lower half of the integer is the offset.
         begins.push(view.getUint32(place + fields.begin[0], true));
       }
     }
@@ -184,7 +184,7 @@ export class Library {
     };
   }
 
-  // The ranges of the ACK at |offset| as pairs of BigInts, smallest and largest number, the greatest range first.
+  // The ranges of the ACK at |offset| as pairs of BigInts, smallest and largest number, greatest range first.
   rangesAt(offset, strict) {
     this.frameAt(offset, strict);
     const ranges = [];
@@ -239,7 +239,7 @@ export class Library {
   }
 
   // Reads the header of the packet that begins at |offset|, and returns 0 or the reason why there is none. The library
-  // leaves it to its caller to refuse an id of more than 20 bytes in other versions too.
+  // leaves it to its caller to reject ids of more than 20 bytes in other versions too.
   cutPacket(offset, { idLength, versions, grease }) {
     const spoken = this.speak(versions);
     const answer = Number(this.call(
@@ -256,7 +256,8 @@ export class Library {
     return answer === PACKET_UNSUPPORTED_VERSION && hasLongId() ? PACKET_MALFORMED_CID : answer;
   }
 
-  // Where all packets begin, then where the last one ends; their kinds; and the struct of what is no packet, or null.
+  // The offsets where packets begin, then where the last one ends; their kinds; and the struct for what isn't a packet,
+  // or null.
   readPackets(choices) {
     const begins = new Words();
     const kinds = new Words();
@@ -279,7 +280,7 @@ export class Library {
     return this.packetWords(offset, this.cutPacket(offset, choices));
   }
 
-  // What is shown of the packet at |offset|: its places in the datagram.
+  // What is shown of the packet at |offset|: its offsets in the datagram.
   packetWords(offset, reason) {
     const word = (field) => this.header.number(field);
     const dcid = offset + (word("first") & LONG_FORM ? 6 : 1);
@@ -290,8 +291,8 @@ export class Library {
     };
   }
 
-  // Takes the protection off a copy of the header of a packet, by a mask of five bytes: the first byte without
-  // protection, how many bytes the packet number has, and the truncated number. Null if the packet is too short.
+  // Removes protection from a copy of a packet's header with a mask of five bytes. Returns the first byte without
+  // protection, how many bytes the packet number has, and the truncated number; null if the packet is too short.
   unprotect({ begin, end, number }, mask) {
     const place = number - begin;
     const header = aligned(this.input + this.length);
@@ -310,7 +311,7 @@ export class Library {
     return { first: memory[header], numberLength: answer, number: written };
   }
 
-  // What a side reads in a list: a copy of the struct, or why the list is refused and where the entry begins.
+  // What a side reads in a list: a copy of the struct, or why the list is rejected and where the entry begins.
   readParams(side) {
     const answer = this.call(
       "params_read", side === "server" ? 1 : 0, 0, ...this.held(), this.at(this.params.place), this.at(this.refusal.place),

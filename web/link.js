@@ -9,11 +9,11 @@ const MAX_ID_LENGTH = 20;
 
 export const DEFAULT_STATE = {
   mode: "frames", strict: false, idLength: 8, side: "client", versions: VERSIONS, grease: false, text: "",
-  // How lines are taken, which of the inputs is shown, whether another one is beside it and which, and of packets,
-  // by their index, what they are opened by; and the id from which keys of Initial packets follow.
+  // How lines are read; which of the inputs is shown; whether another one is beside it, and which; what packets are
+  // opened with, by their index; and the id from which keys of Initial packets follow.
   lines: "auto", at: 0, compare: false, other: "", opened: {}, firstId: "",
 };
-// Between the digits of two inputs, and of what a packet is opened by.
+// Separates the digits of two inputs, and of what a packet is opened with.
 const BETWEEN = ".";
 
 // The versions in a list of hexadecimal numbers, or null.
@@ -48,7 +48,7 @@ function choiceWords(words, state) {
   }
 }
 
-// What is shown beside the input, and what packets are opened by.
+// What is shown beside the input, and what packets are opened with.
 function furtherWords(words, { mode, compare, other, opened, firstId }) {
   if (compare) {
     words.set("with", toHex(readText(other).bytes ?? []));
@@ -62,8 +62,8 @@ function furtherWords(words, { mode, compare, other, opened, firstId }) {
   }
 }
 
-// The fragment of a state, without its #. The bytes of the inputs are in it as digits; a text that isn't all bytes is
-// in it unchanged.
+// The fragment for a state, without its #. It has the inputs' bytes as digits; a text that isn't all bytes is in it
+// unchanged.
 export function fragmentOf(state, entries) {
   const words = new URLSearchParams();
   words.set("read", state.mode);
@@ -83,7 +83,7 @@ export function fragmentOf(state, entries) {
   return words.toString();
 }
 
-// Whether inputs are few enough bytes for a link.
+// Whether inputs have few enough bytes for a link.
 export function isLinked(entries) {
   return entries.reduce((sum, { bytes }) => sum + (bytes?.length ?? 0), 0) <= MAX_LINKED;
 }
@@ -100,7 +100,7 @@ const within = (number, most, otherwise) => (
   Number.isInteger(number) && number >= 0 && number <= most ? number : otherwise
 );
 
-// The state that a fragment says; what it lacks, or says wrongly, is the default.
+// The state that a fragment describes; what it lacks, or says wrongly, is the default.
 export function stateOf(fragment) {
   const words = new URLSearchParams(fragment);
   const state = { ...DEFAULT_STATE };

@@ -1,14 +1,14 @@
-// The inputs that a text holds, where it holds several: a list of which one is chosen, by the pointer or by keys.
+// The inputs in a text that has several: a list from which one is chosen with the pointer or the keys.
 
 import { toHex } from "./bytes.js";
 import { element, Rows } from "./rows.js";
 
 const SHOWN_DIGITS = 64;
-// So many inputs may wrap where what is said of them is long.
+// Up to this many inputs may wrap if their descriptions are long.
 const WRAPPED_ENTRIES = 100;
 
 export class EntryList {
-  // |on| has summary(entry), which says what an input is and whether it has an error, and select(index).
+  // |on| has summary(entry), which returns what an input is and whether it has an error, and select(index).
   constructor(box, on) {
     this.box = box;
     this.on = on;

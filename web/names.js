@@ -1,6 +1,6 @@
 // The names that RFC 9000, RFC 9001, RFC 9221, RFC 9287 and RFC 9369 give to numbers.
 
-// Of each kind of frame its name, and the tone that it is drawn in.
+// For each kind of frame its name, and the tone that it is drawn in.
 const FRAMES = {
   0x00: ["PADDING", "padding"],
   0x01: ["PING", "signal"],
@@ -41,7 +41,7 @@ export function frameTone(kind) {
   return FRAMES[kind][1];
 }
 
-// The kind of a type as it is on the wire: one for all types of STREAM, of ACK and of DATAGRAM.
+// The kind of a type on the wire: one for all types of STREAM, of ACK and of DATAGRAM.
 export function kindOfType(type) {
   if (type >= 0x08n && type <= 0x0fn) {
     return 0x08;
@@ -55,7 +55,7 @@ export function kindOfType(type) {
   return type < 256n && FRAMES[Number(type)] ? Number(type) : null;
 }
 
-// The name of a type as it is on the wire.
+// The name of a type on the wire.
 export function typeName(type) {
   if (type === 0x03n) {
     return "ACK_ECN";
@@ -88,7 +88,7 @@ export const PACKET_REASONS = {
   [-44]: "token out of bounds", [-46]: "packet too short to contain payload length",
 };
 
-// Of each kind of packet: the word that quic-show prints, its name, and its tone.
+// For each kind of packet: the word that quic-show prints, its name, and its tone.
 const PACKETS = [
   ["initial", "Initial", "data"],
   ["0rtt", "0-RTT", "limit"],
@@ -150,7 +150,7 @@ export function errorName(code) {
   return code < BigInt(TRANSPORT_ERRORS.length) ? TRANSPORT_ERRORS[Number(code)] : "";
 }
 
-// Of each known transport parameter: its name, the kind of its value, its unit, its tone.
+// For each known transport parameter: its name, the kind of its value, its unit, its tone.
 const PARAMETERS = new Map([
   [0x00n, ["original_destination_connection_id", "id", "", "id"]],
   [0x01n, ["max_idle_timeout", "number", "ms", "ack"]],
@@ -173,13 +173,13 @@ const PARAMETERS = new Map([
   [0x2ab2n, ["grease_quic_bit", "flag", "", "signal"]],
   [0xff04de1bn, ["min_ack_delay", "number", "µs", "ack"]],
 ]);
-// What their values are bound to (RFC 9000, section 18.2; of min_ack_delay the ACK frequency extension).
+// The bounds of their values (RFC 9000, section 18.2; for min_ack_delay the ACK frequency extension).
 const ALLOWED = new Map([
   [0x03n, "1200 or more"], [0x08n, "no more than 2^60"], [0x09n, "no more than 2^60"], [0x0an, "no more than 20"],
   [0x0bn, "less than 2^14"], [0x0en, "2 or more"], [0xff04de1bn, "no more than max_ack_delay"],
 ]);
 
-// What the values of a parameter are bound to, or nothing.
+// The bounds of a parameter's value, or nothing.
 export function allowedOf(id) {
   return ALLOWED.get(id) ?? "";
 }

@@ -1,5 +1,5 @@
-// Packets of a datagram that are opened: Initial packets by the page itself, others by what the caller pastes, the mask
-// of the header and the plain payload.
+// The packets of a datagram that are opened: Initial packets by the page itself, others with what the user pastes, the
+// mask of the header and the plaintext payload.
 
 import { readText, toHex } from "./bytes.js";
 import { hasCiphers, hasInitialKeys, NO_CIPHERS, openInitial } from "./initial.js";
@@ -12,11 +12,11 @@ import { count } from "./walk.js";
 const MASK_LENGTH = 5;
 const SAMPLE_LENGTH = 16;
 const TAG = 16;
-// So many packets of a datagram can be opened, and so many frames of each are listed under it.
+// At most this many packets of a datagram can be opened, and this many frames of each are listed under it.
 const MOST_PACKETS = 16;
 const LISTED_FRAMES = 60;
 
-// The bytes of a text of this length, or of any, and what is wrong with it.
+// The bytes in a text, of this length or of any, and what is wrong with it.
 function bytesIn(text, length) {
   const { bytes, fault } = readText(text);
   if (bytes === null || text.trim() === "") {
@@ -38,7 +38,7 @@ function input(tag, name, label, value) {
 }
 
 export class Opened {
-  // |on| has lit(reading, spot), for what is lit in the payload, changed(), for packets that say more now, and ids(),
+  // |on| has lit(reading, spot), for what is lit in the payload; changed(), for packets that show more now; and ids(),
   // the ids from which keys of Initial packets may follow, besides a packet's own.
   constructor(library, boxes, on) {
     this.library = library;
@@ -52,7 +52,7 @@ export class Opened {
     });
   }
 
-  // |saved| has of some packets, by their index, the texts of the mask and of the payload.
+  // |saved| has the texts of mask and payload for some packets, by their index.
   show(reading, columns, saved) {
     this.reading = reading;
     this.columns = columns;
@@ -76,7 +76,7 @@ export class Opened {
     this.openInitials();
   }
 
-  // Opens Initial packets for which nothing was pasted, in the order in which they are.
+  // Opens Initial packets for which nothing was pasted, in their order.
   async openInitials() {
     const { reading } = this;
     for (const [index, one] of Object.entries(this.notes)) {
@@ -95,7 +95,7 @@ export class Opened {
     }
   }
 
-  // Says of an Initial packet how it was opened, or that it was not.
+  // Shows how an Initial packet was opened, or that it wasn't.
   openedByPage(index, found) {
     const one = this.notes[index];
     if (!found) {
@@ -114,7 +114,7 @@ export class Opened {
     this.on.changed();
   }
 
-  // What is asked of one packet.
+  // The inputs for one packet.
   form(packet, index) {
     const { mask, plain } = this.saved[index] ?? { mask: "", plain: "" };
     const form = element("fieldset", "packet");
@@ -139,7 +139,7 @@ export class Opened {
     return form;
   }
 
-  // Says of which bytes the mask is made, and what is wrong.
+  // Shows which bytes the mask is made from, and what is wrong.
   say(index, faults) {
     const { note, packet, own } = this.notes[index];
     const begin = packet.number + 4;
@@ -214,7 +214,7 @@ export class Opened {
     this.views.show(this.payload, this.columns);
   }
 
-  // Follows a spot of the datagram: the payload of its packet where that is chosen, and the frame under it.
+  // Follows a spot of the datagram: if its packet is chosen, the payload of that, and the frame under it.
   follow(spot, line) {
     if (spot.isActive && this.viewed !== spot.item && this.notes[spot.item]?.fields[1].value) {
       this.view(spot.item);

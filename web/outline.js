@@ -1,12 +1,12 @@
-// The items, and under each that is open its fields. It is a tree of ARIA whose active line moves by the arrow keys.
+// The items and, under each that is open, its fields: an ARIA tree whose active line moves with the arrow keys.
 
 import { element, Rows } from "./rows.js";
 import { stripOf } from "./strip.js";
 
-// So many items are open at first, if each has no more lines than that.
+// At first this many items are open, of those with at most this many lines.
 const OPEN_ITEMS = 200;
 const OPEN_LINES = 64;
-// So many lines wrap where they are long; of more of them each is cut where it is longer than the tree is wide.
+// Up to this many lines wrap if they are long; if there are more, each is cut off at the width of the tree.
 const WRAPPED_LINES = 500;
 
 // The lines under an item: its fields, the ranges of an ACK, the frames of an opened packet.
@@ -26,7 +26,7 @@ export class Outline {
     this.on = on;
     this.reading = null;
     this.spot = null;
-    // The items that are open, by their index, and how many lines come before the first, the second, ... of them.
+    // The open items, by their index, and how many lines come before the first, the second, ... of them.
     this.open = [];
     this.before = [];
     this.rows = new Rows(box, (index) => this.line(index), WRAPPED_LINES);
@@ -52,7 +52,7 @@ export class Outline {
     this.rows.setCount(this.lines);
   }
 
-  // Counts the lines of what is open.
+  // Counts the lines of open items.
   layOut() {
     this.before = [];
     let more = 0;
@@ -63,7 +63,7 @@ export class Outline {
     this.lines = this.reading.count + more;
   }
 
-  // The last open item for which |test| holds of its index and of the lines of open ones before it, or -1.
+  // The last open item for which |test| holds, given its index and the lines of open ones before it, or -1.
   lastOpen(test) {
     let low = 0;
     let high = this.open.length;
@@ -78,7 +78,7 @@ export class Outline {
     return low - 1;
   }
 
-  // The item and the field of a line.
+  // The item and the field on a line.
   at(line) {
     const last = this.lastOpen((index, before) => index + before < line);
     if (last < 0) {
@@ -112,7 +112,7 @@ export class Outline {
     this.refresh();
   }
 
-  // Draws the lines again, since what is open or the text of an item has changed.
+  // Draws the lines again, after what is open or the text of an item has changed.
   refresh() {
     const { scrollTop } = this.box;
     this.layOut();

@@ -1,4 +1,4 @@
-// The fields of packets with the protection still on their headers (RFC 9000, section 17; RFC 8999).
+// The fields of packets whose headers are still protected (RFC 9000, section 17; RFC 8999).
 
 import { INITIAL, packetName, RETRY, SHORT, VERSION_NEGOTIATION, versionName } from "./names.js";
 import { bigEndian, count, Walk } from "./walk.js";
@@ -62,7 +62,7 @@ function protectedFields(walk, kind) {
   walk.take("Packet Number and Packet Payload, protected", length, { opaque: true });
 }
 
-// |kind| is null where no packet was cut; the walk then goes as far as its bytes say what they are.
+// |kind| is null if no packet was cut; the walk then goes as far as the bytes determine.
 function longFields(walk, kind) {
   const byte = walk.bytes[walk.place];
   const version = walk.left >= 5 ? bigEndian(walk.bytes.subarray(walk.place + 1, walk.place + 5)) : null;
@@ -86,7 +86,7 @@ function shortFields(walk, idLength) {
   walk.rest("Packet Number and Packet Payload, protected", { opaque: true });
 }
 
-// The kind that the first byte of a refused packet of a supported version names.
+// The kind that the first byte of a rejected packet of a supported version names.
 function refusedKind(bytes, begin, { versions }) {
   if (begin + 5 > bytes.length) {
     return null;
@@ -99,11 +99,11 @@ function refusedKind(bytes, begin, { versions }) {
     return null;
   }
   const type = (bytes[begin] >> 4) & 3;
-  // Version 2 numbers them otherwise: Retry, Initial, 0-RTT, Handshake (RFC 9369, section 3.2).
+  // Version 2 numbers them differently: Retry, Initial, 0-RTT, Handshake (RFC 9369, section 3.2).
   return version === 0x6b3343cf ? [3, 0, 1, 2][type] : type;
 }
 
-// The walk along the packet that begins at |begin|. |kind| is null for what is no packet.
+// The walk along the packet that begins at |begin|. |kind| is null for what isn't a packet.
 export function packetFields(bytes, begin, end, kind, choices) {
   const walk = new Walk(bytes, begin, end);
   if (walk.left === 0) {
@@ -116,7 +116,7 @@ export function packetFields(bytes, begin, end, kind, choices) {
   return walk;
 }
 
-// The fields of a packet whose header has no protection left: |header| has the first byte and the packet number.
+// The fields of a packet whose header protection was removed: |header| has the first byte and the packet number.
 export function openedFields(fields, { begin, end, number, kind }, header) {
   const { first, numberLength } = header;
   const low = `Packet Number Length ${numberLength} (${bits(first, 2)})`;
@@ -135,7 +135,7 @@ export function openedFields(fields, { begin, end, number, kind }, header) {
   ];
 }
 
-// What a packet says, in a few words, by the library's words of it.
+// A short description of a packet, from the library's values.
 export function packetSummary(packet) {
   const bytes = count(packet.end - packet.begin, "byte");
   if (packet.kind === SHORT || packet.kind === VERSION_NEGOTIATION) {
@@ -145,7 +145,7 @@ export function packetSummary(packet) {
   return `${name || `version 0x${packet.version.toString(16)}`}, ${bytes}`;
 }
 
-// Whether the places that the walk found are those of the library.
+// Whether the offsets that the walk found are the library's.
 export function packetAgrees(packet, walk) {
   const is = (name, begin, length) => {
     const field = walk.fields.find((one) => one.name === name);

@@ -1,4 +1,4 @@
-// The page: it reads the form, has the bytes read, and shows what they are.
+// The page: reads the form, has the bytes read, and shows what they are.
 
 import { Beside } from "./beside.js";
 import { fromBase64, fromHex, readText, toHex } from "./bytes.js";
@@ -24,9 +24,9 @@ import { count } from "./walk.js";
 // In milliseconds.
 const LINK_DELAY = 300;
 const SHOWN_FOR = 3000;
-// How many inputs, and packets of each, are searched for connection IDs.
+// In how many inputs, and in how many packets of each, connection IDs are searched for.
 const MOST_LOOKED_AT = 32;
-// A text of more characters than these is read step by step, between which the browser does what else it has to.
+// A text of more characters than this is read in steps, between which the browser does its other work.
 const MOST_AT_ONCE = 1 << 18;
 const NOT_COPIED = "Not copied; it is in the address bar";
 
@@ -34,7 +34,7 @@ const byId = (id) => document.getElementById(id);
 const narrow = window.matchMedia("(max-width: 60rem)");
 const columns = () => (narrow.matches ? 8 : 16);
 
-// Whether a text could be put on the clipboard, which a page of a server without TLS may not.
+// Whether a text can be put on the clipboard, which browsers forbid to a page from a server without TLS.
 async function copied(text) {
   try {
     await navigator.clipboard.writeText(text);
@@ -44,14 +44,14 @@ async function copied(text) {
   }
 }
 
-// Says something on a button for a while.
+// Shows a text on a button for a while.
 function sayOn(button, text) {
   button.dataset.name ??= button.textContent;
   button.textContent = text;
   setTimeout(() => { button.textContent = button.dataset.name; }, SHOWN_FOR);
 }
 
-// The module's bytes: those in the page, or else those beside it.
+// The module's bytes: those in the page, or else the file beside it.
 async function moduleBytes() {
   const inlined = byId("module");
   if (inlined) {
@@ -61,7 +61,7 @@ async function moduleBytes() {
 }
 
 class Page {
-  // Each reading that is shown has a library of its own, since it asks for items when they are drawn.
+  // Each reading that is shown has its own library, since it asks for items when they are drawn.
   constructor([library, besideLibrary, listLibrary, payloadLibrary]) {
     this.library = library;
     this.besideLibrary = besideLibrary;
@@ -104,7 +104,7 @@ class Page {
       byId("examples").append(button);
     }
     const { mode, text } = EXAMPLES[0];
-    // The part of the page's address after #, as far as the page knows.
+    // The part of the page's address after #, as far as the page understands it.
     this.fragment = window.location.hash.slice(1);
     this.form.state = this.fragment ? stateOf(this.fragment) : { ...DEFAULT_STATE, mode, text };
     this.update();
@@ -137,7 +137,7 @@ class Page {
     byId("input").scrollTop = 0;
   }
 
-  // Takes the state of a link that was followed while the page is open.
+  // Takes the state from a link that was followed while the page is open.
   follow() {
     const fragment = window.location.hash.slice(1);
     if (fragment !== this.fragment) {
@@ -153,7 +153,7 @@ class Page {
     this.go(this.steps(state), state.text.length);
   }
 
-  // Takes steps, all at once where there are few characters, else as tasks of their own, each as many as fit in a while.
+  // Takes steps: all at once if there are few characters, else in tasks, each with as many as fit into a while.
   go(steps, characters) {
     this.going = steps;
     if (characters <= MOST_AT_ONCE) {
@@ -227,7 +227,7 @@ class Page {
   writeLink() {
     clearTimeout(this.timer);
     if (window.location.hash.slice(1) !== this.fragment) {
-      // Another link was just opened, and is going to be followed.
+      // Another link was just opened and will be followed.
       return;
     }
     this.fragment = fragmentOf(this.form.state, this.found.entries);
@@ -354,7 +354,7 @@ class Page {
     this.shortest.show(shortest, columns(), true);
   }
 
-  // What quic-show prints, if that is opened.
+  // What quic-show prints, if that panel is open.
   print() {
     byId("printed").replaceChildren();
     if (byId("text").open && this.reading) {
@@ -362,7 +362,7 @@ class Page {
     }
   }
 
-  // Says what is lit in the views, and lights it in what is shown beside them.
+  // Shows what is lit in the views, and lights what corresponds to it beside them.
   lit(spot) {
     this.shortest.light(spot);
     this.other.light(spot);

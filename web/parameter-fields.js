@@ -27,7 +27,7 @@ function addressFields(walk) {
   walk.take("Stateless Reset Token", TOKEN_LENGTH);
 }
 
-// A number with its unit, of which there may be one.
+// A number with its unit, if it has one.
 function withUnit(number, unit) {
   const one = unit.endsWith("ms") || !unit.endsWith("s") ? unit : unit.slice(0, -1);
   return `${number} ${number === 1n ? one : unit}`.trim();
@@ -56,7 +56,7 @@ function valueFields(walk, { kind, unit }) {
 
 const valueText = (kind, bytes) => (kind === "other" || bytes.length === 0 ? bytesText(bytes) : toHex(bytes));
 
-// The walk along the entry that begins at |begin|: it ends after its value, or where it stops.
+// The walk along the entry that begins at |begin|: it ends after the value, or where it stops.
 export function parameterFields(bytes, begin) {
   const walk = new Walk(bytes, begin, bytes.length);
   const id = walk.varint("Parameter ID", (number) => `0x${number.toString(16).padStart(2, "0")}`);
@@ -76,7 +76,7 @@ export function parameterFields(bytes, begin) {
   return { walk, id };
 }
 
-// Where the entry that begins at |begin| ends, or null where it is cut off; and its id.
+// Where the entry that begins at |begin| ends, or null if it is cut off; and its id.
 export function nextEntry(bytes, begin) {
   const walk = new Walk(bytes, begin, bytes.length);
   const id = walk.number();
@@ -87,7 +87,7 @@ export function nextEntry(bytes, begin) {
   return { id, end: walk.place + Number(length) };
 }
 
-// What an entry says, in a few words.
+// A short description of an entry.
 export function parameterSummary(walk, id) {
   const { kind } = parameterOf(id);
   const by = (name) => walk.fields.find((field) => field.name === name);

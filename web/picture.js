@@ -1,5 +1,5 @@
-// A picture of the bytes, as a file of SVG that needs nothing else: the grid in the colours that it has on the page,
-// with a legend.
+// A picture of the bytes, as an SVG file that needs nothing else: the grid in the colours that it has on the page, with
+// a legend.
 
 import { hexOfByte } from "./bytes.js";
 
@@ -7,7 +7,7 @@ const PIXELS = { row: 26, byte: 26, offset: 64, margin: 16, text: 13, legend: 22
 const MOST_BYTES = 4096;
 const LEGEND_WIDTH = 232;
 
-// A colour of the style sheet as three numbers, which every viewer of pictures knows.
+// A colour of the style sheet as three numbers, which every viewer understands.
 function plainColor(context, color) {
   context.fillStyle = color;
   context.fillRect(0, 0, 1, 1);
@@ -48,7 +48,7 @@ function tag(name, values, inner) {
   return inner === undefined ? `<${name}${attributes(values)}/>` : `<${name}${attributes(values)}>${inner}</${name}>`;
 }
 
-// The classes of a byte as the grid has them, as far as they give it a colour.
+// The classes of a byte in the grid, as far as they give it a colour.
 function classesAt(reading, place) {
   const index = reading.indexAt(place);
   if (index < 0) {
@@ -59,7 +59,7 @@ function classesAt(reading, place) {
   return `byte tone ${item.tone}${field?.opaque ? " opaque" : ""}${field?.fault ? " fault" : ""}`;
 }
 
-// A row's bytes: a ground for each run of one colour, the digits, lines under what is wrong or differs.
+// The bytes of a row: a background for each run of one colour, the digits, lines under what is wrong or differs.
 function rowOf(reading, colors, begin, end, top, differs) {
   const parts = [];
   const x = (place) => PIXELS.margin + PIXELS.offset + (place - begin) * PIXELS.byte;
@@ -89,7 +89,7 @@ function rowOf(reading, colors, begin, end, top, differs) {
   return parts.join("");
 }
 
-// The kinds of items among the first bytes: of each its name and its tone, with how many there are.
+// The kinds of items among the first bytes: for each its name and its tone, with how many there are.
 function kindsOf(reading, length) {
   const kinds = new Map();
   for (let index = 0; index < reading.count && reading.begin(index) < length; index += 1) {
@@ -113,7 +113,7 @@ function legendOf(kinds, colors, columns, top) {
   }).join("");
 }
 
-// The picture of a reading as a text. |title| says what it is; |differs| marks bytes.
+// The picture of a reading as text. |title| says what it is; |differs| marks bytes.
 export function pictureOf(reading, box, columns, title, differs) {
   const colors = new Colors(box);
   const length = Math.min(reading.bytes.length, MOST_BYTES);
@@ -139,7 +139,7 @@ export function pictureOf(reading, box, columns, title, differs) {
   }, parts.join("\n"));
 }
 
-// Hands a text to the browser as a file to save.
+// Gives a text to the browser to save as a file.
 export function saveText(text, type, name) {
   const link = document.createElement("a");
   link.href = URL.createObjectURL(new Blob([text], { type }));

@@ -26,7 +26,7 @@ function printBlock(box, chosen, words, text, isCut) {
   }
 }
 
-// Prints a reading into a box, by the choices that it was read with.
+// Prints a reading into a box, with the choices that it was read with.
 export function printInto(box, reading, chosen) {
   box.replaceChildren();
   const { lines, isCut } = textOf(reading, PRINTED_LINES);

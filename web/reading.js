@@ -1,6 +1,6 @@
-// What is shown of bytes: items one after the other (frames, packets, parameters), each with fields, and the error
-// that ended them. Which items there are, what they say and why they end is the library's answer; the places of fields
-// are found by a walk, and an item says so where the two differ.
+// What is shown for bytes: items in order (frames, packets, parameters), each with fields, and the error that ended
+// them. The library decides which items there are, what they say and why they end. A walk finds the offsets of fields;
+// if it differs from the library, the item says so.
 
 import { agrees, frameFields, frameSummary, paddingRun } from "./frame-fields.js";
 import { Words } from "./library.js";
@@ -16,7 +16,7 @@ import { count } from "./walk.js";
 const KEPT_ITEMS = 4000;
 const SHOWN_RANGES = 200;
 
-// Ranges as text, the greatest first.
+// Ranges as text, greatest first.
 export function rangesText(ranges, limit = SHOWN_RANGES) {
   const shown = ranges.slice(0, limit).map(([from, to]) => (from === to ? `${from}` : `${from}–${to}`));
   const more = ranges.length > limit ? ` and ${ranges.length - limit} more` : "";
@@ -36,7 +36,7 @@ class Reading {
     return this.begins.length - 1 + (this.hasRest ? 1 : 0);
   }
 
-  // Whether bytes are left that are no item.
+  // Whether bytes are left that aren't an item.
   get hasRest() {
     return this.error !== null && this.rest < this.bytes.length;
   }
@@ -92,12 +92,12 @@ class Reading {
     return item.fields.findIndex((field) => field.begin <= place && place < field.end);
   }
 
-  // The invalid item, if there is one: what remains after the whole ones.
+  // The invalid item, if there is one: what remains after the valid ones.
   get bad() {
     return this.whole;
   }
 
-  // Of what is no item: its fields as far as they go, and the one that is at fault.
+  // For what isn't an item: its fields as far as they go, and the one at fault.
   broken(name, summary, walk, fault, end = this.bytes.length) {
     const fields = walk.fields.slice();
     if (walk.place < end) {
@@ -140,7 +140,7 @@ class FramesReading extends Reading {
     };
   }
 
-  // The walk along an invalid frame, and the field in which it failed.
+  // The walk along an invalid frame, and the field at which it failed.
   walkRest() {
     const found = frameFields(this.bytes, this.rest, this.bytes.length);
     const { missing, wrong, fields: [type] } = found.walk;
@@ -185,11 +185,11 @@ class DatagramReading extends Reading {
     this.kinds = kinds;
     this.refusal = refusal;
     this.error = refusal && this.describe(refusal);
-    // Of each packet that was opened its mask, and the lines of its frames.
+    // For each opened packet its mask, and the lines of its frames.
     this.openings = new Map();
   }
 
-  // Opens a packet by the mask of its header, or closes it where that is null; |inner| are lines for its frames.
+  // Opens a packet with the mask of its header, or closes it if that is null; |inner| are the lines of its frames.
   open(index, mask, inner) {
     this.openings.set(index, { mask, inner });
     this.kept.delete(index);
@@ -205,7 +205,7 @@ class DatagramReading extends Reading {
     };
   }
 
-  // The walk along what is no packet, and the field in which that went wrong.
+  // The walk along what isn't a packet, and the field at which it failed.
   walkRest() {
     const walk = packetFields(this.bytes, this.rest, this.bytes.length, null, this.choices);
     const [first, version] = walk.fields;
@@ -229,7 +229,7 @@ class DatagramReading extends Reading {
     return opening ? { ...item, ...this.opened(item, packet, opening) } : item;
   }
 
-  // What an opened packet has otherwise: the fields of its header, and the frames of its payload.
+  // What differs in an opened packet: the fields of its header, and the frames of its payload.
   opened({ fields }, packet, { mask, inner }) {
     const header = mask && this.library.unprotect(packet, mask);
     if (!header) {
@@ -268,7 +268,7 @@ class ParamsReading extends Reading {
     return this.refused ?? this.whole;
   }
 
-  // Where all entries begin that are whole, then where the last of them ends.
+  // Where all whole entries begin, then where the last of them ends.
   scan() {
     const begins = new Words();
     begins.push(0);
@@ -293,8 +293,8 @@ class ParamsReading extends Reading {
     };
   }
 
-  // The field of the refused entry that is at fault: one that is cut off or no value of its kind; else a number that is
-  // out of range; else the entry's id, which is a repeat or is forbidden.
+  // The field of the rejected entry that is at fault: one that is cut off or isn't a value of its kind; else a number
+  // that is out of range; else the entry's id, which is a repeat or is forbidden.
   faultOf(walk) {
     const number = walk.fields.find((field) => field.name === "Value" && field.number !== undefined);
     return walk.missing ?? walk.wrong ?? (this.reason === PARAMS_MALFORMED ? null : number) ?? walk.fields[0];
@@ -313,7 +313,7 @@ class ParamsReading extends Reading {
     return { kind: id, name, tone, summary, fields: walk.fields, agrees: this.agrees(walk, id, index) };
   }
 
-  // Whether a number in the list is the record's. A min_ack_delay may be in it again, and then the last one counts.
+  // Whether a number in the list is the record's. A min_ack_delay may be repeated, and then the last one counts.
   agrees(walk, id, index) {
     const { name, kind } = parameterOf(id);
     if (!this.record || kind !== "number" || (id === MIN_ACK_DELAY && index !== this.lastMinDelay)) {
@@ -323,7 +323,7 @@ class ParamsReading extends Reading {
   }
 }
 
-// Reads bytes as the choices say.
+// Reads bytes by the choices.
 export function readBytes(library, bytes, choices) {
   const readers = { frames: FramesReading, datagram: DatagramReading, params: ParamsReading };
   library.hold(bytes);

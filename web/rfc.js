@@ -4,7 +4,7 @@ import { SHORT, VERSION_NEGOTIATION } from "./names.js";
 
 const ACK_FREQUENCY_DRAFT = "draft-ietf-quic-ack-frequency-08";
 
-// Of each kind of frame the section of RFC 9000, or the document and its section.
+// For each kind of frame the section of RFC 9000, or the document and its section.
 const FRAME_SECTIONS = {
   0x00: "19.1", 0x01: "19.2", 0x02: "19.3", 0x04: "19.4", 0x05: "19.5", 0x06: "19.6", 0x07: "19.7", 0x08: "19.8",
   0x10: "19.9", 0x11: "19.10", 0x12: "19.11", 0x13: "19.11", 0x14: "19.12", 0x15: "19.13", 0x16: "19.14",
@@ -12,7 +12,7 @@ const FRAME_SECTIONS = {
   0x1e: "19.20", 0x1f: [ACK_FREQUENCY_DRAFT, "5"], 0x30: [9221, "4"], 0xaf: [ACK_FREQUENCY_DRAFT, "4"],
 };
 
-// Parts of ACK frames that have a section of their own.
+// Parts of ACK frames that have their own section.
 const ACK_SECTIONS = {
   Gap: "19.3.1", "ACK Range Length": "19.3.1", "ACK Ranges": "19.3.1", Ranges: "19.3.1",
   "ECT0 Count": "19.3.2", "ECT1 Count": "19.3.2", "ECN-CE Count": "19.3.2",
@@ -22,7 +22,7 @@ const ACK_SECTIONS = {
 const PACKET_SECTIONS = ["17.2.2", "17.2.3", "17.2.4", "17.2.5", "17.3.1", "17.2.1"];
 const VERSION_2 = 0x6b3343cf;
 
-// Fields of packets that have a section of their own, whatever the packet.
+// Fields of packets that have their own section, whatever the packet.
 const PACKET_FIELDS = {
   "Packet Number": "17.1", "Packet Number and Packet Payload, protected": [9001, "5.4"],
   "Packet Payload, protected": [9001, "5.3"], "Retry Integrity Tag": [9001, "5.8"],
@@ -62,7 +62,7 @@ function frameSection({ kind }, field) {
   return (kind === 0x02 && field && ACK_SECTIONS[field.name]) || FRAME_SECTIONS[kind];
 }
 
-// The section that describes an item, or a field of it, as words and as an address.
+// The section that describes an item, or a field of it, as text and as an address.
 export function sectionOf(unit, item, field) {
   const sections = { frame: frameSection, packet: packetSection, parameter: parameterSection };
   const found = sections[unit](item, field);

@@ -1,10 +1,11 @@
-// A list of rows in a box that scrolls. Rows of one height are drawn as far as they can be seen; so few that all are
-// drawn at once may be of any height, and wrap. A mark at the end of the box says how many rows are below it.
+// A list of rows in a box that scrolls. Rows of one height are drawn only as far as they can be seen; if there are few
+// enough to be drawn all at once, they may have any height, and wrap. A mark at the end of the box says how many rows
+// are below it.
 
 // Browsers draw no element that is much higher, in pixels.
 const MAX_HEIGHT = 8_000_000;
 const BEYOND = 6;
-// So many rows are printed.
+// This many rows are printed.
 const MOST_PRINTED = 5000;
 
 export function element(tag, className, text) {
@@ -49,7 +50,7 @@ export class Rows {
     return this.isPrinting || this.count <= this.mostFlowing;
   }
 
-  // The height of a row in pixels, as the style sheet has it.
+  // The height of a row in pixels, from the style sheet.
   measure() {
     const probe = this.draw(0);
     this.layer.replaceChildren(probe);
@@ -90,8 +91,8 @@ export class Rows {
     return whole <= MAX_HEIGHT ? 1 / this.height : (this.count - view / this.height) / (MAX_HEIGHT - view);
   }
 
-  // Draws before the next picture, once however often the box scrolls until then. Rows that move while a scroll is
-  // reported would lag where a browser scrolls by itself, and Firefox says so in its console.
+  // Draws before the next frame of the screen, once, however often the box scrolls until then. Rows that move while a
+  // scroll is reported would lag in browsers that scroll in a separate thread, and Firefox warns of it in its console.
   refreshSoon() {
     this.frame ??= requestAnimationFrame(() => {
       this.frame = null;
@@ -134,7 +135,7 @@ export class Rows {
     this.layer.style.transform = `translateY(${this.box.scrollTop - (top - first) * this.height}px)`;
   }
 
-  // How many rows end above the lower end of what is seen.
+  // How many rows end above the lower edge of what is seen.
   get seen() {
     if (!this.isFlowing) {
       const below = this.box.scrollTop * this.density + this.box.clientHeight / this.height;
@@ -149,7 +150,7 @@ export class Rows {
     return seen;
   }
 
-  // Says how many rows are below the last one that is seen, or of those that are printed.
+  // Shows how many rows are below the last one that is seen, or of those that are printed.
   markMore() {
     const isAtEnd = this.box.scrollTop + this.box.clientHeight >= this.box.scrollHeight - 1;
     const more = this.isPrinting ? this.count - this.drawn[1] : isAtEnd ? 0 : this.count - this.seen;

@@ -1,16 +1,16 @@
-// Long texts and bytes in parts, between which the reader may pause. A function with pauses is a generator that yields
+// Reads long texts and bytes in parts, between which it may pause. A function "with pauses" is a generator that yields
 // nothing and returns its result.
 
 // How many characters are read between two pauses, with a few more.
 export const AT_ONCE = 1 << 15;
-// So many milliseconds a task takes steps, and one step more.
+// For how many milliseconds a task takes steps; it then finishes the last one.
 const TASK_TIME = 10;
 
 // Counts what was read since the last pause.
 export class Pace {
   done = 0;
 
-  // Whether the next pause is due after |count| more characters are read.
+  // Whether the next pause is due after |count| more characters.
   isDue(count) {
     this.done += count + 1;
     if (this.done < AT_ONCE) {
@@ -21,7 +21,7 @@ export class Pace {
   }
 }
 
-// The answer of a function with pauses, without a pause.
+// The result of a function with pauses, without pausing.
 export function answerOf(steps) {
   for (;;) {
     const { done, value } = steps.next();
@@ -31,7 +31,7 @@ export function answerOf(steps) {
   }
 }
 
-// Takes steps in tasks, between which the browser does what else it has to, as long as |isWanted| says so. At their end
+// Takes steps in tasks, between which the browser does its other work, as long as |isWanted| returns true. At the end
 // it calls |end|.
 export function inTasks(steps, isWanted, end) {
   const until = performance.now() + TASK_TIME;
@@ -46,7 +46,7 @@ export function inTasks(steps, isWanted, end) {
   }
 }
 
-// The parts of a text, of which none ends within 0x or \x.
+// The parts of a text, none of which ends within 0x or \x.
 export function* partsOf(text) {
   for (let from = 0, to; from < text.length; from = to) {
     to = from + AT_ONCE;

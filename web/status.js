@@ -13,7 +13,7 @@ function errorText({ place, reason, type, version, allowed, code, section }) {
   return text;
 }
 
-// What a reading is, in a few words, and whether there is an error.
+// A short description of a reading, and whether there is an error.
 export function summaryOf(reading) {
   const { error, bad, whole, unit } = reading;
   const items = count(Math.min(bad, whole), unit);
@@ -36,7 +36,7 @@ export function showReading(box, characters) {
   box.replaceChildren(`Reading ${characters} characters …`);
 }
 
-// |reading| is null where the chosen input is no bytes; |go| goes to a place.
+// |reading| is null if the chosen input isn't bytes; |go| goes to an offset.
 export function showStatus(box, reading, found, at, go) {
   const { fault, form } = found.entries[at];
   box.className = `status ${fault || reading.error ? "bad" : "good"}`;

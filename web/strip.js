@@ -1,4 +1,4 @@
-// The ranges of an ACK as a strip: all packet numbers from its smallest to its largest, the acknowledged ones filled.
+// The ranges of an ACK as a strip: all packet numbers from the smallest to the largest, the acknowledged ones filled.
 
 import { element } from "./rows.js";
 import { count } from "./walk.js";
@@ -6,7 +6,7 @@ import { count } from "./walk.js";
 const SVG = "http://www.w3.org/2000/svg";
 const WIDTH = 1000;
 
-// The path of the filled parts, with parts that are less than a unit apart as one.
+// The path of the filled parts; parts less than a unit apart are joined.
 function pathOf(ranges, smallest, numbers) {
   const at = (number) => Number(((number - smallest) * BigInt(WIDTH * 1000)) / numbers) / 1000;
   let path = "";

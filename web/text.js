@@ -77,7 +77,7 @@ const PRESENT = [
   [0x400, "min_ack_delay", (r) => `${r.min_ack_delay}`],
 ];
 
-// A preferred address as it is encoded in a list.
+// A preferred address, encoded as in a list.
 function addressDigits(record) {
   const word = (number, digits) => number.toString(16).padStart(digits, "0");
   return toHex(record.preferred_v4) + word(record.preferred_v4_port, 4) + toHex(record.preferred_v6)

@@ -69,7 +69,7 @@ export class Views {
   }
 }
 
-// An item of a reading, or with |field| from 0 on a line under it: what is lit of it, and how it is called.
+// A spot: an item of a reading or, with |field| from 0 on, a line under it; what is lit for it, and its name.
 export function spotIn(reading, index, field, place) {
   const item = reading.item(index);
   const line = field < 0 ? item : linesOf(item)[field];

@@ -1,16 +1,16 @@
-// A walk along the fields of a frame, a packet or a parameter. It finds their places, which the library does not tell;
-// where it stops, the field that stopped it is marked.
+// A walk along the fields of a frame, a packet or a parameter. It finds their offsets, which the library doesn't
+// return; it marks the field at which it stops.
 
 import { toHex } from "./bytes.js";
 
 const SHOWN_BYTES = 32;
 
-// So many of something.
+// A count with its unit.
 export function count(amount, one) {
   return `${amount} ${one}${Number(amount) === 1 ? "" : "s"}`;
 }
 
-// Bytes as text in quotation marks where they are printable, else in hexadecimal.
+// Bytes as text in quotation marks if they are printable, else in hexadecimal.
 export function bytesText(bytes, limit = SHOWN_BYTES) {
   if (bytes.length === 0) {
     return "empty";
@@ -34,7 +34,7 @@ export class Walk {
     this.place = begin;
     this.end = end;
     this.fields = [];
-    // The field that ends before it is whole, and the first one whose value can't be.
+    // The field that the end cuts off, and the first one whose value is invalid.
     this.missing = null;
     this.wrong = null;
   }
@@ -57,14 +57,14 @@ export class Walk {
     this.missing = this.add(name, left, value, { fault: true });
   }
 
-  // Marks the field that was added last as one that can't be.
+  // Marks the field that was added last as invalid.
   refuse() {
     const field = this.fields[this.fields.length - 1];
     field.fault = true;
     this.wrong ??= field;
   }
 
-  // Passes a variable-length integer, which is no field, and returns whether it was whole.
+  // Passes a variable-length integer that isn't a field, and returns whether it was whole.
   pass() {
     const length = 1 << (this.bytes[this.place] >> 6);
     if (this.left < length) {
@@ -74,7 +74,7 @@ export class Walk {
     return true;
   }
 
-  // The value of a variable-length integer, which is no field, or null where it is cut off.
+  // The value of a variable-length integer that isn't a field, or null if it is cut off.
   number() {
     const length = 1 << (this.bytes[this.place] >> 6);
     if (this.left < length) {
@@ -85,7 +85,7 @@ export class Walk {
     return value;
   }
 
-  // A variable-length integer, shown by |show|. Returns its value, or null where the walk has stopped.
+  // A variable-length integer, shown by |show|. Returns its value, or null if the walk has stopped.
   varint(name, show = (value) => `${value}`) {
     if (this.missing) {
       return null;
@@ -106,7 +106,7 @@ export class Walk {
     return value;
   }
 
-  // The variable-length integer of so many bytes that comes next.
+  // The next variable-length integer, of this many bytes.
   peek(length) {
     const { bytes, place } = this;
     if (length === 8) {
@@ -120,7 +120,7 @@ export class Walk {
     return BigInt(value);
   }
 
-  // So many bytes, a number or a BigInt. Returns them, or null.
+  // This many bytes, a number or a BigInt. Returns them, or null.
   take(name, length, more = {}) {
     if (this.missing || length === null) {
       return null;
@@ -141,7 +141,7 @@ export class Walk {
   }
 }
 
-// A number of a few bytes, the highest first.
+// A number of a few bytes, most significant first.
 export function bigEndian(bytes) {
   return bytes.reduce((value, byte) => value * 256 + byte, 0);
 }

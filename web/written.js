@@ -1,5 +1,6 @@
-// What is in a text beside digits: comments, names of lists, bytes as Python and Rust print them, lists of decimal
-// numbers, the lines above a dump; and the dumps that swap bytes, which aren't read. rust/README.md says it in a table.
+// Recognizes what a text has besides digits: comments, names of lists, bytes as Python and Rust print them, lists of
+// decimal numbers, the lines above a dump; and dumps that swap bytes, which aren't read. rust/README.md has the table.
+// Functions "with pauses" are generators (slices.js).
 
 import { AT_ONCE, eachLine, Pace } from "./slices.js";
 
@@ -11,7 +12,7 @@ const BITS = "these are bits, as xxd -b prints them; use xxd without -b";
 const EITHER = "ambiguous numbers, decimal or hexadecimal; add 0x to each";
 const SWAPPED_GROUPS = "the bytes of each group are swapped, as xxd -e prints them; use xxd without -e";
 
-// A line of a dump with units of more than a byte, of bits, and of xxd with its text.
+// A line of a dump in units of more than a byte, of a dump of bits, and of xxd with its text.
 const UNITS_LINE = /^[0-9a-f]{7}((?: +[0-9a-f]{3,22})+) *$/i;
 const BITS_LINE = /^[0-9a-f]{8,}:((?: [01]{8})+)  (.*)$/;
 const XXD_LINE = /^[0-9a-f]{8,}: (((?:[0-9a-f]{2,} )*[0-9a-f]{2,})  (.*))$/i;
@@ -19,7 +20,7 @@ const XXD_LINE = /^[0-9a-f]{8,}: (((?:[0-9a-f]{2,} )*[0-9a-f]{2,})  (.*))$/i;
 // The lines that tshark and tcpdump print above a dump.
 const HEADING = /^\s*(?:.*\(\d+ bytes\):|(?:\S+ )?\d\d:\d\d:\d\d\.\d{6} .*|.* → .*|.* > .*: .*)$/;
 
-// Where a literal of bytes begins, what it has, and what may be behind it; the name before a value, and how many bytes
+// Where a bytes literal begins, what it contains, and what may follow it; the name before a value, and how many bytes
 // there are, as xxd -i prints it.
 const LITERAL = /^(?:bytearray\()?b(?=['"])/;
 const LITERAL_PART = /\\x[0-9a-f]{2}|\\[^]|[\x00-\x5b\x5d-\x7f]/giy;
@@ -34,7 +35,7 @@ const LONGEST = 1000;
 
 export const isHeading = (line) => HEADING.test(line);
 
-// Whether the last group has fewer digits than the first and stands at its right, as xxd -e prints it.
+// Whether the last group has fewer digits than the first and is right-aligned, as xxd -e prints it.
 function isAtRight(rest, width) {
   for (let at = 0; at + width <= rest.length; at += width + 1) {
     const column = rest.slice(at, at + width);
@@ -52,7 +53,7 @@ function fitsText(pairs, text) {
   });
 }
 
-// Whether text beside groups of digits fits their bytes only where those of each group are swapped.
+// Whether the text beside groups of digits fits their bytes only if those of each group are swapped.
 function isSwapped(groups, text) {
   const pairs = groups.map((group) => group.match(/../g) ?? []);
   const inOrder = pairs.flat();
@@ -75,7 +76,7 @@ function refusalOfLine(line) {
   return isOfXxdE ? SWAPPED_GROUPS : null;
 }
 
-// The numbers of a list, if all may be decimal bytes, as JSON has them, with pauses.
+// The numbers of a list if all may be decimal bytes, as in JSON, with pauses.
 function* decimalsOf(text) {
   const list = text.trim();
   if (!/^[[{(]/.test(list.slice(0, 1)) || ['"', "'", "\\"].some((sign) => list.includes(sign))) {
@@ -95,8 +96,8 @@ function* decimalsOf(text) {
   return words;
 }
 
-// Why a text isn't read, if it is a dump of those that swap bytes or print other units, or a list that may mean either
-// of two things. With pauses; |bare| is the text without names.
+// Why a text isn't read: it is a dump that swaps bytes or prints other units, or a list that may mean two things. With
+// pauses; |bare| is the text without names.
 export function* refusalOf(text, bare) {
   const pace = new Pace();
   for (const line of eachLine(text)) {
@@ -139,7 +140,7 @@ export function* fromLiteral(text) {
   return BEHIND_LITERAL.test(literal.slice(at + 1)) ? Uint8Array.from(codes) : null;
 }
 
-// The bytes of a list of decimal numbers, as JSON has it, or null, with pauses.
+// The bytes of a list of decimal numbers, as in JSON, or null, with pauses.
 export function* fromDecimals(bare) {
   const words = yield* decimalsOf(bare);
   const bytes = new Uint8Array(words.length);
@@ -180,7 +181,7 @@ function* withoutComments(text) {
   return parts.join("") + text.slice(from);
 }
 
-// A text without comments, the names of lists, and lines that aren't of one, with pauses.
+// A text without comments, names of lists, and lines that don't belong to one, with pauses.
 export function* withoutNames(text) {
   return withoutName(withoutLength(yield* withoutComments(text)));
 }

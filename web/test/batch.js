@@ -1,5 +1,5 @@
-// Run in the page by the tests: shows each of some lines, and returns what the page shows of it: the printed text of
-// each command, and what in its views does not agree with that or with the bytes.
+// Run in the page by the tests: shows each of some lines, and returns what the page shows for it: the printed text of
+// each command, and what in its views doesn't agree with that or with the bytes.
 const [lines, form] = arguments;
 
 const input = document.getElementById("input");
@@ -7,7 +7,7 @@ const elements = document.getElementById("form").elements;
 const text = document.getElementById("text");
 const status = document.getElementById("status");
 
-// The whole lists are drawn, however long.
+// Lists are drawn whole, however long.
 if (!document.documentElement.dataset.whole) {
   document.styleSheets[0].insertRule(".rows { max-height: none !important; }");
   document.documentElement.dataset.whole = "yes";
@@ -21,7 +21,7 @@ function setForm() {
   text.open = true;
 }
 
-// What the tree of items says, in the words of quic-show: the places and names.
+// What the tree of items shows, as quic-show prints it: the offsets and names.
 function itemsShown() {
   return [...document.querySelectorAll("#outline .item")].map((line) => ({
     place: line.querySelector(".place").textContent, name: line.querySelector(".name").textContent,
@@ -34,7 +34,7 @@ const PACKETS = {
   "version-negotiation": "Version Negotiation",
 };
 
-// The items that printed lines tell of: frames of PADDING that follow each other are one.
+// The items of printed lines: consecutive PADDING frames are one.
 function itemsPrinted(printed) {
   const items = [];
   for (const line of printed.split("\n").filter((one) => /^\d/.test(one))) {
@@ -50,7 +50,7 @@ function itemsPrinted(printed) {
   return items.map((item) => `${item.begin}..${item.end} ${item.name}`).join("\n");
 }
 
-// Whether the fields of each item lie one behind the other, from its begin to its end.
+// Whether the fields of each item follow each other, from its beginning to its end.
 function gaps() {
   let place = 0;
   let end = 0;
@@ -74,7 +74,7 @@ function gaps() {
 
 const bytesOf = (grid) => [...document.querySelectorAll(`#${grid} .byte`)].map((cell) => cell.textContent).join("");
 
-// Whether the shortest form is shown just where it differs from the payload.
+// Whether the shortest form is shown exactly when it differs from the payload.
 function shortestFaults(line, canon) {
   const isShown = !document.getElementById("shortest").hidden;
   if (canon === undefined || canon.startsWith("error")) {
@@ -100,7 +100,7 @@ function faults(line, printed, canon) {
     found.push(`items ${whole}`);
   }
   const error = /^error (.*)$/m.exec(printed);
-  // An empty box is no input, though an empty payload is one that has an error.
+  // An empty box is no input, although an empty payload is one, with an error.
   const isBad = Boolean(error) && line !== "";
   const isReported = !isBad || status.textContent.includes(`: ${error[1]}.`);
   if (isBad !== status.classList.contains("bad") || !isReported) {

@@ -16,30 +16,30 @@ ENTER, TAB = "\ue007", "\ue004"
 LEFT, UP, RIGHT, DOWN = "\ue012", "\ue013", "\ue014", "\ue015"
 HOME, END, PAGE_DOWN, CONTROL = "\ue011", "\ue010", "\ue00f", "\ue009"
 
-# A name of this machine from which pages are not trusted, as from another one without TLS.
+# A name of this machine whose pages browsers don't trust, like those of another machine without TLS.
 ELSEWHERE = "page.test"
 
-# How long a state is polled for before the test fails, in seconds.
+# For how many seconds a state is polled for before the test fails.
 PATIENCE = 60
 
 
 class Failed(Exception):
-    """What was looked for is not so."""
+    """A check failed."""
 
 
 class Browser:
-    """What both browsers have in common. A subclass sends commands."""
+    """What both browsers have in common. Subclasses send the commands."""
 
     def go(self, url):
         self.send("navigate", {"url": url})
         self.until("return document.documentElement.dataset.state === 'ready'", "the page starts")
 
     def run(self, script, *arguments):
-        """The value of a script's return, by its arguments."""
+        """What a script returns for its arguments."""
         return self.send("run", {"script": script, "args": list(arguments)})
 
     def until(self, script, what, *arguments):
-        """Polls until a script returns something true, and returns that."""
+        """Polls until a script returns a true value, and returns that."""
         end = time.monotonic() + PATIENCE
         while time.monotonic() < end:
             value = self.run(script, *arguments)
@@ -48,7 +48,7 @@ class Browser:
         raise Failed(f"not seen: {what}")
 
     def keys(self, *keys, held=()):
-        """Presses keys one after the other, others being held."""
+        """Presses keys one after the other while others are held."""
         actions = [{"type": "keyDown", "value": key} for key in held]
         for key in keys:
             actions += [{"type": "keyDown", "value": key}, {"type": "keyUp", "value": key}]
@@ -56,7 +56,7 @@ class Browser:
         self.send("act", {"actions": [{"type": "key", "id": "keyboard", "actions": actions}]})
 
     def saved(self, name):
-        """The text of a file that the page has saved, which is deleted."""
+        """The text of a file that the page has saved; the file is deleted."""
         path = os.path.join(self.profile, "saved", name)
         end = time.monotonic() + PATIENCE
         while time.monotonic() < end:
@@ -69,7 +69,7 @@ class Browser:
         raise Failed(f"not saved: {name}")
 
     def point(self, x, y, click=False):
-        """Moves the pointer to a place of the window."""
+        """Moves the pointer to a point of the window."""
         actions = [{"type": "pointerMove", "duration": 0, "x": int(x), "y": int(y), "origin": "viewport"}]
         if click:
             actions += [{"type": "pointerDown", "button": 0}, {"type": "pointerUp", "button": 0}]
@@ -130,11 +130,11 @@ class Chromium(Browser):
         return self.http("POST", f"{self.session}/goog/cdp/execute", {"cmd": command, "params": params})
 
     def errors(self):
-        """What the console was told since the last call."""
+        """The messages in the console since the last call."""
         return [entry["message"] for entry in self.http("POST", f"{self.session}/se/log", {"type": "browser"})]
 
     def picture(self, path, width, height, scheme):
-        """The window as it looks at a size, light or dark."""
+        """A picture of the window at a size, light or dark."""
         self.shape(width, height)
         self.media(**{"prefers-color-scheme": scheme})
         with open(path, "wb") as file:
@@ -149,17 +149,17 @@ class Chromium(Browser):
         self.devtools("Emulation.setDeviceMetricsOverride", width=width, height=900, mobile=False, deviceScaleFactor=1)
 
     def media(self, **features):
-        """What the system is set to prefer: prefers-color-scheme, forced-colors, prefers-reduced-motion."""
+        """Sets what the system prefers: prefers-color-scheme, forced-colors, prefers-reduced-motion."""
         self.devtools("Emulation.setEmulatedMedia",
                       features=[{"name": name, "value": value} for name, value in features.items()])
 
     def zoom(self, factor):
-        """As a window of 1280 by 1024 pixels looks where the page is zoomed."""
+        """A picture of a window of 1280 by 1024 pixels in which the page is zoomed."""
         self.devtools("Emulation.setDeviceMetricsOverride", width=1280 // factor, height=1024 // factor, mobile=False,
                       deviceScaleFactor=factor)
 
     def slow(self, factor):
-        """As on a machine that is so many times slower."""
+        """Slows the machine down by this factor."""
         self.devtools("Emulation.setCPUThrottlingRate", rate=factor)
 
     def unshape(self):
@@ -175,7 +175,7 @@ class Chromium(Browser):
 
 
 class Firefox(Browser):
-    """Firefox, by the commands that its own port takes (Marionette)."""
+    """Firefox, by the commands of its own port (Marionette)."""
 
     name = "Firefox"
     PREFERENCES = [
@@ -185,7 +185,7 @@ class Firefox(Browser):
         ("browser.download.always_ask_before_handling_new_types", "false"),
         ("network.dns.localDomains", f'"{ELSEWHERE}"'),
     ]
-    # What the preferences of Firefox call what a system prefers.
+    # The names in Firefox's preferences for what a system prefers.
     MEDIA = {
         ("prefers-color-scheme", "light"): ("layout.css.prefers-color-scheme.content-override", 1),
         ("prefers-color-scheme", "dark"): ("layout.css.prefers-color-scheme.content-override", 0),
@@ -261,20 +261,20 @@ class Firefox(Browser):
         return value
 
     def errors(self):
-        """What the console was told of the page since the last call."""
+        """The messages of the page in the console since the last call."""
         return self.inside("""const messages = Services.console.getMessageArray().filter(
             (one) => one instanceof Ci.nsIScriptError && /index\\.html/.test(one.sourceName)).map(String);
             Services.console.reset(); return messages;""")
 
     def media(self, **features):
-        """What the system is set to prefer: prefers-color-scheme, forced-colors, prefers-reduced-motion."""
+        """Sets what the system prefers: prefers-color-scheme, forced-colors, prefers-reduced-motion."""
         for name, _ in self.MEDIA.values():
             self.inside("Services.prefs.clearUserPref(arguments[0]);", name)
         for feature in features.items():
             self.inside("Services.prefs.setIntPref(...arguments);", *self.MEDIA[feature])
 
     def width(self, width):
-        """Makes the page so wide, in pixels of its own: a window that can't be so narrow is wider, and zoomed."""
+        """Makes the page this wide, in CSS pixels: if a window can't be so narrow, it is wider, and zoomed."""
         factor = 2 if width < self.LEAST else 1
         self.zoom(factor)
         self.command("WebDriver:SetWindowRect", {"width": factor * width, "height": factor * 900})

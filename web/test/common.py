@@ -1,4 +1,4 @@
-"""What the tests of the page have in common."""
+"""What the tests of the page share."""
 import os
 
 from browser import Failed
@@ -36,7 +36,7 @@ def same(found, wanted, what):
 
 
 def click_example(browser, name):
-    """Shows the example that the button of this name stands for."""
+    """Shows the example of the button with this name."""
     browser.run("""[...document.querySelectorAll("#examples button")]
         .find((button) => button.textContent === arguments[0]).click();""", name)
 
@@ -55,6 +55,6 @@ def set_field(browser, selector, text):
 
 
 def turn(browser, name, is_on):
-    """Checks a box of the form, or takes its mark away."""
+    """Checks or unchecks a box of the form."""
     browser.run("""const box = document.getElementById("form").elements[arguments[0]];
         if (box.checked !== arguments[1]) { box.click(); }""", name, is_on)

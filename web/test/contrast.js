@@ -1,5 +1,5 @@
-// Run in the page by the tests: the least contrast of a text that can be seen (WCAG 2.2, section 1.4.3), with one
-// element chosen after the other.
+// Run in the page by the tests: the lowest contrast of visible text (WCAG 2.2, section 1.4.3), with each element chosen
+// in turn.
 const [selectors] = arguments;
 const context = document.createElement("canvas").getContext("2d", { willReadFrequently: true });
 
@@ -34,7 +34,7 @@ function luminance(color) {
   return 0.2126 * red + 0.7152 * green + 0.0722 * blue;
 }
 
-// The text that can be seen whose contrast is the least.
+// The visible text with the lowest contrast.
 function least() {
   let worst = ["", 100];
   const texts = document.createTreeWalker(document.body, NodeFilter.SHOW_TEXT);
@@ -52,7 +52,7 @@ function least() {
   return worst;
 }
 
-// As the page is, or with an element chosen, one after the other.
+// The page as it is, or with each element chosen in turn.
 return selectors.map((selector) => {
   if (selector !== "") {
     document.querySelector(selector)?.click();

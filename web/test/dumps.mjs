@@ -1,6 +1,6 @@
-// What the page reads of the files in a folder: each file named *.txt of the table in rust/README.md is the bytes of
-// xxd-p.txt, or is refused where its row says so. The module of web/ that is asked is copied, since node takes files
-// named *.js for modules only where a package.json says so.
+// Compares what the page reads from the files in a folder: each file *.txt of the table in rust/README.md must have the
+// bytes of xxd-p.txt, or be rejected if its row says so. It uses a copy of web/'s module, since node takes *.js files
+// for modules only if a package.json says so.
 //
 // node web/test/dumps.mjs TOP
 import { cpSync, mkdtempSync, readFileSync, readdirSync, rmSync, writeFileSync } from "node:fs";

@@ -1,8 +1,8 @@
-"""Initial packets that the page opens by itself, by the worked examples of RFC 9001 and RFC 9369 in vectors/."""
+"""Initial packets that the page opens by itself, with the worked examples of RFC 9001 and RFC 9369 in vectors/."""
 from browser import Failed
 from common import click_example, same, set_field, set_form
 
-# Both appendices choose this id. It is in the client's packet, and not in the server's.
+# Both appendices choose this id. The client's packet contains it, the server's doesn't.
 ID = "8394c8f03e515708"
 EXAMPLES = {
     "opened.a2": "a client’s Initial", "opened.a3": "a server’s Initial", "retry_tag.a4": "a Retry",
@@ -20,7 +20,7 @@ BY_ITSELF, NOT_OPENED, NO_CIPHERS = "Opened as the ", "Neither its own id", "bro
 
 
 def rows(top):
-    """The examples by their names: the packet, and its header and payload or DROP."""
+    """The examples by name: the packet, and its header and payload, or DROP."""
     found = {}
     with open(f"{top}/vectors/tables/ciphers.txt", encoding="utf-8") as file:
         for line in file:
@@ -31,7 +31,7 @@ def rows(top):
 
 
 def opened(browser, address, top):
-    """Each Initial of the examples is opened, by its own id or one that is known, and what has another tag is not."""
+    """Each Initial packet of the examples is opened, by its own id or a known one; one with another tag isn't."""
     table = rows(top)
     initials = {name: row for name, row in table.items() if name.startswith("opened.") and "a5" not in name}
     for name, (packet, answer) in initials.items():
@@ -54,7 +54,7 @@ def opened(browser, address, top):
 
 
 def known_ids(browser, address, table):
-    """A server's packet is opened once the client's first id is known: by what is pasted with it, or is written."""
+    """A server's packet is opened once the client's first id is known, from what is pasted with it or entered."""
     server, _ = table["opened.a3"]
     client, _ = table["opened.a2"]
     browser.go(f"{address}#read=datagram&ids=8&hex={server}")
@@ -65,14 +65,14 @@ def known_ids(browser, address, table):
     browser.send("navigate", {"url": "about:blank"})
     browser.go(f"{address}#read=datagram&ids=8&hex={client}.{server}&at=1")
     browser.until(OPENED, "a server's packet behind a client's", [BY_ITSELF])
-    # What is written has precedence, and is in the link; what the page found isn't.
+    # An entered id has precedence, and is in the link; one that the page found isn't.
     browser.until("return !location.hash.includes('open=')", "a link without a payload")
     set_field(browser, ".packet [data-name=plain]", "01")
     browser.until("return location.hash.includes('open=0.2ec0d8356a.01')", "a link with a payload")
 
 
 def examples(browser, address, table):
-    """RFC 9001's A.2 to A.5 are among what can be tried."""
+    """RFC 9001's A.2 to A.5 are among the examples to try."""
     browser.go(address)
     for name, example in EXAMPLES.items():
         click_example(browser, example)
@@ -83,7 +83,7 @@ def examples(browser, address, table):
 
 
 def without_ciphers(browser, address):
-    """Where the browser gives no ciphers the page says so, and opens by what is pasted as elsewhere."""
+    """If the browser has no ciphers, the page says so, and opens packets with what is pasted."""
     browser.go(f"{address}#read=datagram&ids=8")
     same(browser.run("return window.isSecureContext"), False, "a page from another machine")
     click_example(browser, "a client’s Initial")

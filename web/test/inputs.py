@@ -1,4 +1,4 @@
-"""What can be pasted, what is chosen of it, and links."""
+"""What can be pasted, what is chosen from it, and links."""
 from browser import DOWN, END, HOME, UP, Failed
 from common import BYTES, SET_INPUT, STATUS, same, set_form, turn
 
@@ -20,7 +20,7 @@ FAULTY = {
 
 
 def no_input(browser):
-    """An empty box is no error, whatever it would be read as."""
+    """An empty box is no error, in any mode."""
     for mode in ("frames", "datagram", "params"):
         for text in ("", " \n"):
             set_form(browser, {"mode": mode}, text)
@@ -54,7 +54,7 @@ SEVERAL = [
     ("0000000 40 00 0a\n0000003\n0000000 01 1e\n0000002", [("40000a", 1), ("011e", 3)], 0),
     ("10:00 sent 0x40000a00\nand nothing\n10:01 received \"01010101\"", [("40000a00", 1), ("01010101", 3)], 1),
 ]
-# A dump of 50 bytes as od -A d and hexdump -C leave out rows like the one before.
+# A dump of 50 bytes in which od -A d and hexdump -C leave out repeated rows.
 SAME_ROWS = "00000000  00 00 00 00 00 00 00 00  00 00 00 00 00 00 00 00  |................|\n*\n" \
     "00000030  01 01                                             |..|\n00000032"
 ENTRIES = """return [...document.querySelectorAll("#list .entry")].map((entry) => [
@@ -67,7 +67,7 @@ CHOSEN = """const list = document.getElementById("list");
 
 
 def several(browser, address):
-    """A text of several inputs is a list, from which one is chosen by keys and by the pointer."""
+    """A text of several inputs is a list, from which one is chosen with the keys or the pointer."""
     browser.go(f"{address}#read=frames&hex=01")
     for text, inputs, left in SEVERAL:
         browser.run(SET_INPUT, text)
@@ -100,7 +100,7 @@ def by_keys(browser):
 
 
 def taken_both_ways(browser):
-    """Lines that may belong together: the page guesses, and takes the other way where it is told to."""
+    """Lines that may belong together: the page guesses, and reads them the other way if asked."""
     for text, digits, is_one in (("40000A00\n0161", "40000a000161", True), ("01\n4001", "01", False)):
         browser.run(SET_INPUT, text)
         shown = "const box = document.getElementById('form').elements.joined; " \
@@ -114,7 +114,7 @@ def taken_both_ways(browser):
     same(browser.run(shown), [False, True, True], "one line")
 
 
-# ---- choices for which quic-show has no words, and the strip of an ACK
+# ---- choices that quic-show doesn't have, and the strip of an ACK
 
 CHOICES = [
     ({"mode": "datagram", "versions": "1", "grease": False}, "c31a2a3a4a0000", "unsupported version 1a2a3a4a"),
@@ -129,7 +129,7 @@ STRIP = "return document.querySelector('#outline svg').getAttribute('aria-label'
 
 
 def choices(browser, address):
-    """Versions, the fixed bit and lengths of ids count, bounds are named; the strip says what it draws."""
+    """Versions, the fixed bit and lengths of ids have an effect, bounds are named; the strip says what it draws."""
     browser.go(f"{address}#read=datagram")
     for form, text, want in CHOICES:
         set_form(browser, form, text)
@@ -159,7 +159,7 @@ SHOWN = """const { elements } = document.getElementById("form"); document.getEle
 
 
 def links(browser, address):
-    """A link that the page writes shows the same in a page that opens it, and in one that is open."""
+    """A link from the page shows the same in a page that opens it, and in one that is open."""
     for form, text in STATES:
         browser.go(f"{address}#read=frames&hex=01")
         set_form(browser, form, text)
@@ -180,7 +180,7 @@ def links(browser, address):
 
 
 def further_links(browser, address):
-    """A link holds which input is shown, and the one beside it."""
+    """A link says which input is shown, and which is beside it."""
     browser.go(f"{address}#read=frames&hex=01.4001.1e0101&at=2&with=1e01")
     same(browser.run(BYTES), "1e0101", "the input of a link")
     same(browser.run("return document.getElementById('other-input').value"), "1e01", "the other input of a link")
@@ -189,7 +189,7 @@ def further_links(browser, address):
 
 
 def copied_link(browser, address):
-    """The button writes the link at once, and says where bytes are too many for it."""
+    """The button writes the link at once, and says if there are too many bytes for it."""
     for size, want in ((65536, "Copied"), (65537, "Copied, without the bytes: they are too many")):
         browser.go(f"{address}#read=frames&hex=01")
         browser.run(SET_INPUT, "01" * size)

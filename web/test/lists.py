@@ -1,4 +1,4 @@
-"""The lines that the page is tried with, and what quic-show prints of them."""
+"""The lines that the page is tested with, and what quic-show prints for them."""
 import os
 import random
 import re
@@ -8,7 +8,7 @@ import sys
 MUTATED = 10000
 SEED = 9000
 
-# The words of each command of quic-show, and the form of the page that shows the same.
+# The arguments of each command of quic-show, and the settings of the page that show the same.
 FORMS = {
     "frames": {"mode": "frames"},
     "strict": {"mode": "frames", "strict": True},
@@ -45,7 +45,7 @@ def stored(top):
 
 
 def worked(top):
-    """The commands of README whose input is a line, and their lines."""
+    """The commands in README whose input is a line, and their lines."""
     with open(f"{top}/README.md", encoding="utf-8") as file:
         text = file.read()
     found = re.findall(r"^    echo '?([0-9a-f][0-9a-f ]*)'? \|(?: tr -d ' :' \|)? \./quic-show (.+)$", text, re.M)
@@ -56,7 +56,7 @@ def worked(top):
 
 
 def mutate(line, chance):
-    """The line with some bytes changed, left out, put in or cut off."""
+    """The line with some bytes changed, left out, inserted or cut off."""
     data = bytearray.fromhex(line)
     for _ in range(chance.randint(1, 3)):
         place = chance.randint(0, len(data))
@@ -73,14 +73,14 @@ def mutate(line, chance):
 
 
 def mutated(lists, count=MUTATED):
-    """So many lines made of the lists' by a seed, the same share for each command."""
+    """This many lines made from the lists with a seed, equally many for each command."""
     chance = random.Random(SEED)
     share = -(-count // len(lists))
     return {command: [mutate(chance.choice(lines), chance) for _ in range(share)] for command, lines in lists.items()}
 
 
 def printed(program, command, lines):
-    """What quic-show prints of each line."""
+    """What quic-show prints for each line."""
     ends = {"canon": 1}
     text = "".join(line + "\n" for line in lines)
     done = subprocess.run([program, *command.split()], input=text, capture_output=True, text=True, check=False)
@@ -93,7 +93,7 @@ def printed(program, command, lines):
 
 
 def cut(out, lines, command):
-    """The printed lines of each line of input: they end with the last byte, with an error, or with `ok`."""
+    """The lines printed for each line of input: they end with the last byte, with an error, or with `ok`."""
     at = 0
     for line in lines:
         begin = at

@@ -1,4 +1,4 @@
-"""How the page looks: contrasts, widths, zoom, colours of the system; and what it tells a screen reader."""
+"""How the page looks: contrasts, widths, zoom, the system's colours; and what a screen reader gets."""
 from browser import Failed
 from common import click_example, same, set_field, set_form, source, turn
 
@@ -21,7 +21,7 @@ CLICKED = ["#grid .byte", "#grid .byte.fault", "#grid .byte.differs", "#outline 
 # ---- contrasts
 
 def states(browser, address):
-    """Shows the page in one state after the other: what is wrong, lit, chosen, beside, opened."""
+    """Shows the page in each state in turn: wrong, lit, chosen, beside, opened."""
     for fragment in ("read=frames&hex=40000a000161", "read=frames&hex=02406419000301ff", "read=frames&text=zz",
                      "read=datagram&hex=c3000000010000", "read=params&hex=0104800075302201ff",
                      "read=frames&hex=01.4001.40&at=2", "read=datagram&hex=c3&versions=x&ids=99"):
@@ -44,7 +44,7 @@ def states(browser, address):
 
 
 def contrast(browser, address):
-    """The least contrast of a text with what is behind it, in every state, and how many states there are."""
+    """The lowest contrast of a text with its background in every state, and how many states there are."""
     least = 100
     count = 0
 
@@ -92,7 +92,7 @@ def widths(browser, address):
         too_wide(browser, address, f"for {width} pixels")
 
 
-# What covers the field of bytes, the grid and the tree where each has the focus, as far as it is the page's own.
+# What covers the input box, the grid and the tree when each has the focus, as far as it belongs to the page.
 COVERED = """const found = [];
     for (const id of ["input", "grid", "outline"]) {
       const box = document.getElementById(id);
@@ -108,7 +108,7 @@ COVERED = """const found = [];
 
 
 def zoom(browser, address):
-    """At a zoom of 200 and 400 in a hundred nothing is cut off or covered."""
+    """At a zoom of 200 % and 400 % nothing is cut off or covered."""
     for factor in (2, 4):
         browser.zoom(factor)
         too_wide(browser, address, f"at a zoom of {100 * factor} in a hundred")
@@ -136,7 +136,7 @@ WANTED = {"isForced": True, "mode": True, "byte": True, "item": "solid", "cut": 
 
 
 def forced_colors(browser, address):
-    """Where the system has colours of its own, borders and its colours of what is chosen say what tones say."""
+    """If the system has its own colours, borders and its colours for what is chosen replace the tones."""
     browser.media(**{"forced-colors": "active"})
     browser.go(address)
     browser.run(POINT, "#grid [data-place='12']")
@@ -155,7 +155,7 @@ MOVING = """return [...document.querySelectorAll("*")].filter((one) => {
 
 
 def motion(browser, address):
-    """Nothing moves where less motion is preferred; nor does it elsewhere."""
+    """Nothing moves if reduced motion is preferred, nor otherwise."""
     for features in ({"prefers-reduced-motion": "reduce"}, {}):
         browser.media(**features)
         browser.go(address)
@@ -164,9 +164,9 @@ def motion(browser, address):
     browser.unshape()
 
 
-# ---- the tree of a screen reader
+# ---- the accessibility tree
 
-# Of each role what a node of it tells besides its name.
+# For each role, what a node of it has besides its name.
 ROLES = {
     "radio": ["checked"], "checkbox": ["checked"], "textbox": [], "spinbutton": [], "button": [], "link": [],
     "grid": [], "row": None, "gridcell": [], "tree": [], "treeitem": ["level"], "listbox": [], "option": ["selected"],
@@ -182,7 +182,7 @@ def tree_of(browser):
 
 
 def names(browser, address):
-    """Each control has a name and its properties, as the browser tells a screen reader, and no role is missing."""
+    """Each control has a name and its properties in the accessibility tree, and no role is missing."""
     seen = set()
     browser.go(address)
     for example in EXAMPLES:
@@ -204,7 +204,7 @@ def names(browser, address):
 
 
 def active_names(browser):
-    """What is chosen tells its place and what it is."""
+    """What is chosen has its position and its name there."""
     click_example(browser, "a payload")
     browser.run(POINT, "#grid [data-place='12']")
     for box, wanted in (("grid", "byte 12, 44, Offset of STREAM"), ("outline", "Offset120012..14")):

@@ -1,5 +1,5 @@
-"""opens.py PAGE: opens a page as a file, in each browser that is there, which must read its first input without a word
-in the console."""
+"""opens.py PAGE: opens a page as a file in each installed browser. It must read its first input without a message in
+the console."""
 import shutil
 import sys
 

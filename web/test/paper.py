@@ -7,18 +7,19 @@ from browser import Failed
 from common import click_example, same, set_form
 
 WIDTHS = (400, 960, 1100, 1280, 1600)
-# The field of versions is as wide as its default from here on.
+# From here on the field of versions is as wide as its default.
 WIDE_FIELDS = 640
 EXAMPLES = "return [...document.querySelectorAll('#examples button')].map((one) => one.textContent)"
 
-# What is longer than its place, of what is shown: names, values, notes and places, what is said of inputs, the status.
+# Which of the texts shown are longer than their box: names, values, notes and offsets, descriptions of inputs, the
+# status.
 CUT = """const [least] = arguments;
     const parts = ".outline .line > *, .list .value, .status, .inspector > *, .packet-note, .rows .more";
     const fields = window.innerWidth < least ? "" : ", .choices input";
     return [...document.querySelectorAll(parts + fields)].filter((one) => one.offsetParent !== null
         && getComputedStyle(one).display !== "inline" && one.scrollWidth > one.clientWidth + 1)
       .map((one) => `${one.className} ${one.name ?? ""}: ${one.value ?? one.textContent}`);"""
-# Of each list that is seen how many rows are below, by their places, and what its end says.
+# For each visible list, how many rows are below, by their positions, and what its end says.
 MORE = """return [...document.querySelectorAll(".rows")].filter((box) => box.offsetParent !== null).map((box) => {
       const mark = box.querySelector(".more");
       const { bottom } = box.getBoundingClientRect();
@@ -37,7 +38,7 @@ def show_all(browser):
 
 
 def widths(browser, address):
-    """At no width is anything cut, and a list that goes on says so. Returns how many pages were seen."""
+    """Nothing is cut off at any width, and a list that continues says so. Returns how many pages were checked."""
     count = 0
     for width in WIDTHS:
         browser.go(address)
@@ -59,7 +60,7 @@ def widths(browser, address):
 
 
 def turned_page(browser):
-    """The words at the end of a list lead on, and are gone at the end."""
+    """The text at the end of a list scrolls on, and is gone at the end."""
     set_form(browser, {"mode": "frames"}, "0a0004616263644001" * 40)
     for box in ("grid", "outline"):
         last = browser.run("""const box = document.getElementById(arguments[0]);
@@ -76,7 +77,7 @@ def turned_page(browser):
 
 # ---- on paper
 
-# The colours that bytes have, as an SVG or a PDF has them, and the rows that were there for the printer.
+# The colours of bytes, as an SVG or a PDF has them, and the rows that were there for the printer.
 PRINTED = """const context = document.createElement("canvas").getContext("2d", { willReadFrequently: true });
     const found = new Set();
     for (const cell of document.querySelectorAll("#grid .byte:not(.lit-item, .lit-field)")) {
@@ -94,7 +95,7 @@ PRINTED = """const context = document.createElement("canvas").getContext("2d", {
 
 
 def colors_of(document):
-    """The colours in which a PDF fills, each as three numbers to 255."""
+    """The fill colours in a PDF, each as three numbers up to 255."""
     found = set()
     for stream in re.findall(rb"stream\r?\n(.*?)endstream", document, re.S):
         try:
@@ -107,14 +108,14 @@ def colors_of(document):
 
 
 def on_paper(browser, address):
-    """Every row is printed, in the colours of the light page, though backgrounds are not asked for."""
+    """Every row is printed, in the colours of the light page, although backgrounds aren't asked for."""
     browser.media(**{"prefers-color-scheme": "light"})
     browser.go(address)
     set_form(browser, {"mode": "frames"}, "0a0004616263644001" * 56)
     wanted = [tuple(map(int, color.split())) for color in browser.run(PRINTED)]
     browser.media(**{"prefers-color-scheme": "dark"})
     document = base64.b64decode(browser.send("print", {"background": False}))
-    # 504 bytes in rows of 16, and 56 times a STREAM with four fields and a PING with one.
+    # 504 bytes in rows of 16; and 56 times a STREAM with four fields and a PING with one.
     same(browser.run("return window.printed"), {"grid": 32, "outline": 56 * 7}, "the rows on paper")
     printed = colors_of(document)
     for color in wanted:

@@ -35,7 +35,7 @@ class Server(http.server.SimpleHTTPRequestHandler):
     """The page at /, and the files of web/ at /web/."""
 
     top = site = None
-    # What was asked for.
+    # The requests.
     asked = []
 
     def send_head(self):
@@ -69,7 +69,7 @@ def silent(browser, what):
 
 
 def pages(browser, host, words):
-    """What is tried of one page after the other. Says what was seen."""
+    """Runs the tests on one page after the other. Prints what passed."""
     address = f"{host}/index.html"
     browser.go(f"file://{words.site}/index.html")
     silent(browser, "a file")
@@ -89,7 +89,7 @@ def pages(browser, host, words):
 
 
 def says_its_commit(browser, top):
-    """The page says of which commit it is, as far as the repository has one."""
+    """The page names its commit, as far as the repository has one."""
     done = subprocess.run(["git", "-C", top, "rev-parse", "HEAD"], capture_output=True, text=True, check=False)
     built = browser.run("return document.getElementById('built').textContent")
     if done.returncode == 0 and done.stdout.strip() not in built:
@@ -114,7 +114,7 @@ def features(browser, host, top):
 
 
 def times(browser, host):
-    """How long large inputs take, in Chromium also on a machine that is six times slower."""
+    """How long large inputs take; in Chromium also on a machine six times slower."""
     address = f"{host}/index.html"
     for size, bound in ((65536, 1000), (1 << 20, 10000)):
         took, what = sizes.shown(browser, address, size, bound)
@@ -130,8 +130,8 @@ def times(browser, host):
 
 
 def appearances(browser, host):
-    """Contrasts in both schemes, widths, paper, zoom, what the system prefers; phones and a screen reader's tree in
-    Chromium."""
+    """Contrasts in both colour schemes, widths, paper, zoom, what the system prefers; in Chromium phones and the
+    accessibility tree."""
     address = f"{host}/index.html"
     for scheme in ("light", "dark"):
         browser.media(**{"prefers-color-scheme": scheme})

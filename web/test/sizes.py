@@ -5,10 +5,10 @@ import re
 from browser import CONTROL, END, RIGHT, Failed
 from common import ACTIVE, BYTES, STATUS, same, set_form
 
-# How often a large input is tried before it is too slow.
+# How often a large input is tried before it counts as too slow.
 TRIES = 3
 
-# Sets an input, and then how long it took until the page was drawn, in milliseconds.
+# Sets an input, and returns how many milliseconds it took until the page was drawn.
 TIMED = """const [text] = arguments; window.took = null;
     const input = document.getElementById("input");
     const begin = performance.now();
@@ -21,7 +21,7 @@ TIMED = """const [text] = arguments; window.took = null;
     const look = () => requestAnimationFrame(() => setTimeout(drawn, 0));
     look();"""
 
-# Pastes a text while a timer ticks: the longest that it had to wait, and how much of the text the box then has.
+# Pastes a text while a timer ticks: returns the longest wait of the timer, and how much of the text the box then has.
 TICKING = """const [text] = arguments; window.waited = null;
     const input = document.getElementById("input");
     const clipboardData = new DataTransfer();
@@ -44,7 +44,8 @@ LONG = 5_000_000
 
 
 def large(size, seed):
-    """Inputs of about so many bytes: what they are, the form, the text, and how many items they have or more."""
+    """Inputs of about this many bytes: what they are, the settings, the text, and the least number of items they have.
+    """
     chance = random.Random(seed)
     number = bytes([0x80, 0, 0, 0])
     blocks = b"\x00\x00" * (size // 2 - 8)
@@ -65,7 +66,7 @@ def large(size, seed):
 
 
 def timed(browser, address, form, text, bound):
-    """How long a text takes to be shown: the best of some tries, since others may keep the machine busy."""
+    """How long a text takes to be shown: the best of some tries, since the machine may be busy with others."""
     best = None
     for _ in range(TRIES):
         browser.go(f"{address}#read=frames&hex=01")
@@ -79,7 +80,7 @@ def timed(browser, address, form, text, bound):
 
 
 def shown(browser, address, size, bound):
-    """Shows large inputs, each within so many milliseconds, and goes to their ends. Returns the longest time."""
+    """Shows large inputs, each within this many milliseconds, and goes to their ends. Returns the longest time."""
     longest = (0, "")
     for what, form, data, count in large(size, 1):
         took = timed(browser, address, form, data.hex(), bound)
@@ -101,7 +102,7 @@ def shown(browser, address, size, bound):
 
 
 def long_texts(browser, address, bound):
-    """Texts of 5 MB keep the page busy for no more than so many milliseconds at a time. Returns the longest time."""
+    """Texts of 5 MB keep the page busy for at most this many milliseconds at a time. Returns the longest time."""
     longest = 0
     frames = "0a0004616263644001"
     for what, unit, form in (("one line", frames, "hexadecimal."),
@@ -127,7 +128,7 @@ def long_texts(browser, address, bound):
 
 
 def pasted(browser, address):
-    """What is pasted by keys takes the same way: some short text, then one that the box can't have all of."""
+    """Pasting with keys does the same: first a short text, then one that is too long for the box."""
     copy = """const from = document.createElement("textarea"); from.id = "from"; from.value = arguments[0];
         document.body.append(from); from.focus();"""
     for size in (1000, 200_000):
@@ -144,7 +145,7 @@ def pasted(browser, address):
 
 
 def listed(browser, address, size, bound):
-    """A log of about so many bytes is a list within so many milliseconds, and its end is reached."""
+    """A log of about this many bytes is a list within this many milliseconds, and its end is reached."""
     chance = random.Random(size)
     payloads = [b"\x0a\x04\x28" + chance.randbytes(40) for _ in range(size // 43)]
     text = "\n".join(f"10:00:{at % 60:02} sent {payload.hex()}" for at, payload in enumerate(payloads))

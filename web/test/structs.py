@@ -3,7 +3,7 @@ from common import same
 
 
 def layout(browser, host, wanted):
-    """The table of layout.js is what the C program prints of the header."""
+    """The table of layout.js is what the C program prints for the header."""
     browser.send("navigate", {"url": f"{host}/web/test/blank.html"})
     same(browser.until("return window.layout", "the table"), wanted, "layout.js")
     return len(wanted)
@@ -17,7 +17,7 @@ WORKED = """window.answer = null;
 
 
 def worked_call(browser, top):
-    """The call that docs/CALLING.md shows of the module, in the page that is open."""
+    """The call to the module that docs/CALLING.md shows, in the open page."""
     with open(f"{top}/docs/CALLING.md", encoding="utf-8") as file:
         lines = file.read().split("## From a page")[1].splitlines()
     code = "\n".join(line for line in lines if line.startswith("    "))

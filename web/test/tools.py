@@ -1,5 +1,5 @@
-"""What the page does beyond reading one input: packets that are opened, two inputs compared, pictures, links into the
-RFCs; and that it sends nothing."""
+"""What the page does besides reading one input: opened packets, two inputs compared, pictures, links into the RFCs; and
+that it sends nothing."""
 import re
 import xml.etree.ElementTree as Tree
 
@@ -29,7 +29,7 @@ NOTE = "return document.querySelector('.packet-note').textContent"
 
 
 def opened(browser, address):
-    """A mask and a payload from the RFC's examples give the headers and the frames that are there."""
+    """A mask and a payload from the RFC's examples result in the headers and the frames in them."""
     browser.go(f"{address}#read=datagram&ids=0&hex=00")
     for datagram, length, mask, payload, first, lines, sample in OPENED:
         set_form(browser, {"mode": "datagram", "idLength": length}, datagram)
@@ -85,7 +85,7 @@ DIFFERS = """return [...document.querySelectorAll(arguments[0] + " .byte.differs
 
 
 def compared(browser, address):
-    """What differs between two inputs is marked in both, by a line and not by colour alone."""
+    """What differs between two inputs is marked in both, with a line and not only by colour."""
     browser.go(f"{address}#read=frames&hex=01")
     turn(browser, "compare", True)
     for left, right, here, there in COMPARED:
@@ -111,7 +111,7 @@ SVG = "{http://www.w3.org/2000/svg}"
 
 
 def picture(browser, address):
-    """The picture that is saved has each byte at its place, and every colour as a number."""
+    """The saved picture has each byte at its position, and every colour as a number."""
     browser.go(address)
     click_example(browser, "a payload with an error")
     browser.run("document.getElementById('save').click()")
@@ -139,7 +139,7 @@ def picture(browser, address):
 # ---- links into the RFCs
 
 ACK_DRAFT = "the ACK frequency draft"
-# Of each type of frame, as it is in the contents of the RFCs: the section that describes it.
+# For each type of frame, the section that describes it, as in the tables of contents of the RFCs.
 SECTIONS = {
     "00": "19.1", "01": "19.2", "0200000000": "19.3", "040000" "00": "19.4", "050000": "19.5", "060000": "19.6",
     "070161": "19.7", "0a0000": "19.8", "1000": "19.9", "110000": "19.10", "1200": "19.11", "1300": "19.11",
@@ -168,7 +168,7 @@ PARAMETER_PARTS = [
 
 
 def linked(browser):
-    """What the links of all lines say, each of which is to open in a page of its own that isn't told where from."""
+    """The links of all lines, each of which must open in a new page without a referrer."""
     found = browser.run(LINKS)
     for name, text, address, rel, target in found:
         match = ADDRESS.fullmatch(address)
@@ -205,7 +205,7 @@ def sections(browser, address):
     return count
 
 
-# ---- that nothing is sent
+# ---- the page sends nothing
 
 SEND = """const [host] = arguments; window.refused = [];
     document.addEventListener("securitypolicyviolation", (event) => window.refused.push(event.effectiveDirective));
@@ -225,7 +225,7 @@ WAYS = ["connect-src", "form-action", "frame-src", "img-src", "script-src-elem",
 
 
 def sends_nothing(browser, address, host, asked):
-    """What a script of the page might send by is refused, and the server is asked for nothing."""
+    """Everything by which a script of the page might send is blocked, and the server gets no request."""
     for page in (address, f"{address}#read=frames&hex=40000a000161"):
         browser.go(page)
         asked.clear()

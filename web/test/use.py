@@ -1,10 +1,10 @@
-"""The page by keyboard and by the pointer."""
+"""The page with the keyboard and with the pointer."""
 from browser import CONTROL, DOWN, END, ENTER, HOME, LEFT, PAGE_DOWN, RIGHT, TAB, UP, Failed
 from common import ACTIVE, CENTER, same
 
 
 def stops(browser, count):
-    """What has the focus with each of so many tabs."""
+    """What has the focus after each of this many tabs."""
     found = []
     for _ in range(count):
         browser.keys(TAB)
@@ -13,7 +13,7 @@ def stops(browser, count):
 
 
 def keyboard(browser, address):
-    """A walk with no pointer: from the field of bytes to the grid, along it, to the tree and back."""
+    """A walk without a pointer: from the input box to the grid, along it, to the tree and back."""
     browser.go(f"{address}#read=frames&hex=0205190002" "0a0003616263" "0161")
     browser.run("document.getElementById('input').focus()")
     order = stops(browser, 16)
@@ -58,8 +58,8 @@ def walk_tree(browser):
 
 
 def all_by_keyboard(browser, address):
-    """From a page that is just opened to a packet that is opened, with keys alone: nothing that is used is out of
-    their reach, and what has the focus is seen."""
+    """From a new page to an opened packet, only with keys: all that is used is within their reach, and what has the
+    focus is visible."""
     browser.go(address)
     browser.run("document.activeElement.blur(); window.scrollTo(0, 0);")
     browser.keys(TAB, RIGHT)

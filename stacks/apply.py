@@ -1,10 +1,11 @@
 """apply.py EDITS TREE: applies a list of edits to the files of a tree.
 
-The list has a line `= FILE BEFORE AFTER` for each file, with the SHA-256 of the file as it is and as it gets, and
-behind it edits as `diff -e` writes them, from the end of the file to its front. Nothing is changed where a file isn't
-the one that the edits were made for.
+The list has a line `= FILE BEFORE AFTER` for each file, with the SHA-256 of the file before and after, and then edits
+as `diff -e` writes them, from the end of the file to its beginning. Nothing is changed if a file isn't the one that the
+edits were made for.
 
-apply.py --make ORIGINAL CHANGED FILE.. writes such a list of these files to standard output.
+apply.py --make ORIGINAL CHANGED FILE.. writes such a list for these files to standard output.
+
 """
 
 import hashlib
@@ -21,7 +22,7 @@ def digest(text):
 
 
 def edited(text, edits):
-    """The text after edits, an iterator over lines that go from its end to its front."""
+    """The text after edits, an iterator over lines that go from its end to its beginning."""
     lines = text.splitlines(keepends=True)
     for edit in edits:
         first, last, command = COMMAND.fullmatch(edit).groups()

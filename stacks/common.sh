@@ -6,11 +6,11 @@ top=$(dirname -- "$here")
 lists=$WORK/lists
 suite=bookworm mirror=${DEBIAN_MIRROR:-http://deb.debian.org/debian}
 
-# row WHAT OWN OVER: a row of the table, for the stack as it is and with the library.
+# row WHAT OWN OVER: a row of the table, for the unmodified stack and for the one with the library.
 row() { printf '%s\t%s\t%s\n' "$@" >>"$WORK/table"; }
 
-# step NAME COMMAND..: a step, whose output goes to a log; if it fails, the end of the log is shown. It is never called
-# as a condition, in which bash would go on after a failure.
+# step NAME COMMAND..: a step, whose output goes to a log; if it fails, the end of the log is shown. It must not be
+# called as a condition, since bash would then go on after a failure.
 step() {
     local log=$WORK/logs/$1.log status
     echo "${self:-stacks}: $1" >&2
@@ -21,8 +21,8 @@ step() {
     [ "$status" = 0 ] || { echo "${self:-stacks}: $1 failed:" >&2; tail -20 "$log" >&2; exit 1; }
 }
 
-# debian ARG..: apt-get for Debian's release `suite`, with lists, cache and state of its own, so that the machine's stay
-# as they are.
+# debian ARG..: apt-get for Debian's release `suite`, with its own lists, cache and state, so that the machine's don't
+# change.
 debian() {
     local apt=$WORK/apt-$suite
     apt-get -qq -o Dir::Etc::sourcelist="$apt/sources.list" -o Dir::Etc::sourceparts=/dev/null \
@@ -41,11 +41,11 @@ debian_lists() {
     debian update
 }
 
-# version_of STACK: the version of a stack that the file archives has.
+# version_of STACK: the version of a stack in the file archives.
 version_of() { awk -v stack="$1" '$1 == stack {print $2}' "$here/archives"; }
 
 # fetched STACK: the folder of its source, unpacked from the archive that the file archives names, whose SHA-256 apt
-# checks; nothing where Debian no longer has it.
+# checks; nothing if Debian no longer has it.
 fetched() {
     local version path sum file log=$WORK/logs/$1-fetch.log
     read -r version path sum < <(awk -v stack="$1" '$1 == stack {print $2, $3, $4}' "$here/archives")
@@ -64,7 +64,7 @@ fetched() {
     echo "$WORK/$1-source"
 }
 
-# callgrind FILE COMMAND..: a command, its instructions counted to a file.
+# callgrind FILE COMMAND..: runs a command, and counts its instructions into a file.
 callgrind() { valgrind -q --tool=callgrind --callgrind-out-file="$1" "${@:2}"; }
 
 # ms_of COMMAND..: how many milliseconds of processor time a command takes with all that it starts.
@@ -88,12 +88,12 @@ timed() {
     row "$what" "${least[own]}" "${least[over]}"
 }
 
-# parts TITLE UNIT PARTS OWN OVER: rows of what each part of a program takes, by two profiles (count.py).
+# parts TITLE UNIT PARTS OWN OVER: rows of what each part of a program costs, from two profiles (count.py).
 parts() {
     python3 "$here/count.py" "$@" | while IFS=$'\t' read -r what own over; do row "$what" "$own" "$over"; done
 }
 
-# compared WHAT OWN OVER: a row of what the readers of both answered for a list.
+# compared WHAT OWN OVER: a row of what the readers of both printed for a list.
 compared() {
     local lines panics refused read_on other
     read -r lines panics refused read_on other < <(python3 "$here/compare.py" "$2" "$3")

@@ -1,7 +1,8 @@
-"""compare.py OWN OVER: how the lines of two readers differ, where `refused` at the end says that no more is read.
+"""compare.py OWN OVER: compares the lines of two readers, in which `refused` at the end says that no more is read.
 
-Printed are the lines; in how many of them the first panics and the second doesn't; in how many the second refuses what
-the first reads on; the other way round; and in how many both read, and not the same.
+Prints how many lines there are; in how many the first panics and the second doesn't; in how many the second rejects
+what the first reads; the reverse; and in how many both read different values.
+
 """
 
 import sys
@@ -13,7 +14,7 @@ def read(path):
 
 
 def is_stop(short, long):
-    """Whether one line is the other up to where it refuses."""
+    """Whether one line is the beginning of the other, up to where it is rejected."""
     return short.endswith("refused") and long.startswith(short.removesuffix("refused"))
 
 

@@ -1,10 +1,11 @@
-"""count.py TITLE UNIT PARTS PROFILE..: what parts of a program cost, by profiles of callgrind.
+"""count.py TITLE UNIT PARTS PROFILE..: what parts of a program cost, from profiles of callgrind.
 
-A line of the file PARTS is `name calls functions`, two regular expressions: a function belongs to the first part whose
-`functions` match `file:function` (the file is that of the line, so inlined code counts by the file that it stands in),
-and a part is called as often as the functions that `calls` matches. What functions of a part call of those that the
-line `helpers - functions` names is the part's too. Printed are rows of tab-separated fields: each part by its calls,
-all parts by the calls of the one named UNIT, and the whole; one field for each profile.
+A line of the file PARTS is `name calls functions`, with two regular expressions: a function belongs to the first part
+whose `functions` match `file:function` (the file is that of the line, so inlined code counts for the file that contains
+it), and a part is called as often as the functions that `calls` matches. If a function of a part calls one that the
+line `helpers - functions` names, the cost of that counts for the part. Prints rows of tab-separated fields: the cost of
+each part per its calls, of all parts per the calls of the one named UNIT, and of the whole; one field for each profile.
+
 """
 
 import collections
@@ -16,7 +17,7 @@ NAME = re.compile(r"(?:\((\d+)\))?(?: ?(.*))?")
 
 
 class Profile:
-    """Instructions by `file:function`, those of what one calls, and how often each function was called."""
+    """Instructions by `file:function`, those of what each calls, and how often each function was called."""
 
     def __init__(self, path):
         self.names = {}

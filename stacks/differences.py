@@ -1,8 +1,9 @@
-"""differences.py STACK LINES OURS THEIRS: what a stack's driver answers otherwise than the library's, line by line.
+"""differences.py STACK LINES OURS THEIRS: how a stack's driver answers differently from the library's, line by line.
 
-Each difference has a key, and reasons.txt says of keys which kind of difference they are, and why. Printed are a line
-`STACK FORMAT COUNT..` of tab-separated words, the counts those of KINDS, and then each reason with its count and its
-shortest line. Status 1 where a key has no reason.
+Each difference has a key; reasons.txt says for keys which kind of difference they are, and why. Prints a line `STACK
+FORMAT COUNT..` of tab-separated fields, the counts of KINDS, and then each reason with its count and its shortest line.
+The status is 1 if a key has no reason.
+
 """
 
 import collections
@@ -14,8 +15,8 @@ from typing import NamedTuple
 
 from lists import entries, integer_at
 
-# The same; another code, or none, for what both refuse; a choice that the RFC leaves open, or one of what a stack does;
-# a defect of the stack; a departure of the library; not in reasons.txt.
+# The same; both reject, with another code or none; a choice that the RFC leaves open, or one of the stack; a defect of
+# the stack; a departure of the library; not in reasons.txt.
 KINDS = ("agree", "code", "choice", "defect", "ours", "unexplained")
 GREATEST_STREAMS = 1 << 60
 GREATEST = (1 << 62) - 1
@@ -26,7 +27,7 @@ IDS = {0x00, 0x0F, 0x10}
 ONCE = INTEGERS | IDS | {0x02, 0x0C, 0x0D}
 FLAGS = {0x0C, 0x2AB2}
 MAX_DATAGRAM, MIN_ACK_DELAY = 0x20, 0xFF04DE1B
-# Of other parameters, what a value has to be: a reset token, two flags, a preferred address, version_information.
+# For other parameters, what a value has to be: a reset token, two flags, a preferred address, version_information.
 LAWFUL = {
     0x02: lambda value: len(value) == 16,
     0x0C: lambda value: not value,
@@ -37,7 +38,7 @@ LAWFUL = {
 
 
 class Reason(NamedTuple):
-    """A row of reasons.txt: patterns of the format, the stack and the key; the kind; why."""
+    """A row of reasons.txt: patterns for the format, the stack and the key; the kind; why."""
 
     form: str
     stack: str
@@ -52,7 +53,7 @@ def reasons():
 
 
 def parsed(answer):
-    """The verdict, code and reading of an answer."""
+    """The verdict, code and reading in an answer."""
     verdict, _, rest = answer.partition(" ")
     code = ""
     if verdict == "invalid":
@@ -61,7 +62,7 @@ def parsed(answer):
 
 
 def merged(items):
-    """Items with each run of PADDING as one, and without its length, which some count in frames, others in bytes."""
+    """Items with each run of PADDING as one, without its length, which some count in frames and others in bytes."""
     out = []
     for item in items:
         is_padding = item["type"] == "PADDING"
@@ -71,7 +72,7 @@ def merged(items):
 
 
 def items_of(answer, digits):
-    """The frames that were read, and behind them the end, or the code of a refusal with the first byte of the frame."""
+    """The frames that were read, and after them the end, or the error's code with the first byte of the frame."""
     verdict, code, read = parsed(answer)
     if verdict == "valid":
         return [*merged(read), {"type": "end"}]
@@ -93,7 +94,7 @@ def name_of(frame):
 
 
 def keys_of_payloads(digits, ours, theirs):
-    """What the first frames that differ are, or the fields in which they do; nothing where all are alike."""
+    """How the first frames that differ do so, or in which fields; nothing if all are alike."""
     has_counts = False
     for mine, its in zip(items_of(ours, digits), items_of(theirs, digits)):
         has_counts |= "ect0_count" in mine or mine.get("of") == "03"
@@ -166,7 +167,7 @@ KEYS = {"payload": keys_of_payloads, "params": keys_of_parameters}
 
 
 def compared(stack, form, triples, rows):
-    """How many lines there are of each kind, and of each reason its lines."""
+    """How many lines there are of each kind, and for each reason its lines."""
     rows = [row for row in rows if fnmatch.fnmatchcase(form, row.form) and fnmatch.fnmatchcase(stack, row.stack)]
     counts, lines = collections.Counter(), collections.defaultdict(list)
     for digits, ours, theirs in triples:

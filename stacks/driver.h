@@ -1,5 +1,5 @@
-/* What the drivers in C share: lines `FORMAT CONTEXT HEX` in, answers out, as vectors/README.md has them.  A driver
- * defines `answer`, which tells what it reads by `begin`, fields and `end`, and ends with `accept_read`, `refuse` or
+/* What the drivers in C share: lines `FORMAT CONTEXT HEX` in, answers out, as in vectors/README.md.  A driver defines
+ * `answer`, which reports what it reads with `begin`, fields and `end`, and ends with `accept_read`, `refuse` or
  * `skip`. */
 #ifndef DRIVER_H
 #define DRIVER_H
@@ -10,13 +10,13 @@
 #include <stdlib.h>
 #include <string.h>
 
-/* What is asked: the format, the words of the context, and the bytes in a block of just their size, so that a sanitizer
- * sees a read behind them. */
+/* A line: the format, the fields of the context, and the bytes in a block of exactly their size, so that a sanitizer
+ * notices a read past them. */
 static char *form, *words;
 static unsigned char *input;
 static size_t input_len;
 
-/* A word of the context, or NULL; it is good until the next call. */
+/* A field of the context, or NULL; it is valid until the next call. */
 static const char *context(const char *name) {
   static char value[1024];
   const char *at = words;
@@ -34,7 +34,7 @@ static int is_context(const char *name, const char *value) {
   return found && !strcmp(found, value);
 }
 
-/* What was read so far, as JSON, and where an object begins in it that isn't at its end. */
+/* What was read so far, as JSON, and where an object begins that isn't closed. */
 static char told[1 << 22];
 static size_t told_len, open_at;
 static int is_open;
@@ -69,8 +69,8 @@ static void end(void) {
   is_open = 0;
 }
 
-/* Frames that are alike: a limit on a stream or on all, or on how many streams there are; an error on a stream; and an
- * ACK. */
+/* Frames of the same form: a limit on a stream or on all, or on how many streams there are; an error on a stream; and
+ * an ACK. */
 static void limit(const char *type, const uint64_t *stream, uint64_t most) {
   begin(type);
   if (stream) number("stream_id", *stream);
@@ -96,8 +96,7 @@ static void range(uint64_t least, uint64_t greatest) {
 }
 static void ack_end(void) { put("]"); }
 
-/* Answers, each 0, so that it can end a function.  What an open object has
- * isn't printed. */
+/* Answers, each 0, so that it can end a function.  An open object isn't printed. */
 static int accept_read(void) {
   int is_list = strcmp(form, "params") != 0;
   printf("valid %s%s%s\n", is_list ? "[" : "{", told, is_list ? "]" : "}");
@@ -126,7 +125,7 @@ static const char *code_name(uint64_t code) {
   return code < sizeof names / sizeof *names ? names[code] : "?";
 }
 
-/* Answers what is asked. */
+/* Answers a line. */
 static int answer(void);
 
 static void take(const char *digits) {

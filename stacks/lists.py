@@ -1,6 +1,6 @@
 """lists.py payload|params COUNT <LIST: lines for the drivers (vectors/README.md): those of a list of hexadecimal, and
-so many made from them (mutants.py). Lists of parameters stand there twice, as a server's and as a client's; each is
-given the ids that RFC 9000, section 7.3, requires where it lacks them, since some stacks look for them first."""
+this many made from them (mutants.py). Lists of parameters come twice, as a server's and as a client's. Each gets the
+ids that RFC 9000, section 7.3, requires if it lacks them, since some stacks check these first."""
 
 import random
 import sys
@@ -12,7 +12,7 @@ ODCID, ISCID = 0x00, 0x0F
 
 
 def integer_at(data, at):
-    """An integer of variable length, and where it ends."""
+    """A variable-length integer, and where it ends."""
     end = at + (1 << (data[at] >> 6))
     if end > len(data):
         raise IndexError

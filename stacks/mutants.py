@@ -1,5 +1,5 @@
-"""mutants.py LIST COUNT: so many lines of hexadecimal, the same each time: those of a list with bytes and bits changed,
-cut, and with pieces of other lines put in; and random bytes."""
+"""mutants.py LIST COUNT: this many lines of hexadecimal, the same each time: those of a list with bytes and bits
+changed, cut, and with pieces of other lines inserted; and random bytes."""
 
 import random
 import sys

@@ -1,9 +1,10 @@
-"""A driver over the wire layer of aioquic.
+"""A driver for aioquic's wire layer.
 
 driver.py SOURCE, the folder `src` of aioquic's source, with its module _buffer built (build)
 
-Frames are read by the handlers of connection.py, of a client whose flow control, streams, TLS and recovery let all of
-them pass, so that what refuses is the reading; packets and parameters by packet.py.
+Frames are read by the handlers of connection.py, for a client whose flow control, streams, TLS and recovery let all of
+them pass, so that only the reading rejects anything; packets and parameters by packet.py.
+
 """
 
 import json
@@ -11,7 +12,7 @@ import sys
 import types
 from unittest.mock import MagicMock
 
-# What the modules name and reading doesn't need.
+# What the modules import and reading doesn't need.
 for name in ("aioquic._crypto", "certifi", "OpenSSL", "OpenSSL.crypto", "pylsqpack", "service_identity"):
     sys.modules[name] = MagicMock()
 sys.modules["service_identity.cryptography"] = MagicMock()
@@ -38,10 +39,10 @@ PACKETS = {
 LAST_PACKETS = (Kind.RETRY, Kind.VERSION_NEGOTIATION, Kind.ONE_RTT)
 VERSIONS = (None, 0, 1, 0x6B3343CF)
 CODES = {3: "FLOW_CONTROL_ERROR", 7: "FRAME_ENCODING_ERROR", 10: "PROTOCOL_VIOLATION"}
-# Reasons of refusals that are of a connection's state, and not of the bytes.
+# Reasons for errors that come from a connection's state, not from the bytes.
 OF_STATE = ("Cannot", "Response does not match", "Over ", "Stream is", "Wrong stream", "Too ", "too much")
 KNOWN = {"datagram", "version-2", "version-information"}
-# Fields by the RFC's names, and those of aioquic's log.
+# The RFC's names of fields, for those of aioquic's log.
 FIELDS = {
     "reset_stream": {
         "stream_id": "stream_id", "application_protocol_error_code": "error_code", "final_size": "final_size",
@@ -63,12 +64,12 @@ FIELDS = {
     "path_challenge": {"data": "data"},
     "path_response": {"data": "data"},
 }  # fmt: skip
-# The data behind a frame's fields.
+# The data after a frame's fields.
 DATA = {"crypto": "crypto_data", "stream": "stream_data", "new_token": "token", "datagram": "datagram_data"}
 
 
 def open_connection():
-    """A client in 1-RTT to which all is allowed."""
+    """A client in 1-RTT that may do everything."""
     config = QuicConfiguration(is_client=True, max_datagram_frame_size=1 << 20, alpn_protocols=["x"])
     it = connection.QuicConnection(configuration=config)
     it.connect(("192.0.2.1", 1), now=0.0)
@@ -98,14 +99,14 @@ def text(value):
 
 
 def numbers_of(payload, at, count):
-    """So many integers from a place on, for what the log hasn't."""
+    """This many integers from an offset on, for what the log lacks."""
     buf = Buffer(data=payload)
     buf.seek(at)
     return [buf.pull_uint_var() for _ in range(count)]
 
 
 def shown(logged, payload, begin, end):
-    """The frame that was logged, which stands in a payload from `begin` to `end`."""
+    """The frame that was logged, which is in a payload from `begin` to `end`."""
     kind = logged["frame_type"]
     out = {"type": {"connection_close": "CONNECTION_CLOSE"}.get(kind, kind.upper())}
     out |= {name: text(logged[other]) for name, other in FIELDS.get(kind, {}).items()}
@@ -129,7 +130,7 @@ def shown(logged, payload, begin, end):
 
 
 def frame(it, context, payload, buf):
-    """The next frame, or the code with which it is refused."""
+    """The next frame, or the code with which it is rejected."""
     begin = buf.tell()
     logged = context.quic_logger_frames
     try:
@@ -160,7 +161,7 @@ def read_payload(payload):
 
 
 def is_refused(params, by_server):
-    """What _parse_transport_parameters of connection.py refuses; of ids that aren't the handshake's those that no
+    """What _parse_transport_parameters of connection.py rejects; of ids other than the handshake's, those that no
     handshake has."""
     of_server = ("original_destination_connection_id", "preferred_address", "retry_source_connection_id")
     if by_server and any(getattr(params, name) is not None for name in (*of_server, "stateless_reset_token")):

@@ -1,6 +1,6 @@
-/* A driver over the wire layer of HAProxy, which is a server: src/quic_frame.c of its source, compiled beside this
- * file, and src/quic_tp.c, included here, since its reader is static there.  An ACK's ranges are read as
- * qc_parse_ack_frm of src/quic_rx.c reads them. */
+/* A driver for the wire layer of HAProxy, which is a server: src/quic_frame.c of its source, compiled with this file,
+ * and src/quic_tp.c, included here, since its reader is static there.  An ACK's ranges are read as qc_parse_ack_frm of
+ * src/quic_rx.c reads them. */
 #include "src/quic_tp.c"
 #include <haproxy/quic_frame.h>
 #include <haproxy/quic_rx-t.h>
@@ -17,7 +17,7 @@ void quic_set_connection_close(struct quic_conn *qc, const struct quic_err err) 
 void quic_set_tls_alert(struct quic_conn *qc, int alert) { closed = 0x100 + (uint64_t)alert; }
 void qc_kill_conn(struct quic_conn *qc) {}
 
-/* 0 where it is refused, for which HAProxy has no code. */
+/* 0 if it is rejected, for which HAProxy has no code. */
 static int show_ack(const struct qf_ack *f, const unsigned char **pos, const unsigned char *last) {
   uint64_t greatest = f->largest_ack, least, gap, count, left = f->ack_range_num;
   ack(f->ack_delay);
@@ -159,8 +159,8 @@ static int params(void) {
   return accept_read();
 }
 
-/* HAProxy knows version 1 and no extension but version_information.  It takes what clients send: no released program
- * runs its reader of what servers send. */
+/* HAProxy knows version 1, and of extensions only version_information.  It reads what clients send: no released program
+ * runs its reader for what servers send. */
 static int answer(void) {
   const char *extension = context("extension");
   int is_list = !strcmp(form, "params");

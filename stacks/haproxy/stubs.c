@@ -1,4 +1,4 @@
-/* What HAProxy's parsers call for traces and memory alone. */
+/* What HAProxy's parsers call only for traces and memory. */
 #include <haproxy/chunk.h>
 #include <haproxy/global.h>
 #include <haproxy/pool.h>

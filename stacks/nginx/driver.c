@@ -1,6 +1,6 @@
-/* A driver over the wire layer of nginx, which is a server: src/event/quic/ngx_event_quic_transport.c of its source,
- * compiled beside this file.  An ACK's ranges, and parameters that were read, are looked at as
- * ngx_quic_handle_ack_frame and ngx_quic_apply_transport_params do. */
+/* A driver for the wire layer of nginx, which is a server: src/event/quic/ngx_event_quic_transport.c of its source,
+ * compiled with this file. An ACK's ranges, and parameters that were read, are checked as ngx_quic_handle_ack_frame and
+ * ngx_quic_apply_transport_params do. */
 #include <ngx_config.h>
 #include <ngx_core.h>
 #include <ngx_event.h>
@@ -8,7 +8,7 @@
 #include <ngx_event_quic_transport.h>
 #include "../driver.h"
 
-/* What these parsers call for logs and memory alone. */
+/* What these parsers call only for logs and memory. */
 volatile ngx_msec_t ngx_current_msec;
 volatile ngx_cycle_t *ngx_cycle;
 void ngx_log_error_core(ngx_uint_t level, ngx_log_t *log, ngx_err_t err, const char *format, ...) {}
@@ -17,7 +17,7 @@ void *ngx_pnalloc(ngx_pool_t *pool, size_t n) { return malloc(n); }
 
 static ngx_log_t no_log;
 
-/* NULL, or the code with which it is refused. */
+/* NULL, or the code with which it is rejected. */
 static const char *show_ack(const ngx_quic_ack_frame_t *f, u_char *pos, u_char *last) {
   uint64_t least = f->largest - f->first_range, greatest, gap, count;
   ngx_uint_t i;
@@ -101,7 +101,7 @@ static void show_simple(const ngx_quic_frame_t *f, size_t n) {
   }
 }
 
-/* Tells of a frame of `n` bytes whose data are in a buffer: NULL, or the code with which it is refused. */
+/* Reports a frame of `n` bytes whose data are in a buffer: NULL, or the code with which it is rejected. */
 static const char *show(const ngx_quic_frame_t *f, const ngx_buf_t *data, size_t n) {
   const char *code = NULL;
   switch (f->type) {
@@ -162,7 +162,7 @@ static int params(void) {
   return accept_read();
 }
 
-/* A packet of a datagram; 0 where it is the last one, or isn't read. */
+/* A packet of a datagram; 0 if it is the last one, or isn't read. */
 static int packet(ngx_quic_header_t *pkt) {
   const char *kind = ngx_quic_pkt_in(pkt->flags)   ? "Initial"
                      : ngx_quic_pkt_hs(pkt->flags) ? "Handshake"
@@ -205,7 +205,7 @@ static int datagram(void) {
   return accept_read();
 }
 
-/* nginx knows version 1 alone, no extension, and ids of 20 bytes; it takes what clients send, in 1-RTT packets here. */
+/* nginx knows only version 1, no extension, and ids of 20 bytes; it reads what clients send, here in 1-RTT packets. */
 static int answer(void) {
   int is_other = context("packet") || context("strict") || context("extension") || is_context("side", "client");
   if (is_other || context("grease")) return skip();

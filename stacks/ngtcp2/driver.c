@@ -1,13 +1,11 @@
-/* A driver over the wire layer of ngtcp2 1.11, whose library is compiled beside
- * this file as it is.  What ngtcp2 checks when it uses a frame or sets
- * parameters is done here: an ACK's ranges, Retire Prior To, who sent
- * parameters. */
+/* A driver for the wire layer of ngtcp2 1.11, whose unmodified library is compiled with this file. What ngtcp2 checks
+ * when it uses a frame or sets parameters is done here: an ACK's ranges, Retire Prior To, who sent parameters. */
 #include <ngtcp2/ngtcp2.h>
 #include "ngtcp2_pkt.h"
 #include "ngtcp2_transport_params.h"
 #include "../driver.h"
 
-/* A code as ngtcp2 closes with it. */
+/* The code with which ngtcp2 closes. */
 static const char *code_of(int error) { return code_name(ngtcp2_err_infer_quic_transport_error_code(error)); }
 
 static void show_ack(const ngtcp2_ack *f) {
@@ -187,7 +185,7 @@ static const char *kind_of(uint8_t type) {
   }
 }
 
-/* A packet whose header has n bytes; 0 where it is the last. */
+/* A packet whose header has n bytes; 0 if it is the last. */
 static int packet(const ngtcp2_pkt_hd *hd, size_t at, size_t n) {
   const char *kind = kind_of(hd->type);
   int has_number = hd->type != NGTCP2_PKT_RETRY && hd->type != NGTCP2_PKT_VERSION_NEGOTIATION;
@@ -214,7 +212,7 @@ static int datagram(size_t cidlen) {
     ngtcp2_ssize n;
     int error = ngtcp2_pkt_decode_version_cid(&vc, input + at, input_len - at, cidlen);
     if (at && error == NGTCP2_ERR_INVALID_ARGUMENT && input[at] & 0x80) {
-      /* It has to be large enough to be answered; behind another packet it is discarded. */
+      /* It must be large enough to be answered; after another packet it is discarded. */
       begin("unknown version");
       end();
       break;
@@ -229,7 +227,7 @@ static int datagram(size_t cidlen) {
     n = error ? error
         : input[at] & 0x80 ? ngtcp2_pkt_decode_hd_long(&hd, input + at, input_len - at)
                            : ngtcp2_pkt_decode_hd_short(&hd, input + at, input_len - at, cidlen);
-    /* A clear fixed bit is for the connection to refuse, a length for ngtcp2_conn_read_pkt. */
+    /* The connection rejects a clear fixed bit, ngtcp2_conn_read_pkt a length. */
     if (n < 0 || hd.flags & NGTCP2_PKT_FLAG_FIXED_BIT_CLEAR || input_len - at - (size_t)n < hd.len)
       return refuse("DROP", at);
     if (!packet(&hd, at, (size_t)n)) break;
@@ -238,8 +236,7 @@ static int datagram(size_t cidlen) {
   return accept_read();
 }
 
-/* ngtcp2 knows DATAGRAM and both versions, and can be set to clear the fixed
- * bit, which isn't done here. */
+/* ngtcp2 knows DATAGRAM and both versions, and can be set to clear the fixed bit, which isn't done here. */
 static int answer(void) {
   const char *extension = context("extension"), *cidlen = context("cid_len");
   int is_known = !extension || !strcmp(extension, "datagram") || !strcmp(extension, "version-2") ||

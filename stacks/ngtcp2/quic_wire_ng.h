@@ -1,6 +1,4 @@
-/*
- * What ngtcp2 calls of quic_wire that its own headers don't declare.
- */
+/* What ngtcp2 calls from quic_wire that its own headers don't declare. */
 #ifndef QUIC_WIRE_NG_H
 #define QUIC_WIRE_NG_H
 
@@ -9,21 +7,21 @@
 #include "quic_wire.h"
 #include "quic_wire_ng_releases.h"
 
-/* The number that is expected next after the greatest that came, or -1: after
- * the last number there is none, and late ones still come. */
+/* The packet number that is expected after the greatest received one, or -1:
+ * after the last number there is none, and late ones still come. */
 static inline uint64_t quic_wire_ng_expected(int64_t largest) {
   return (uint64_t)(largest < NGTCP2_MAX_PKT_NUM ? largest + 1 : largest);
 }
 
 /*
- * Takes the protection off the header of |pkt|, whose packet number begins at
+ * Removes protection from the header of |pkt|, whose packet number begins at
  * |place|: the header is copied to |header|, which has room for |place| + 4
- * bytes, and opened there by the mask that |hp_mask| makes.  |hd| gets the
- * whole number by |largest|, the greatest one that came (-1: none), its length
- * and the key phase.
+ * bytes, and its protection removed there with the mask that |hp_mask| makes.
+ * |hd| gets the whole number relative to |largest|, the greatest one received
+ * (-1: none), its length and the key phase.
  *
- * Returns where the payload begins; NGTCP2_ERR_PROTO where the packet is too
- * short for a sample; NGTCP2_ERR_CALLBACK_FAILURE.
+ * Returns where the payload begins; NGTCP2_ERR_PROTO if the packet is too short
+ * for a sample; NGTCP2_ERR_CALLBACK_FAILURE.
  */
 static inline ngtcp2_ssize
 quic_wire_ng_unprotect(ngtcp2_pkt_hd *hd, uint8_t *header, const uint8_t *pkt,

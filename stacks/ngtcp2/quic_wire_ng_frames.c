@@ -1,6 +1,4 @@
-/*
- * ngtcp2's readers and writers of frames, over quic_wire.h.
- */
+/* ngtcp2's readers and writers of frames, with quic_wire.h. */
 #include <string.h>
 
 #include "ngtcp2_cid.h"
@@ -54,7 +52,7 @@ static void datagram_of(NG_BESIDE(ngtcp2_frame_decoder *room)
 #endif
 }
 
-/* What |f|, a frame without data that was read from |payload|, is to ngtcp2. */
+/* ngtcp2's form of |f|, a frame without data that was read from |payload|. */
 static int numbers_of(ngtcp2_frame *dest, const quic_wire_frame *f,
                       const uint8_t *payload) {
   switch (f->kind) {
@@ -107,15 +105,15 @@ static int numbers_of(ngtcp2_frame *dest, const quic_wire_frame *f,
   }
 }
 
-/* Frames other than STREAM are read out of line, so that STREAM, which most of
- * the bytes come in, saves no registers for them. */
+/* Frames other than STREAM are read out of line, so that STREAM, which carries
+ * most of the bytes, saves no registers for them. */
 #if defined(__GNUC__)
 #define OUT_OF_LINE __attribute__((noinline))
 #else
 #define OUT_OF_LINE
 #endif
 
-/* What |f|, read from |payload|, is to ngtcp2. */
+/* ngtcp2's form of |f|, read from |payload|. */
 OUT_OF_LINE static int frame_of(NG_BESIDE(ngtcp2_frame_decoder *room)
                                     ngtcp2_frame *dest,
                                 const quic_wire_frame *f,
@@ -169,9 +167,9 @@ ngtcp2_ssize ngtcp2_pkt_decode_frame(NG_BESIDE(ngtcp2_frame_decoder *room)
   quic_wire_frame f;
   int rv;
 
-  /* The frame at the front, as ngtcp2 has them: a run of PADDING is one, and
-   * the ranges of an ACK are gap and length, which are written where they go.
-   */
+  /* The frame at the front, as ngtcp2 has it: a run of PADDING is one frame,
+   * and an ACK's ranges are gaps and lengths, which are written where they
+   * belong. */
   if (quic_wire_frame_read(payload, payloadlen, QUIC_WIRE_READ_RFC, &f,
                            (quic_wire_gap *)ranges,
                            NGTCP2_MAX_ACK_RANGES) < 0) {
@@ -191,8 +189,8 @@ ngtcp2_ssize ngtcp2_pkt_decode_frame(NG_BESIDE(ngtcp2_frame_decoder *room)
   return rv ? rv : (ngtcp2_ssize)f.end;
 }
 
-/* The readers of one kind each, which ngtcp2's tests call.  A decoder is a
- * union of what may be beside a frame, so the place of either is one. */
+/* The readers of one kind each, which ngtcp2's tests call. A decoder is a union
+ * of what may come with a frame, so both are at the same address. */
 #define READER_OF(NAME, TYPE, ROOM)                                            \
   ngtcp2_ssize ngtcp2_pkt_decode_##NAME##_frame(                               \
       TYPE *dest, const uint8_t *payload, size_t payloadlen) {                 \
@@ -309,7 +307,7 @@ ngtcp2_pkt_encode_new_connection_id_frame(uint8_t *out, size_t outlen,
 }
 
 /* Writes |f| followed by the |cnt| pieces of |data|, the last bytes of a
- * payload where |last| isn't 0. */
+ * payload if |last| isn't 0. */
 static inline ngtcp2_ssize put_pieces(uint8_t *out, size_t outlen,
                                       quic_wire_frame *f, int last,
                                       const ngtcp2_vec *data, size_t cnt) {

@@ -1,5 +1,5 @@
 /*
- * ngtcp2's readers and writers of packet headers and its packet numbers, over
+ * ngtcp2's readers and writers of packet headers and its packet numbers, with
  * quic_wire.h.
  */
 #include <string.h>
@@ -7,8 +7,8 @@
 #include "ngtcp2_cid.h"
 #include "quic_wire_ng.h"
 
-/* What ngtcp2 takes: versions 1 and 2 by now; by 0.12.1 version 1 and its
- * drafts, which have its form, and a draft of version 2. */
+/* The versions that ngtcp2 accepts: now 1 and 2; 0.12.1 accepts version 1 and
+ * its drafts, which have its form, and a draft of version 2. */
 #if QUIC_WIRE_NG_1
 static const uint32_t versions[] = {NGTCP2_PROTO_VER_V1, NGTCP2_PROTO_VER_V2};
 #else
@@ -20,8 +20,8 @@ static const uint32_t versions[] = {NGTCP2_PROTO_VER_V1, 0xff00001du,
 
 #if !QUIC_WIRE_NG_1
 /*
- * A draft of version 2 is no version to the library: of its headers it tells
- * the ids.  Reads what follows them; 0, or -1 where they end within it.
+ * The library doesn't know drafts of version 2: of their headers it returns
+ * only the ids.  Reads what follows them; 0, or -1 if they end within it.
  */
 static int read_draft(quic_wire_header *h, const uint8_t *pkt, size_t pktlen) {
   static const uint8_t kinds[] = {
@@ -71,7 +71,7 @@ ngtcp2_ssize ngtcp2_pkt_decode_hd_long(ngtcp2_pkt_hd *dest, const uint8_t *pkt,
     answer = read_draft(&h, pkt, pktlen);
   }
 #endif
-  /* ngtcp2 looks itself at whether a packet is cut off. */
+  /* ngtcp2 checks itself whether a packet is cut off. */
   if ((answer < 0 && answer != QUIC_WIRE_ERR_PACKET_CUT) ||
       h.kind == QUIC_WIRE_PACKET_1RTT) {
     return NGTCP2_ERR_INVALID_ARGUMENT;
@@ -120,9 +120,9 @@ ngtcp2_ssize ngtcp2_pkt_decode_hd_short(ngtcp2_pkt_hd *dest, const uint8_t *pkt,
   return (ngtcp2_ssize)end;
 }
 
-/* The version and the ids of a packet of whatever version (RFC 8999): none is
- * given, so of each version the library tells these and no more.  Those of a
- * version negotiation may be longer than version 1 has them. */
+/* The version and the ids of a packet of any version (RFC 8999): no version is
+ * passed, so the library returns only these.  A version negotiation may have
+ * longer ids than version 1. */
 int ngtcp2_pkt_decode_version_cid(ngtcp2_version_cid *dest, const uint8_t *data,
                                   size_t datalen, size_t short_dcidlen) {
   quic_wire_header h;
@@ -165,7 +165,7 @@ int ngtcp2_pkt_decode_version_cid(ngtcp2_version_cid *dest, const uint8_t *data,
 
 /* ---- Written */
 
-/* One struct for all kinds: what a kind lacks is ignored. */
+/* One struct for all kinds: fields that a kind lacks are ignored. */
 static quic_wire_header_fields fields_of(const ngtcp2_pkt_hd *hd,
                                          uint8_t kind) {
   quic_wire_header_fields fields = {.kind = kind,
@@ -207,7 +207,7 @@ ngtcp2_ssize ngtcp2_pkt_encode_hd_long(uint8_t *out, size_t outlen,
   }
 #if !QUIC_WIRE_NG_1
   if (hd->version == NGTCP2_PROTO_VER_V2_DRAFT) {
-    /* Of version 2's form, which the library gives to version 2 alone. */
+    /* In the form of version 2, which the library writes only for version 2. */
     out[0] = (uint8_t)((out[0] & ~NGTCP2_LONG_TYPE_MASK) |
                        ngtcp2_pkt_versioned_type(hd->version, hd->type) << 4);
   }
@@ -237,7 +237,7 @@ ngtcp2_ssize ngtcp2_pkt_write_version_negotiation(
     size_t dcidlen, const uint8_t *scid, size_t scidlen, const uint32_t *sv,
     size_t nsv) {
   uint8_t fixed = QUIC_WIRE_NG_1 ? QUIC_WIRE_BIT_FIXED : 0;
-  /* The bits that differ from the first byte with the fixed bit alone. */
+  /* The bits that differ from a first byte with only the fixed bit. */
   uint8_t flags = (uint8_t)((unused_random | fixed) ^ QUIC_WIRE_BIT_FIXED);
   size_t n;
   int answer = quic_wire_negotiation_write(flags, dcid, dcidlen, scid, scidlen,
@@ -251,7 +251,7 @@ ngtcp2_ssize ngtcp2_pkt_write_version_negotiation(
 
 /* ---- Packet numbers */
 
-/* |n| is the length of what is written: bits, by now bytes. */
+/* |n| is the length of what is written: in 0.12.1 bits, later bytes. */
 int64_t ngtcp2_pkt_adjust_pkt_num(int64_t max_pkt_num, int64_t pkt_num,
                                   size_t n) {
   uint32_t len = (uint32_t)(QUIC_WIRE_NG_1 ? n : n / 8);

@@ -1,6 +1,4 @@
-/*
- * ngtcp2's transport parameters over quic_wire.h.
- */
+/* ngtcp2's transport parameters, with quic_wire.h. */
 #include <string.h>
 
 #include "ngtcp2_cid.h"
@@ -27,7 +25,7 @@ static void address_of(ngtcp2_preferred_addr *dest, const quic_wire_params *w) {
 }
 
 static uint64_t timeout_of(uint64_t milliseconds) {
-#if QUIC_WIRE_NG_1_24 /* what is too long doesn't begin anew */
+#if QUIC_WIRE_NG_1_24 /* a timeout that is too long doesn't wrap */
   if (milliseconds > UINT64_MAX / NGTCP2_MILLISECONDS) {
     milliseconds = UINT64_MAX;
   }
@@ -71,7 +69,7 @@ static void params_of(ngtcp2_transport_params *dest,
 #endif
 }
 
-/* version_information (RFC 9368), of which quic_wire_params has nothing. */
+/* version_information (RFC 9368), for which quic_wire_params has no field. */
 static int versions_of(ngtcp2_transport_params *dest, const uint8_t *value,
                        size_t len) {
   uint32_t version;
@@ -122,8 +120,8 @@ static int read_params(ngtcp2_transport_params *params, quic_wire_params *w,
 }
 
 #if QUIC_WIRE_NG_1
-/* The caller doesn't say whose parameters they are, and itself refuses what a
- * client may not send: so they are read as a server's, which may have all. */
+/* The caller doesn't say whose parameters they are, and itself rejects what a
+ * client may not send. So they are read as a server's, which may send all. */
 int ngtcp2_transport_params_decode_versioned(int transport_params_version,
                                              ngtcp2_transport_params *dest,
                                              const uint8_t *data,
@@ -182,7 +180,7 @@ static void address_to(quic_wire_params *w, const ngtcp2_preferred_addr *a) {
   memcpy(w->preferred_token, a->stateless_reset_token, 16);
 }
 
-/* What a server alone sends. */
+/* What only a server sends. */
 static void server_to(quic_wire_params *w, const ngtcp2_transport_params *p) {
   if (NG_HAS_CID(p, original_dcid)) {
     w->present |= QUIC_WIRE_HAS_ORIGINAL_DST_CID;
@@ -233,8 +231,8 @@ static void params_to(quic_wire_params *w, const ngtcp2_transport_params *p) {
   }
 }
 
-/* Writes version_information up to its other versions, which lie elsewhere, or
- * nothing where there is none; how many bytes. */
+/* Writes version_information up to its other versions, which are elsewhere, or
+ * nothing if there is none; returns how many bytes. */
 static size_t put_versions(uint8_t out[64], const ngtcp2_transport_params *p) {
   size_t len = 4 + p->version_info.available_versionslen, at;
 

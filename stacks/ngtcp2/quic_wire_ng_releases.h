@@ -1,6 +1,6 @@
 /*
- * What releases of ngtcp2 have otherwise, by one name for all: that of 1.11,
- * where it has one.
+ * What differs between releases of ngtcp2, with one name for all: that of 1.11,
+ * if it has one.
  */
 #ifndef QUIC_WIRE_NG_RELEASES_H
 #define QUIC_WIRE_NG_RELEASES_H
@@ -18,7 +18,7 @@
 #include "ngtcp2_conv.h"
 #include "ngtcp2_pkt.h"
 
-/* The frame CRYPTO; an ACK that is written; the token of an Initial header and of
+/* The frame CRYPTO; an ACK to write; the token of an Initial header and of
  * NEW_TOKEN. */
 #if QUIC_WIRE_NG_1
 typedef ngtcp2_stream quic_wire_ng_crypto;
@@ -32,9 +32,9 @@ typedef ngtcp2_ack quic_wire_ng_ack_written;
 #  define NG_TOKENLEN(OWNER) ((OWNER)->token.len)
 #endif
 
-/* Where the vector of a frame's data is, and the ranges of an ACK: in the
- * frame, by 1.24 in what is given beside it, which NG_BESIDE passes.  The token
- * of NEW_CONNECTION_ID. */
+/* Where the vector of a frame's data is, and an ACK's ranges: in the frame; in
+ * 1.24 in an argument beside it, which NG_BESIDE passes. The token of
+ * NEW_CONNECTION_ID. */
 #if QUIC_WIRE_NG_1_24
 #  define NG_BESIDE(ROOM) ROOM,
 #  define NG_PLACE(FIELD, ROOM) ((FIELD) = (ROOM))

@@ -1,7 +1,8 @@
 /*
  * readers frames | datagrams LEN | params client|server: what ngtcp2's own
- * functions read from lines of hexadecimal, a line for each.  It is compiled
- * over ngtcp2 as it is and over the changed one; both must print the same.
+ * functions read from lines of hexadecimal, a line for each. It is compiled
+ * with the unmodified ngtcp2 and with the changed one; both must print the
+ * same.
  */
 #include <stdio.h>
 #include <stdlib.h>
@@ -72,7 +73,7 @@ static void show_new_id(const ngtcp2_new_connection_id *f) {
   hex("token", NG_RESET_TOKEN(f), 16);
 }
 
-/* Shows a frame of nothing but numbers, and nothing of another. */
+/* Shows a frame that has only numbers, and nothing for another. */
 static void show_numbers(const ngtcp2_frame *f) {
   switch (f->ping.type) {
   case NGTCP2_FRAME_PADDING:

@@ -1,8 +1,6 @@
-/* A driver over the wire layer of OpenSSL 4.0, whose built tree it is linked
- * with. ssl/quic/quic_channel.c, which has the reader of transport parameters,
- * is included, since that is static.  What OpenSSL checks when it uses a frame
- * (quic_rx_depack.c) is done here: types that aren't shortest, counts of
- * streams, empty tokens. */
+/* A driver for the wire layer of OpenSSL 4.0, with whose built tree it is linked. ssl/quic/quic_channel.c, which has
+ * the reader of transport parameters, is included, since that is static.  What OpenSSL checks when it uses a frame
+ * (quic_rx_depack.c) is done here: types that aren't shortest, counts of streams, empty tokens. */
 #include "ssl/quic/quic_channel.c"
 #include <openssl/ssl.h>
 #include "internal/quic_ssl.h"
@@ -79,7 +77,7 @@ static const char *show_token(PACKET *pkt) {
   return NULL;
 }
 
-/* A count of streams above 2^60 is refused, blocked ones with another code than granted ones. */
+/* A count of streams above 2^60 is rejected: of blocked ones with another code than of granted ones. */
 static const char *show_streams(PACKET *pkt, uint64_t type) {
   int is_grant = type <= OSSL_QUIC_FRAME_TYPE_MAX_STREAMS_UNI;
   uint64_t most;
@@ -202,11 +200,11 @@ static int payload(void) {
   return accept_read();
 }
 
-/* Transport parameters, by a channel of its own for each list. */
+/* Transport parameters, with a new channel for each list. */
 
 static SSL_CTX *ctx;
 
-/* The ids of the handshake, as the list has them, so that it can be taken. */
+/* The ids of the handshake, as in the list, so that it is accepted. */
 static void take_ids(QUIC_CHANNEL *ch) {
   PACKET pkt;
   uint64_t id;
@@ -238,7 +236,7 @@ static void show_params(const QUIC_CHANNEL *ch) {
   number("ack_delay_exponent", ch->rx_ack_delay_exp);
   number("max_ack_delay", ch->rx_max_ack_delay);
   number("active_connection_id_limit", ch->rx_active_conn_id_limit);
-  /* What is absent is 1200 here. */
+  /* An absent one is 1200 here. */
   if (ch->rx_max_udp_payload_size != QUIC_MIN_INITIAL_DGRAM_LEN)
     number("max_udp_payload_size", ch->rx_max_udp_payload_size);
   text("?", "");

@@ -31,7 +31,7 @@ static int choose(SSL *ssl, const unsigned char **out, unsigned char *out_len, c
              : SSL_TLSEXT_ERR_ALERT_FATAL;
 }
 
-/* A UDP socket of loopback, bound to |port|, or connected to it. */
+/* A UDP socket on loopback, bound to |port|, or connected to it. */
 static int open_socket(const char *port, int is_server) {
   struct sockaddr_in address = {0};
   int fd = socket(AF_INET, SOCK_DGRAM, 0);

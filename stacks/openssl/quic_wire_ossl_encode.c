@@ -1,9 +1,9 @@
 /*
- * OpenSSL's writers of QUIC frames, over quic_wire.h.  ssl/quic/quic_wire.c
+ * OpenSSL's writers of QUIC frames, with quic_wire.h. ssl/quic/quic_wire.c
  * includes this file in place of its own, after quic_wire_ossl_frames.c.
  */
 
-/* Appends a frame that has no fields, and so is its type. */
+/* Appends a frame that has no fields, only its type. */
 static int encode_type(WPACKET *pkt, quic_wire_frame_kind kind)
 {
     unsigned char *p;
@@ -33,7 +33,7 @@ static int encode_frame(WPACKET *pkt, const quic_wire_frame *frame,
     return ret == QUIC_WIRE_OK && WPACKET_allocate_bytes(pkt, len, &p);
 }
 
-/* Appends a frame that has no fields but |a|, |b| and |c|. */
+/* Appends a frame that has no fields except |a|, |b| and |c|. */
 static int encode_numbers(WPACKET *pkt, quic_wire_frame_kind kind,
     uint64_t a, uint64_t b, uint64_t c)
 {
@@ -56,7 +56,8 @@ static int encode_up_to_data(WPACKET *pkt, const quic_wire_frame *frame,
     return ret == QUIC_WIRE_OK && WPACKET_allocate_bytes(pkt, len, &p);
 }
 
-/* Appends |len| bytes, of |data| unless that is NULL; returns their place. */
+/* Appends |len| bytes, from |data| unless that is NULL; returns where they are.
+ */
 static unsigned char *encode_data(WPACKET *pkt, const unsigned char *data,
     uint64_t len)
 {

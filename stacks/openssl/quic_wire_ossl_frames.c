@@ -1,5 +1,5 @@
 /*
- * OpenSSL's readers of QUIC frames, over quic_wire.h.  ssl/quic/quic_wire.c
+ * OpenSSL's readers of QUIC frames, with quic_wire.h. ssl/quic/quic_wire.c
  * includes this file in place of its own.
  */
 #define QUIC_WIRE_INLINE
@@ -26,9 +26,9 @@ int ossl_quic_wire_peek_frame_header(PACKET *pkt, uint64_t *type,
 }
 
 /*
- * Goes past the frame that was read at the front of |pkt| with the result
- * |len|.  If that isn't of |kind| or |other| the connection will be closed, and
- * nothing is left to be read.
+ * Skips the frame that was read at the front of |pkt| with the result |len|. If
+ * it isn't of |kind| or |other|, the connection will be closed, and nothing is
+ * left to read.
  */
 static ossl_inline int skip_frame(PACKET *pkt, int64_t len,
     const quic_wire_frame *frame, quic_wire_frame_kind kind,
@@ -40,8 +40,8 @@ static ossl_inline int skip_frame(PACKET *pkt, int64_t len,
 }
 
 /*
- * Reads a frame of |kind| or |other| at the front of |pkt|, by the call that is
- * the quickest for kinds except STREAM, ACK and NEW_CONNECTION_ID.
+ * Reads a frame of |kind| or |other| at the front of |pkt|, with the fastest
+ * call for kinds except STREAM, ACK and NEW_CONNECTION_ID.
  */
 static ossl_inline int decode_frame(PACKET *pkt, quic_wire_frame_kind kind,
     quic_wire_frame_kind other, quic_wire_frame *frame)
@@ -86,8 +86,8 @@ int ossl_quic_wire_peek_frame_ack_num_ranges(const PACKET *orig_pkt,
     }
 
     /*
-     * A range has two bytes at least, so that no more room is asked for than
-     * the ranges of a packet can need.
+     * A range has at least two bytes, so no more room is asked for than the
+     * ranges of a packet can need.
      */
     if (number > remaining / 2)
         return 0;
@@ -97,8 +97,8 @@ int ossl_quic_wire_peek_frame_ack_num_ranges(const PACKET *orig_pkt,
 }
 
 /*
- * Makes ranges of an ACK's gaps, which were read to where the ranges below the
- * first one belong: both are pairs of 64-bit numbers.
+ * Makes ranges from an ACK's gaps, which were read to where the ranges below
+ * the first one belong: both are pairs of 64-bit numbers.
  */
 static void set_ack_ranges(OSSL_QUIC_FRAME_ACK *ack,
     const quic_wire_frame *frame)
@@ -122,7 +122,7 @@ static void set_ack_ranges(OSSL_QUIC_FRAME_ACK *ack,
     }
 }
 
-/* The fields of an ACK beside its ranges. */
+/* The fields of an ACK except its ranges. */
 static void set_ack_fields(OSSL_QUIC_FRAME_ACK *ack,
     uint32_t ack_delay_exponent, const quic_wire_frame *frame)
 {
@@ -204,7 +204,7 @@ int ossl_quic_wire_decode_frame_stop_sending(PACKET *pkt,
     return 1;
 }
 
-/* Whether data end where an offset can be (RFC 9000 s. 19.6 and 19.8). */
+/* Whether data end at a possible offset (RFC 9000 s. 19.6 and 19.8). */
 static int data_fit(uint64_t offset, uint64_t len)
 {
     return offset + len <= OSSL_QUIC_VLINT_MAX;
@@ -218,7 +218,7 @@ int ossl_quic_wire_decode_frame_crypto(PACKET *pkt,
     quic_wire_frame frame;
     uint64_t type;
 
-    if (nodata) { /* The data aren't there, so no call reads the frame. */
+    if (nodata) { /* The data aren't there, so no call can read the frame. */
         f->data = NULL;
         return ossl_quic_wire_skip_frame_header(pkt, &type)
             && type == OSSL_QUIC_FRAME_TYPE_CRYPTO
@@ -253,7 +253,7 @@ int ossl_quic_wire_decode_frame_new_token(PACKET *pkt,
     return 1;
 }
 
-/* Reads a STREAM frame whose data aren't there, so that no call reads it. */
+/* Reads a STREAM frame whose data aren't there, so that no call can. */
 static int decode_stream_hdr(PACKET *pkt, uint64_t *type,
     OSSL_QUIC_FRAME_STREAM *f)
 {
@@ -447,7 +447,7 @@ size_t ossl_quic_wire_decode_padding(PACKET *pkt)
     return frame.end;
 }
 
-/* Reads a frame that has no fields, and so is its type. */
+/* Reads a frame that has no fields, only its type. */
 static int decode_type(PACKET *pkt, quic_wire_frame_kind kind)
 {
     uint64_t type;

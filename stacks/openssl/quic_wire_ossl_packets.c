@@ -1,12 +1,12 @@
 /*
- * OpenSSL's readers and writers of QUIC packet headers, over quic_wire.h.
+ * OpenSSL's readers and writers of QUIC packet headers, with quic_wire.h.
  * ssl/quic/quic_wire_pkt.c includes this file in place of its own, after
  * hdr_generate_mask.
  */
 #define QUIC_WIRE_INLINE
 #include "quic_wire.h"
 
-/* OpenSSL's types of packets by the library's kinds, and the reverse. */
+/* OpenSSL's types of packets for the library's kinds, and the reverse. */
 static const unsigned char pkt_types[] = {
     [QUIC_WIRE_PACKET_INITIAL] = QUIC_PKT_TYPE_INITIAL,
     [QUIC_WIRE_PACKET_0RTT] = QUIC_PKT_TYPE_0RTT,
@@ -24,7 +24,7 @@ static const unsigned char pkt_kinds[] = {
     [QUIC_PKT_TYPE_VERSION_NEG] = QUIC_WIRE_PACKET_VERSION_NEGOTIATION
 };
 
-/* ---- The protection of headers */
+/* ---- Header protection */
 
 int ossl_quic_hdr_protector_decrypt_fields(QUIC_HDR_PROTECTOR *hpr,
     const unsigned char *sample,
@@ -36,7 +36,7 @@ int ossl_quic_hdr_protector_decrypt_fields(QUIC_HDR_PROTECTOR *hpr,
     size_t pn = pn_bytes - first_byte;
     uint64_t number;
 
-    /* Both lie in one packet, which has four bytes from |pn_bytes| on. */
+    /* Both are in one packet, which has four bytes from |pn_bytes| on. */
     return hdr_generate_mask(hpr, sample, sample_len, mask)
         && quic_wire_unprotect(first_byte, pn + 4, pn, mask, 0, &number) > 0;
 }
@@ -54,7 +54,7 @@ int ossl_quic_hdr_protector_encrypt_fields(QUIC_HDR_PROTECTOR *hpr,
         && quic_wire_protect(first_byte, pn + 4, pn, mask) > 0;
 }
 
-/* ---- Headers, read */
+/* ---- Reading headers */
 
 static void set_conn_id(QUIC_CONN_ID *conn_id, const unsigned char *id,
     size_t id_len)
@@ -64,7 +64,7 @@ static void set_conn_id(QUIC_CONN_ID *conn_id, const unsigned char *id,
 }
 
 /*
- * The packet number, which begins at |pn| with |first| as the first byte, and
+ * The packet number, which begins at |pn|, with |first| as the first byte, and
  * its payload.  While its length is protected, it is taken to have four bytes.
  */
 static ossl_inline int set_pn(QUIC_PKT_HDR *hdr, const unsigned char *pn,
@@ -114,7 +114,7 @@ static ossl_inline size_t decode_short_hdr(const unsigned char *p, size_t len,
     return set_pn(hdr, p + pn, p[0], partial) ? pn : 0;
 }
 
-/* What a long header says, up to the fields that its type has. */
+/* The fields of a long header, before those that depend on its type. */
 static void set_long_hdr(QUIC_PKT_HDR *hdr, const unsigned char *p,
     const quic_wire_header *h)
 {
@@ -134,9 +134,8 @@ static void set_long_hdr(QUIC_PKT_HDR *hdr, const unsigned char *p,
 }
 
 /*
- * Reads a long header, and of a packet of an unknown version, which is a
- * failure too, its version and IDs.  What is after the header may be missing
- * with |nodata|.
+ * Reads a long header; of a packet of an unknown version, which also fails, its
+ * version and IDs.  With |nodata|, what follows the header may be missing.
  */
 static int decode_long_hdr(const unsigned char *p, size_t len, int nodata,
     QUIC_PKT_HDR *hdr, quic_wire_header *h, uint64_t *fail_cause)
@@ -174,8 +173,8 @@ static int decode_long_hdr(const unsigned char *p, size_t len, int nodata,
 }
 
 /*
- * The number of a packet with a long header, of which there are |len| bytes;
- * returns how many of them are read, or 0.
+ * Reads the number of a packet with a long header, of which there are |len|
+ * bytes; returns how many of them are read, or 0.
  */
 static size_t decode_long_pn(const unsigned char *p, size_t len, int partial,
     int nodata, QUIC_PKT_HDR *hdr, const quic_wire_header *h)
@@ -274,8 +273,8 @@ int ossl_quic_wire_get_pkt_hdr_dst_conn_id(const unsigned char *buf,
         return 1;
     }
 
-    /* Only connection IDs are read from a version that isn't among those
-     * given. */
+    /* From a version that isn't among those given, only connection IDs are
+     * read. */
     end = quic_wire_header_read(buf, buf_len, 0, NULL, 0,
         QUIC_WIRE_READ_GREASED_BIT, &h);
     if (end < 0 && end != QUIC_WIRE_ERR_PACKET_VERSION
@@ -290,11 +289,11 @@ int ossl_quic_wire_get_pkt_hdr_dst_conn_id(const unsigned char *buf,
     return 1;
 }
 
-/* ---- Headers, written */
+/* ---- Writing headers */
 
 /*
- * Whether OpenSSL writes such a header; |fields| has what its length depends
- * on, and the packet's length in as few bytes as can be.
+ * Whether OpenSSL writes such a header; |fields| gets what its length depends
+ * on, with the packet's length in as few bytes as possible.
  */
 static ossl_inline int set_fields(size_t short_conn_id_len,
     const QUIC_PKT_HDR *hdr, quic_wire_header_fields *fields)
@@ -337,7 +336,7 @@ size_t ossl_quic_wire_get_encoded_pkt_hdr_len(size_t short_conn_id_len,
         hdr->src_conn_id.id_len, hdr->token_len);
 }
 
-/* Writes a header at |p|; how many bytes it has, or below 0. */
+/* Writes a header at |p|; returns how many bytes it has, or below 0. */
 static int64_t write_fields(const QUIC_PKT_HDR *hdr,
     quic_wire_header_fields *fields, unsigned char *p, size_t room)
 {
@@ -370,9 +369,8 @@ static int write_short_hdr(const QUIC_PKT_HDR *hdr,
 
 /*
  * Writes a long header of |len| bytes, up to a Retry's token.
- * quic_wire_header_write has lengths of 2 and 4 bytes: one of 1 or 8 is put in
- * place of that, and the number after it.  No call writes the low bits of the
- * first byte.
+ * quic_wire_header_write has lengths of 2 and 4 bytes: one of 1 or 8 replaces
+ * it, and the number after it.  No call writes the low bits of the first byte.
  */
 static int write_long_hdr(const QUIC_PKT_HDR *hdr,
     quic_wire_header_fields *fields, unsigned char *p, size_t len, size_t room)
@@ -474,7 +472,7 @@ int ossl_quic_wire_decode_pkt_hdr_pn(const unsigned char *enc_pn,
 int ossl_quic_wire_determine_pn_len(QUIC_PN pn,
     QUIC_PN largest_acked)
 {
-    /* Where nothing was acknowledged, numbers are counted from 1. */
+    /* If nothing was acknowledged, numbers are counted from 1. */
     int len = largest_acked == QUIC_PN_INVALID
         ? quic_wire_number_len(pn + 1, 0)
         : quic_wire_number_len(pn, largest_acked);

@@ -1,17 +1,17 @@
 /*
- * OpenSSL's readers and writers of transport parameters, over quic_wire.h.
+ * OpenSSL's readers and writers of transport parameters, with quic_wire.h.
  * ssl/quic/quic_wire.c includes this file in place of its own, after
  * quic_wire_ossl_encode.c.
  */
 
-/* ---- Transport parameters, written */
+/* ---- Writing transport parameters */
 
 unsigned char *ossl_quic_wire_encode_transport_param_bytes(WPACKET *pkt,
     uint64_t id,
     const unsigned char *value,
     size_t value_len)
 {
-    /* The value may come later: quic_wire_param_write can't be used. */
+    /* The value may come later, so quic_wire_param_write can't be used. */
     unsigned char bytes[2 * sizeof(uint64_t)];
     size_t id_len = quic_wire_varint_write(id, 0, bytes, sizeof(bytes));
     size_t len = quic_wire_varint_write(value_len, 0, bytes + id_len,
@@ -46,7 +46,7 @@ int ossl_quic_wire_encode_transport_param_cid(WPACKET *wpkt,
         != NULL;
 }
 
-/* ---- Transport parameters, read */
+/* ---- Reading transport parameters */
 
 int ossl_quic_wire_peek_transport_param(PACKET *pkt, uint64_t *id)
 {

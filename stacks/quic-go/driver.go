@@ -1,6 +1,6 @@
-// A driver over the wire layer of quic-go: internal/wire and internal/protocol, read in the loop of connection.go, in
-// a 1-RTT packet, with DATAGRAM and ACK frequency. It lies in a folder of quic-go's module (build), whose internal
-// packages it names.
+// A driver for the wire layer of quic-go: internal/wire and internal/protocol, called as in the loop of connection.go,
+// in a 1-RTT packet, with DATAGRAM and ACK frequency. It must be in a folder of quic-go's module (build), whose
+// internal packages it imports.
 package main
 
 import (
@@ -128,7 +128,7 @@ func withData(frame any) item {
 	return item{"type": fmt.Sprintf("%T", frame)}
 }
 
-// Frames that are a limit; nil of others.
+// Frames that are a limit; nil for others.
 func limits(frame any, kind wire.FrameType) item {
 	switch f := frame.(type) {
 	case *wire.MaxDataFrame:
@@ -180,7 +180,7 @@ func shown(frame any, kind wire.FrameType) item {
 	return withData(frame)
 }
 
-// How many bytes of PADDING a payload begins with, which ParseType passes over.
+// How many bytes of PADDING a payload begins with, which ParseType skips.
 func padding(data []byte) int {
 	count := 0
 	for {
@@ -283,7 +283,7 @@ var packets = map[protocol.PacketType]string{
 	protocol.PacketTypeHandshake: "Handshake", protocol.PacketTypeRetry: "Retry",
 }
 
-// A packet with a long header, and what is behind it; none where it is refused.
+// A packet with a long header, and what follows it; none if it is rejected.
 func longPacket(data []byte, begin int) (item, []byte, bool) {
 	if wire.IsVersionNegotiationPacket(data) {
 		dst, src, versions, err := wire.ParseVersionNegotiationPacket(data)

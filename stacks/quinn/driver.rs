@@ -1,4 +1,4 @@
-//! A driver (vectors/README.md) over this crate's readers, and over its numbers.
+//! A driver (vectors/README.md) for quinn-proto's readers, and for its packet numbers.
 use std::io::{self, BufRead, Write};
 
 use bytes::{Bytes, BytesMut};
@@ -74,7 +74,7 @@ fn stream(id: &crate::StreamId) -> (&'static str, String) {
     ("stream_id", id.0.to_string())
 }
 
-/// Frames of numbers alone that are a limit.
+/// Frames of only numbers that are a limit.
 fn limit(frame: &Frame) -> Option<String> {
     let all = |ty: &str, most: u64| item(ty, &[("maximum_data", most.to_string())]);
     let one = |ty: &str, id, most: &u64| item(ty, &[stream(id), ("maximum_stream_data", most.to_string())]);
@@ -231,7 +231,7 @@ fn varint_write(digits: &str) -> String {
 fn answer(form: &str, context: &str, input: &str) -> String {
     let word = |name: &str| context.split(',').find_map(|word| word.strip_prefix(name)?.strip_prefix('='));
     let is_known = word("extension").is_none_or(|name| KNOWN.contains(&name));
-    // It knows version 1 and drafts, and any packet's frames are read alike.
+    // It knows version 1 and drafts, and reads frames alike in any packet.
     if !is_known || ["strict", "without", "packet", "versions"].iter().any(|name| word(name).is_some()) {
         return "skip".into();
     }

@@ -1,5 +1,5 @@
 //! What quinn-proto's readers make of lists of hexadecimal lines, and what its writers make of what was read, a line
-//! for each: of files in the folder `LISTS`, into files of the folder `SHOWN`. Both trees have it; over the library a
+//! for each: from files in the folder `LISTS`, into files in the folder `SHOWN`. Both trees have it; with the library a
 //! payload is borrowed (run).
 use std::panic::{RefUnwindSafe, catch_unwind};
 
@@ -74,7 +74,7 @@ fn params(list: Vec<u8>, side: Side) -> String {
     }
 }
 
-/// The frames of a payload that this crate writes, written anew.
+/// The frames of a payload that quinn-proto writes, written again.
 fn written(payload: Vec<u8>) -> String {
     let payload = Bytes::from(payload);
     let mut out = Vec::new();

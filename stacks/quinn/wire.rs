@@ -1,4 +1,4 @@
-//! The glue to `quic_wire`: its frames to and from those of this crate.
+//! The glue to `quic_wire`: converts between its frames and those of quinn-proto.
 use bytes::Bytes;
 pub(crate) use quic_wire::frame::Frame;
 use quic_wire::frame::{self as theirs, FrameType};
@@ -10,7 +10,7 @@ pub(crate) fn put(buf: &mut Vec<u8>, x: &Frame<'_>) {
     x.encode(false, buf).expect("a frame in range");
 }
 
-/// A close of at most `max_len` bytes, with as much of its reason as that lets it have.
+/// A close of at most `max_len` bytes, with as much of its reason as fits.
 pub(crate) fn put_close(buf: &mut Vec<u8>, close: theirs::Close<'_>, max_len: usize) {
     put(buf, &Frame::Close(close.shortened(max_len).expect("room for a close")));
 }
@@ -19,7 +19,7 @@ pub(crate) fn code(code: TransportErrorCode) -> Code {
     Code::new(code.into()).expect("below 2^62")
 }
 
-/// That of PADDING says that none is known.
+/// The type PADDING means that none is known.
 pub(crate) fn frame_type(ty: u64) -> Option<FrameType> {
     FrameType::new(ty).filter(|ty| *ty != FrameType::PADDING)
 }
@@ -70,7 +70,7 @@ fn close(payload: &Bytes, x: theirs::Close<'_>) -> frame::Close {
     }
 }
 
-/// The frame with its data counted in `payload`, which it was read of.
+/// The frame with its data located in `payload`, from which it was read.
 #[inline(always)]
 pub(crate) fn owned(payload: &Bytes, frame: Frame<'_>) -> frame::Frame {
     use frame::Frame as Ours;

@@ -1,5 +1,5 @@
-//! quinn-loop KEY CERT MEGABYTES: two endpoints of quinn-proto in one loop without sockets. The server sends so many
-//! megabytes on one stream, and the client sees that they are the same. KEY and CERT are files in DER.
+//! quinn-loop KEY CERT MEGABYTES: two endpoints of quinn-proto in one loop without sockets. The server sends this many
+//! megabytes on one stream, and the client checks that they are the same. KEY and CERT are files in DER.
 use bytes::BytesMut;
 use quinn_proto::{
     ClientConfig, Connection, ConnectionHandle, DatagramEvent, Dir, Endpoint, EndpointConfig, ServerConfig, StreamId,
@@ -10,7 +10,7 @@ use std::net::SocketAddr;
 use std::sync::Arc;
 use std::time::{Duration, Instant};
 
-/// As many as a datagram has at most.
+/// The most bytes of a datagram.
 const MOST_BYTES: usize = 1500;
 
 /// One of the two, with its connections.
@@ -55,7 +55,7 @@ impl Side {
         out
     }
 
-    /// Takes in a datagram.
+    /// Receives a datagram.
     fn take(&mut self, now: Instant, from: SocketAddr, datagram: &[u8]) {
         let mut answer = Vec::new();
         match self.endpoint.handle(now, from, None, None, BytesMut::from(datagram), &mut answer) {
@@ -92,12 +92,12 @@ static PERIOD: [u8; 1 << 16] = {
     bytes
 };
 
-/// The stream from a place on, as far as its period goes.
+/// The stream from an offset on, up to the end of its period.
 fn expected(place: usize) -> &'static [u8] {
     &PERIOD[place % PERIOD.len()..]
 }
 
-/// Writes what goes of the stream; opens it at first.
+/// Writes what the stream accepts; opens it first.
 fn write(connection: &mut Connection, stream: &mut Option<StreamId>, wrote: &mut usize, total: usize) {
     while connection.poll().is_some() {}
     if connection.is_handshaking() {
@@ -120,7 +120,7 @@ fn write(connection: &mut Connection, stream: &mut Option<StreamId>, wrote: &mut
     }
 }
 
-/// Reads what has come of the stream; true at its end.
+/// Reads what the stream has received; returns true at its end.
 fn read(connection: &mut Connection, stream: &mut Option<StreamId>, got: &mut usize) -> bool {
     while connection.poll().is_some() {}
     if stream.is_none() {

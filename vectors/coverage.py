@@ -135,7 +135,7 @@ def faults_of_examples(tests, texts):
 
 
 def faults_of_sections(document, tests, texts):
-    """Tests of a section that the document hasn't."""
+    """Tests of a section that the document lacks."""
     for test in tests:
         cited, section = test["rfc"].rsplit(" ", 1)
         if cited == document and section not in texts:
@@ -143,7 +143,7 @@ def faults_of_sections(document, tests, texts):
 
 
 def faults_of_texts(folder, every, tests):
-    """What differs from the texts that are in a folder; what is skipped is printed."""
+    """What differs from the texts in a folder; what is skipped is printed."""
     for document in dict.fromkeys(line.document for line in every):
         whole = text_in(folder, document)
         if whole is None:

@@ -11,7 +11,7 @@ FORMATS = ("payload", "datagram", "params")
 
 
 def inputs(form):
-    """The inputs in the order of the tests; of payloads the shortest ones too."""
+    """The inputs in the order of the tests; for payloads the shortest ones too."""
     for entry in run.tests():
         if entry.form == form or form == "payload" and entry.form == "shortest":
             yield entry.test["input"]

@@ -1,9 +1,10 @@
 #!/usr/bin/env python3
-"""Makes json/ of tables/. With --check it writes nothing, and ends with status 1 if json/ isn't what tables/ say.
+"""Makes json/ from tables/. With --check it writes nothing, and ends with status 1 if json/ isn't what tables/ say.
 
 make.py [--check]
 
-An id stays: one that json/ has may leave the tables only for tables/withdrawn.txt, from which none is given again."""
+An id stays: one that json/ has may leave the tables only for tables/withdrawn.txt, and none from there is used again.
+"""
 import json
 import pathlib
 import sys
@@ -12,7 +13,7 @@ from collections import Counter
 from making import kinds
 
 HERE = pathlib.Path(__file__).parent
-# Each table with its format and what makes tests of its rows.
+# Each table with its format and what makes tests from its rows.
 FILES = {
     "frames": ("payload", kinds.structured),
     "payloads": ("payload", kinds.structured),
@@ -54,7 +55,7 @@ def ids_in(text):
 
 
 def faults_of_ids(made, there):
-    """What is wrong with the ids of the tests that were made, beside those that are there."""
+    """What is wrong with the ids of the tests that were made, compared with the existing ones."""
     withdrawn = set((HERE / "tables" / "withdrawn.txt").read_text(encoding="utf-8").split("\n"))
     ids = Counter(ident for text in made.values() for ident in ids_in(text))
     yield from (f"{ident}: {count} tests have this id" for ident, count in ids.items() if count > 1)

@@ -34,11 +34,11 @@ DEFAULTS = json.loads((HERE / "defaults.json").read_text(encoding="utf-8"))  # o
 SECONDS = 120  # for a driver, without an answer to all lines
 MOST_IN_VAIN = 5  # starts of a driver
 FAILURES = ("fail", "code", "crash")
-# Transport parameters of whose lists the meaning is compared: integers with their defaults, and others by their bytes.
+# Transport parameters whose meaning is compared in lists: integers with their defaults, and others by their bytes.
 INTEGER_DEFAULTS = {0x01: 0, 0x03: 65527, **dict.fromkeys(range(0x04, 0x0A), 0), 0x0A: 3, 0x0B: 25, 0x0E: 2, 0x20: 0}
 MIN_ACK_DELAY = 0xFF04DE1B
 OTHER_PARAMETERS = {0x00, 0x02, 0x0C, 0x0D, 0x0F, 0x10, 0x2AB2}
-# What a cell of the table has: the letter before a count, by the kind of result.
+# The letter before a count in a cell of the table, by the kind of result.
 LETTERS = {"pass": "", "code": "c", "fail": "F", "crash": "X", "as RFC": "r", "otherwise": "o", "skip": "s"}
 LEGEND = (
     "passed, c with another code, F failed, X crashed; of choices r as the RFC, o otherwise; s skipped by the driver"
@@ -62,7 +62,7 @@ def tests(folder=HERE / "json"):
 
 
 def list_writers(every):
-    """Of each list of transport parameters that is read a test of writers: read and written, it says the same."""
+    """For each list of transport parameters that is read, a test for writers: read and written, it says the same."""
     for form, _, test in every:
         if form == "params" and test["result"] == "valid":
             answer = {"by": test["rfc"], "result": "valid", "list": test["input"]}
@@ -71,7 +71,8 @@ def list_writers(every):
 
 
 def payload_writers(every):
-    """Of each payload that is read a test of writers: the shortest payload of its frames, made of it and of itself."""
+    """For each payload that is read, a test for writers: the shortest payload of its frames, made from it and from
+    itself."""
     for _, group, test in every:
         if "shortest" not in test:
             continue
@@ -95,11 +96,11 @@ def line(form, test):
 
 
 class DriverEnded(Exception):
-    """A driver ends each time without an answer."""
+    """A driver ended too often without an answer."""
 
 
 def answers(command, lines):
-    """What a driver answers to each line."""
+    """What a driver answers for each line."""
     out, starts_in_vain = [], 0
     while len(out) < len(lines):
         had = len(out)
@@ -168,7 +169,7 @@ def meaning_of_list(text):
 
 
 def difference_of_lists(want, got):
-    """Where a list that was written says otherwise than the one that was read, or None."""
+    """Where a list that was written differs in meaning from the one that was read, or None."""
     want, got = meaning_of_list(want), meaning_of_list(got)
     for ident in want.keys() | got.keys():
         if want.get(ident) != got.get(ident):
@@ -177,7 +178,7 @@ def difference_of_lists(want, got):
 
 
 def difference(want, got):
-    """Where a reading differs from the one that is wanted, or None."""
+    """Where a reading differs from the expected one, or None."""
     if isinstance(want, dict) and isinstance(got, dict):
         return difference_of_parameters(want, got)
     if not isinstance(want, list) or not isinstance(got, list):
@@ -201,7 +202,7 @@ def difference_before(test, more):
 
 
 def unlike(test, allowed, verdict, code, read):
-    """Why an answer isn't the allowed one, or None; `code ..` where the code alone differs."""
+    """Why an answer isn't an allowed one, or None; `code ..` if only the code differs."""
     codes = " or ".join(allowed.get("errors", []))
     if verdict != allowed["result"]:
         return f"{verdict} {code or ''}".strip() + f", not {allowed['result']} {codes}".rstrip()
@@ -246,7 +247,7 @@ def judge(test, answer, name=None):
 
 
 def told(stack, form, test, kind, why, answer, is_whole):
-    """The lines that are printed of a test."""
+    """The lines that are printed for a test."""
     head = f"{stack}: {kind}: {test['id']} ({test['rfc']}): {why or answer[:100]}"
     return f"{head}\n    {test['comment']}\n    {line(form, test).strip()[:200]}" if is_whole else head
 
@@ -278,7 +279,7 @@ def by_file(count):
 
 
 def run(stacks, every, name, is_verbose):
-    """Runs the tests through each stack; returns of each its counts by group."""
+    """Runs the tests through each stack; returns its counts by group for each."""
     counts = []
     for stack, command in stacks:
         count = {}
@@ -293,7 +294,7 @@ def run(stacks, every, name, is_verbose):
 
 
 def stacks_of(words):
-    """The stacks and commands of the command line, or None where it is wrong."""
+    """The stacks and commands of the command line, or None if it is wrong."""
     parts = [[]]
     for word in words:
         if word == "--":

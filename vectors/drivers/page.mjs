@@ -1,4 +1,4 @@
-// A driver of the test vectors by what the page of web/ reads: its items and their fields, and the module's calls.
+// A driver of the test vectors with what the page of web/ reads: its items and their fields, and the module's calls.
 //
 // node --experimental-default-type=module --experimental-wasm-memory64 page.mjs MODULE
 import fs from "node:fs";
@@ -14,7 +14,7 @@ const VERSIONS = [1, 0x6b3343cf];
 const FIN = 1n;
 const SPIN = 0x20;
 const RESERVED = { long: 0x0c, short: 0x18 };
-// The page's names of fields that the tests name otherwise.
+// The page's names for fields that the tests name differently.
 const NAMES = {
   request_max_ack_delay: "requested_max_ack_delay", destination_connection_id: "dcid", source_connection_id: "scid",
   supported_version: "supported_versions",
@@ -74,7 +74,7 @@ function frameOf(item, bytes) {
   return out;
 }
 
-// What was read of each whole item; the page must have found the same fields as the library.
+// What was read for each whole item; the page must have found the same fields as the library.
 function itemsOf(reading, of) {
   return Array.from({ length: reading.whole }, (_, index) => {
     const item = reading.item(index);
@@ -119,7 +119,7 @@ function datagram(library, bytes, context) {
   if (!reading.error) {
     return valid(read);
   }
-  // What has a version that isn't known is a packet all the same: its ids are read.
+  // A packet of an unknown version is still a packet: its ids are read.
   return reading.error.version === null ? invalid("DROP", reading.rest, read) : "valid";
 }
 
@@ -162,7 +162,7 @@ function unprotect(library, bytes, context) {
     return "invalid PROTOCOL_VIOLATION";
   }
   const number = opened.number.toString(16).padStart(2 * numberLength, "0");
-  // The page shows the number as it is written.
+  // The page shows the truncated number.
   return context.largest === "-" ? valid(`${hex([first])} ${number} ${opened.number}`) : "valid";
 }
 

@@ -1,5 +1,5 @@
 #!/usr/bin/env python3
-"""A driver for `quic-show`, and for the programs with its modes: verdicts, and of frames and packets kinds and places.
+"""A driver for `quic-show`, and for programs with its modes: verdicts; for frames and packets also kinds and offsets.
 
 quic_show.py PROGRAM [WORD ..]"""
 import json
@@ -15,12 +15,12 @@ PACKETS = {
     "short": "1-RTT",
     "version-negotiation": "Version Negotiation",
 }
-# What is no hexadecimal, and the answer to it, which parts the answers of other lines.
+# An input that isn't hexadecimal, and the output for it, which separates the outputs of other lines.
 MARK, MARKED = "x", "error not hexadecimal"
 
 
 def mode_of(form, context):
-    """The words that ask for a mode, or None if there is none."""
+    """The arguments for a mode, or None if there is none."""
     words = dict(word.split("=") for word in context.split(",")) if context != "-" else {}
     if words.keys() & {"without", "grease", "versions"}:
         return None
@@ -34,7 +34,7 @@ def mode_of(form, context):
 
 
 def printed(program, mode, inputs):
-    """What a program prints of each input, as lists of lines."""
+    """What a program prints for each input, as lists of lines."""
     text = "".join(f"{MARK}\n{line}\n" for line in inputs)
     done = subprocess.run([*program, *mode], input=text, capture_output=True, text=True)
     if done.returncode not in (0, 1):
@@ -74,7 +74,7 @@ def code_of(form, error):
 
 
 def answer(form, lines):
-    """The answer to what was printed."""
+    """The answer for what was printed."""
     error = lines[-1].removeprefix("error ") if lines[-1].startswith("error ") else None
     if form == "shortest":
         return "invalid" if error else f'valid "{lines[0]}"'

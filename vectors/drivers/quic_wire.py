@@ -9,7 +9,7 @@ import subprocess
 import sys
 from collections import defaultdict
 
-# The fields of a frame by the RFC's names, and those of the program.
+# The RFC's names of a frame's fields, and the program's.
 FRAMES = {
     "PADDING": {"count": "count"},
     "ACK": {
@@ -99,7 +99,7 @@ def frames(items):
     if not error:
         return "valid " + json.dumps(read)
     if "offset" not in error:
-        return "skip"  # what looks like a packet with headers of IP, which the program refuses as a payload
+        return "skip"  # what looks like a packet with IP headers, which the program rejects as a payload
     is_violation = "empty" in error["error"] or "shortest" in error["error"]
     code = "PROTOCOL_VIOLATION" if is_violation else "FRAME_ENCODING_ERROR"
     return f"invalid {code} " + json.dumps({"at": error["offset"], "before": read})
@@ -117,7 +117,7 @@ def packet(item):
 def datagram(items):
     read, error = [], None
     for item in items:
-        # The program shows with this field what `Packets` of the crate refuses.
+        # The program uses this field for what `Packets` of the crate rejects.
         if item.get("fixed_bit") is False:
             error = {"offset": item.get("offset", item.get("start"))}
         elif "unsupported version" in item.get("error", "") and "dst" in item:
@@ -147,7 +147,8 @@ def parameters(items):
 
 
 def words_of(form, context):
-    """The words with which quic-wire reads a line, and what makes an answer of its JSON; None for the other program."""
+    """The arguments with which quic-wire reads a line, and what makes an answer from its JSON; None for the other
+    program."""
     words = dict(word.split("=") for word in context.split(",")) if context != "-" else {}
     if form == "payload" and "without" not in words:
         return ("frames", *["--strict"] * ("strict" in words)), frames

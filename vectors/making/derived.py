@@ -10,7 +10,7 @@ from making.fields import Field
 
 # Data that a length counts. Cut off, they are longer than what is left: the length is the field that breaks the rule.
 COUNTED = set("crypto_data token stream_data connection_id reason_phrase datagram_data dcid scid protected".split())
-# Data for whose cuts a payload's tables have rows of their own.
+# Data for whose cuts a payload's tables have separate rows.
 OWN_ROWS = set("crypto_data token stream_data reason_phrase datagram_data".split())
 FIXED = set("stateless_reset_token data version".split())
 NEW_CONNECTION_ID = b"\x18"

@@ -7,7 +7,7 @@ from making.fields import bytes_of, fault_in, parse
 from making.readings import NEGOTIATION, VERSION_1, VERSION_2, reading, value
 from run import merged
 
-# What a reader must support beside RFC 9000 for the tests of a document or group.
+# What a reader must support besides RFC 9000 for the tests of a document or group.
 EXTENSIONS = {
     "RFC 9221": "datagram",
     "ACK frequency": "ack-frequency",
@@ -35,7 +35,8 @@ def extension(form, rfc, group, items, context):
 
 
 def completed(items, context):
-    """A list of transport parameters with what section 7.3 asks of its sender, so that it breaks one rule only."""
+    """A list of transport parameters with what section 7.3 requires from its sender, so that it breaks only one rule.
+    """
     if context.get("complete") == "0":
         return items
     there = {item[0].number() for item in items if item[0].name == "id" and item[0].is_whole()}
@@ -44,7 +45,7 @@ def completed(items, context):
 
 
 def long_header_side(item, size, is_only):
-    """Who gets a packet with a long header, where one side alone can; a small Initial is read by clients only."""
+    """Who receives a packet with a long header, if only one side can; only clients read a small Initial."""
     fields = {field.name: field for field in item}
     version = value(fields["version"])
     if version == NEGOTIATION:
@@ -59,7 +60,7 @@ def long_header_side(item, size, is_only):
 
 
 def side(items):
-    """Who reads a datagram: nothing where both may."""
+    """Who reads a datagram: nothing if both may."""
     size = len(bytes_of(items))
     for item in items:
         if any(field.name == "version" and len(field.bytes) == 4 for field in item):
@@ -91,7 +92,7 @@ def case_of(form, row):
 
 
 def has_shortest(form, case, read):
-    """Whether a test has the shortest form of its payload: not where it matters who sent it in which packet, nor for
+    """Whether a test has the shortest form of its payload: not if it matters who sent it in which packet, nor for
     PADDING in longer types, which readers count differently."""
     if form != "payload" or not read or "packet" in case.context or case.context.get("side") == "server":
         return False
@@ -131,7 +132,7 @@ def structured(form, table):
 
 
 def varints(_form, table):
-    """`read BYTES` or `write NUMBER`, and what that gives."""
+    """`read BYTES` or `write NUMBER`, and the result."""
     for row in rows.rows(table):
         (word, given), answer = row.columns[0].split(), row.columns[1]
         test = row.test(call=f"varint-{word}", input="" if given == "-" else given)
@@ -141,8 +142,8 @@ def varints(_form, table):
 
 
 def numbers(_form, table):
-    """`expand LARGEST BITS WRITTEN` or `length NUMBER ACKED`, and the number or length; where there are two, the second
-    is that of A.2's pseudocode or of DEPARTING."""
+    """`expand LARGEST BITS WRITTEN` or `length NUMBER ACKED`, and the number or length; if there are two, the second is
+    that of A.2's pseudocode or of DEPARTING."""
     for row in rows.rows(table):
         word, *given = row.columns[0].split()
         names = ["largest", "bits", "written"] if word == "expand" else ["number", "acked"]
@@ -167,7 +168,7 @@ def shortest_payloads(_form, table):
 
 
 def headers(_form, table):
-    """What a header says, and the bytes to be written or `refused`."""
+    """The fields of a header, and the bytes to write or `refused`."""
     for row in rows.rows(table):
         context = {name: text or "-" for name, text in (word.split("=") for word in row.columns[0].split())}
         answer = row.columns[1].replace(" ", "")
@@ -176,7 +177,7 @@ def headers(_form, table):
 
 
 def protection(_form, table):
-    """A protected packet, the mask with its place, and the first byte, number bytes and number under protection, which
+    """A protected packet, the mask with its offset, and the first byte, number bytes and number under protection, which
     make two tests: protection removed (`.off`) and applied (`.on`)."""
     for row in rows.rows(table):
         packet, words, answer = row.columns

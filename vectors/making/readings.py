@@ -1,4 +1,4 @@
-"""What is read of the fields of a row, by the RFC's names. Integers are decimal strings, bytes hexadecimal."""
+"""What is read from the fields of a row, with the RFC's names. Integers are decimal strings, bytes hexadecimal."""
 from making.fields import BYTES
 
 FRAMES = {
@@ -9,7 +9,7 @@ FRAMES = {
     0x1c: "CONNECTION_CLOSE", 0x1d: "CONNECTION_CLOSE", 0x1e: "HANDSHAKE_DONE", 0x1f: "IMMEDIATE_ACK", 0x30: "DATAGRAM",
     0x31: "DATAGRAM", 0xaf: "ACK_FREQUENCY",
 } | dict.fromkeys(range(0x08, 0x10), "STREAM")  # fmt: skip
-# Fields that say where others end: what they say is seen in those.
+# Fields that say where others end, which show what these say.
 LENGTHS = set(
     "type length token_length reason_phrase_length ack_range_count first_ack_range gap ack_range_length "
     "connection_id_length".split()
@@ -24,7 +24,7 @@ def value(field):
 
 
 def ranges_of(item):
-    """The ranges of an ACK, the greatest first."""
+    """The ranges of an ACK, greatest first."""
     high, ranges = item[1].number(), []
     for field in item:
         if field.name == "gap":
@@ -35,7 +35,7 @@ def ranges_of(item):
 
 
 def padding(item):
-    """A PADDING frame. No count where its type isn't in one byte: some readers count bytes, others frames."""
+    """A PADDING frame. It has no count if its type isn't in one byte: some readers count bytes, others frames."""
     return {"type": "PADDING"} | ({"count": str(len(item[0].bytes))} if item[0].bytes[0] == 0 else {})
 
 
@@ -57,7 +57,7 @@ def frame(item):
 
 
 def retry(fields):
-    """The token and tag of a Retry; nothing where the tag isn't whole."""
+    """The token and tag of a Retry; nothing if the tag isn't whole."""
     tag = fields.get("retry_integrity_tag")
     if not tag or len(tag.bytes) != 16:
         return {}
@@ -114,7 +114,7 @@ def parameter_value(field):
 
 
 def parameters(items):
-    """A list of transport parameters; what isn't known or has no value by itself is left out."""
+    """A list of transport parameters; what is unknown or has no value of its own is left out."""
     out = {}
     for item in items:
         prefix = "preferred_" if item[0].number() == PREFERRED_ADDRESS else ""

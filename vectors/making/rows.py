@@ -13,13 +13,13 @@ CODES = {
     "CBE": "CRYPTO_BUFFER_EXCEEDED",
     "DROP": "DROP",
 }
-# Who reads some inputs otherwise than the RFC has it, on purpose.
+# Who reads some inputs differently from the RFC, on purpose.
 DEPARTING = "quinn-proto and quic-wire"
 SECTION = re.compile(r" \[((?:RFC|ACK)[^]]*)\]$")
 
 
 class Group(NamedTuple):
-    """A group of tests: its title, and the document and section of those that name none of their own."""
+    """A group of tests: its title, and the document and section for those that name none."""
 
     title: str
     rfc: str

@@ -1,4 +1,4 @@
-"""The ciphers and key schedule of RFC 9001, in plain Python and as slow as that is: enough to work its examples.
+"""The ciphers and key schedule of RFC 9001, in plain and therefore slow Python: enough to work its examples.
 
 AES-128 by FIPS 197, GCM by NIST SP 800-38D, ChaCha20 and Poly1305 by RFC 8439, HKDF by RFC 5869."""
 import hashlib
@@ -18,7 +18,7 @@ GCM_POLYNOMIAL = 0xE1 << 120
 
 
 class NotAuthentic(Exception):
-    """The tag of a packet isn't that of its bytes."""
+    """The tag of a packet doesn't fit its bytes."""
 
 
 def doubled(byte):
@@ -219,7 +219,7 @@ def retry_tag(version, odcid, packet):
 
 
 def call(form, context, data):
-    """The answer to a line of tests."""
+    """The answer for a line of tests."""
     given = {name: bytes.fromhex(context.get(name, "")) for name in ("dcid", "secret", "hp", "header", "odcid")}
     version, cipher = context.get("version"), context.get("cipher")
     number, place = int(context.get("number", 0)), int(context.get("place", 0))

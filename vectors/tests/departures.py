@@ -1,6 +1,6 @@
 #!/usr/bin/env python3
-"""Whether a document names each test at which quinn-proto and quic-wire depart from the RFC, in the last column of its
-tables, and no others but those that leave a choice.
+"""Checks that a document names each test at which quinn-proto and quic-wire depart from the RFC in the last column of
+its tables, and otherwise only those that leave a choice.
 
 departures.py DOCUMENT"""
 import fnmatch

@@ -1,5 +1,6 @@
 #!/usr/bin/env python3
-"""A driver of the tests by the plain reader and writer of tests/reader, which answers each of them as the RFC does."""
+"""A driver of the tests with the plain reader and writer of tests/reader, which answers each of them as the RFC does.
+"""
 import json
 import sys
 
@@ -23,7 +24,7 @@ def cipher(form, context, data):
 
 
 def call(form, context, text):
-    """What a single call gives."""
+    """What a single call returns."""
     data = b"" if form == "varint-write" else bytes.fromhex(text)
     if form == "number-expand":
         largest = -1 if context["largest"] == "-" else int(context["largest"])

@@ -1,6 +1,6 @@
 #!/usr/bin/env python3
-"""Whether the files of json/ fit their schema, by the words of JSON Schema that schema.json uses, and whether README.md
-says how many tests they have."""
+"""Checks that the files of json/ fit their schema, with the keywords of JSON Schema that schema.json uses, and that
+README.md has the numbers of their tests."""
 import json
 import pathlib
 import re
@@ -35,7 +35,7 @@ def faults_of_array(value, schema, where):
 
 
 def faults(value, schema, where):
-    """What of a value doesn't fit."""
+    """What doesn't fit in a value."""
     if "$ref" in schema:
         schema = SCHEMA["$defs"][schema["$ref"].removeprefix("#/$defs/")]
     if unknown := schema.keys() - KNOWN:
@@ -53,7 +53,7 @@ def faults(value, schema, where):
 
 
 def faults_of_counts(counts):
-    """What README.md says otherwise of how many tests there are."""
+    """Where README.md differs in how many tests there are."""
     text = (TOP / "README.md").read_text(encoding="utf-8")
     told = {name: int(count) for name, count in re.findall(r"^\| `(\w+)\.json` \| (\d+) \|", text, re.M)}
     if told != counts:

@@ -1,6 +1,6 @@
 #!/usr/bin/env python3
-"""Whether the tests notice wrong readers: the plain reader is changed in one place at a time, an operator, a number, a
-condition or an exception, and a test must fail each time.
+"""Checks that the tests notice wrong readers: the plain reader is changed in one place at a time, an operator, a
+number, a condition or an exception, and a test must fail each time.
 
 wrong_readers.py [-v]
 
@@ -32,7 +32,7 @@ OPERATORS = {
 
 
 class Change(NamedTuple):
-    """A node, by its number among those of a module, and what becomes of it."""
+    """A node, by its number among those of a module, and what it becomes."""
 
     module: str
     node: int
@@ -45,7 +45,7 @@ class TooSlow(Exception):
 
 
 def changes_of(node):
-    """What may become of a node, as functions that change it in place."""
+    """What a node may become, as functions that change it in place."""
 
     def comparison(index, kind):
         return lambda one: one.ops.__setitem__(index, kind())

@@ -1,7 +1,7 @@
 #!/usr/bin/env python3
-"""Whether a right reader notices wrong tests: each test is changed in its result, its code, the offset of its error or
-one digit of what is read, and must fail then. Also whether the bytes after `known_at` don't matter: with others there a
-reader must reject the input too.
+"""Checks that a right reader notices wrong tests: each test is changed in its result, its code, the offset of its error
+or one digit of what is read, and must then fail. Also checks that the bytes after `known_at` don't matter: with others
+there a reader must reject the input too.
 
 wrong_tables.py [COMMAND ..]
 
@@ -36,7 +36,7 @@ def other_result(allowed):
 
 
 def other_code(allowed, answer):
-    """The answer with a code that nobody gives; None if it has no code or the driver gave none."""
+    """The answer with a code that no reader returns; None if it has no code or the driver returned none."""
     if allowed["result"] == "valid" or answer.split(" ")[1:2] in ([], ["?"]):
         return None
     return allowed | {"errors": ["NO_ERROR"]}
@@ -51,7 +51,7 @@ def other_readings(read):
 
 
 def wrong_tests(test, allowed, answer):
-    """A test of one answer in all wrong ways, each with what is wrong."""
+    """A test with one answer in all wrong ways, each with what is wrong."""
     yield "result", test | {"answers": [other_result(allowed)]}
     if wrong := other_code(allowed, answer):
         yield "code", test | {"answers": [wrong]}
@@ -64,7 +64,7 @@ def wrong_tests(test, allowed, answer):
 
 
 def changes(entries, answers):
-    """Each wrong test with the answer to it, and what is wrong."""
+    """Each wrong test with the answer for it, and what is wrong."""
     for (_, _, test), answer in zip(entries, answers):
         index = accepted(test, answer)
         if index is not None:
@@ -73,7 +73,7 @@ def changes(entries, answers):
 
 
 def other_tails(entries):
-    """Tests whose bytes after known_at are others."""
+    """Tests in which the bytes after known_at are others."""
     for form, group, test in entries:
         known, size = test.get("known_at"), len(test["input"]) // 2
         if test["result"] == "invalid" and known is not None and known < size:

@@ -105,7 +105,7 @@ static quic_wire_header_fields header_fields(const line *in) {
   return fields;
 }
 
-/* A version negotiation, all of it. */
+/* A version negotiation, the whole of it. */
 static void answer_negotiation_write(const line *in, const uint8_t *dcid,
                                      size_t dcidlen, const uint8_t *scid,
                                      size_t scidlen) {
@@ -155,8 +155,7 @@ static void answer_header_write(const line *in) {
   puts("\"");
 }
 
-/* Writes a frame that was read in its shortest form; an ACK by its gaps, and
- * PADDING as often as it is there. */
+/* Writes a frame that was read in its shortest form; an ACK by its gaps, and PADDING as often as it was there. */
 static int write_frame(const line *in, const quic_wire_frame *frame,
                        uint8_t *out, size_t room, size_t *len) {
   quic_wire_frame ack;

@@ -1,4 +1,4 @@
-/* A driver of the test vectors by the library for C: reads lines `FORMAT
+/* A driver of the test vectors with the library for C: reads lines `FORMAT
  * CONTEXT INPUT`, and answers each. */
 #ifndef DRIVER_H
 #define DRIVER_H
@@ -9,7 +9,7 @@
 
 #include "quic_wire.h"
 
-/* A line: its words, and the bytes of the last. */
+/* A line: its fields, and the bytes of the last. */
 typedef struct line {
   char *form, *context, *text;
   uint8_t *bytes;

@@ -69,7 +69,7 @@ static void print_ranges(FILE *out, const line *in,
   putc(']', out);
 }
 
-/* The fields that one kind of frame alone has. */
+/* The fields that only one kind of frame has. */
 static void print_more(FILE *out, const line *in, const quic_wire_frame *frame) {
   static const char *const directions[] = {"bidirectional", "unidirectional"};
   switch (frame->kind) {

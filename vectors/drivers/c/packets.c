@@ -54,8 +54,7 @@ static void print_packet(FILE *out, const uint8_t *packet, size_t begin,
   putc('}', out);
 }
 
-/* Whether a packet is there, with its header.  Only in packets of versions 1 and
- * 2 has the fixed bit a meaning. */
+/* Whether a packet is there, with its header. Only in packets of versions 1 and 2 does the fixed bit have a meaning. */
 static int read_packet(const line *in, size_t begin, quic_wire_header *header) {
   static const uint32_t versions[] = {QUIC_WIRE_VERSION_1, QUIC_WIRE_VERSION_2};
   const uint32_t flags =

@@ -1,5 +1,5 @@
 #!/usr/bin/env python3
-"""A driver for the Python package quic_wire, which has to be importable; the tests of ciphers need `cryptography` too.
+"""A driver for the Python package quic_wire, which must be importable; the tests of ciphers need `cryptography` too.
 
 driver.py"""
 import json
@@ -21,7 +21,7 @@ PACKETS = {
     q.VersionNegotiation: "Version Negotiation", q.UnknownVersion: "unknown version",
 }  # fmt: skip
 KINDS = {"initial": 0, "0rtt": 1, "handshake": 2, "retry": 3, "1rtt": 4}
-# Of each class of frames the names of its fields by the RFC, in the order of the class.
+# For each class of frames the RFC's names of its fields, in the order of the class.
 CODE = "application_protocol_error_code"
 FRAMES = {
     q.Padding: ("PADDING", "count"),

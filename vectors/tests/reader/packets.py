@@ -75,7 +75,7 @@ def read_short(data, begin, context):
 
 
 def read_datagram(datagram, context):
-    """The packets, where the last whole one ends, and DROP where the rest is no packet."""
+    """The packets, where the last whole one ends, and DROP if the rest isn't a packet."""
     packets, at = [], 0
     while at < len(datagram):
         data = Input(datagram[at:], DROP)

@@ -41,7 +41,7 @@ def read_preferred_address(value):
 
 
 def read_value(ident, value):
-    """What a parameter says; nothing of one that isn't known."""
+    """What a parameter says; nothing for an unknown one."""
     if ident in INTEGERS:
         name, least, greatest = INTEGERS[ident]
         number = value.integer()

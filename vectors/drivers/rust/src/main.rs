@@ -11,7 +11,7 @@ const SAMPLE: usize = 16;
 const RESERVED_LONG: u8 = 0x0c;
 const RESERVED_SHORT: u8 = 0x18;
 
-/// The words of a line's context; `-` stands for none.
+/// The fields of a line's context; `-` stands for none.
 struct Context<'a>(HashMap<&'a str, &'a str>);
 
 impl<'a> Context<'a> {

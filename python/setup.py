@@ -1,11 +1,11 @@
-"""Builds the module quic_wire._wire with the library quic_wire, which is the first that is there of:
+"""Builds the module quic_wire._wire with the library quic_wire, the first of these that exists:
 
 - libquic_wire.a in the folder that QUIC_WIRE_LIB names
 - the library as C, as scripts/portable leaves it, in the folder that QUIC_WIRE_PORTABLE names, or in `portable` beside
-  this file: any machine with a C compiler and integers of 64 bits builds it
+  this file: any machine with a C compiler and 64-bit integers builds it
 
-The module has the limited API of CPython 3.11, so that one wheel serves 3.11 and later. An interpreter without its lock
-has another API, and a wheel of its own.
+The module uses the limited API of CPython 3.11, so that one wheel serves 3.11 and later. An interpreter without its
+lock has another API, and a separate wheel.
 """
 
 import os
@@ -20,7 +20,7 @@ HERE = pathlib.Path(__file__).resolve().parent
 LIMITED_API = "0x030b0000"
 IS_LIMITED = not sysconfig.get_config_var("Py_GIL_DISABLED")
 COMPILE = [] if os.name == "nt" else ["-O2", "-fvisibility=hidden", "-ffunction-sections", "-g0"]
-# The library's own symbols stay inside of the module, and what it doesn't call stays out.
+# The library's own symbols stay inside the module, and what it doesn't call stays out.
 LINK = ["-Wl,--exclude-libs,ALL", "-Wl,--gc-sections"] if sys.platform == "linux" else []
 PORTABLE = ("quic_wire_proved.c", "quic_wire.c", "texts.c")
 
@@ -40,7 +40,7 @@ AS_C = None if LIB else named("QUIC_WIRE_PORTABLE", "src/quic_wire_proved.c") or
 
 
 def include():
-    """The folder of quic_wire.h: beside the library, as an installation has it, or where the repository has it."""
+    """The folder of quic_wire.h: beside the library, as installed, or where the repository has it."""
     folders = [AS_C / "include"] if AS_C else [LIB / "include", LIB.parent / "include"]
     for folder in (*folders, HERE / "include", HERE.parent / "c" / "include"):
         if (folder / "quic_wire.h").is_file():
@@ -49,7 +49,7 @@ def include():
 
 
 class BuildWithLibrary(build_ext):
-    """Builds the library as C first, where no archive is named."""
+    """Builds the library as C first, if no archive is named."""
 
     def build_extension(self, ext):
         if AS_C:

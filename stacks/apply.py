@@ -5,7 +5,6 @@ as `diff -e` writes them, from the end of the file to its beginning. Nothing is 
 edits were made for.
 
 apply.py --make ORIGINAL CHANGED FILE.. writes such a list for these files to standard output.
-
 """
 
 import hashlib

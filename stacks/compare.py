@@ -2,7 +2,6 @@
 
 Prints how many lines there are; in how many the first panics and the second doesn't; in how many the second rejects
 what the first reads; the reverse; and in how many both read different values.
-
 """
 
 import sys

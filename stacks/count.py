@@ -5,7 +5,6 @@ whose `functions` match `file:function` (the file is that of the line, so inline
 it), and a part is called as often as the functions that `calls` matches. If a function of a part calls one that the
 line `helpers - functions` names, the cost of that counts for the part. Prints rows of tab-separated fields: the cost of
 each part per its calls, of all parts per the calls of the one named UNIT, and of the whole; one field for each profile.
-
 """
 
 import collections

@@ -3,7 +3,6 @@
 Each difference has a key; reasons.txt says for keys which kind of difference they are, and why. Prints a line `STACK
 FORMAT COUNT..` of tab-separated fields, the counts of KINDS, and then each reason with its count and its shortest line.
 The status is 1 if a key has no reason.
-
 """
 
 import collections

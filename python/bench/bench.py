@@ -1,17 +1,16 @@
 #!/usr/bin/env python3
-"""Times of reading, of this package and of aioquic and scapy, side by side in one process: payloads and datagrams a
-second.
+"""Compares how fast this package, aioquic and scapy read, side by side in one process: payloads and datagrams a second.
 
 bench.py --aioquic SOURCE [--rounds N] LIST ..
 
-SOURCE is the folder `src` of aioquic's source with its module _buffer built (stacks/aioquic/build of the repository).
-A LIST is a file of lines of hexadecimal: payloads without protection, or in datagrams*.hex datagrams whose short
-headers have ids of 8 bytes, in params*.hex transport parameters that a server sent. Only lines that both sides read
-are timed. scapy is compared where it is there, on datagrams.
+SOURCE is the folder `src` of aioquic's source with its module _buffer built (stacks/aioquic/build of the repository). A
+LIST is a file of lines of hexadecimal: payloads without protection, or in datagrams*.hex datagrams whose short headers
+have ids of 8 bytes, in params*.hex transport parameters that a server sent. Only lines that both sides read are timed.
+scapy is compared on datagrams if it is installed.
 
-Of aioquic is timed what its handlers in connection.py read from their buffer, word for word, without the connection's
-state, and the numbers of the two frames of the ACK frequency extension, which it doesn't know. Of this package the
-objects alone, and the objects with every one of their fields read. A figure is the best of N rounds.
+For aioquic this times what its handlers in connection.py read from their buffer, literally, without the connection's
+state, and the numbers of the two frames of the ACK frequency extension, which it doesn't know. For this package it
+times the objects alone, and the objects with all of their fields read. A figure is the best of N rounds.
 """
 
 import argparse

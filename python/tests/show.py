@@ -1,9 +1,9 @@
 #!/usr/bin/env python3
-"""Prints what quic-show prints, by the package: of each line of standard input, which is hexadecimal.
+"""Prints what quic-show prints for each line of standard input, which is hexadecimal, with the package.
 
 show.py frames|strict|canon; show.py datagram LEN; show.py params client|server
 
-0: every line is answered; 1: some line is rejected; 2: a wrong call.
+Exit status: 0 every line is accepted, 1 a line is rejected, 2 usage error.
 """
 
 import binascii

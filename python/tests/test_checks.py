@@ -1,4 +1,4 @@
-"""What readers check: of each flag what is read without it and rejected with it, or the other way round."""
+"""What readers check: for each flag what is read without it and rejected with it, or the reverse."""
 
 import functools
 import operator
@@ -9,7 +9,7 @@ import quic_wire as q
 FLAGS = list(q.Checks)
 FEE, PV, TPE = q.Code.FRAME_ENCODING_ERROR, q.Code.PROTOCOL_VIOLATION, q.Code.TRANSPORT_PARAMETER_ERROR
 RETRY = "f0000000010000"
-# What is rejected with a flag only: the flag, bytes, reason, field and where, code, section of RFC 9000.
+# What is rejected only with a flag: the flag, bytes, reason, field and offset, code, section of RFC 9000.
 FRAMES = [
     ("SHORT_TYPES", "4001", "frame type not in shortest form", "Frame Type", 0, PV, "12.4"),
     ("SHORT_TYPES", "80000001", "frame type not in shortest form", "Frame Type", 0, PV, "12.4"),
@@ -33,7 +33,7 @@ PACKETS = [
     ("WHOLE_RETRY", RETRY + "00" * 15, "Retry without a token or a tag", "Retry Integrity Tag", 7, None, "17.2.5.2"),
     ("WHOLE_RETRY", RETRY + "00" * 16, "Retry without a token or a tag", "Retry Token", 7, None, "17.2.5.2"),
 ]
-# What is rejected without a flag only, and with which flags it is read.
+# What is rejected only without a flag, and with which flags it is read.
 UNSET = "fixed bit unset"
 GREASED = [
     (["GREASED_BIT"], "0011223344", UNSET, "Fixed Bit", 0, None, "17.3.1"),
@@ -43,7 +43,7 @@ GREASED = [
 ]
 GREASE, DELAY = "6ab200", "c0000000ff04de1b0107"
 LONG = "its integer isn't in its shortest encoding, which RFC 9000, section 16, allows and quinn-proto rejects"
-# Lists that have a parameter twice, and where it is again.
+# Lists that have a parameter twice, and the offset of the second.
 REPEATS = [("0f00" + GREASE + "040105" + GREASE, "grease_quic_bit", 8), (DELAY * 2, "min_ack_delay", 10)]
 # Lists with an integer that could be shorter, and what it is.
 WIDE = [("01024001", "max_idle_timeout", 1), ("030244b0" + "0408c000000000000005", "initial_max_data", 5)]

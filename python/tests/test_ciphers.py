@@ -1,4 +1,4 @@
-"""Packets opened and sealed by the package cryptography: the examples of RFC 9001, appendix A, and captures."""
+"""Packets opened and sealed with the package cryptography: the examples of RFC 9001, appendix A, and captures."""
 
 import io
 import random
@@ -94,7 +94,7 @@ def handshake_message(kind, body):
 
 
 class Connection:
-    """Datagrams of a connection with secrets of our own, as a capture and its key log have them."""
+    """Datagrams of a connection with our own secrets, as in a capture and its key log."""
 
     def __init__(self, suite=0x1302, version=q.Version.V1):
         self.random, size = bytes(range(32)), 48 if suite == 0x1302 else 32

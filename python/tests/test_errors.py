@@ -1,4 +1,4 @@
-"""Rejections: their reasons, places, fields, codes and sections."""
+"""Rejections: their reasons, offsets, fields, codes and sections."""
 
 import copy
 import pickle
@@ -16,7 +16,7 @@ def rejected(call, *args, **keywords):
 
 
 class Errors(unittest.TestCase):
-    # A payload, its reason, where, the field at fault and where, the code, the section, the type that was read.
+    # A payload, its reason, offset, the field at fault and its offset, the code, the section, the type that was read.
     def test_of_payloads(self):
         rows = [
             ("", "packet payload is empty", 0, None, None, 0x0A, "12.4", None),

@@ -1,4 +1,4 @@
-"""Frames: what no test vector says of the objects that are read and made."""
+"""Frames: what no test vector covers about the objects that are read and made."""
 
 import copy
 import pickle

@@ -1,4 +1,4 @@
-"""What is kept and freed, threads, and interpreters beside each other."""
+"""What is kept and freed, threads, and several interpreters."""
 
 import gc
 import importlib

@@ -88,7 +88,7 @@ class Packets(unittest.TestCase):
             with self.subTest(i), self.assertRaises(kind):
                 call()
 
-    # RFC 9001, appendix A.5: the header of a short packet, whose sample and mask are given.
+    # RFC 9001, appendix A.5: the header of a short packet, with its sample and mask.
     def test_protection_is_removed_and_applied(self):
         packet = bytearray.fromhex("4cfe4189655e5cd55c41f69080575d7999c25a5bfb")
         mask = bytes.fromhex("aefefe7d03")

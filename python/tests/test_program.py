@@ -1,4 +1,4 @@
-"""The program: what it prints, and with what it ends."""
+"""The program: its output and its exit status."""
 
 import json
 import pathlib
@@ -140,7 +140,7 @@ class Modes(unittest.TestCase):
         text = run("frames", "--color=always", given=b"01")[0]
         self.assertEqual(text, "\x1b[2m1:\x1b[0m \x1b[33m0..1\x1b[0m \x1b[1;32mPING\x1b[0m\n")
 
-    # The dumps that the Rust crate's program reads are read as it reads them.
+    # The dumps that the Rust crate's program reads are read in the same way.
     def test_dumps_are_read(self):
         folder = REPOSITORY / "rust" / "tests" / "dumps"
         if not folder.is_dir():

@@ -1,4 +1,4 @@
-"""The stored lists of the repository: calls, and what quinn-proto 0.11.19 or a plain model answers to them."""
+"""The stored lists of the repository: calls, and what quinn-proto 0.11.19 or a plain model answers for them."""
 
 import importlib.util
 import pathlib
@@ -51,7 +51,7 @@ def ranges_of(text):
 
 
 def frame_of(kind, words):
-    """The bytes that a frame is written as; None of what this package doesn't write alone."""
+    """The bytes that a frame is written as; None for what this package doesn't write by itself."""
     if kind == "reset_stream":
         return q.ResetStream(*map(int, words)).encode()
     if kind == "stop_sending":
@@ -87,7 +87,7 @@ def change(numbers, call, words):
 
 
 def header_of(words):
-    """A header and where its packet number begins; None of a version negotiation."""
+    """A header and where its packet number begins; None for a version negotiation."""
     kind, *fields = words
     if kind == "version-negotiation":
         return None

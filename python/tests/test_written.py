@@ -1,4 +1,4 @@
-"""Whatever is written is read back, and any bytes are read or rejected: with hypothesis, where it is there."""
+"""Whatever is written is read back, and any bytes are read or rejected: with hypothesis, if it is installed."""
 
 import unittest
 
@@ -10,7 +10,7 @@ try:
 except ImportError:
     raise unittest.SkipTest("the package hypothesis isn't there") from None
 
-# A machine that does other work too isn't at fault.
+# A machine that also does other work isn't at fault.
 PATIENT = {"deadline": None, "suppress_health_check": [HealthCheck.too_slow]}
 MOST = (1 << 62) - 1
 EDGES = [63, 64, 16383, 16384, (1 << 30) - 1, 1 << 30, MOST]
@@ -65,7 +65,7 @@ parameter_list = st.one_of(st.binary(max_size=120), st.lists(parameter, max_size
 
 
 def merged(frames):
-    """As they are read: PADDING frames that follow each other are one."""
+    """As they are read: consecutive PADDING frames are one."""
     out = []
     for one in frames:
         if out and isinstance(one, q.Padding) and isinstance(out[-1], q.Padding):

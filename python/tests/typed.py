@@ -1,4 +1,4 @@
-"""Types as a caller meets them, for mypy --strict; nothing of it runs in a test."""
+"""Types from a caller's point of view, for mypy --strict; no test runs it."""
 
 from __future__ import annotations
 

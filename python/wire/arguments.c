@@ -1,5 +1,5 @@
 /* SPDX-License-Identifier: MIT OR Apache-2.0 */
-/* What is checked of arguments, with exceptions that name them. */
+/* Checks of arguments, with exceptions that name them. */
 #include "wire.h"
 
 #define VARINT_END ((uint64_t)1 << 62)

@@ -11,8 +11,7 @@ typedef struct reader {
   uint32_t flags;
 } reader;
 
-/* Versions 1 and 2, and the drafts that version 1 was, as the crate has them.
- */
+/* Versions 1 and 2, and the drafts that version 1 was, as in the Rust crate. */
 static const uint32_t usual_versions[] = {
     QUIC_WIRE_VERSION_1, 0xff00001d, 0xff00001e, 0xff00001f,
     0xff000020,          0xff000021, 0xff000022, QUIC_WIRE_VERSION_2};
@@ -61,8 +60,8 @@ static int header_at(const reader *how, const uint8_t *bytes, size_t len,
   return end < 0 ? (int)end : QUIC_WIRE_OK;
 }
 
-/* The packet that begins at a place of a datagram; of an error the exception,
- * with the packets before. */
+/* The packet that begins at an offset of a datagram; for an error the
+ * exception, with the packets before it. */
 static PyObject *packet_at(wire_state *state, const reader *how,
                            PyObject *owner, const wire_bytes *bytes,
                            size_t begin, PyObject *before) {
@@ -83,7 +82,8 @@ static PyObject *packet_at(wire_state *state, const reader *how,
   return NULL;
 }
 
-/* The packets of a datagram from a place on: all of them as a list, or one. */
+/* The packets of a datagram from an offset on: all of them as a list, or one.
+ */
 static PyObject *read_from(wire_state *state, const reader *how,
                            PyObject *datagram, size_t begin, int is_list) {
   PyObject *owner = wire_owner(datagram), *list = NULL, *packet = NULL;
@@ -151,7 +151,7 @@ PyMethodDef wire_packet_functions[] = {
          "read_packets($module, datagram, cid_len, versions=None, *, "
          "checks=0)\n--\n\nThe packets of a datagram as a list. Ids in "
          "short headers have cid_len bytes. Raises\nPacketError, with the "
-         "packets before in its attribute packets.")},
+         "packets before it in its attribute packets.")},
     {"read_packet", WIRE_FAST(read_packet), METH_VARARGS | METH_KEYWORDS,
      PyDoc_STR(
          "read_packet($module, datagram, cid_len, at=0, versions=None, *, "

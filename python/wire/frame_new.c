@@ -1,5 +1,5 @@
 /* SPDX-License-Identifier: MIT OR Apache-2.0 */
-/* Frames made of their fields, and written. */
+/* Frames made from their fields, and written. */
 #include "wire.h"
 
 #include <string.h>
@@ -147,7 +147,7 @@ static int finish_new_connection_id(maker *m) {
   return both ? set_owner(m, both) : -1;
 }
 
-/* An ACK as it is written. */
+/* An ACK to be written. */
 static PyObject *ack_bytes(uint64_t delay, const quic_wire_range *runs,
                            size_t count, const uint64_t *ecn) {
   uint8_t none, *at = &none;
@@ -198,7 +198,7 @@ static int finish_ack(maker *m) {
   return -1;
 }
 
-/* What can't be written is no frame. */
+/* What can't be written isn't a frame. */
 static int finish_other(maker *m) {
   wire_bytes bytes;
   size_t len = 0;

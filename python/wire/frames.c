@@ -1,7 +1,7 @@
 /* SPDX-License-Identifier: MIT OR Apache-2.0 */
 /* Frames as objects (RFC 9000, section 19): the library's struct and what keeps
- * the bytes that it was read from.  A field becomes a value of Python when it
- * is asked for. */
+ * the bytes that it was read from. A field becomes a value of Python when it is
+ * asked for. */
 #include "wire.h"
 
 PyObject *frame_get_number(PyObject *self, void *slot) {
@@ -51,7 +51,7 @@ PyObject *frame_get_path(PyObject *self, void *unused) {
 
 quic_wire_range *frame_ranges(PyObject *self, size_t *count) {
   const quic_wire_frame *f = FRAME(self);
-  /* A range has two bytes at least, and the first one another two. */
+  /* A range has at least two bytes, and the first one another two. */
   const size_t room = (f->end - f->begin) / 2 + 1;
   quic_wire_range *runs = PyMem_Malloc(room * sizeof *runs), other;
   quic_wire_range_iter iter;

@@ -1,6 +1,6 @@
 /* SPDX-License-Identifier: MIT OR Apache-2.0 */
 /* Packets of a datagram as objects (RFC 9000, sections 12.2 and 17): the
- * library's struct of a header with its protection still on it. */
+ * library's struct for a header that is still protected. */
 #include "wire.h"
 
 #include <string.h>
@@ -20,7 +20,7 @@ static int has_number(const quic_wire_header *h) {
   return h->kind < NO_NUMBER_FROM && h->kind != QUIC_WIRE_PACKET_RETRY;
 }
 
-/* A part of the packet, by its place in it. */
+/* A part of the packet, by its offset in it. */
 static PyObject *part(PyObject *self, size_t at, size_t len) {
   return wire_part(PACKET(self)->owner, PACKET(self)->begin + at, len);
 }
@@ -30,7 +30,7 @@ static PyObject *get_data(PyObject *self, void *unused) {
   return part(self, 0, HEADER(self)->end);
 }
 
-/* The place of an id, which the library says by a pointer. */
+/* The offset of an id, for which the library returns a pointer. */
 static PyObject *id_of(PyObject *self, int is_source) {
   const quic_wire_header *h = HEADER(self);
   const uint8_t *packet;
@@ -241,7 +241,7 @@ static PyObject *packet_repr(PyObject *self) {
   return text;
 }
 
-/* Packets are equal that are read alike of equal bytes. */
+/* Packets are equal if they are read alike from equal bytes. */
 static PyObject *packet_compare(PyObject *self, PyObject *other, int op) {
   PyObject *ours, *theirs, *out;
   if ((op != Py_EQ && op != Py_NE) || Py_TYPE(self) != Py_TYPE(other))
@@ -296,7 +296,7 @@ static PyGetSetDef packet_fields[] = {
     FIELD("number_at", get_number_at,
           "where the packet number begins in the datagram, or None"),
     FIELD("data", get_data, "all of the packet"),
-    FIELD("version", get_version, "the version, or 0 where none is known"),
+    FIELD("version", get_version, "the version, or 0 if none is known"),
     DCID,
     FIELD("scid", get_scid, "Source Connection ID; empty in a short header"),
     WIRE_END_OF_FIELDS};

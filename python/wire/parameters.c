@@ -23,13 +23,13 @@ enum field_kind {
 typedef struct parameter_field {
   const char *name;
   enum field_kind kind;
-  size_t at, len_at; /* places in the struct */
+  size_t at, len_at; /* offsets in the struct */
   uint32_t present;
 } parameter_field;
 
 #define AT(field) offsetof(quic_wire_params, field)
 #define NUMBER(X, name) X(name, INTEGER, AT(name), 0, 0)
-/* The rows in their order: a name, what it is, its place, the place of its
+/* The rows in their order: a name, what it is, its offset, the offset of its
  * length, and its bit. */
 #define ROWS(X)                                                                \
   NUMBER(X, max_idle_timeout)                                                  \
@@ -87,7 +87,7 @@ static uint32_t len_at(const quic_wire_params *p, size_t at) {
   return len;
 }
 
-/* ---- Fields read */
+/* ---- Reading fields */
 
 static PyObject *address_of(const quic_wire_params *p) {
   const int has_v4 = (p->present & QUIC_WIRE_HAS_PREFERRED_V4) != 0;
@@ -123,7 +123,7 @@ static PyObject *get_field(PyObject *self, void *closure) {
       field->kind == TOKEN ? RESET_TOKEN : len_at(p, field->len_at));
 }
 
-/* ---- Fields set */
+/* ---- Setting fields */
 
 static int set_bytes(quic_wire_params *p, const parameter_field *field,
                      PyObject *value) {
@@ -274,7 +274,7 @@ static void parameters_dealloc(PyObject *self) {
   Py_DECREF(type);
 }
 
-/* The fields that differ from their defaults, by name; all where |all|. */
+/* The fields that differ from their defaults, by name; all if |all|. */
 static PyObject *dict_of(PyObject *self, int all) {
   PyObject *usual = (PyObject *)by_default(Py_TYPE(self));
   PyObject *out = usual ? PyDict_New() : NULL;
@@ -347,7 +347,7 @@ static Py_hash_t parameters_hash(PyObject *self) {
   return hash;
 }
 
-/* ---- Lists read and written */
+/* ---- Reading and writing lists */
 
 static PyObject *parameters_read(PyObject *type, PyObject *args,
                                  PyObject *keywords) {

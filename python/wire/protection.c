@@ -1,13 +1,13 @@
 /* SPDX-License-Identifier: MIT OR Apache-2.0 */
 /* Headers written, their protection removed and applied, packet numbers, and
- * integers of variable length. */
+ * variable-length integers. */
 #include "wire.h"
 
 #include <string.h>
 
 enum { MASK = 5 }; /* bytes that protect a header (RFC 9001, section 5.4.1) */
 
-/* A place in bytes and a mask, as arguments: -1 with an exception. */
+/* An offset and a mask, as arguments: -1 with an exception. */
 static int check_mask(Py_ssize_t at, const Py_buffer *mask) {
   if (at < 0)
     PyErr_SetString(PyExc_ValueError, "number_at must not be negative");
@@ -16,7 +16,7 @@ static int check_mask(Py_ssize_t at, const Py_buffer *mask) {
   return PyErr_Occurred() ? -1 : 0;
 }
 
-/* The result of a call that is an error of the packet or the caller's. */
+/* The result of a call: an error of the packet or of the caller. */
 static PyObject *reject(int result, PyObject *packet) {
   return result == QUIC_WIRE_ERR_PACKET_SMALL
              ? wire_packet_error(result, packet, 0, 0, Py_None, NULL)
@@ -94,9 +94,9 @@ static PyObject *set_length(PyObject *module, PyObject *args,
   return result < 0 ? wire_mistake(result) : Py_NewRef(Py_None);
 }
 
-/* ---- Headers written */
+/* ---- Writing headers */
 
-/* What write_header is called with. */
+/* The arguments of write_header. */
 typedef struct header_arguments {
   quic_wire_header_fields fields;
   Py_buffer dcid, scid, token;
@@ -225,7 +225,7 @@ static PyObject *write_negotiation(PyObject *module, PyObject *args,
 
 /* ---- Numbers */
 
-/* The integer at a place and where it ends, or None. */
+/* The integer at an offset and where it ends, or None. */
 static PyObject *varint_at(PyObject *module, PyObject *args) {
   PyObject *data;
   Py_ssize_t at;
@@ -353,14 +353,14 @@ PyMethodDef wire_number_functions[] = {
     {"unprotect", WIRE_FAST(unprotect), NAMED,
      PyDoc_STR(
          "unprotect($module, packet, number_at, mask, expected=0)\n--\n\n"
-         "The packet number, by the one that is expected next, and a copy "
-         "of the header without\nits protection, up to the end of that "
+         "The packet number, relative to the one that is expected next, and a "
+         "copy of the header\nwithout its protection, up to the end of that "
          "number (RFC 9001, section 5.4.1).")},
     {"protect", WIRE_FAST(protect), NAMED,
      PyDoc_STR(
-         "protect($module, packet, number_at, mask)\n--\n\nApplies the "
-         "protection to the header of a packet in place; returns how many "
-         "bytes the\npacket number has.")},
+         "protect($module, packet, number_at, mask)\n--\n\nApplies header "
+         "protection to a packet, in place; returns how many bytes the\n"
+         "packet number has.")},
     {"set_length", WIRE_FAST(set_length), NAMED,
      PyDoc_STR("set_length($module, packet, number_at, length_len=2)\n--\n\n"
                "Sets the length in a long header to what follows it in the "
@@ -376,13 +376,13 @@ PyMethodDef wire_number_functions[] = {
                "section 17.2.1), with the unused bits of its\nfirst byte.")},
     {"varint_at", varint_at, METH_VARARGS, NULL},
     {"read_varint", read_varint, METH_VARARGS,
-     PyDoc_STR("read_varint($module, data, at=0, /)\n--\n\nThe integer of "
-               "variable length at a place, and where it ends (RFC 9000, "
-               "section 16).")},
+     PyDoc_STR("read_varint($module, data, at=0, /)\n--\n\nThe "
+               "variable-length integer at an offset, and where it ends (RFC "
+               "9000, section 16).")},
     {"write_varint", write_varint, METH_VARARGS,
-     PyDoc_STR("write_varint($module, value, width=0, /)\n--\n\nAn integer of "
-               "variable length in 1, 2, 4 or 8 bytes; with 0 in as few as it "
-               "takes.")},
+     PyDoc_STR("write_varint($module, value, width=0, /)\n--\n\nA "
+               "variable-length integer in 1, 2, 4 or 8 bytes; with 0 in as "
+               "few as possible.")},
     {"varint_len", varint_len, METH_O,
      PyDoc_STR("varint_len($module, value, /)\n--\n\nHow many bytes the "
                "shortest encoding of an integer has: 1, 2, 4 or 8.")},
@@ -392,11 +392,11 @@ PyMethodDef wire_number_functions[] = {
                "9000, appendix A.2).")},
     {"expand_packet_number", number_expand, METH_VARARGS,
      PyDoc_STR("expand_packet_number($module, truncated, length, expected, /)\n"
-               "--\n\nThe packet number of which the low bytes are written, by "
-               "the one that is expected next\n(RFC 9000, appendix A.3).")},
+               "--\n\nThe packet number with these low bytes, relative to the "
+               "one that is expected next\n(RFC 9000, appendix A.3).")},
     {"read_packet_number", number_read, METH_VARARGS,
-     PyDoc_STR("read_packet_number($module, data, length, /)\n--\n\nWhat is "
-               "written of a packet number in the first bytes of data.")},
+     PyDoc_STR("read_packet_number($module, data, length, /)\n--\n\nThe "
+               "truncated packet number in the first bytes of data.")},
     {"write_packet_number", number_write, METH_VARARGS,
      PyDoc_STR("write_packet_number($module, number, length, /)\n--\n\nThe low "
                "bytes of a packet number, 1 to 4 of them.")},

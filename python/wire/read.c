@@ -139,7 +139,7 @@ static PyObject *frames(PyObject *module, PyObject *const *args,
   return (PyObject *)o;
 }
 
-/* Puts the frames of a batch at the end of a list: -1 with an exception. */
+/* Adds the frames of a batch to the end of a list: -1 with an exception. */
 static int append(PyObject *list, wire_state *state, PyObject *owner,
                   const quic_wire_frame *batch, size_t count) {
   size_t i;
@@ -243,9 +243,9 @@ PyMethodDef wire_read_functions[] = {
     {"frames", WIRE_FAST(frames), METH_FASTCALL | METH_KEYWORDS,
      PyDoc_STR(
          "frames($module, payload, /, *, checks=0)\n--\n\n"
-         "The frames of a payload, each read when it is asked for. PADDING "
-         "frames that follow\neach other are one. Raises FrameError if there "
-         "is no frame, and where one is invalid\nor breaks a rule of checks.")},
+         "The frames of a payload, each read when it is asked for. Consecutive "
+         "PADDING frames\nare one. Raises FrameError if there is no frame, or "
+         "if one is invalid or breaks a\nrule of checks.")},
     {"read_frames", WIRE_FAST(read_frames), METH_FASTCALL | METH_KEYWORDS,
      PyDoc_STR("read_frames($module, payload, /, *, checks=0)\n--\n\n"
                "The frames of a payload as a list. Raises FrameError, with the "

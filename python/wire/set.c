@@ -43,7 +43,7 @@ static int change_by(set_object *set, change *how, uint64_t start,
   return -1;
 }
 
-/* A number, or a range from one up to another without that. */
+/* A number, or a range from one up to, but not including, another. */
 static PyObject *change_to(PyObject *self, PyObject *args, change *how) {
   PyObject *first, *last = Py_None;
   uint64_t start, end;
@@ -203,15 +203,15 @@ static PyGetSetDef set_fields[] = {
     WIRE_END_OF_FIELDS};
 static PyMethodDef set_methods[] = {
     {"insert", set_insert, METH_VARARGS,
-     PyDoc_STR("insert($self, start, stop=None, /)\n--\n\nPuts a number, or "
-               "those from start to below stop, into the set; returns whether\n"
-               "it changed.")},
+     PyDoc_STR("insert($self, start, stop=None, /)\n--\n\nInserts a number, or "
+               "those from start to below stop; returns whether the set\n"
+               "changed.")},
     {"remove", set_remove, METH_VARARGS,
-     PyDoc_STR("remove($self, start, stop=None, /)\n--\n\nTakes a number, or "
-               "those from start to below stop, out of the set; returns "
-               "whether\nit changed.")},
+     PyDoc_STR("remove($self, start, stop=None, /)\n--\n\nRemoves a number, or "
+               "those from start to below stop; returns whether the set\n"
+               "changed.")},
     {"clear", set_clear, METH_NOARGS,
-     PyDoc_STR("clear($self, /)\n--\n\nTakes all numbers out of the set.")},
+     PyDoc_STR("clear($self, /)\n--\n\nRemoves all numbers.")},
     {"__reduce__", set_reduce, METH_NOARGS, NULL},
     {NULL, NULL, 0, NULL}};
 static PyType_Slot set_slots[] = {
@@ -227,8 +227,8 @@ static PyType_Slot set_slots[] = {
     {Py_sq_contains, set_contains},
     {Py_tp_doc,
      "RangeSet(ranges=())\n--\n\nA set of packet numbers, kept as ascending "
-     "ranges that never touch. Iterating\ngives these ranges, and len() says "
-     "how many they are."},
+     "ranges that never touch. Iterating\nyields these ranges, and len() is "
+     "how many there are."},
     {0, NULL}};
 static PyType_Spec set_spec = {"quic_wire.RangeSet", sizeof(set_object), 0,
                                Py_TPFLAGS_DEFAULT, set_slots};

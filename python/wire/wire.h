@@ -34,7 +34,7 @@ typedef struct wire_state {
 
 /* ---- bytes.c: bytes that a caller hands in */
 
-/* The bytes of an object, which stay where they are until wire_release. */
+/* The bytes of an object, which don't move until wire_release. */
 typedef struct wire_bytes {
   const uint8_t *at;
   size_t len;
@@ -45,18 +45,18 @@ typedef struct wire_bytes {
 /* What keeps the bytes of a bytes-like object where they are: itself, or a
  * memoryview of bytes that can't be written to.  NULL with an exception. */
 PyObject *wire_owner(PyObject *value);
-/* The bytes of an owner, or of any bytes-like object; of NULL none.  -1 with an
+/* The bytes of an owner, or of any bytes-like object; for NULL none. -1 with an
  * exception. */
 int wire_acquire(PyObject *owner, wire_bytes *out);
 void wire_release(wire_bytes *bytes);
 /* A memoryview of a part of an owner's bytes. */
 PyObject *wire_part(PyObject *owner, size_t begin, size_t len);
-/* New bytes of Python, and where they are. */
+/* New Python bytes, and where they are. */
 PyObject *wire_new_bytes(size_t len, uint8_t **at);
-/* The same bytes cut to their front. */
+/* The same bytes, cut off after their beginning. */
 PyObject *wire_front(PyObject *bytes, size_t len);
 
-/* ---- arguments.c: what is checked of arguments */
+/* ---- arguments.c: checks of arguments */
 
 /* A number below 2^64; -1 with an exception that names it. */
 int wire_number(PyObject *value, const char *name, uint64_t *out);
@@ -67,8 +67,8 @@ int wire_varint(PyObject *value, const char *name, uint64_t *out);
 int wire_to_uint32(PyObject *value, void *out);
 int wire_to_uint8(PyObject *value, void *out);
 int wire_to_checks(PyObject *value, void *out);
-/* The same, if it is there: the only argument by its name, after the positional
- * ones of a METH_FASTCALL | METH_KEYWORDS function.  -1 with an exception. */
+/* The same, if it is there: the only keyword argument, after the positional
+ * ones of a METH_FASTCALL | METH_KEYWORDS function. -1 with an exception. */
 int wire_checks(PyObject *const *args, Py_ssize_t nargs, PyObject *names,
                 uint32_t *flags);
 /* The ranges of an iterable of `range` or of pairs, as a set: free it with
@@ -79,14 +79,14 @@ PyObject *wire_range(const quic_wire_range *range);
 
 /* ---- errors.c: exceptions.  Each returns NULL. */
 
-/* ValueError, of the caller's mistake. */
+/* ValueError, for the caller's mistake. */
 PyObject *wire_mistake(int result);
 PyObject *wire_frame_error(int result, PyObject *payload, size_t begin,
                            uint64_t type, PyObject *before);
 /* |packet| is what was read from a truncated packet, or NULL. */
 PyObject *wire_packet_error(int result, PyObject *datagram, size_t begin,
                             size_t cid_len, PyObject *before, PyObject *packet);
-/* |flags| are those that the list was read with. */
+/* |flags| are those with which the list was read. */
 PyObject *wire_parameter_error(int result, uint32_t side, uint32_t flags,
                                PyObject *list,
                                const quic_wire_refusal *refusal);
@@ -102,7 +102,7 @@ int wire_add_iterator(PyObject *module, wire_state *state);
 int wire_add_packets(PyObject *module, wire_state *state);
 int wire_add_parameters(PyObject *module, wire_state *state);
 int wire_add_set(PyObject *module, wire_state *state);
-/* A type, put into the module with what patterns name. */
+/* A type, added to the module with the names for patterns. */
 PyObject *wire_add_type(PyObject *module, PyType_Spec *spec, PyObject *bases,
                         const char *name, const PyGetSetDef *fields);
 
@@ -147,12 +147,13 @@ quic_wire_range *frame_ranges(PyObject *self, size_t *count);
 
 /* ---- packets.c */
 
-/* A packet that was read at a place of an owner's bytes, and where it ends. */
+/* A packet that was read at an offset of an owner's bytes, and where it ends.
+ */
 PyObject *packet_made(wire_state *state, PyObject *owner, size_t begin,
                       const quic_wire_header *h);
 size_t packet_end(PyObject *packet);
 
-/* ---- Functions of the module, by their files */
+/* ---- Functions of the module, by file */
 
 extern PyMethodDef wire_read_functions[];
 extern PyMethodDef wire_packet_functions[];

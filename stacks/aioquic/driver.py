@@ -4,7 +4,6 @@ driver.py SOURCE, the folder `src` of aioquic's source, with its module _buffer 
 
 Frames are read by the handlers of connection.py, for a client whose flow control, streams, TLS and recovery let all of
 them pass, so that only the reading rejects anything; packets and parameters by packet.py.
-
 """
 
 import json

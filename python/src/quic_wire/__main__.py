@@ -1,5 +1,4 @@
-"""python -m quic_wire MODE [OPTION..] [FILE..]: what the bytes of QUIC say, from lines of hexadecimal, dumps or
-captures.
+"""python -m quic_wire MODE [OPTION..] [FILE..]: decodes QUIC from lines of hexadecimal, dumps or captures.
 """
 
 from __future__ import annotations
@@ -16,7 +15,7 @@ from ._program.datagrams import Ids, show_datagram
 from ._program.output import Look, Output
 from ._program.source import Pieces, Plain
 
-# Some line was rejected; the call is wrong; reading, writing or memory failed; who read the output reads no more.
+# A line was rejected; usage error; reading, writing or memory failed; the reader of the output is gone.
 REFUSED, WRONG_CALL, FAILED, UNREAD = 1, 2, 3, 141
 _WHOLE_PACKET = "an IP packet, not a QUIC payload; use the mode datagram"
 
@@ -43,7 +42,7 @@ def _show_piece(args: Args, data: bytes, ids: Ids, output: Output) -> None:
 
 
 def _show_all(args: Args, source: BinaryIO, output: Output) -> None:
-    """Prints what each piece is before the next one is waited for."""
+    """Prints each piece before it waits for the next one."""
     plain = Plain.DECIMAL if args.mode == "ranges" else Plain.BASE64 if args.base64 else Plain.HEXADECIMAL
     ids = Ids()
     for piece in Pieces(source, plain):
@@ -56,7 +55,7 @@ def _show_all(args: Args, source: BinaryIO, output: Output) -> None:
 
 
 class _WriteError(Exception):
-    """Standard output takes nothing."""
+    """Standard output can't be written to."""
 
 
 def _write(text: str) -> None:
@@ -104,7 +103,7 @@ def _show(args: Args) -> int:
 
 
 def main() -> int:
-    """Runs the program with the words of its call; the status to end with."""
+    """Runs the program with its arguments; returns the status to end with."""
     if sys.stdout is None:
         _say("write failed: standard output is closed")
         return FAILED

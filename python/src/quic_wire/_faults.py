@@ -1,6 +1,6 @@
-"""At which field reading failed: the fields of what was rejected, one behind the other.
+"""The field at which reading failed: the fields of what was rejected, in order.
 
-The library says why bytes are rejected; which field is at fault is found here, by the RFC's names.
+The library says why bytes are rejected; which field is at fault is found here, with the RFC's names.
 """
 
 from __future__ import annotations
@@ -27,7 +27,7 @@ class Place(NamedTuple):
 
 
 class Fault(Exception):
-    """The field that is cut off or has a value that it may not have."""
+    """The field that is cut off or has an invalid value."""
 
     def __init__(self, place: Place) -> None:
         super().__init__(place)
@@ -35,7 +35,7 @@ class Fault(Exception):
 
 
 class Walk:
-    """Fields that are read one behind the other, up to the one at fault."""
+    """Fields that are read in order, up to the one at fault."""
 
     __slots__ = ("data", "at", "last")
 
@@ -48,7 +48,7 @@ class Walk:
         raise Fault(Place(field, at))
 
     def number(self, field: str) -> int:
-        """An integer of variable length (RFC 9000, section 16)."""
+        """A variable-length integer (RFC 9000, section 16)."""
         read = varint_at(self.data, self.at)
         if read is None:
             self.fail(field, self.at)
@@ -66,7 +66,7 @@ class Walk:
         return self.take(field, 1)[0]
 
     def counted(self, length: str, field: str) -> None:
-        """Bytes behind their length."""
+        """Bytes after their length."""
         self.take(field, self.number(length))
 
     def numbers(self, fields: Iterable[str]) -> None:
@@ -91,7 +91,7 @@ _NUMBERS = {
     0x19: ("Sequence Number",),
     0xAF: ("Sequence Number", "Ack-Eliciting Threshold", "Requested Max Ack Delay", "Reordering Threshold"),
 }
-# Numbers, then bytes behind their length.
+# Numbers, then bytes after their length.
 _COUNTED = {
     0x06: (("Offset",), "Length", "Crypto Data"),
     0x07: ((), "Token Length", "Token"),
@@ -157,7 +157,7 @@ def _walk_new_connection_id(walk: Walk) -> None:
 
 
 def of_frame(result: int, payload: memoryview, begin: int) -> Optional[Place]:
-    """The field at fault in the frame that begins there, by the library's result."""
+    """The field at fault in the frame that begins there, for the library's result."""
     if result in (FRAME_TYPE, FRAME_LONG_TYPE):
         return Place("Frame Type", begin)
     walk = Walk(payload, begin)
@@ -165,7 +165,7 @@ def of_frame(result: int, payload: memoryview, begin: int) -> Optional[Place]:
         _walk_frame(walk)
     except Fault as fault:
         return fault.place
-    # A rule of Checks that the frame breaks by its last number: an offset, a length or a limit.
+    # A rule of Checks that the frame breaks with its last number: an offset, a length or a limit.
     return walk.last if result in (FRAME_LIMIT, FRAME_MALFORMED) else None
 
 
@@ -199,7 +199,7 @@ def _walk_header(walk: Walk, cid_len: int) -> None:
 
 
 def of_header(result: int, datagram: memoryview, begin: int, cid_len: int) -> tuple[Optional[Place], str]:
-    """The field at fault in the header that begins there, and the section that has the packet dropped."""
+    """The field at fault in the header that begins there, and the section by which the packet is dropped."""
     if result == PACKET_FIXED_BIT:
         is_long = begin < len(datagram) and datagram[begin] & 0x80
         return Place("Fixed Bit", begin), "RFC 9000, section 17.2" if is_long else "RFC 9000, section 17.3.1"
@@ -219,7 +219,7 @@ def of_header(result: int, datagram: memoryview, begin: int, cid_len: int) -> tu
 
 
 class Entry(NamedTuple):
-    """An entry of a list of transport parameters, by its places in the list."""
+    """An entry of a list of transport parameters, by its offsets in the list."""
 
     id: int
     begin: int

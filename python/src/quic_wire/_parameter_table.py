@@ -1,4 +1,4 @@
-"""Transport parameters by their ids, and what is wrong with one that is at fault (RFC 9000, sections 7.4 and 18)."""
+"""Transport parameters by their ids, and what is wrong with one at fault (RFC 9000, sections 7.4 and 18)."""
 
 from __future__ import annotations
 
@@ -52,9 +52,9 @@ KNOWN = {
 }
 # Those that a client must not send.
 _OF_SERVERS = frozenset((0x00, 0x02, 0x0D, 0x10))
-# Numbers with a default: malformed to quinn-proto, and so by default here, if longer than their shortest encoding.
+# Numbers with a default: quinn-proto, and by default this package, rejects them if longer than their shortest encoding.
 _SHORTEST = frozenset((0x01, *range(0x03, 0x0C), 0x0E))
-# Those that may be there twice, unless Checks.NO_REPEATS rejects that.
+# Those that may come twice, unless Checks.NO_REPEATS rejects that.
 _REPEATABLE = frozenset((GREASE_QUIC_BIT, MIN_ACK_DELAY))
 _LONG = "its integer isn't in its shortest encoding, which RFC 9000, section 16, allows and quinn-proto rejects"
 # In which order quic_wire_params_write_with numbers them, without the reserved one.
@@ -93,12 +93,12 @@ def _is_long(value: memoryview) -> bool:
 
 
 def cut_off(begin: int, number: Optional[int]) -> Fault:
-    """An entry that isn't whole, by its id if that is there."""
+    """An entry that isn't whole, with its id if that is there."""
     return Fault(begin, number, None, "it is cut off", None, "RFC 9000, section 18")
 
 
 def fault_of(side: int, checks: Checks, data: memoryview, begin: int, number: Optional[int]) -> Fault:
-    """What is wrong with the entry of a list that begins there, by the parameter's id if that is there."""
+    """What is wrong with the entry of a list that begins there, with the parameter's id if that is there."""
     entry = next(entries(data[begin:]), None)
     known = KNOWN.get(entry.id) if entry else None
     if entry is None or known is None:

@@ -1,4 +1,4 @@
-"""What opening packets needs of a TLS handshake: the client's random bytes and the cipher suite (RFC 8446, section
+"""What opening packets needs from a TLS handshake: the client's random bytes and the cipher suite (RFC 8446, section
 4.1).
 """
 
@@ -9,12 +9,12 @@ from typing import Optional
 from ._wire import Crypto
 
 _CLIENT_HELLO, _SERVER_HELLO = 1, 2
-_RANDOM_AT, _RANDOM_LEN = 6, 32  # behind the type, the length and the version
+_RANDOM_AT, _RANDOM_LEN = 6, 32  # after the type, the length and the version
 _MOST = 1 << 16  # bytes of a handshake that are kept
 
 
 class Handshake:
-    """The messages that a side sends in Initial packets, put together as far as they have come."""
+    """The messages that a side sends in Initial packets, put together as far as they have arrived."""
 
     __slots__ = ("_data", "_later")
 

@@ -1,8 +1,9 @@
-"""The QUIC packets of a capture file, opened by what there are keys for, with their frames.
+"""The QUIC packets of a capture file, opened with the keys that there are, with their frames.
 
-Initial packets are opened by the ids that they carry, others by the secrets of a key log file; both need the package
-`cryptography`, which `quic-wire[ciphers]` installs. A datagram is QUIC's if it begins with a long header of version 1
-or 2, of version 0 (a version negotiation) or of a reserved one (RFC 9000, section 15), or if one of its flow did.
+Initial packets are opened with keys from the ids that they carry, others with the secrets of a key log file; both need
+the package `cryptography`, which `quic-wire[ciphers]` installs. A datagram counts as QUIC if it begins with a long
+header of version 1 or 2, of version 0 (a version negotiation) or of a reserved one (RFC 9000, section 15), or if an
+earlier one of its flow did.
 
     for captured in packets("file.pcap", KeyLog.open("keys.log")):
         print(captured.packet, captured.frames)
@@ -37,7 +38,7 @@ _RESERVED_MASK, _RESERVED = 0x0F0F0F0F, 0x0A0A0A0A
 _LONG, _KEY_PHASE = 0x80, 0x04
 _LEAST_LONG = 7  # bytes of a long header
 _NUMBER_END = 1 << 62
-# The number space of each type of packets that has one (RFC 9000, section 12.3), and the secrets that it needs.
+# The number space of each type of packet that has one (RFC 9000, section 12.3), and the secrets that it needs.
 _SPACES = {PacketType.INITIAL: 0, PacketType.HANDSHAKE: 1, PacketType.ZERO_RTT: 2, PacketType.ONE_RTT: 2}
 _LABELS = {
     (PacketType.ZERO_RTT, Side.CLIENT): Label.CLIENT_EARLY,
@@ -67,7 +68,7 @@ class Captured:
 
 
 class _PhaseKeys:
-    """The keys of 1-RTT packets of a side, which change with the key phase (RFC 9001, section 6)."""
+    """The keys of 1-RTT packets from a side, which change with the key phase (RFC 9001, section 6)."""
 
     tag_len = 16
 
@@ -96,7 +97,7 @@ class _PhaseKeys:
 
 
 class _Endpoint:
-    """What is kept of a side."""
+    """What is kept about a side."""
 
     __slots__ = ("address", "cid_len", "expected", "keys", "tls")
 
@@ -123,7 +124,7 @@ class _Flow:
         return Side.CLIENT if datagram.source == self.ends[Side.CLIENT].address else Side.SERVER
 
     def open(self, packet: Packet, sender: Side) -> tuple[Optional[Opened], Side, Optional[str]]:
-        """A packet opened; the side that sent it, which its keys may tell; why it isn't opened."""
+        """An opened packet; the side that sent it, which its keys may show; why it isn't opened."""
         kind = PacketType(packet.kind)
         if ciphers is None:
             return None, sender, "the package cryptography isn't there"
@@ -143,8 +144,8 @@ class _Flow:
         return opened
 
     def _open_initial(self, packet: Packet, sender: Side) -> tuple[Optional[Opened], Side, Optional[str]]:
-        """By the keys of the flow, or else by those of its own id: then it is a client's first one, or its first one
-        after a Retry, and the keys are the flow's from there on."""
+        """With the keys of the flow, or else with those of its own id: then it is a client's first one, or its first
+        one after a Retry, and the keys are the flow's from there on."""
         why = "no first Initial packet of the client"
         if self.initial_id is not None:
             try:
@@ -182,7 +183,7 @@ class _Flow:
     def _candidates(
         self, packet: Packet, kind: PacketType, sender: Side
     ) -> Iterator[Union[_PhaseKeys, ciphers.PacketKeys]]:
-        """The keys that may open a packet: those that did before, else those of the key log."""
+        """The keys that may open a packet: those that opened earlier ones, else those of the key log."""
         version = self._version_of(packet)
         known = self.ends[sender].keys.get((kind, version))
         if known is not None:
@@ -198,8 +199,8 @@ class _Flow:
                 yield _PhaseKeys(keys) if kind == PacketType.ONE_RTT else keys
 
     def learn(self, packet: Packet, sender: Side, frames: tuple[Frame, ...]) -> None:
-        """Takes what later packets are opened by."""
-        if packet.kind <= PacketType.RETRY:  # a long header, which tells its sender's id
+        """Keeps what later packets are opened with."""
+        if packet.kind <= PacketType.RETRY:  # a long header, which has its sender's id
             self.ends[sender].cid_len = len(packet.scid)
             if packet.kind != PacketType.RETRY:
                 self.version = packet.version
@@ -212,7 +213,7 @@ class _Flow:
 
 
 def _is_first(data: memoryview) -> bool:
-    """Whether a datagram begins a flow of QUIC."""
+    """Whether a datagram begins a QUIC flow."""
     if len(data) < _LEAST_LONG or not data[0] & _LONG:
         return False
     version = int.from_bytes(data[1:5], "big")
@@ -274,7 +275,7 @@ def _packets(flow: _Flow, datagram: Datagram, sender: Side) -> Iterator[Captured
 def packets(file: Union[pcap.Path, BinaryIO], keylog: Optional[KeyLog] = None) -> Iterator[Captured]:
     """The QUIC packets of a capture file, pcap or pcapng, in its order.
 
-    Raises CaptureError where the file is none, and OSError.
+    Raises CaptureError if the file isn't a capture, and OSError.
     """
     flows: dict[frozenset[pcap.Endpoint], _Flow] = {}
     for datagram in pcap.datagrams(file):

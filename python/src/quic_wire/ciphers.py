@@ -34,12 +34,12 @@ _IV_LEN = 12
 
 
 class NotAuthentic(ValueError):
-    """The tag of a packet isn't that of its bytes."""
+    """The tag of a packet doesn't fit its bytes."""
 
 
 @dataclass(frozen=True, slots=True)
 class Suite:
-    """A cipher suite of TLS 1.3, by what its packets are protected with."""
+    """A cipher suite of TLS 1.3, by the algorithms that protect its packets."""
 
     name: str
     aead: Union[type[AESGCM], type[ChaCha20Poly1305]]
@@ -77,7 +77,7 @@ class PacketKeys:
 
     @classmethod
     def of(cls, secret: bytes, suite: Suite, version: int = Version.V1) -> PacketKeys:
-        """The keys of a secret (RFC 9001, section 5.1)."""
+        """The keys from a secret (RFC 9001, section 5.1)."""
         label = _LABELS[Version(version)]
         hp = expand_label(secret, label + "hp", suite.key_len, suite.hash)
         return cls._with(secret, suite, version, hp)
@@ -105,19 +105,19 @@ class PacketKeys:
         return (int.from_bytes(self.iv, "big") ^ number).to_bytes(_IV_LEN, "big")
 
     def open(self, number: int, header: bytes, payload: bytes) -> bytes:
-        """What is sealed in a payload. Raises NotAuthentic."""
+        """The plaintext of a payload. Raises NotAuthentic."""
         try:
             return self._aead.decrypt(self._nonce(number), payload, header)
         except InvalidTag:
             raise NotAuthentic("the tag is wrong") from None
 
     def seal(self, number: int, header: bytes, payload: bytes) -> bytes:
-        """A payload sealed, its tag included."""
+        """The payload, sealed, with its tag."""
         return self._aead.encrypt(self._nonce(number), payload, header)
 
 
 def initial_keys(version: int, dcid: Buffer) -> tuple[PacketKeys, PacketKeys]:
-    """The keys of Initial packets of the client and of the server, by the id to which the client sent its first one
+    """The keys of Initial packets of the client and of the server, from the id to which the client sent its first one
     (RFC 9001, section 5.2; RFC 9369, section 3.3.1)."""
     initial = hmac.new(_SALTS[Version(version)], bytes(dcid), hashlib.sha256).digest()
     secrets = (expand_label(initial, f"{side} in", 32, "sha256") for side in ("client", "server"))
@@ -126,7 +126,7 @@ def initial_keys(version: int, dcid: Buffer) -> tuple[PacketKeys, PacketKeys]:
 
 
 def retry_integrity_tag(version: int, original_dcid: Buffer, retry: Buffer) -> bytes:
-    """The tag of a Retry packet that is given without one (RFC 9001, section 5.8)."""
+    """The tag of a Retry packet, which is passed without one (RFC 9001, section 5.8)."""
     key, nonce = (bytes.fromhex(text) for text in _RETRY_KEYS[Version(version)])
     pseudo = bytes([len(original_dcid)]) + bytes(original_dcid) + bytes(retry)
     return AESGCM(key).encrypt(nonce, b"", pseudo)

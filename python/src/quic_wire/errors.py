@@ -14,12 +14,12 @@ if TYPE_CHECKING:
     from ._wire import Frame, Packet
 
 _NEW_TOKEN, _NEW_CONNECTION_ID = 0x07, 0x18
-# Of the types of frames with a limit, except those of STREAM, the sections that have it.
+# For types of frames with a limit, except those of STREAM, the sections that have it.
 _LIMITS = {0x06: "19.6", 0x12: "19.11", 0x13: "19.11", 0x16: "19.14", 0x17: "19.14"}
 
 
 class Code(enum.IntEnum):
-    """The codes of a CONNECTION_CLOSE (RFC 9000, section 20.1). An alert of TLS is added to CRYPTO_ERROR."""
+    """The codes of a CONNECTION_CLOSE (RFC 9000, section 20.1). A TLS alert is added to CRYPTO_ERROR."""
 
     NO_ERROR = 0x00
     INTERNAL_ERROR = 0x01
@@ -42,7 +42,7 @@ class Code(enum.IntEnum):
 
 
 class Error(ValueError):
-    """Bytes that a peer may not send."""
+    """Bytes that a peer must not send."""
 
     reason: str
     """Why they are rejected, in English."""
@@ -87,14 +87,14 @@ class FrameError(Error):
     """The frames before it, where a list of them was asked for."""
 
     def _what(self) -> str:
-        """As the library's own texts are: the reason, and the type that it belongs to."""
+        """The library's own text: the reason, and the type that it belongs to."""
         if self.frame_type is None:
             return self.reason
         return f"{self.reason} in {frame_name(self.frame_type)}"
 
 
 class PacketError(Error):
-    """The bytes of a datagram are no packet, which is dropped."""
+    """The bytes of a datagram aren't a packet, and are dropped."""
 
     packets: Optional[list[Packet]] = None
     """The packets before it, where a list of them was asked for."""

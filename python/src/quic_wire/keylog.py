@@ -1,4 +1,4 @@
-"""Secrets of a key log file, as browsers write it where SSLKEYLOGFILE is set (RFC 9850)."""
+"""Secrets from a key log file, as browsers write it if SSLKEYLOGFILE is set (RFC 9850)."""
 
 from __future__ import annotations
 
@@ -41,10 +41,10 @@ class KeyLog:
 
     @classmethod
     def open(cls, path: Union[str, os.PathLike[str]]) -> KeyLog:
-        """The secrets in a file. Raises OSError, and ValueError where a line isn't hexadecimal."""
+        """The secrets in a file. Raises OSError, and ValueError if a line isn't hexadecimal."""
         with open(path, encoding="ascii") as lines:
             return cls(lines)
 
     def secret(self, client_random: bytes, label: Label) -> Optional[bytes]:
-        """The secret for one kind of packets, or None."""
+        """The secret for one kind of packet, or None."""
         return self._secrets[client_random].get(label) if client_random in self._secrets else None

@@ -14,7 +14,7 @@ __all__ = ["PacketType", "Version", "packets"]
 
 
 class PacketType(enum.IntEnum):
-    """The types of packets, as Packet.kind has them."""
+    """The types of packets in Packet.kind."""
 
     INITIAL = 0
     ZERO_RTT = 1
@@ -35,10 +35,10 @@ class Version(enum.IntEnum):
 def packets(
     datagram: Buffer, cid_len: int, versions: Optional[Sequence[int]] = None, *, checks: Checks = Checks.QUINN
 ) -> Iterator[Packet]:
-    """The packets of a datagram, each read when it is asked for. Raises PacketError where none begins.
+    """The packets of a datagram, each read when it is asked for. Raises PacketError if none begins.
 
-    Ids in short headers have cid_len bytes. versions are those that are read, by default 1, its drafts 29 to 34, and
-    2; a packet of another one is an UnknownVersion.
+    Ids in short headers have cid_len bytes. versions are those that are read, by default 1, its drafts 29 to 34, and 2;
+    a packet of another one is an UnknownVersion.
     """
     at, end = 0, len(memoryview(datagram).cast("B"))
     while at < end or at == 0:

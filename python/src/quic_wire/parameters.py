@@ -40,12 +40,12 @@ class PreferredAddress:
 
 
 class TransportParameters(_Parameters):
-    """Transport parameters, each given by its name in the RFC; what isn't given has its default, or is absent."""
+    """Transport parameters, each named as in the RFC; those that aren't given have their defaults, or are absent."""
 
     __slots__ = ()
 
     def write(self, side: Side, further: Iterable[tuple[int, Buffer]] = (), order: Iterable[int] = ()) -> bytes:
-        """The shortest list of these, as a side sends them. Raises ValueError if its peer would reject them.
+        """The shortest list of these parameters, as a side sends them. Raises ValueError if its peer would reject them.
 
         further has parameters that this class doesn't have, as ids and values. order has the ids that come first, each
         once, in their order; the others follow.
@@ -60,7 +60,7 @@ class TransportParameters(_Parameters):
 
 
 class Parameter(NamedTuple):
-    """An entry of a list, be it one that TransportParameters has or another, and its place in the list."""
+    """An entry of a list, whether TransportParameters has it or not, and its offset in the list."""
 
     id: int
     value: memoryview
@@ -79,7 +79,7 @@ class Parameter(NamedTuple):
 
 
 def parameters(data: Buffer) -> Iterator[Parameter]:
-    """The entries of a list, one by one, whatever their values are. Raises ParameterError at one that is cut off."""
+    """The entries of a list, one by one, whatever their values. Raises ParameterError at one that is cut off."""
     view = memoryview(data).toreadonly()
     end = 0
     for entry in _faults.entries(view):

@@ -1,7 +1,7 @@
 """The UDP datagrams of capture files, pcap and pcapng.
 
-Links are Ethernet with its tags of VLANs, Linux cooked captures, raw IP and loopback; of IPv4, and of IPv6 without
-extension headers. Of a datagram in fragments only the first one is given.
+Links are Ethernet with its VLAN tags, Linux cooked captures, raw IP and loopback; with IPv4, and IPv6 without extension
+headers. Of a fragmented datagram only the first fragment is returned.
 """
 
 from __future__ import annotations
@@ -19,7 +19,7 @@ Path = Union[str, os.PathLike[str]]
 
 
 class CaptureError(ValueError):
-    """A file is no capture that is read here."""
+    """A file isn't a capture that can be read here."""
 
 
 class Endpoint(NamedTuple):
@@ -54,7 +54,7 @@ class _Record(NamedTuple):
     data: memoryview
 
 
-# Of each kind of link where the EtherType is, None if there is none, and where the IP packet begins.
+# For each kind of link where the EtherType is, None if there is none, and where the IP packet begins.
 _LINKS: dict[int, tuple[Optional[int], int]] = {
     0: (None, 4), 1: (12, 14), 12: (None, 0), 101: (None, 0), 108: (None, 4), 113: (14, 16), 228: (None, 0),
     229: (None, 0), 276: (0, 20),
@@ -146,7 +146,7 @@ def _two(data: memoryview, at: int) -> int:
 
 
 def _ip_at(link: int, data: memoryview) -> Optional[int]:
-    """Where the IP packet begins behind the header of a link and tags of VLANs."""
+    """Where the IP packet begins after the header of a link and VLAN tags."""
     if link not in _LINKS:
         raise CaptureError(f"links of type {link} aren't read")
     kind, end = _LINKS[link]

@@ -45,10 +45,10 @@ class Keys(Protocol):
         """The mask of a header, 5 bytes or more, from a sample of 16."""
 
     def open(self, number: int, header: bytes, payload: bytes) -> bytes:
-        """What is sealed in a payload. Raises an exception if it isn't authentic."""
+        """The plaintext of a payload. Raises an exception if it isn't authentic."""
 
     def seal(self, number: int, header: bytes, payload: bytes) -> bytes:
-        """A payload sealed, its tag included."""
+        """The payload, sealed, with its tag."""
 
 
 @dataclass(frozen=True, slots=True)
@@ -80,7 +80,7 @@ def open_header(packet: Packet, mask: Buffer, expected: int = 0) -> tuple[int, b
 
 
 def open_packet(packet: Packet, keys: Keys, expected: int = 0) -> Opened:
-    """A packet opened. expected is the packet number that comes next in its number space (RFC 9000, appendix A.3).
+    """An opened packet. expected is the packet number that comes next in its number space (RFC 9000, appendix A.3).
 
     Raises PacketError if the packet is too short, and what keys raises if it isn't authentic. The packet itself doesn't
     change.

@@ -1,4 +1,4 @@
-"""What the program is called with."""
+"""The program's arguments."""
 
 from __future__ import annotations
 
@@ -21,11 +21,11 @@ _MAX_CID_LEN = 20
 
 
 class WrongCall(Exception):
-    """What is wrong with the words of a call."""
+    """What is wrong with the arguments."""
 
 
 class Known(NamedTuple):
-    """An option: what its value is, if it has one, and the only mode that it is of."""
+    """An option: what its value is, if it has one, and the only mode that has it."""
 
     value: Optional[str] = None
     mode: Optional[str] = None
@@ -49,7 +49,7 @@ OPTIONS = {
 
 @dataclass
 class Args:
-    """The words of a call, read."""
+    """The arguments, parsed."""
 
     mode: str = ""
     files: list[str] = field(default_factory=list)
@@ -66,7 +66,7 @@ class Args:
 
     @property
     def has_colours(self) -> bool:
-        """Whether what goes to standard output is coloured."""
+        """Whether standard output is coloured."""
         if self.color != "auto":
             return self.color == "always"
         term = os.environ.get("TERM", "")
@@ -74,7 +74,7 @@ class Args:
 
 
 def parse(words: Iterable[str]) -> Union[Args, str]:
-    """The words of a call, or what it has the program print. Raises WrongCall."""
+    """The parsed arguments, or what they have the program print. Raises WrongCall."""
     args, of_modes, rest = Args(), [], iter(words)
     mode: Optional[str] = None
     only_files = False
@@ -103,7 +103,7 @@ def parse(words: Iterable[str]) -> Union[Args, str]:
 
 
 def _take(args: Args, text: str, rest: Iterator[str]) -> list[str]:
-    """Takes an option and its value; its name, if it is of one mode."""
+    """Takes an option and its value; returns its name, if only one mode has it."""
     name, equals, value = text.partition("=")
     known = OPTIONS.get(name)
     if known is None:
@@ -176,7 +176,7 @@ def _debug(text: str) -> str:
 
 
 def _nearest(word: str, words: Iterable[str]) -> str:
-    """Which word may be meant, as the end of a sentence: one that begins so, or the nearest."""
+    """Which argument may be meant, as the end of a sentence: one with this beginning, or the nearest."""
     listed = list(words)
     longer = [other for other in listed if len(word.strip("-")) > 1 and other.startswith(word)]
     changes, near = min((_changes(word, other), other) for other in listed)
@@ -186,7 +186,7 @@ def _nearest(word: str, words: Iterable[str]) -> str:
 
 
 def _changes(word: str, other: str) -> int:
-    """How many characters are put in, taken out or changed between two words: their Levenshtein distance."""
+    """How many characters are inserted, removed or changed between two words: their Levenshtein distance."""
     row = list(range(len(other) + 1))
     for i, c in enumerate(word):
         corner, row[0] = i, i + 1

@@ -95,7 +95,7 @@ def _header(packet: Packet) -> str:
 
 
 def _frame(frame: Frame) -> str:
-    """The line of a frame: its name and fields, of data how many bytes."""
+    """The line of a frame: its name and fields; for data, how many bytes."""
     if isinstance(frame, Padding):
         return f"PADDING {frame.count}"
     if isinstance(frame, Ack):

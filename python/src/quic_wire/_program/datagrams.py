@@ -26,7 +26,7 @@ _UNKNOWN_VERSION = "a server responds with a version negotiation, a client drops
 
 
 class Ids:
-    """The ids that endpoints gave in long headers for packets that are sent to them."""
+    """The ids that endpoints chose in long headers for packets that are sent to them."""
 
     def __init__(self) -> None:
         self._ids: deque[bytes] = deque(maxlen=_MOST_IDS)
@@ -36,8 +36,8 @@ class Ids:
             self._ids.append(new)
 
     def len_in(self, packet: bytes, before: Optional[bytes]) -> int:
-        """How long the id of a short header is: as that of the packet before it in its datagram, which is the same id
-        (RFC 9000, section 12.2), or the longest known one that it begins with."""
+        """How long the id of a short header is: as long as that of the previous packet in its datagram, which is the
+        same id (RFC 9000, section 12.2), or as the longest known one that it begins with."""
         rest = packet[1:]
         if before is not None and packet and rest.startswith(before):
             return len(before)
@@ -45,7 +45,7 @@ class Ids:
 
 
 def show_datagram(data: bytes, args: Args, ids: Ids, output: Output) -> None:
-    """Prints the packets of a datagram, which may have headers of IP and UDP before it, and learns their ids."""
+    """Prints the packets of a datagram, which may follow headers of IP and UDP, and learns their ids."""
     captured = link.packet(data)
     if captured is None:
         _show_packets(data, 0, args, ids, output)

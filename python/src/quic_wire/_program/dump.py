@@ -19,18 +19,18 @@ _MAY_BE_SWAPPED = "the bytes of each group may be swapped, as xxd -e prints them
 
 
 class Piece(NamedTuple):
-    """What is to be read as one, or the reason why there are no bytes, and the line that it begins with."""
+    """What is to be read as one input, or the reason why there are no bytes, and the line that it begins with."""
 
     line: int
     data: Union[bytes, str]
 
 
 class Step(enum.Enum):
-    """What a line is to the dump before it."""
+    """How a line relates to the dump before it."""
 
     GOES_ON = 0
     ENDS = 1  # the dump is whole, and the line belongs to it
-    ANOTHER = 2  # the dump is whole, and the line isn't of it
+    ANOTHER = 2  # the dump is whole, and the line doesn't belong to it
 
 
 class Dump:
@@ -41,11 +41,11 @@ class Dump:
         self.data, self.row = bytearray(first.data), len(first.data)
         self.order, self.rejection = first.order, first.rejection
         self.repeats = False
-        # The first line that doesn't go on where the ones before it end.
+        # The first line whose offset isn't the end of the lines before it.
         self.broken_at: Optional[int] = None
 
     def take(self, number: int, text: bytes) -> Step:
-        """Takes up the next line."""
+        """Adds the next line."""
         if trimmed(text) == b"":
             return Step.ENDS
         if trimmed(text) == b"*":
@@ -68,7 +68,7 @@ class Dump:
         return Step.GOES_ON
 
     def _close(self, number: int, text: bytes) -> Step:
-        """The offset of the end closes a dump, except of those that no line closes, which anything ends."""
+        """The offset of the end closes a dump, except in forms that no line closes, which anything ends."""
         if not self.form.is_closed:
             return Step.ANOTHER
         offset = self.form.closing(text)
@@ -79,7 +79,7 @@ class Dump:
         return Step.GOES_ON if offset is None else Step.ENDS
 
     def _reach(self, offset: int) -> bool:
-        """Whether the dump goes on at an offset, once rows are repeated where `*` says so."""
+        """Whether the dump goes on at an offset, once rows are repeated for a `*`."""
         gap = offset - self.base - len(self.data)
         is_filled = self.repeats and self.row and gap % self.row == 0 and gap <= _MOST - len(self.data)
         if gap < 0 or (gap > 0 and not is_filled):
@@ -90,7 +90,7 @@ class Dump:
         return True
 
     def finish(self) -> Piece:
-        """The bytes that were dumped, or why it isn't known what they are."""
+        """The bytes that were dumped, or why they aren't known."""
         of_order = {Order.SWAPPED: _SWAPPED, Order.UNKNOWN: _MAY_BE_SWAPPED}
         rejection = self.rejection or of_order.get(self.order)
         if rejection is not None:

@@ -38,7 +38,7 @@ class Form(enum.Enum):
         return number if number < 1 << 64 else None
 
     def closing(self, text: bytes) -> Optional[int]:
-        """The offset that stands alone in a line, as that of the end closes a dump."""
+        """The offset that is a line by itself, as the offset of the end at the end of a dump."""
         is_one = {
             Form.HEXDUMP: len(text) >= 8,
             Form.OD_HEX: len(text) == 6,
@@ -54,7 +54,7 @@ class Form(enum.Enum):
 
 
 def _form_of(digits: bytes, blanks: int) -> Optional[Form]:
-    """The form whose offset these digits are, where no colon follows them, but blanks do."""
+    """The form whose offset these digits are, if no colon follows them, but blanks do."""
     count = len(digits)
     if not _HEX.fullmatch(digits):
         return None
@@ -68,7 +68,8 @@ def _form_of(digits: bytes, blanks: int) -> Optional[Form]:
 
 
 class Order(enum.IntEnum):
-    """In which order the bytes of a group are, by the text beside them. Of two lines the greater says more."""
+    """In which order the bytes of a group are, judged by the text beside them. The greater of two lines' results
+    counts."""
 
     UNTOLD = 0
     UNKNOWN = 1
@@ -118,10 +119,10 @@ def _with_colon(digits: bytes, rest: bytes) -> Optional[Line]:
     if not data:
         return None
     order = Order.SWAPPED if _is_right_aligned(rest) else _order(groups, data, shown)
-    # A byte is a character of the text, in which an editor may have cut off spaces.
+    # A byte is a character of the text; an editor may have cut off spaces at its end.
     if order != Order.SWAPPED and shown and data[len(shown) :].strip(b" "):
         return None
-    # Digits that are lacking leave spaces before the text.
+    # Missing digits leave spaces before the text.
     return Line(Form.COLON, offset, data, order, is_last=len(shown) > len(data) and order != Order.SWAPPED)
 
 
@@ -158,7 +159,7 @@ def _of_columns(text: bytes) -> Optional[Line]:
 
 
 def _shown_at(form: Form, rest: bytes) -> int:
-    """Where the text begins beside the bytes, or -1."""
+    """Where the text beside the bytes begins, or -1."""
     if form is Form.WIRESHARK:
         return rest.find(b"   ")
     if form is Form.HEXDUMP:
@@ -168,13 +169,12 @@ def _shown_at(form: Form, rest: bytes) -> int:
 
 
 def has_offset(text: bytes) -> bool:
-    """Whether a line has an offset and a colon, and so is no plain hexadecimal."""
+    """Whether a line has an offset and a colon, and so isn't plain hexadecimal."""
     return _split_at_colon(text.lstrip(_BLANKS)) is not None
 
 
 def is_heading(text: bytes) -> bool:
-    """Whether a line is one that `tshark` or `tcpdump` prints above a dump: what it is of, or the packet in a few
-    words.
+    """Whether a line is one that `tshark` or `tcpdump` prints above a dump: its title, or a summary of the packet.
     """
     text = text.strip(_BLANKS)
     is_data_source = text.endswith(b" bytes):") and b"(" in text
@@ -199,7 +199,7 @@ def _split_at_colon(text: bytes) -> Optional[tuple[bytes, bytes]]:
 
 
 def _is_right_aligned(rest: bytes) -> bool:
-    """Whether the last group has fewer digits than the first and stands at its right, as `xxd -e` prints it."""
+    """Whether the last group has fewer digits than the first and is right-aligned, as `xxd -e` prints it."""
     width = rest.find(b" ") if b" " in rest else len(rest)
     if width == 0 or width & (width - 1):
         return False
@@ -214,7 +214,7 @@ def _is_right_aligned(rest: bytes) -> bool:
 
 
 def _order(groups: bytes, data: bytes, shown: bytes) -> Order:
-    """By the text beside groups, which has a character for each byte."""
+    """Judged by the text beside groups, which has a character for each byte."""
     width = len(groups.split(b" ")[0]) // 2
     shown = shown[max(0, len(shown) - len(data)) :]
     if width not in (2, 4, 8) or len(shown) != len(data):

@@ -1,4 +1,4 @@
-"""Packets as captures have them, with the headers of the link, of IP and of UDP in front of the datagram."""
+"""Packets as in captures, with the headers of the link, of IP and of UDP before the datagram."""
 
 from __future__ import annotations
 
@@ -6,16 +6,16 @@ from typing import NamedTuple, Optional
 
 from ..pcap import Endpoint
 
-# How many bytes a link puts in front: none, the loopback of BSD, Ethernet without and with a tag, Linux's cooked ones.
+# How many bytes a link puts before: none, the loopback of BSD, Ethernet without and with a tag, Linux's cooked ones.
 _LINKS = (0, 4, 14, 18, 16, 20)
-# How many bytes Ethernet may have put behind, since it sends 46 at least.
+# How many bytes Ethernet may have added after them, since it sends at least 46.
 _MOST_PADDING = 46
 _UDP = 17
 _UDP_HEADER = 8
 
 
 class IpPacket(NamedTuple):
-    """A packet of IP: where what UDP carries is, and its ends; no ends if another protocol has it."""
+    """An IP packet: where the content of UDP is, and its two ends; no ends if it has another protocol."""
 
     begin: int = 0
     end: int = 0
@@ -32,8 +32,7 @@ class _Header(NamedTuple):
 
 
 def packet(data: bytes) -> Optional[IpPacket]:
-    """The packet of IP that bytes are. All of its lengths must fit, so that hardly any datagram of QUIC looks like
-    one.
+    """The IP packet that bytes are. All of its lengths must fit, so that hardly any datagram of QUIC looks like one.
     """
     for link in _LINKS:
         ip = data[link:]
@@ -65,7 +64,7 @@ def _udp(link: int, ip: bytes, header: _Header) -> Optional[IpPacket]:
 
 
 def _ipv4(ip: bytes) -> Optional[_Header]:
-    """RFC 791, of a packet in one piece."""
+    """RFC 791, for a packet in one piece."""
     count = (ip[0] & 15) * 4
     if len(ip) < 20 or count < 20 or int.from_bytes(ip[6:8], "big") & 0x3FFF:
         return None
@@ -73,7 +72,7 @@ def _ipv4(ip: bytes) -> Optional[_Header]:
 
 
 def _ipv6(ip: bytes) -> Optional[_Header]:
-    """RFC 8200, without headers of extensions."""
+    """RFC 8200, without extension headers."""
     if len(ip) < 40:
         return None
     return _Header(40 + int.from_bytes(ip[4:6], "big"), 40, ip[6], ip[8:24], ip[24:40])

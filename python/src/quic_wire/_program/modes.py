@@ -1,4 +1,4 @@
-"""What each mode prints of a payload, a list or a line."""
+"""What each mode prints for a payload, a list or a line."""
 
 from __future__ import annotations
 
@@ -50,7 +50,7 @@ def place_of(error: Error) -> list[Field]:
 
 
 def closed_by(error: Error) -> list[Field]:
-    """The code to close with, and which section says so."""
+    """The code to close with, and the section that requires it."""
     code = error.code or Code.NO_ERROR
     return [
         ("close_code", out.number(code)),
@@ -60,7 +60,7 @@ def closed_by(error: Error) -> list[Field]:
 
 
 def _padding_count(payload: bytes, frame: Frame) -> int:
-    """How many types of PADDING are there, in one byte or more."""
+    """How many PADDING frames there are, with types in one byte or more."""
     count, at = 0, frame.begin
     while at < frame.end:
         _, at = read_varint(payload, at)
@@ -68,7 +68,7 @@ def _padding_count(payload: bytes, frame: Frame) -> int:
     return count
 
 
-# Of each kind of frame the names of its numbers, and the attributes that have them.
+# For each kind of frame the names of its numbers, and the attributes that have them.
 _NUMBERS: dict[type[Frame], list[tuple[str, str]]] = {
     ResetStream: [("id", "stream_id"), ("error_code", "error_code"), ("final_offset", "final_size")],
     StopSending: [("id", "stream_id"), ("error_code", "error_code")],
@@ -134,7 +134,7 @@ def _ack_fields(ack: Ack) -> list[Field]:
 
 
 def code_name(code: int) -> str:
-    """What a code of CONNECTION_CLOSE is called."""
+    """The name of a code of CONNECTION_CLOSE."""
     if Code.CRYPTO_ERROR <= code < Code.CRYPTO_ERROR + 0x100:
         return f"CRYPTO_ERROR {code - Code.CRYPTO_ERROR}"
     return Code(code).name if code in set(Code) else f"<unknown {code:x}>"
@@ -166,7 +166,8 @@ def show_canon(payload: bytes, output: Output) -> None:
 
 
 def show_number(data: bytes, largest: Optional[int], output: Output) -> None:
-    """Prints the numbers that bytes are, or by the largest received packet number the one of which they are the end."""
+    """Prints the numbers that bytes encode, or the packet number of which they are the end, given the largest received
+    one."""
     if largest is not None:
         _show_packet_number(data, largest, output)
         return
@@ -278,7 +279,7 @@ _BY_DEFAULT = TransportParameters()
 
 
 def _parameter(read: TransportParameters, name: str) -> list[Field]:
-    """A parameter that isn't as by default."""
+    """A parameter that differs from its default."""
     value = operator.attrgetter(name)(read)
     if value == getattr(_BY_DEFAULT, name):
         return []

@@ -20,7 +20,7 @@ class Look(enum.Enum):
 
 
 class Value(NamedTuple):
-    """The value of a field, as people and as programs read it."""
+    """The value of a field, for people and for programs."""
 
     text: str
     json: str
@@ -48,7 +48,7 @@ def data(value: Any) -> Value:
 
 
 def text(value: bytes) -> Value:
-    """What may be no UTF-8, in quotes."""
+    """What may not be UTF-8, in quotes."""
     read = value.decode("utf-8", "replace")
     return Value(f'"{spelled(read)}"', quoted(read))
 
@@ -117,7 +117,7 @@ class Output:
     def item(
         self, begin: int, end: int, kind: tuple[str, str], fields: Sequence[Field] = (), more: Sequence[Field] = ()
     ) -> None:
-        """What is at a place: its key and name, and its fields. Fields in more are for programs alone."""
+        """What is at an offset: its key and name, and its fields. Fields in more are only for programs."""
         if self._look is Look.JSON:
             places = [("start", number(begin)), ("end", number(end)), (kind[0], word(kind[1]))]
             self._object([*places, *fields, *more])
@@ -126,7 +126,7 @@ class Output:
         self._write(f"{self._source()} {place} {self._paint('kind', kind[1])}{self._fields(fields)}\n")
 
     def fields(self, fields: Sequence[Field]) -> None:
-        """Fields alone, for people each in its line."""
+        """Only fields; for people, one on each line."""
         if self._look is Look.JSON:
             self._object(fields)
             return
@@ -134,7 +134,7 @@ class Output:
             self._write(f"{self._source()} {self._paint('name', name)}={value.text}\n")
 
     def error(self, what: str, at: Optional[int] = None, fields: Sequence[Field] = ()) -> None:
-        """An error at a byte, with what was read before it and what is known of it."""
+        """An error at a byte, with what was read before it and what is known about it."""
         self.is_clean = False
         if self._look is Look.JSON:
             place = [] if at is None else [("offset", number(at))]
@@ -147,12 +147,12 @@ class Output:
         return f"\x1b[{_CODES[part]}m{shown}\x1b[0m" if self._look is Look.COLOURED else shown
 
     def _source(self) -> str:
-        """What a line begins with."""
+        """How a line begins."""
         file = "" if self.file is None else f"{self.file}:"
         return self._paint("source", f"{file}{self.line}:")
 
     def _fields(self, fields: Sequence[Field]) -> str:
-        """What a line ends with."""
+        """How a line ends."""
         return "".join(f" {self._paint('name', name)}={value.text}" for name, value in fields)
 
     def _object(self, fields: Sequence[Field]) -> None:

@@ -1,4 +1,4 @@
-"""Bytes that are no dump: hexadecimal, lists as source code and JSON have them, literals of Python and Rust, base64."""
+"""Bytes that aren't a dump: hexadecimal, lists as in source code and JSON, literals of Python and Rust, base64."""
 
 from __future__ import annotations
 
@@ -9,7 +9,7 @@ from typing import NoReturn, Optional
 
 _WORDS = re.compile(rb"""[^ \t\r\n,:;(){}\[\]"'\\]+""")
 _NOT_HEX = re.compile(rb"[^0-9a-fA-F]")
-_BLANKS = b" \t\r\n\x0c"  # as Rust's trim_ascii has them
+_BLANKS = b" \t\r\n\x0c"  # as for Rust's trim_ascii
 _NOT_QUOTED = re.compile(rb"[^) \t\r\n,;]")
 _COMMENT = re.compile(rb"(?:#|//)[^\n]*|/\*.*?\*/", re.S)
 _ESCAPES = {ord(c): byte for c, byte in zip("abtnvfr\\'\"", b"\x07\x08\t\n\x0b\x0c\r\\'\"")}
@@ -64,7 +64,7 @@ def read(text: bytes) -> bytes:
 
 
 def _list_of_decimals(text: bytes, begin: int) -> bytes:
-    """A list as JSON has it. Where each number has two digits it may be hexadecimal."""
+    """A list as in JSON. If each number has two digits, it may be hexadecimal."""
     words = list(_words(text, begin))
     if words and all(len(word) == 2 for _, word in words):
         fail("ambiguous numbers, decimal or hexadecimal; add 0x to each, from the one", words[0][0])
@@ -72,7 +72,7 @@ def _list_of_decimals(text: bytes, begin: int) -> bytes:
 
 
 def unhex(text: bytes) -> Optional[bytes]:
-    """Hexadecimal with nothing but blanks between its digits, or None."""
+    """Hexadecimal with only blanks between its digits, or None."""
     if _NOT_HEX.search(text.replace(b" ", b"")):
         return None
     try:
@@ -98,7 +98,7 @@ def _hexadecimal(text: bytes, begin: int) -> bytes:
 
 
 def _words(text: bytes, begin: int) -> Iterator[tuple[int, bytes]]:
-    """What stands between separators, with its place. Behind a backslash an x is one too."""
+    """What stands between separators, with its offset. After a backslash, an x is one too."""
     for found in _WORDS.finditer(text, begin):
         at, word = found.start(), found.group()
         if word[:1] == b"x" and at > begin and text[at - 1 : at] == b"\\":
@@ -108,13 +108,13 @@ def _words(text: bytes, begin: int) -> Iterator[tuple[int, bytes]]:
 
 
 def _decimal(word: bytes) -> Optional[int]:
-    """A byte as lists of JSON have it."""
+    """A byte as in lists of JSON."""
     is_plain = word.isdigit() and (word == b"0" or word[:1] != b"0")
     return int(word) if is_plain and len(word) <= 3 and int(word) < 256 else None
 
 
 def value_at(text: bytes) -> int:
-    """Where the value begins that is given to a name, as in `uint8_t payload[] = {`; else 0."""
+    """Where the value begins that is assigned to a name, as in `uint8_t payload[] = {`; else 0."""
     end = text.find(b"=")
     if end < 0:
         return 0
@@ -126,13 +126,13 @@ def value_at(text: bytes) -> int:
 
 
 def literal_at(text: bytes) -> Optional[int]:
-    """Where a literal of bytes begins, as `b'..'` of Python or Rust, if the text is one."""
+    """Where a bytes literal begins, such as `b'..'` of Python or Rust, if the text is one."""
     value = text[value_at(text) :].lstrip(_BLANKS).removeprefix(b"bytearray(")
     return len(text) - len(value) if value[:2] in (b"b'", b'b"') else None
 
 
 def is_literal(text: bytes) -> bool:
-    """Whether a text is a literal of bytes, in which nothing is a comment."""
+    """Whether a text is a bytes literal, in which nothing is a comment."""
     return literal_at(text) is not None
 
 
@@ -161,7 +161,7 @@ def _literal(text: bytes, begin: int) -> bytes:
 
 
 def _escaped(text: bytes) -> Optional[tuple[int, int]]:
-    """The byte that an escape means, and how many characters it has behind its backslash."""
+    """The byte that an escape means, and how many characters follow its backslash."""
     if text[:1] == b"x":
         digits = text[1:3]
         return (int(digits, 16), 3) if len(digits) == 2 and not _NOT_HEX.search(digits) else None
@@ -195,13 +195,13 @@ def base64(text: bytes) -> bytes:
 
 
 def blank_comments(text: bytes) -> tuple[bytes, bool]:
-    """The text with blanks in the place of comments, and whether there was one."""
+    """The text with blanks in place of comments, and whether there was one."""
     blanked, count = _COMMENT.subn(lambda found: b" " * len(found.group()), text)
     return blanked, count > 0
 
 
 def open_brackets(before: int, text: bytes) -> int:
-    """How many brackets are open behind a text, of which some were before it."""
+    """How many brackets are open after a text, if this many were before it."""
     for byte in text:
         if byte in b"[{(":
             before += 1

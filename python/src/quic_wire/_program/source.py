@@ -1,4 +1,4 @@
-"""What is to be read as one, out of lines."""
+"""Splits lines into inputs."""
 
 from __future__ import annotations
 
@@ -69,7 +69,7 @@ class Pieces:
             yield from self._begin(text)
 
     def _begin(self, text: bytes) -> Iterator[Piece]:
-        """A line after what is whole."""
+        """A line after a complete input."""
         if self._is_behind_dump and not plain.trimmed(text):
             return
         was_behind_dump, self._is_behind_dump = self._is_behind_dump, False
@@ -95,7 +95,7 @@ class Pieces:
         yield from self._list_or_piece(_List(self._line, text, plain.open_brackets(0, text)))
 
     def _other_line(self, text: bytes) -> Iterator[Piece]:
-        """A line that is no hexadecimal."""
+        """A line that isn't hexadecimal."""
         if self._plain is Plain.BASE64:
             yield _piece(self._line, text, plain.base64)
             return
@@ -104,7 +104,7 @@ class Pieces:
             yield Piece(self._line, text)
 
     def _go_on(self, begun: _List, text: bytes) -> Iterator[Piece]:
-        """A line behind those of a list."""
+        """A line after those of a list."""
         if not plain.trimmed(text):
             yield _end_of_list(begun)
             return
@@ -113,7 +113,7 @@ class Pieces:
         yield from self._list_or_piece(_List(begun.line, more, plain.open_brackets(begun.open, text)))
 
     def _list_or_piece(self, read: _List) -> Iterator[Piece]:
-        """What a list or a line is, if it doesn't go on in the next line."""
+        """What a list or a line is, if it doesn't continue in the next line."""
         goes_on = read.open > 0 or plain.trimmed(read.text).endswith(b",")
         if goes_on and not plain.is_literal(read.text):
             self._list = read
@@ -132,12 +132,12 @@ class Pieces:
 
 
 def _end_of_list(read: _List) -> Piece:
-    """The list, where a blank line ends it, or the end of all."""
+    """The list, which a blank line or the end of the input ends."""
     return Piece(read.line, _OPEN) if read.open else _piece(read.line, read.text, plain.read)
 
 
 def _piece(line: int, text: bytes, read: Callable[[bytes], bytes]) -> Piece:
-    """With where in the lines something is wrong."""
+    """Adds which lines are wrong."""
     data: Union[bytes, str]
     try:
         data = read(text)

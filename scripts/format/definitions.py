@@ -1,4 +1,4 @@
-"""Definitions of crates/*/specs, word for word, and the figures that are made of them."""
+"""Definitions of crates/*/specs, verbatim, and the figures made from them."""
 import functools
 import os
 import re
@@ -43,8 +43,8 @@ def fields_of(file, record):
 
 
 def matched(template, text):
-    """What a text has in place of the holes of a template that it otherwise is: `<name>` is a word, `<name..>` any
-    text. Nothing where it isn't the template."""
+    """What a text has in the holes of a template: `<name>` is a word, `<name..>` any text. None if the text doesn't fit
+    the template."""
     seen = set()
 
     def hole(found):
@@ -58,7 +58,7 @@ def matched(template, text):
 
 
 def stated(file, name, left, template):
-    """The same of a clause of a definition, or of a field of a record, which must be the template."""
+    """The same for a clause of a definition, or for a field of a record, which must fit the template."""
     text = {**clauses(file, name), **fields_of(file, name)}.get(left, "(nothing)")
     found = matched(template, text)
     if found is None:
@@ -75,7 +75,7 @@ def listed(text, what):
 
 
 def log_of(number, what):
-    """How many bits tell so many values apart, which are a power of two."""
+    """How many bits distinguish this many values, a power of two."""
     if number & (number - 1):
         fail(what, f"{number} is no power of two")
     return number.bit_length() - 1

@@ -68,7 +68,7 @@ SECTIONS = {
 }
 FIGURES = {"ApplicationClose": "ConnectionClose"}
 
-# A field of a row, by its name in the row and in the RFC; what it is to be, where it has no bytes.
+# A field of a row, by its name in the row and in the RFC; its value, if it has no bytes.
 Part = collections.namedtuple("Part", "name kind value")
 Frame = collections.namedtuple("Frame", "type name parts")
 
@@ -80,7 +80,7 @@ def titled(name):
 
 
 def several(numbers):
-    """Numbers of types, as a range where they are one."""
+    """Numbers of types, as a range if they are one."""
     first, last = min(numbers), max(numbers)
     if len(numbers) == last - first + 1 > 1:
         return f"{first:#04x}..{last:#04x}"
@@ -170,7 +170,7 @@ def counts_as_one(lines):
 
 def merged(group):
     """The lines of frames that differ in what they leave out, and for each line left out the types that have it;
-    nothing of frames that differ otherwise."""
+    nothing for frames that differ in another way."""
     longest = max(map(all_lines, group), key=len)
     if not all(is_within(all_lines(frame), longest) for frame in group):
         return None
@@ -243,7 +243,7 @@ def notes(group, optional):
 
 
 def meanings():
-    """What the values of each frame are in the code, by the word that says so."""
+    """What the values of each frame are in the code, by the definition that says so."""
     stated(PARTS, "flag", "b", "Number (if b then 1 else 0)")
     stated(PARTS, "counts_of", "(Some e)", "Number e.ect0 ∷ Number e.ect1 ∷ Number e.ce ∷ []")
     stated(PARTS, "close_meaning", "(closes.Connection c)", "connection_close c.error_code c.frame_type c.reason.now")
@@ -287,7 +287,7 @@ def frame_figures(name, group):
 
 
 def beginning():
-    """What is so of all frames."""
+    """What holds for all frames."""
     stated(PAYLOAD, "IsFrame", "parts", "bytes ≡ type_bytes ++ field_bytes")
     stated(PAYLOAD, "IsFrame", "type_encoded", "IsType strict found.type type_bytes")
     stated(PAYLOAD, "IsFrame", "in_table", "row_of found.type ≡ Some row")

@@ -181,7 +181,7 @@ def behind(head):
 
 
 def notes(head):
-    """What the figure of a header can't say, beside what is so of all."""
+    """What the figure of a header can't say, besides what holds for all."""
     if head.title == "Version Negotiation":
         yield "The versions, (..), are given as bytes."
     if head.title == "Retry":
@@ -191,7 +191,7 @@ def notes(head):
 
 
 def checked(head):
-    """StopsAtField where a header ends otherwise than the paragraphs on all say."""
+    """StopsAtField, if a header ends differently from what the paragraphs on all say."""
     if "Length" in row(head):
         stated(GRAMMAR, "Cut", "options bytes h p q", (
             "(rest : List ℕ) × HeaderAt options (length bytes) bytes h rest × (p + length rest ≡ length bytes)"

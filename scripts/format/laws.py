@@ -1,5 +1,5 @@
-"""What is reported of bytes that can't be read, and the laws of crates/quic_wire/src/laws.rt, with the definitions that
-they state."""
+"""What is reported for bytes that can't be read, and the laws of crates/quic_wire/src/laws.rt, with the definitions
+that they state."""
 import os
 import re
 
@@ -16,13 +16,13 @@ LEAST = "quic_canon/specs/Least"
 SAME = "quic_canon/specs/Same"
 LAWS = "crates/quic_wire/src/laws.rt"
 
-# What is reported where no frame begins, in the order of IsNoFrame.
+# What is reported if no frame begins, in the order of IsNoFrame.
 NO_FRAME = (
     "((bytes ≢ []) × NoNumber bytes × (type ≡ before) × (reason ≡ <none>)) ⊎ ((t : ℕ) × HasLongType strict bytes t"
     " × (type ≡ Some t) × (reason ≡ <long>)) ⊎ ((t : ℕ) × BeginsWithType strict bytes t (λ back. row_of t ≡ None)"
     " × (type ≡ Some t) × (reason ≡ <unknown>)) ⊎ ((t : ℕ) × BeginsWithType strict bytes t (λ back. (r : Row)"
     " × (row_of t ≡ Some r) × StopsWithin r.fields [] back reason) × (type ≡ Some t))")
-# What a law says, beside the statement that it must have.
+# What a law says, besides the statement that it must have.
 SENTENCES = {
     "every_payload": ("ExactlyOne (IsReadingOf strict bytes)", "a payload has exactly one reading (`Reading`)"),
     "every_datagram": ("ExactlyOne (CutAnswer options bytes)", (
@@ -50,7 +50,7 @@ def text_of(reason):
 
 
 def payload_errors():
-    """What is reported where a payload can't be read on."""
+    """What is reported when a payload can't be read on."""
     reasons = stated(PAYLOAD, "IsNoFrame", "strict before bytes type reason", NO_FRAME)
     stated(FIELD, "reason_of", "Ordered bytes", "Malformed")
     yield from ["## What is reported", "", "### Payloads (12.4)", ""]
@@ -91,7 +91,7 @@ def law_of(name):
 
 
 def laws():
-    """Each law, and what its words mean."""
+    """Each law, and what its definitions mean."""
     with open(os.path.join(TOP, LAWS), encoding="utf-8") as it:
         names = re.findall(r"\npub fn (\w+)", it.read())
     if names != list(SENTENCES):

@@ -13,7 +13,7 @@ MEANING = "quic_params/specs/Meaning"
 OPTIONS = "quic_params/specs/Options"
 RESERVED = "quic_params/specs/Reserved"
 
-# The RFC's names of what is named otherwise, and sections of other documents than RFC 9000, 18.2.
+# The RFC's names for what has other names here, and sections of other documents than RFC 9000, 18.2.
 NAMES = {"ReservedTransportParameter": "reserved", "MinAckDelayDraft07": "min_ack_delay"}
 SECTIONS = {
     "ReservedTransportParameter": "18.1", "MaxDatagramFrameSize": "RFC 9221, 3", "GreaseQuicBit": "RFC 9287, 3",
@@ -28,7 +28,7 @@ KINDS = {
     "(bytes ≡ id) × (length id ≤ <most>)": lambda most: f"(0..{8 * most})",
     "IsAddress address bytes": lambda: "Preferred Address",
 }
-# What a side takes, from a field of IsValid: the parameter that is spoken of, and what it must be.
+# What a side accepts, from a field of IsValid: the parameter, and what it must be.
 BOUNDS = {
     "params.<name> ≤ <most>": lambda most: f"at most {most}",
     "params.<name> ≤ 2 ^ <most>": lambda most: f"at most 2^{most}",
@@ -73,7 +73,7 @@ def value_of(kind):
 
 
 def bounds():
-    """What must be so of each field of a record."""
+    """What must hold for each field of a record."""
     reported = {}
     for name, text in fields_of(MEANING, "IsValid").items():
         for template, words in BOUNDS.items():

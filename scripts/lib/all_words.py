@@ -31,12 +31,12 @@ WIDTHS = {"uint8_t": 8, "uint16_t": 16, "uint32_t": 32, "uint64_t": 64, "size_t"
 
 
 def wide(number):
-    """A number that nothing wraps in."""
+    """A number in which nothing wraps."""
     return z3.ZeroExt(WIDE - number.size(), number)
 
 
 def prove(name, claim, *assumed):
-    """Says that the claim holds of all words, or ends with words of which it doesn't."""
+    """Checks that the claim holds for all values, or ends with values for which it doesn't."""
     steps = ("simplify", "propagate-values", "solve-eqs", "elim-uncnstr", "simplify", "bit-blast", "sat")
     solver = z3.Then(*steps).solver()
     solver.add(*assumed, z3.Not(claim))
@@ -96,7 +96,7 @@ class Function:
         self.value = self.of(returned.expr, z3.BoolVal(True))
 
     def member(self, node, path):
-        """A member of a struct that is looked at where the path leads to it; its pointer isn't NULL there."""
+        """A member of a struct that is read if the path leads to it; its pointer isn't NULL there."""
         prove(f"{self.name}: |{node.name.name}| isn't NULL", z3.Implies(path, truth(self.arguments[node.name.name])))
         name = f"{node.name.name}->{node.field.name}"
         return Word(z3.BitVec(name, FIELDS[node.field.name]), False)
@@ -245,7 +245,7 @@ def field(name):
 
 
 def bytes_within(function, length):
-    """Each byte that is looked at is one of the bytes."""
+    """Each byte that is read is one of the argument's bytes."""
     for path, place in function.seen:
         prove(f"{function.name}: a byte of the bytes", z3.Implies(path, z3.ULT(place, function.arguments[length].bits)))
 
@@ -255,7 +255,7 @@ def given(function, *names):
 
 
 def places(functions):
-    """The functions that give a part of what was read."""
+    """The functions that return a part of what was read."""
     f = functions["quic_wire_reset_token"]
     start, many, whole = field("frame->data"), field("frame->datalen"), f.arguments["payloadlen"].bits
     there = z3.And(given(f, "payload", "frame"), kind_is("NEW_CONNECTION_ID"),
@@ -299,7 +299,7 @@ def paddings(functions):
 
 
 def header_lens(functions):
-    """How long a header is, of words that can be written: ids of at most 255 bytes, a token below 2^62."""
+    """How long a header is, for values that can be written: ids of at most 255 bytes, a token below 2^62."""
     f = functions["quic_wire_header_len"]
     dst, src, token = [f.arguments[it].bits for it in ("dcidlen", "scidlen", "tokenlen")]
     kind = field("fields->kind")
@@ -319,7 +319,7 @@ def header_lens(functions):
 
 
 def conditions_of(text):
-    """The conditions of Rust, as they stand, in the words of the two runs."""
+    """The conditions in Rust, as written, with the ends of the two runs as values."""
     names = {f"{run}_{end}": z3.BitVec(f"{run}.{end}", 64) for run in ("range", "last", "first") for end in ("start", "end")}
 
     def of(condition):

@@ -60,7 +60,7 @@ def word(content, at):
 
 
 def joined_data(first, second):
-    """The data, in which each pointer to data is a place in them; those that both modules have are the same but for
+    """The data, in which each pointer to data is an offset in them. The data of both modules are the same except for
     pointers, which differ by the step."""
     need(len(first) == len(second), "the data differ in length")
     pointers = {}
@@ -120,7 +120,7 @@ def calls_of(functions):
 
 
 def reached(roots, calls):
-    """What is called from the roots, in whatever order."""
+    """What is called from the roots, in any order."""
     found, todo = set(), list(roots)
     while todo:
         name = todo.pop()
@@ -131,8 +131,8 @@ def reached(roots, calls):
 
 
 def frame_of(name, body):
-    """The bytes of stack that a function takes for itself: it lowers the pointer once at its beginning, and puts it
-    back at its end."""
+    """The bytes of stack that a function itself uses: it lowers the pointer once at its beginning, and restores it at
+    its end."""
     uses = body.count("stack_pointer")
     lowered = re.findall(
         r"(var_j\d) = instance->w2c_0x5F_stack_pointer;\n\s*(var_j\d) = (\d+)ull;\n\s*\1 -= \2;", body
@@ -144,7 +144,7 @@ def frame_of(name, body):
 
 
 def depth_of(name, frames, calls, above=()):
-    """The bytes of stack that a function takes with all that it calls."""
+    """The bytes of stack that a function uses with all that it calls."""
     need(name not in above, f"{name} calls itself")
     deepest = max((depth_of(it, frames, calls, above + (name,)) for it in calls[name]), default=0)
     return frames[name] + deepest
@@ -177,7 +177,7 @@ class Translation:
         self.data, self.names, self.depths = data, names, depths
 
     def address(self, first, second):
-        """A line in whose two forms an address of data differs, with the address's place in the data."""
+        """A line in whose two forms an address of data differs, with the address's offset in the data."""
         parts, others = (re.split(r"(\b\d+(?=u))", line) for line in (first, second))
         need(len(parts) == len(others) and parts[::2] == others[::2], f"two lines differ: {first}")
         for at in range(1, len(parts), 2):
@@ -190,7 +190,7 @@ class Translation:
         return "".join(parts)
 
     def pointers_moved(self, line):
-        """A load of a pointer that lies among the data, which is kept there as a place in them."""
+        """A load of a pointer that is among the data, where it is kept as an offset in them."""
         for place in map(int, re.findall(r"DATA\((\d+)\)", line)):
             if place in self.data.pointers:
                 line, count = re.subn(rf"(i64_load\(\([^()]*DATA\({place}\)\)\))", r"(DATA(0) + \1)", line)
@@ -233,8 +233,8 @@ STEP_OF = re.compile(r"(\w+) (\+|\||\^)?= (?:(\d+)u(?:ll)?|(\w+)|i32_load8_u\(\(
 
 
 def stepped(values, line):
-    """Sets what a line says of a value: a number; an address, as a parameter and a number; a byte there; at which
-    places the bytes of p1 and p2 are compared, and whether the value says that one differs or that none does. Returns
+    """Sets what a line says about a value: a number; an address, as a parameter and a number; a byte there; at which
+    offsets the bytes of p1 and p2 are compared, and whether the value says that one differs or that none does. Returns
     whether the line is one of these."""
     found = STEP_OF.fullmatch(line)
     if not found:
@@ -260,8 +260,8 @@ def stepped(values, line):
 
 
 def comparison(head, body):
-    """The body of a function that says whether p0 isn't 0 and arrays at p1 and p2 are the same: in one call, where it
-    does nothing else, or None."""
+    """The body of a function that says whether p0 isn't 0 and arrays at p1 and p2 are the same, in one call if it does
+    nothing else, or None."""
     lines = [line.strip() for line in body.strip().split("\n") if not re.match(r"\s*u(32|64) ", line)]
     steps = lines[len(GUARD) : -len(LAST)]
     if not head.endswith("(u32 p0, u64 p1, u64 p2)") or lines != GUARD + steps + LAST:

@@ -196,7 +196,7 @@ def ack_note(first):
 
 
 def unwritten(group):
-    """What takes no bytes: for each of its values the types with it."""
+    """What has no bytes: for each of its values the types with it."""
     found = collections.defaultdict(lambda: collections.defaultdict(set))
     for frame in group:
         for part in frame.parts:
@@ -206,7 +206,7 @@ def unwritten(group):
 
 
 def unwritten_notes(group, types):
-    """What takes no bytes in any type."""
+    """What has no bytes in any type."""
     for name, values in unwritten(group).items():
         if set().union(*values.values()) != types:
             continue
@@ -300,12 +300,12 @@ def beginning():
         " × AreFields fields (before ++ values) after back"))
     return [
         "## Frames", "",
-        "A frame is its type, in any width or, where `strict`, the shortest, and its row's fields one after another"
+        "A frame is its type, in any width or, if `strict`, the shortest, and its row's fields one after another"
         f" (`IsFrame`, crates/{PAYLOAD}.antt; `IsField`, crates/{FIELD}.antt); a payload is frames to its end"
-        " (`AreFrames`). Types without a row are none. What is `Implied` takes no bytes.",
+        " (`AreFrames`). There are no types without a row. What is `Implied` has no bytes.",
         "",
         f"Rows are those of crates/{TABLE}.antt (`rows`, by type). Beneath a figure are the values in the code, by"
-        " `meaning_of` or the word in brackets.",
+        " `meaning_of` or the definition in brackets.",
         ""]
 
 

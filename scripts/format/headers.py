@@ -187,7 +187,7 @@ def notes(head):
     if head.title == "Retry":
         yield "Retry Token and Retry Integrity Tag, (..), are given as bytes."
     if head.title == "1-RTT":
-        yield "Destination Connection ID is what the parser of ids takes (`ShortId`)."
+        yield "Destination Connection ID is what the parser of ids reads (`ShortId`)."
 
 
 def checked(head):
@@ -258,7 +258,7 @@ def reading():
     return (
         "A header is its first byte and its row's fields one after another (`HeaderAt`, `header_row_of`,"
         f" `typed_row`, crates/{GRAMMAR}.antt); its packet ends as many bytes after Length as that says (`Cut`). Any"
-        " fixed bit may be clear where `options.grease` holds (RFC 9287; `is_fixed`). Versions but 0 are known ones"
+        " fixed bit may be clear if `options.grease` holds (RFC 9287; `is_fixed`). Versions except 0 are known ones"
         f" (`Supported`). Version 2 ({version:#x}; RFC 9369, 3.2) has the Long Packet Types {types} (`types_of`).")
 
 
@@ -268,10 +268,10 @@ def protection():
     stated(KEYS, "is_short", "packet", "nat_lt (slice_index packet 0) 128")
     skipped = stated(KEYS, "HasSample", "room", "at + <skipped> + sample_len ≤ length packet")["skipped"]
     return (
-        "Packet Number has a byte more than Packet Number Length says (`number_len`); `reserved_zero` tells whether"
+        "Packet Number has a byte more than Packet Number Length says (`number_len`); `reserved_zero` says whether"
         f" Reserved Bits are 0. The low {low['true']} bits of a 1-RTT packet's first byte, {low['false']} of others,"
         " and the number are under header protection (`first_unit`, `Protects`; RFC 9001, 5.4), whose sample is"
-        f" {skipped} bytes after the number's place (`HasSample`, crates/{KEYS}.antt).")
+        f" {skipped} bytes after the number's offset (`HasSample`, crates/{KEYS}.antt).")
 
 
 def packet_numbers():

@@ -26,9 +26,9 @@ NO_FRAME = (
 SENTENCES = {
     "every_payload": ("ExactlyOne (IsReadingOf strict bytes)", "a payload has exactly one reading (`Reading`)"),
     "every_datagram": ("ExactlyOne (CutAnswer options bytes)", (
-        "a datagram has exactly one answer: its first packet (`Cut`), or an error (`Uncut`)")),
+        "a datagram has exactly one result: its first packet (`Cut`), or an error (`Uncut`)")),
     "every_list": ("ExactlyOne (IsReadAnswer options side bytes)", (
-        "a list of transport parameters has exactly one answer for a side in each way of reading (`ReadOptions`): a"
+        "a list of transport parameters has exactly one result for a side in each way of reading (`ReadOptions`): a"
         " record (`IsMeant`, `IsValid`), or an error (`IsBadList`)")),
     "one_shortest": ("ExactlyOne (λ least. IsLeast least payload)", (
         "a payload without an error has exactly one shortest payload of the same frames (`IsLeast`), and no other"
@@ -79,7 +79,7 @@ def header_errors():
     yield from ["", "### Headers (17)", ""]
     yield from columns(rows)
     yield (
-        f"In the order of the fields (`Refused`, `refusal_at`, crates/{GRAMMAR}.antt); of a short header's id it is the"
+        f"In the order of the fields (`Refused`, `refusal_at`, crates/{GRAMMAR}.antt); for a short header's id it is the"
         " error of the parser of ids. A length beyond the datagram comes last (`Uncut`).")
 
 
@@ -112,9 +112,9 @@ def laws():
         "IsMeant options params bytes × IsValid side params"))
     yield ""
     yield (
-        f"All of them in {LAWS}, for all bytes. `ExactlyOne` (crates/{ONE}.antt): there is such a value, and every"
+        f"All are in {LAWS}, for all bytes. `ExactlyOne` (crates/{ONE}.antt): there is such a value, and every"
         f" other such value equals it. A `Reading` (crates/{PAYLOAD}.antt) is `Complete`, the payload's frames"
-        " (`AreFrames`), or `FailsAfter`, the frames before something that is no frame, and what is reported of that"
+        " (`AreFrames`), or `FailsAfter`, the frames before something that isn't a frame, and what is reported for it"
         f" (`IsBroken`). `IsLeast` (crates/{LEAST}.antt): each other payload of the same frames is longer; frames are"
         f" the same if their values are equal, ranges if they have the same numbers (`IsSame`, crates/{SAME}.antt).")
 

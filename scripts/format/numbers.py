@@ -43,7 +43,7 @@ def codes():
 def page():
     yield from ["## Numbers", ""]
     yield (
-        f"A number (i) has one of these widths (16; `Encodes`, crates/{VARINT}.antt), at its shortest the first that has"
+        f"A number (i) has one of these widths (16; `Encodes`, crates/{VARINT}.antt), at its shortest the first that holds"
         " it (`shortest_varint`):")
     yield ""
     yield from columns([("2MSB", "Length", "Usable Bits", "Range"), *varints()])

@@ -150,15 +150,15 @@ def page():
         "Transport Parameter ID (i)", "Transport Parameter Length (i)", "Transport Parameter Value (..)"])
     yield (
         f"`AreEntries`, `IsEntry`, crates/{ENTRY}.antt. Entries without a row are ignored (`Accepts`), repeated ones"
-        " refused unless they may (`IsRepeat`). As RFC 9000 has them read no known parameter may repeat, and integers may be"
-        f" in any width (`as_rfc`, crates/{OPTIONS}.antt); the table is of quinn-proto's reading, `as_quinn`.")
+        " rejected unless they may repeat (`IsRepeat`). By RFC 9000 no known parameter may repeat, and integers may be"
+        f" in any width (`as_rfc`, crates/{OPTIONS}.antt); the table is for quinn-proto's reading, `as_quinn`.")
     yield from ["", "### Parameters (18.2)", ""]
     yield from columns([["ID", "Name", "Value", "Default", "Must be"], *rows()])
     others = quoted(name for name in clauses(TABLE, "row_of") if name in NAMES)
     yield (
-        f"Rows (`row_of`, crates/{TABLE}.antt) have these names but {others}. Values (`IsEncoded`, crates/{VALUE}.antt)"
-        " (i) are in the shortest width unless in any; (..) are passed. Without a default what isn't there is absent"
-        f" (`default_of`). What must be, `IsValid` says, crates/{MEANING}.antt, of names of `value_of`,"
+        f"Rows (`row_of`, crates/{TABLE}.antt) have these names except {others}. Values (`IsEncoded`,"
+        f" crates/{VALUE}.antt) (i) are in the shortest width unless in any; (..) are skipped. A missing one without a default is absent"
+        f" (`default_of`). `IsValid`, crates/{MEANING}.antt, says what must be, with the names of `value_of`,"
         f" crates/{RECORD}.antt. Numbers {free['step']} * N + {free['first']} are reserved (`IsReserved`,"
         f" crates/{RESERVED}.antt).")
     yield from ["", "### Preferred Address (18.2)", ""]

@@ -58,11 +58,11 @@ class Captured:
     packet: Optional[Packet]
     opened: Optional[Opened] = None
     frames: Optional[tuple[Frame, ...]] = None
-    """The frames of a packet that is opened, up to an invalid one."""
+    """The frames of an opened packet, up to an invalid one."""
     error: Optional[Error] = None
     """The first rule that it breaks."""
     why: Optional[str] = None
-    """Why it isn't read or isn't opened: in English."""
+    """Why it isn't read or opened, in English."""
     rest: int = 0
     """How many bytes the rest has."""
 

@@ -28,7 +28,7 @@ class Checks(enum.IntFlag):
     """
 
     QUINN = 0
-    """Nothing more than quinn-proto checks."""
+    """Only what quinn-proto checks."""
 
     SHORT_TYPES = _wire.READ_SHORT_TYPES
     """Frames: a type must be in its shortest encoding (RFC 9000, section 12.4)."""
@@ -53,7 +53,7 @@ class Checks(enum.IntFlag):
     """Transport parameters: integers may be in any encoding (section 16). Without it those that have a default must be
     in their shortest one."""
     NO_REPEATS = _wire.READ_NO_REPEATS
-    """Transport parameters: none must be there twice (section 7.4). Without it grease_quic_bit and min_ack_delay may."""
+    """Transport parameters: none may come twice (section 7.4). Without it grease_quic_bit and min_ack_delay may."""
 
     RFC = _wire.READ_RFC
-    """All that RFC 9000 asks: each flag except GREASED_BIT."""
+    """All that RFC 9000 requires: each flag except GREASED_BIT."""

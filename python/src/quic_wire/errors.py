@@ -49,13 +49,13 @@ class Error(ValueError):
     offset: Optional[int]
     """Where what is rejected begins in the bytes that were read."""
     field: Optional[str]
-    """The field at fault by its name in the RFC, where that is known."""
+    """The field at fault by its name in the RFC, if that is known."""
     field_offset: Optional[int]
     """Where that field begins."""
     code: Optional[Code]
-    """What an endpoint closes the connection with; None if it drops a packet."""
+    """The code with which an endpoint closes the connection; None if it drops a packet."""
     section: str
-    """Which section of which document says so."""
+    """The document and section that say so."""
 
     def __init__(
         self,
@@ -82,9 +82,9 @@ class FrameError(Error):
     """A payload has an invalid frame, or none."""
 
     frame_type: Optional[int] = None
-    """The last type that was read, that of the invalid frame included."""
+    """The last type that was read, including that of the invalid frame."""
     frames: Optional[list[Frame]] = None
-    """The frames before it, where a list of them was asked for."""
+    """The frames before it, if a list of them was asked for."""
 
     def _what(self) -> str:
         """The library's own text: the reason, and the type that it belongs to."""
@@ -97,18 +97,18 @@ class PacketError(Error):
     """The bytes of a datagram aren't a packet, and are dropped."""
 
     packets: Optional[list[Packet]] = None
-    """The packets before it, where a list of them was asked for."""
+    """The packets before it, if a list of them was asked for."""
     packet: Optional[Packet] = None
-    """What was read of a packet that is cut off."""
+    """What was read from a packet that is cut off."""
 
 
 class ParameterError(Error):
     """A list of transport parameters is rejected."""
 
     id: Optional[int] = None
-    """The id of the parameter at fault, where one is."""
+    """The id of the parameter at fault, if there is one."""
     name: Optional[str] = None
-    """Its name, in the RFC's words."""
+    """Its name in the RFC."""
     value: Optional[bytes] = None
     """Its value."""
     why: Optional[str] = None

@@ -40,7 +40,7 @@ class Datagram:
     frame: int
     """Its number in the capture, from 1 on."""
     time: float
-    """When it was captured, in seconds since 1970; 0 where the file doesn't say."""
+    """When it was captured, in seconds since 1970; 0 if the file doesn't say."""
     source: Endpoint
     destination: Endpoint
     data: memoryview

@@ -85,9 +85,9 @@ class Line(NamedTuple):
     data: bytes = b""
     order: Order = Order.UNTOLD
     is_sure: bool = True
-    """Whether it is nothing else than a line of a dump."""
+    """Whether it can only be a line of a dump."""
     is_last: bool = False
-    """Whether it has fewer bytes than a line of its dump holds, so that no other follows."""
+    """Whether it has fewer bytes than a full line of its dump, so that no other follows."""
     rejection: Optional[str] = None
     """Why its bytes aren't read."""
 

@@ -15,8 +15,8 @@ const SECRET = 32;
 const BEFORE_SAMPLE = 4;
 
 // Why the browser can't open anything.
-export const NO_CIPHERS = "This page can’t open it: browsers give ciphers (Web Crypto) to pages from https, from the "
-  + "browser’s own machine or from a file alone, and this one came otherwise. ";
+export const NO_CIPHERS = "This page can’t open it: browsers give ciphers (Web Crypto) only to pages from https, from the "
+  + "browser’s own machine or from a file, and this one came in another way. ";
 
 export const hasCiphers = () => globalThis.crypto?.subtle !== undefined;
 export const hasInitialKeys = (version) => INITIAL_SALTS.has(version);

@@ -99,7 +99,7 @@ export class Opened {
   openedByPage(index, found) {
     const one = this.notes[index];
     if (!found) {
-      one.own ||= "Neither its own id nor another that is known opens it: the keys of a connection’s Initial packets "
+      one.own ||= "Neither its own id nor another known one opens it: the keys of a connection’s Initial packets "
         + "follow from the destination id of the client’s first one. ";
       this.say(index, []);
       return;
@@ -146,7 +146,7 @@ export class Opened {
     const sample = this.reading.bytes.subarray(begin, Math.min(begin + SAMPLE_LENGTH, packet.end));
     const isShort = sample.length < SAMPLE_LENGTH;
     note.replaceChildren(...faults.map((fault) => element("strong", "fault", `${fault}. `)), own, isShort
-      ? "The packet is too short for a sample." : "The mask is what the cipher of the header makes of the sample ",
+      ? "The packet is too short for a sample." : "The mask is what the cipher of the header makes from the sample ",
     ...(isShort ? [] : [element("code", "", toHex(sample)), `, ${begin}..${begin + SAMPLE_LENGTH}.`]));
   }
 

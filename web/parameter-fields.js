@@ -36,7 +36,7 @@ function withUnit(number, unit) {
 function numberField(walk, unit) {
   const value = walk.varint("Value", (number) => withUnit(number, unit));
   if (value !== null && walk.left > 0) {
-    walk.rest("behind the value", { fault: true });
+    walk.rest("after the value", { fault: true });
   }
 }
 
@@ -47,7 +47,7 @@ function valueFields(walk, { kind, unit }) {
   } else if (kind === "address") {
     addressFields(walk);
     if (!walk.missing && walk.left > 0) {
-      walk.rest("behind the address", { fault: true });
+      walk.rest("after the address", { fault: true });
     }
   } else if (kind !== "flag" || walk.left > 0) {
     walk.rest("Value", { opaque: kind === "other", show: (bytes) => valueText(kind, bytes) });

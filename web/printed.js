@@ -13,7 +13,7 @@ function printBlock(box, chosen, words, text, isCut) {
   const isOwn = chosen.mode === "datagram"
     && (chosen.grease || versionsText(chosen.versions) !== versionsText(VERSIONS));
   if (isOwn) {
-    title.append(" with the versions and the fixed bit as chosen here, for which it has no words");
+    title.append(" with the versions and the fixed bit as chosen here, for which it has no options");
   }
   const block = element("pre", "", text);
   block.dataset.command = words;

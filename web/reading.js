@@ -200,7 +200,7 @@ class DatagramReading extends Reading {
     return {
       place: this.walkRest().fault?.begin ?? this.rest, reason: PACKET_REASONS[refusal.reason],
       version: isVersion ? refusal.version : null, code: null,
-      section: isVersion ? "a server may answer by a Version Negotiation packet: RFC 9000, section 6"
+      section: isVersion ? "a server may answer with a Version Negotiation packet: RFC 9000, section 6"
         : "what is left of the datagram is dropped: RFC 9000, section 12.2",
     };
   }

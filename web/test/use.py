@@ -54,7 +54,7 @@ def walk_tree(browser):
     same((now["box"], now["field"]), ("grid", last["field"]), "Enter in the tree")
     if not now["inspector"]:
         raise Failed("nothing names what is lit")
-    same(stops(browser, 2), ["outline", "RFC 9000, section 12.4"], "behind the grid the tree, then the section")
+    same(stops(browser, 2), ["outline", "RFC 9000, section 12.4"], "after the grid the tree, then the section")
 
 
 def all_by_keyboard(browser, address):
@@ -65,7 +65,7 @@ def all_by_keyboard(browser, address):
     browser.keys(TAB, RIGHT)
     same(browser.run("return document.getElementById('form').elements.mode.value"), "datagram", "the mode by keys")
     browser.keys(TAB)
-    same(browser.run(ACTIVE)["box"], "input", "behind the modes")
+    same(browser.run(ACTIVE)["box"], "input", "after the modes")
     browser.keys("a", held=(CONTROL,))
     browser.keys(*"4cfe4189655e5cd55c41f69080575d7999c25a5bfb")
     browser.keys(TAB)
@@ -75,7 +75,7 @@ def all_by_keyboard(browser, address):
     browser.keys(ENTER)
     same(browser.run("return document.getElementById('open').open"), True, "the panel is open")
     browser.keys(TAB)
-    same(browser.run("return document.activeElement.id"), "first-id", "the id behind the panel's title")
+    same(browser.run("return document.activeElement.id"), "first-id", "the id after the panel's title")
     for field, text in (("mask", "aefefe7d03"), ("plain", "01")):
         browser.keys(TAB)
         same(browser.run("return document.activeElement.dataset.name"), field, "the fields of a packet")

@@ -41,8 +41,8 @@ def prove(name, claim, *assumed):
     solver = z3.Then(*steps).solver()
     solver.add(*assumed, z3.Not(claim))
     if solver.check() != z3.unsat:
-        sys.exit(f"all_words.py: {name}: false of {solver.model()}")
-    print(f"{name}: for all words")
+        sys.exit(f"all_words.py: {name}: false for {solver.model()}")
+    print(f"{name}: for all values")
 
 
 class Word:

@@ -109,7 +109,7 @@ def features(browser, host, top):
     tools.picture(browser, address)
     print(f"  a picture is saved; {tools.sections(browser, address)} lines have links to their sections")
     silent(browser, "these features")
-    print(f"  {tools.sends_nothing(browser, address, host, Server.asked)} ways to send are refused")
+    print(f"  {tools.sends_nothing(browser, address, host, Server.asked)} ways to send are blocked")
     browser.errors()
 
 

@@ -1,4 +1,4 @@
-// node --experimental-wasm-memory64 show.mjs quic_wire.wasm MODE: what `quic-show MODE` prints, by the functions of the
+// node --experimental-wasm-memory64 show.mjs quic_wire.wasm MODE: what `quic-show MODE` prints, with the functions of the
 // WebAssembly module, whose memory has 64-bit addresses, so that pointers and lengths are BigInts. Structs are those of
 // quic_wire.h.
 import fs from 'node:fs';

@@ -21,7 +21,7 @@ def tests():
 
 
 def wanted(test):
-    """Verdict, place, code and length of the shortest form, as tshark prints them, by what a test says."""
+    """Verdict, offset, code and length of the shortest form, as tshark prints them, that a test requires."""
     if test["result"] == "valid":
         length = str(len(test["shortest"]) // 2) if "shortest" in test else None
         return [["ok", "", "", length]]

@@ -1,6 +1,6 @@
-// node --experimental-wasm-memory64 show.mjs quic_wire.wasm MODE: what `quic-show MODE` prints, with the functions of the
-// WebAssembly module, whose memory has 64-bit addresses, so that pointers and lengths are BigInts. Structs are those of
-// quic_wire.h.
+// node --experimental-wasm-memory64 show.mjs quic_wire.wasm MODE: what `quic-show MODE` prints, with the functions of
+// the WebAssembly module, whose memory has 64-bit addresses, so that pointers and lengths are BigInts. Structs are
+// those of quic_wire.h.
 import fs from 'node:fs';
 
 const [modulePath, mode, word] = process.argv.slice(2);

@@ -151,7 +151,7 @@ class FramesReading extends Reading {
   make(index) {
     if (index === this.bad) {
       const { walk, type, kind: found, fault } = this.walkRest();
-      const name = type === null ? "no frame" : `${typeName(type)}, no frame`;
+      const name = type === null ? "not a frame" : `${typeName(type)} (invalid)`;
       return { kind: found, ...this.broken(name, this.error.reason, walk, fault) };
     }
     const begin = this.begin(index);
@@ -216,7 +216,7 @@ class DatagramReading extends Reading {
   make(index) {
     if (index === this.bad) {
       const { walk, fault } = this.walkRest();
-      return { kind: null, ...this.broken("no packet", this.error.reason, walk, fault) };
+      return { kind: null, ...this.broken("not a packet", this.error.reason, walk, fault) };
     }
     const packet = this.packet(index);
     const { kind, version } = packet;
@@ -302,7 +302,7 @@ class ParamsReading extends Reading {
 
   make(index) {
     const { walk, id } = parameterFields(this.bytes, this.begin(index));
-    const name = id === null ? "no parameter" : parameterOf(id).name;
+    const name = id === null ? "not a parameter" : parameterOf(id).name;
     if (index === this.bad) {
       const fault = this.faultOf(walk);
       const summary = this.error.reason + (walk.missing ? "" : `: ${parameterSummary(walk, id)}`);

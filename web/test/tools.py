@@ -126,7 +126,7 @@ def picture(browser, address):
     if not all(a[1] < b[1] for a, b in zip(digits, digits[1:]) if a[2] == b[2]):
         raise Failed("bytes of the picture aren't in their order")
     words = [one[0] for one in texts]
-    for wanted in ("Error at byte 15: unexpected end in STREAM.", "ACK", "STREAM, no frame", "0000", "0010"):
+    for wanted in ("Error at byte 15: unexpected end in STREAM.", "ACK", "STREAM (invalid)", "0000", "0010"):
         if wanted not in words:
             raise Failed(f"the picture lacks {wanted!r}: {words}")
     for color in re.findall(r'(?:fill|stroke)="([^"]*)"', text):

@@ -1,4 +1,4 @@
-//! What is read of lines and dumps: the rows of the README's table, each with its files in `tests/dumps`.
+//! What is read from lines and dumps: the rows of the README's table, each with its files in `tests/dumps`.
 //!
 //! The files hold 51 bytes, as these programs printed them: xxd 2022-01-14, hexdump of util-linux 2.38.1, od of GNU
 //! coreutils 9.1, tshark 4.0.17 and tcpdump 4.99.3 (a capture of the link type 147, which adds nothing in front),

@@ -132,7 +132,8 @@ fn link(folder: &Path) {
     let file = folder.join(archive());
     println!("cargo:rerun-if-changed={}", file.display());
     if !file.is_file() {
-        println!("cargo:warning=QUIC_WIRE_LIB names {}, which holds no {}", folder.display(), archive());
+        let fault = if folder.is_relative() { "isn't an absolute path" } else { "has no libquic_wire.a" };
+        println!("cargo:warning=QUIC_WIRE_LIB names {}, which {fault}", folder.display());
     }
     link_built(folder);
 }

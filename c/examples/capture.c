@@ -11,6 +11,7 @@
  */
 #define _DEFAULT_SOURCE
 #include <inttypes.h>
+#include <search.h>
 #include <stdio.h>
 #include <stdlib.h>
 #include <string.h>
@@ -19,7 +20,7 @@
 #include "initial_keys.h"
 #include "quic_wire.h"
 
-enum { MOST = 65535, FLOWS = 4096, ID = 20 }; /* no id of versions 1 and 2 is longer */
+enum { MOST = 65535, ID = 20 }; /* no id of versions 1 and 2 is longer */
 
 static const uint32_t versions[] = {QUIC_WIRE_VERSION_1, QUIC_WIRE_VERSION_2};
 
@@ -32,7 +33,6 @@ typedef struct side {
 
 /* The datagrams between two endpoints. */
 typedef struct flow {
-  struct flow *next;
   side sides[2];
   uint8_t has_keys, idlen, id[ID]; /* the keys of Initial packets come from this id */
 } flow;
@@ -60,29 +60,39 @@ static int is_first(const datagram *d) {
           (version & 0x0f0f0f0f) == 0x0a0a0a0a);
 }
 
+/* The lesser or the greater of a flow's endpoints, as bytes. */
+static const endpoint *end_of(const flow *f, int is_greater) {
+  const int order = memcmp(&f->sides[0].end, &f->sides[1].end, sizeof(endpoint));
+  return &f->sides[(order > 0) != is_greater].end;
+}
+
+/* The order of flows, whichever side is the client. */
+static int compare_flows(const void *one, const void *other) {
+  const int order = memcmp(end_of(one, 0), end_of(other, 0), sizeof(endpoint));
+  return order ? order : memcmp(end_of(one, 1), end_of(other, 1), sizeof(endpoint));
+}
+
 /* The flow of a datagram, a new one if it begins one, and which side sent it: the
- * client, if it is the first.  NULL if it isn't QUIC's. */
+ * client, if it is the first.  NULL if it isn't QUIC's.  Flows are in a balanced
+ * tree, which no choice of addresses makes slow. */
 static flow *flow_of(const datagram *d, unsigned *from) {
-  static flow *flows[FLOWS];
-  uint32_t sum = 0, i;
-  flow **first, *f;
-  for (i = 0; i < sizeof(endpoint); i++)
-    sum = sum * 31 + ((const uint8_t *)&d->from)[i] + ((const uint8_t *)&d->to)[i];
-  first = &flows[sum % FLOWS];
-  for (f = *first; f; f = f->next)
-    for (*from = 0; *from < 2; ++*from)
-      if (!memcmp(&f->sides[*from].end, &d->from, sizeof(endpoint)) &&
-          !memcmp(&f->sides[!*from].end, &d->to, sizeof(endpoint)))
-        return f;
-  if (!is_first(d))
+  static void *flows;
+  flow key, *f, **found;
+  key.sides[QUIC_WIRE_SIDE_CLIENT].end = d->from;
+  key.sides[QUIC_WIRE_SIDE_SERVER].end = d->to;
+  found = tfind(&key, &flows, compare_flows);
+  if (!found && !is_first(d))
     return NULL;
-  f = calloc(1, sizeof *f);
-  check(f != NULL, "out of memory");
-  *from = QUIC_WIRE_SIDE_CLIENT;
-  f->sides[QUIC_WIRE_SIDE_CLIENT].end = d->from;
-  f->sides[QUIC_WIRE_SIDE_SERVER].end = d->to;
-  f->next = *first;
-  return *first = f;
+  if (!found) {
+    f = calloc(1, sizeof *f);
+    check(f != NULL, "out of memory");
+    f->sides[QUIC_WIRE_SIDE_CLIENT].end = d->from;
+    f->sides[QUIC_WIRE_SIDE_SERVER].end = d->to;
+    found = tsearch(f, &flows, compare_flows);
+    check(found != NULL, "out of memory");
+  }
+  *from = memcmp(&(*found)->sides[QUIC_WIRE_SIDE_CLIENT].end, &d->from, sizeof(endpoint)) != 0;
+  return *found;
 }
 
 /* Opens an Initial packet of a side with the keys from an id.  Returns NULL, or

@@ -131,7 +131,9 @@
 #define QUIC_WIRE_API extern
 #endif
 
-/* Compilers warn if a result that may be an error is ignored. */
+/* Compilers warn if you ignore the result of quic_wire_check, or of a call that
+ * reads packets or parameters, reads or writes packet numbers, or changes
+ * header protection. */
 #if defined(__GNUC__)
 #define QUIC_WIRE_CHECKED __attribute__((warn_unused_result))
 #else
@@ -875,9 +877,10 @@ QUIC_WIRE_API int quic_wire_ack_ranges_fill(quic_wire_range_iter *ranges,
  *  - 0, and in |*written| how many bytes were written
  *  - QUIC_WIRE_ERR_NOBUF if |destlen| is less, and in |*written| how many are
  *    needed
- *  - QUIC_WIRE_ERR_ARGUMENT if |frame| can't be written
+ *  - QUIC_WIRE_ERR_ARGUMENT for NULL, or if |frame| can't be written
  *
- * Bytes of |dest| after those written don't change, and none after an error.
+ * |written| may be NULL.  Bytes of |dest| after those written don't change, and
+ * none after an error.
  */
 QUIC_WIRE_API int quic_wire_frame_write(const quic_wire_frame *frame,
                                         const uint8_t *data, size_t datalen,
@@ -888,8 +891,8 @@ QUIC_WIRE_API int quic_wire_frame_write(const quic_wire_frame *frame,
  * Writes |frame|, a STREAM, CRYPTO or DATAGRAM, up to its data, which has
  * |frame->datalen| bytes.  It is the front of what quic_wire_frame_write
  * writes; you put the data after it.  The frame's type, data, begin and end
- * are ignored.  The results and |dest| are as for quic_wire_frame_write;
- * QUIC_WIRE_ERR_ARGUMENT also for other kinds.
+ * are ignored.  The results, |dest| and |written| are as for
+ * quic_wire_frame_write; QUIC_WIRE_ERR_ARGUMENT also for other kinds.
  */
 QUIC_WIRE_API int quic_wire_frame_header_write(const quic_wire_frame *frame,
                                                int last, uint8_t *dest,
@@ -1134,7 +1137,8 @@ QUIC_WIRE_API size_t quic_wire_varint_write(uint64_t value, uint32_t width,
 /* ---- Writing packet headers */
 
 /** How many bytes a header has with ids and a token of these lengths; 0 for
- * NULL. */
+ * NULL.  No header has ids above 255 bytes or a token of 2^62 bytes or more;
+ * for these the sum may wrap. */
 QUIC_WIRE_API size_t quic_wire_header_len(const quic_wire_header_fields *fields,
                                           size_t dcidlen, size_t scidlen,
                                           size_t tokenlen);
@@ -1448,7 +1452,8 @@ QUIC_WIRE_API int quic_wire_set_contains(const quic_wire_range *runs,
  *    more
  *  - QUIC_WIRE_ERR_ARGUMENT for NULL
  *
- * Bytes of |dest| after those written don't change, and none after an error.
+ * |written| may be NULL.  Bytes of |dest| after those written don't change, and
+ * none after an error.
  */
 QUIC_WIRE_API int quic_wire_ack_write(uint64_t delay,
                                       const quic_wire_range *runs, size_t count,

@@ -198,9 +198,9 @@ impl<'a> Ack<'a> {
         AckIter { bytes: self.bytes, state: self.ranges() }
     }
 
-    fn ranges(&self) -> sys::Ranges {
+    fn ranges(&self) -> sys::RangeIter {
         let frame = sys::Frame { end: self.bytes.len(), ..super::encode::NO_FRAME };
-        let mut state = sys::Ranges { offset: 0, left: 0, largest: 0 };
+        let mut state = sys::RangeIter { offset: 0, left: 0, largest: 0 };
         // The bytes were read as an ACK, so they are one again.
         sys::ack_ranges_init(&mut state, self.bytes, &frame);
         state
@@ -337,7 +337,7 @@ impl<'a> IntoIterator for &Ack<'a> {
 #[derive(Clone)]
 pub struct AckIter<'a> {
     bytes: &'a [u8],
-    state: sys::Ranges,
+    state: sys::RangeIter,
 }
 
 impl<'a> AckIter<'a> {

@@ -25,7 +25,7 @@ use core::ops::Range;
 pub struct Iter<'a> {
     payload: &'a [u8],
     // The end of the last whole frame, its type, and the rules.
-    state: sys::Frames,
+    state: sys::FrameIter,
 }
 
 impl<'a> Iter<'a> {
@@ -87,7 +87,7 @@ impl<'a> Iter<'a> {
         if payload.is_empty() {
             return Err(EmptyPayload);
         }
-        let state = sys::Frames { offset: 0, last_type: u64::MAX, ended: 0, flags: rules.flags() };
+        let state = sys::FrameIter { offset: 0, last_type: u64::MAX, ended: 0, flags: rules.flags() };
         Ok(Iter { payload, state })
     }
 
@@ -110,7 +110,7 @@ impl<'a> Iter<'a> {
     #[inline]
     pub fn resume(payload: &'a [u8], offset: usize, last_type: Option<FrameType>, rules: Rules) -> Option<Self> {
         let last_type = last_type.map_or(u64::MAX, u64::from);
-        let state = sys::Frames { offset, last_type, ended: 0, flags: rules.flags() };
+        let state = sys::FrameIter { offset, last_type, ended: 0, flags: rules.flags() };
         (offset <= payload.len()).then_some(Iter { payload, state })
     }
 
@@ -251,7 +251,7 @@ impl FusedIterator for Iter<'_> {}
 /// ```
 #[derive(Clone, Copy, PartialEq, Eq, Hash)]
 pub struct Progress {
-    state: sys::Frames,
+    state: sys::FrameIter,
 }
 
 impl Progress {

@@ -16,7 +16,7 @@ use core::ops::Range;
 /// # Ok::<(), quic_wire::Error>(())
 /// ```
 #[derive(Clone, Copy, PartialEq, Eq, Hash)]
-pub struct HeaderPlaces(sys::HeaderPlaces);
+pub struct HeaderPlaces(sys::Header);
 
 /// Why no header was read, or only that of a packet that is cut off.
 ///
@@ -192,7 +192,7 @@ impl HeaderPlaces {
         versions: &[u32],
         checks: HeaderChecks,
     ) -> Result<HeaderPlaces, HeaderError> {
-        let mut places = sys::HeaderPlaces::default();
+        let mut places = sys::Header::default();
         let ids = u32::try_from(cid_len).unwrap_or(u32::MAX);
         match sys::header_read(bytes, ids, versions, checks.flags(), &mut places) {
             1.. => Ok(HeaderPlaces(places)),
@@ -236,7 +236,7 @@ impl HeaderPlaces {
     /// # Ok::<(), quic_wire::WriteError>(())
     /// ```
     pub fn read_version_negotiation(packet: &[u8]) -> Option<HeaderPlaces> {
-        let mut places = sys::HeaderPlaces::default();
+        let mut places = sys::Header::default();
         match sys::negotiation_read(packet, &mut places) {
             1.. => Some(HeaderPlaces(places)),
             _ => None,

@@ -1,23 +1,28 @@
 //! The functions of `quic_wire.h` that the library has. Those of the header that only C needs check for NULL.
 #[cfg(test)]
 use super::words::Gap;
-use super::words::{Canon, Frame, Frames, HeaderFields, HeaderPlaces, Param, Params, Range, Ranges, Refusal};
+use super::words::{Canon, Frame, FrameIter, Header, HeaderFields, Param, Params, Range, RangeIter, Refusal};
 
 extern "C" {
     /// An archive of another version lacks this symbol, so that it can't be linked.
     pub static quic_wire_abi_9: u8;
 
     pub fn quic_wire_frames_fill_(
-        frames: *mut Frames,
+        frames: *mut FrameIter,
         payload: *const u8,
         len: usize,
         out: *mut Frame,
         room: usize,
         count: *mut usize,
     ) -> i32;
-    pub fn quic_wire_frames_next_(frames: *mut Frames, payload: *const u8, len: usize, out: *mut Frame) -> i32;
-    pub fn quic_wire_ack_ranges_init_(ranges: *mut Ranges, payload: *const u8, len: usize, frame: *const Frame) -> i32;
-    pub fn quic_wire_ack_ranges_next_(ranges: *mut Ranges, payload: *const u8, len: usize, out: *mut Range) -> i32;
+    pub fn quic_wire_frames_next_(frames: *mut FrameIter, payload: *const u8, len: usize, out: *mut Frame) -> i32;
+    pub fn quic_wire_ack_ranges_init_(
+        ranges: *mut RangeIter,
+        payload: *const u8,
+        len: usize,
+        frame: *const Frame,
+    ) -> i32;
+    pub fn quic_wire_ack_ranges_next_(ranges: *mut RangeIter, payload: *const u8, len: usize, out: *mut Range) -> i32;
     pub fn quic_wire_frame_write_(
         frame: *const Frame,
         data: *const u8,
@@ -42,11 +47,11 @@ extern "C" {
         versions: *const u32,
         versions_len: usize,
         flags: u32,
-        out: *mut HeaderPlaces,
+        out: *mut Header,
     ) -> i64;
     pub fn quic_wire_dcid_read_(packet: *const u8, len: usize, cid_len: usize, found_len: *mut usize) -> usize;
     pub fn quic_wire_short_read_(packet: *const u8, len: usize, cid_len: u32) -> usize;
-    pub fn quic_wire_negotiation_read_(packet: *const u8, len: usize, out: *mut HeaderPlaces) -> i64;
+    pub fn quic_wire_negotiation_read_(packet: *const u8, len: usize, out: *mut Header) -> i64;
     pub fn quic_wire_unprotect_(
         packet: *mut u8,
         len: usize,
@@ -168,9 +173,9 @@ extern "C" {
     pub fn quic_wire_number_read_(bytes: *const u8, len: usize, number_len: u32, written: *mut u64) -> i32;
     pub fn quic_wire_number_write_(number: u64, number_len: u32, out: *mut u8, out_len: usize) -> i32;
     pub fn quic_wire_varint_len_(value: u64) -> usize;
-    pub fn quic_wire_frames_init_(frames: *mut Frames, payload: *const u8, len: usize, flags: u32) -> i32;
+    pub fn quic_wire_frames_init_(frames: *mut FrameIter, payload: *const u8, len: usize, flags: u32) -> i32;
     pub fn quic_wire_frames_first_(
-        frames: *mut Frames,
+        frames: *mut FrameIter,
         payload: *const u8,
         len: usize,
         flags: u32,
@@ -187,7 +192,7 @@ extern "C" {
         room: usize,
     ) -> i64;
     pub fn quic_wire_ack_ranges_fill_(
-        ranges: *mut Ranges,
+        ranges: *mut RangeIter,
         payload: *const u8,
         len: usize,
         out: *mut Range,

@@ -3,7 +3,7 @@
 extern crate std;
 
 use super::words::Gap;
-use super::{c, Entry, Frame, Frames, Param, Params, Range, Ranges, ITEM, NO_ROOM, OK, PAYLOAD_EMPTY};
+use super::{c, Entry, Frame, FrameIter, Param, Params, Range, RangeIter, ITEM, NO_ROOM, OK, PAYLOAD_EMPTY};
 use crate::frame::{Ack, FrameType, Iter, Reason, Rules};
 use crate::varint;
 use std::vec;
@@ -13,13 +13,13 @@ const INVALID: i32 = -1;
 const NOT_THERE: i32 = -2;
 const NO_LENGTH: i32 = -6;
 
-fn frames_init(frames: &mut Frames, payload: &[u8], flags: u32) -> i32 {
+fn frames_init(frames: &mut FrameIter, payload: &[u8], flags: u32) -> i32 {
     // SAFETY: `payload` passes its own pointer and length; `frames` is borrowed exclusively. The library accesses no
     // other memory and keeps no pointer.
     unsafe { c::quic_wire_frames_init_(frames, payload.as_ptr(), payload.len(), flags) }
 }
 
-fn frames_first(frames: &mut Frames, payload: &[u8], flags: u32, out: &mut [Frame], count: &mut usize) -> i32 {
+fn frames_first(frames: &mut FrameIter, payload: &[u8], flags: u32, out: &mut [Frame], count: &mut usize) -> i32 {
     let (bytes, len, entries, room) = (payload.as_ptr(), payload.len(), out.as_mut_ptr(), out.len());
     // SAFETY: `payload` and `out` each pass their own pointer and length; `frames`, `out` and `count` are borrowed
     // exclusively. The library accesses no other memory and keeps no pointer.
@@ -33,7 +33,7 @@ fn frame_read(payload: &[u8], flags: u32, out: &mut Frame, gaps: &mut [Gap]) -> 
     unsafe { c::quic_wire_frame_read_(bytes, len, flags, out, gaps, room) }
 }
 
-fn ack_ranges_fill(ranges: &mut Ranges, payload: &[u8], out: &mut [Range], count: &mut usize) -> i32 {
+fn ack_ranges_fill(ranges: &mut RangeIter, payload: &[u8], out: &mut [Range], count: &mut usize) -> i32 {
     let (bytes, len, entries, room) = (payload.as_ptr(), payload.len(), out.as_mut_ptr(), out.len());
     // SAFETY: `payload` and `out` each pass their own pointer and length; `ranges`, `out` and `count` are borrowed
     // exclusively. Any values in `ranges` are valid. The library accesses no other memory and keeps no pointer.
@@ -131,8 +131,8 @@ const NO_RANGE: Range = Range { start: 0xa5, end: 0x5a };
 fn an_iterator_begins_at_the_front_of_a_payload() {
     rounds(|random| {
         let (payload, flags) = (random.payload(), random.next() as u32);
-        let mut frames = Frames { offset: random.place(), last_type: random.number(), ended: 7, flags: 7 };
-        let begun = Frames { offset: 0, last_type: u64::MAX, ended: 0, flags };
+        let mut frames = FrameIter { offset: random.place(), last_type: random.number(), ended: 7, flags: 7 };
+        let begun = FrameIter { offset: 0, last_type: u64::MAX, ended: 0, flags };
         match frames_init(&mut frames, &payload, flags) {
             OK => assert_eq!((frames, payload.is_empty()), (begun, false)),
             answer => assert_eq!((answer, payload.len()), (PAYLOAD_EMPTY, 0)),
@@ -145,7 +145,7 @@ fn an_iterator_begins_at_the_front_of_a_payload() {
 fn the_first_frames_are_those_of_an_iterator() {
     rounds(|random| {
         let (payload, room, rubbish) = (random.payload(), random.below(6), random.frame());
-        let before = Frames { offset: random.place(), last_type: random.number(), ended: 7, flags: 7 };
+        let before = FrameIter { offset: random.place(), last_type: random.number(), ended: 7, flags: 7 };
         let flags = random.next() as u32;
         let (mut frames, mut out, mut count) = (before, [rubbish; 6], 77);
         let answer = frames_first(&mut frames, &payload, flags, &mut out[..room], &mut count);
@@ -224,7 +224,7 @@ fn ack_at_front(random: &mut Random, bytes: &[u8], reported: Frame, frame: Frame
     let frame = Frame { ty: other.ty, begin: other.begin, end: other.end, data: other.data, ..frame };
     assert_eq!(written(random, &frame, &gaps[..count]), wanted);
 
-    let mut state = Ranges { offset: 7, left: 7, largest: 7 };
+    let mut state = RangeIter { offset: 7, left: 7, largest: 7 };
     assert_eq!(super::ack_ranges_init(&mut state, bytes, &reported), OK);
     assert_eq!(state.left, ranges.len() as u64);
     let mut filled = vec![];
@@ -233,7 +233,7 @@ fn ack_at_front(random: &mut Random, bytes: &[u8], reported: Frame, frame: Frame
 }
 
 // One call of `quic_wire_ack_ranges_fill_`, and its result.
-fn filled_from(random: &mut Random, state: &mut Ranges, bytes: &[u8], filled: &mut Vec<Range>) -> i32 {
+fn filled_from(random: &mut Random, state: &mut RangeIter, bytes: &[u8], filled: &mut Vec<Range>) -> i32 {
     let (before, room) = (*state, 1 + random.below(4));
     let (mut out, mut count) = ([NO_RANGE; 5], 77);
     let answer = ack_ranges_fill(state, bytes, &mut out[..room], &mut count);
@@ -273,7 +273,7 @@ fn ranges_begin_at_an_ack() {
             payload[damaged] ^= 1 << random.below(8);
         }
         frame.end = [payload.len(), random.place()][random.below(2)];
-        let before = Ranges { offset: 7, left: 7, largest: 7 };
+        let before = RangeIter { offset: 7, left: 7, largest: 7 };
         let mut ranges = before;
         let answer = super::ack_ranges_init(&mut ranges, &payload, &frame);
         let bytes = payload.get(frame.begin..frame.end).unwrap_or_default();
@@ -282,7 +282,7 @@ fn ranges_begin_at_an_ack() {
         }
         match head_of(bytes) {
             Some((largest, count, len)) => {
-                let wanted = Ranges { offset: frame.begin + len, left: count + 1, largest };
+                let wanted = RangeIter { offset: frame.begin + len, left: count + 1, largest };
                 assert_eq!((answer, ranges), (OK, wanted));
             }
             None => assert_eq!((answer, ranges), (NOT_THERE, before)),
@@ -296,7 +296,7 @@ fn ranges_are_filled_as_single_calls_give_them() {
     rounds(|random| {
         let payload = random.payload();
         let left = [random.below(9) as u64, random.number()][random.below(2)];
-        let before = Ranges { offset: random.place(), left, largest: random.number() };
+        let before = RangeIter { offset: random.place(), left, largest: random.number() };
         let (mut many, mut one, mut filled) = (before, before, vec![]);
         let answer = loop {
             let answer = filled_from(random, &mut many, &payload, &mut filled);

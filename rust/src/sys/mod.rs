@@ -10,7 +10,7 @@ mod c;
 mod c_alone;
 mod words;
 
-pub use words::{Canon, Frame, Frames, HeaderFields, HeaderPlaces, Param, Params, Range, Ranges, Refusal, NO_PARAM};
+pub use words::{Canon, Frame, FrameIter, Header, HeaderFields, Param, Params, Range, RangeIter, Refusal, NO_PARAM};
 
 use crate::frame::Entry;
 use core::mem::MaybeUninit;
@@ -96,7 +96,7 @@ fn wrote(answer: i32, written: usize) -> Result<Filled, (i32, usize)> {
 
 /// Reads frames into entries, of which `count` are then filled.
 #[inline]
-pub fn frames_fill(frames: &mut Frames, payload: &[u8], out: &mut [Entry], count: &mut usize) -> i32 {
+pub fn frames_fill(frames: &mut FrameIter, payload: &[u8], out: &mut [Entry], count: &mut usize) -> i32 {
     let (bytes, len, entries, room) = (payload.as_ptr(), payload.len(), out.as_mut_ptr().cast::<Frame>(), out.len());
     // SAFETY: `payload` and `out` each pass their own pointer and length, and an `Entry` is a `Frame` (`transparent`),
     // of which any values are valid; `out`, `frames` and `count` are borrowed exclusively, so nothing overlaps them.
@@ -107,7 +107,7 @@ pub fn frames_fill(frames: &mut Frames, payload: &[u8], out: &mut [Entry], count
 /// Reads one frame into its room: `ITEM` with it, why it is invalid with its type, or 0.
 #[inline]
 pub fn frames_next<'r>(
-    frames: &mut Frames,
+    frames: &mut FrameIter,
     payload: &[u8],
     room: &'r mut MaybeUninit<Frame>,
 ) -> (i32, Option<&'r Frame>) {
@@ -125,14 +125,14 @@ pub fn frames_next<'r>(
 }
 
 #[inline]
-pub fn ack_ranges_init(ranges: &mut Ranges, payload: &[u8], frame: &Frame) -> i32 {
+pub fn ack_ranges_init(ranges: &mut RangeIter, payload: &[u8], frame: &Frame) -> i32 {
     // SAFETY: `payload` passes its own pointer and length; `ranges` is borrowed exclusively. Any values in `frame` are
     // valid. The library accesses no other memory and keeps no pointer.
     unsafe { c::quic_wire_ack_ranges_init_(ranges, payload.as_ptr(), payload.len(), frame) }
 }
 
 #[inline]
-pub fn ack_ranges_next(ranges: &mut Ranges, payload: &[u8], out: &mut Range) -> i32 {
+pub fn ack_ranges_next(ranges: &mut RangeIter, payload: &[u8], out: &mut Range) -> i32 {
     // SAFETY: `payload` passes its own pointer and length; `ranges` and `out` are borrowed exclusively. Any values in
     // `ranges` are valid. The library accesses no other memory and keeps no pointer.
     unsafe { c::quic_wire_ack_ranges_next_(ranges, payload.as_ptr(), payload.len(), out) }
@@ -172,7 +172,7 @@ pub fn canonical(payload: &[u8], out: &mut Room) -> Result<Filled, (i32, Canon)>
 }
 
 #[inline]
-pub fn header_read(bytes: &[u8], cid_len: u32, versions: &[u32], flags: u32, out: &mut HeaderPlaces) -> i64 {
+pub fn header_read(bytes: &[u8], cid_len: u32, versions: &[u32], flags: u32, out: &mut Header) -> i64 {
     let (first, count) = (versions.as_ptr(), versions.len());
     // SAFETY: `bytes` and `versions` each pass their own pointer and length; `out` is borrowed exclusively. The library
     // accesses no other memory and keeps no pointer.
@@ -196,7 +196,7 @@ pub fn short_read(packet: &[u8], cid_len: u32) -> usize {
 }
 
 #[inline]
-pub fn negotiation_read(packet: &[u8], out: &mut HeaderPlaces) -> i64 {
+pub fn negotiation_read(packet: &[u8], out: &mut Header) -> i64 {
     // SAFETY: `packet` passes its own pointer and length; `out` is borrowed exclusively. The library accesses no other
     // memory and keeps no pointer.
     unsafe { c::quic_wire_negotiation_read_(packet.as_ptr(), packet.len(), out) }

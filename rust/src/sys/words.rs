@@ -4,7 +4,7 @@ use core::mem::offset_of;
 /// How far a payload was read.
 #[repr(C)]
 #[derive(Clone, Copy, Debug, PartialEq, Eq, Hash)]
-pub struct Frames {
+pub struct FrameIter {
     pub offset: usize,
     pub last_type: u64,
     pub ended: u32,
@@ -53,7 +53,7 @@ pub struct Gap {
 /// How far the ranges of an ACK have been read.
 #[repr(C)]
 #[derive(Clone, Copy, Debug, PartialEq, Eq, Hash)]
-pub struct Ranges {
+pub struct RangeIter {
     pub offset: usize,
     pub left: u64,
     pub largest: u64,
@@ -70,7 +70,7 @@ pub struct Canon {
 /// The header of a packet as offsets in it.
 #[repr(C)]
 #[derive(Clone, Copy, Debug, Default, PartialEq, Eq, Hash)]
-pub struct HeaderPlaces {
+pub struct Header {
     pub kind: u8,
     pub first: u8,
     pub dcidlen: u8,
@@ -166,14 +166,14 @@ macro_rules! layout {
     };
 }
 
-layout!(Frames, 24, 8: offset 0 8, last_type 8 8, ended 16 4, flags 20 4,);
+layout!(FrameIter, 24, 8: offset 0 8, last_type 8 8, ended 16 4, flags 20 4,);
 layout!(Frame, 80, 8: kind 0 2, ty 2 2, flags 4 4, begin 8 8, end 16 8, data 24 8, datalen 32 8, numbers 40 40,);
 layout!(Range, 16, 8: start 0 8, end 8 8,);
 #[cfg(test)]
 layout!(Gap, 16, 8: gap 0 8, len 8 8,);
-layout!(Ranges, 24, 8: offset 0 8, left 8 8, largest 16 8,);
+layout!(RangeIter, 24, 8: offset 0 8, left 8 8, largest 16 8,);
 layout!(Canon, 16, 8: len 0 8, last_type 8 8,);
-layout!(HeaderPlaces, 32, 8: kind 0 1, first 1 1, dcidlen 2 1, scidlen 3 1, version 4 4, header_end 8 4, end 12 4, token 16 4,
+layout!(Header, 32, 8: kind 0 1, first 1 1, dcidlen 2 1, scidlen 3 1, version 4 4, header_end 8 4, end 12 4, token 16 4,
     tokenlen 20 4, len 24 8,);
 layout!(HeaderFields, 16, 8: kind 0 1, flags 1 1, numberlen 2 1, lengthlen 3 1, version 4 4, number 8 8,);
 layout!(Params, 264, 8: present 0 4, reserved 4 4, max_idle_timeout 8 8, max_udp_payload_size 16 8, initial_max_data 24 8,

@@ -1,6 +1,6 @@
 #!/usr/bin/env python3
-"""Prints quic_wire.3, the manual page of the C library, from c/include/quic_wire.h: which call does what, then each call
-with its declaration and its comment.
+"""Prints quic_wire.3, the manual page of the C library, from c/include/quic_wire.h: which call does what, which calls
+name each error, then each call with its declaration and its comment.
 
 scripts/lib/manual.py HEADER DATE
 """
@@ -65,6 +65,36 @@ def described(call):
     yield "\n.IP\n".join(map(laid_out, paragraphs))
 
 
+# An error with its number and what it is; how a call names errors, and the call whose results it has.
+ERROR = re.compile(r"(QUIC_WIRE_ERR_\w+) = -\d+,?(?:\s*/\*(.*?)\*/)?", re.S)
+NAMED = re.compile(r"QUIC_WIRE_ERR_[A-Z_]*[A-Z](?:_\.\.\.)?")
+LIKE = re.compile(r"[Rr]eturns what (quic_wire_\w+) does|results,? .*? are as for (quic_wire_\w+)")
+
+
+def errors_of(call, calls, known):
+    """The errors that the description of a call names, or that of the call whose results it has."""
+    if not re.match(r"int", call.declaration):
+        return set()
+    text, found = " ".join(call.text.split()), set()
+    for name in NAMED.findall(text):
+        found |= {it for it in known if it.startswith(name[:-3])} if name.endswith("...") else {name}
+    for names in LIKE.findall(text):
+        found |= errors_of(calls[next(filter(None, names))], calls, known)
+    return found
+
+
+def errors(header, sections):
+    """Each error, with the calls that name it."""
+    texts = dict(ERROR.findall(header))
+    calls = {call.name: call for _, group in sections for call in group}
+    named = {name: errors_of(call, calls, texts) for name, call in calls.items()}
+    for error, text in texts.items():
+        yield f".TP\n.B {error}"
+        if text:
+            yield f"{marked(unstarred(text))}\n.br"
+        yield marked(", ".join(name for name in calls if error in named[name]))
+
+
 def page(header, date):
     version = re.search(r'QUIC_WIRE_LIB_TEXT "(.*)"', header)[1]
     opening = unstarred(re.search(r"\n/\*\n(.*?)\*/", header, re.S)[1])
@@ -81,6 +111,8 @@ def page(header, date):
         yield f".SS {escaped(title)}"
         for call in calls:
             yield f".TP\n.B {call.name}\n{marked(first_sentence(call.text))}"
+    yield ".SH ERRORS\nEach error, with the calls whose descriptions name it."
+    yield from errors(header, sections)
     yield ".SH CALLS"
     for title, calls in sections:
         yield f".SS {escaped(title)}"

@@ -31,7 +31,8 @@ def named(variable, file):
     if not folder:
         return None
     if not (pathlib.Path(folder) / file).is_file():
-        sys.exit(f"setup.py: {variable} names {folder}, which has no {file}")
+        fault = f"has no {file}" if pathlib.Path(folder).is_absolute() else "isn't an absolute path"
+        sys.exit(f"setup.py: {variable} names {folder}, which {fault}")
     return pathlib.Path(folder).resolve()
 
 

@@ -1,5 +1,9 @@
 /* Prints the frames of payloads, given as lines of hexadecimal, as
- * `quic-show frames` does. */
+ * `quic-show frames` does.  To build and run it:
+ *
+ *   cc -o frames frames.c -IPREFIX/include PREFIX/lib/libquic_wire.a
+ *   echo 40000a000161 | ./frames
+ */
 #define _POSIX_C_SOURCE 200809L
 #include <inttypes.h>
 #include <stdio.h>

@@ -1,6 +1,12 @@
 /* The receive path of a stack. Datagrams, lines of hexadecimal such as send.c
  * prints, are routed by their id, answered with a version negotiation if their
- * version is unknown, opened, and read with the checks of RFC 9000. */
+ * version is unknown, opened, and read with the checks of RFC 9000.  To build
+ * and run it:
+ *
+ *   cc -o send send.c -IPREFIX/include PREFIX/lib/libquic_wire.a
+ *   cc -o receive receive.c -IPREFIX/include PREFIX/lib/libquic_wire.a
+ *   ./send | ./receive
+ */
 #include "paths.h"
 #include "quic_wire.h"
 

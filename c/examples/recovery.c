@@ -1,6 +1,10 @@
 /* Loss recovery.  A set holds the packet numbers that were received, and an ACK
  * acknowledges them.  The peer reads the ACK, removes what it acknowledges from
- * what is in flight, and finds what is lost (RFC 9002, section 6.1.1). */
+ * what is in flight, and finds what is lost (RFC 9002, section 6.1.1).  To build
+ * it:
+ *
+ *   cc -o recovery recovery.c -IPREFIX/include PREFIX/lib/libquic_wire.a
+ */
 #include "paths.h"
 #include "quic_wire.h"
 

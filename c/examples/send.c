@@ -1,8 +1,8 @@
 /* The send path of a stack: an Initial packet with an ACK, a CRYPTO and PADDING
  * and a Handshake packet in one datagram, a 1-RTT packet with a
  * NEW_CONNECTION_ID and a STREAM, and an Initial packet of an unknown version.
- * They are sealed and printed as lines of hexadecimal, which receive.c
- * reads. */
+ * They are sealed and printed as lines of hexadecimal, which receive.c reads;
+ * its head says how to build both. */
 #include "paths.h"
 #include "quic_wire.h"
 

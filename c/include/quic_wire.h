@@ -34,8 +34,9 @@
  *     if (frame.kind == QUIC_WIRE_FRAME_STREAM)
  *       deliver(frame.stream.stream_id, frame.stream.offset,
  *               payload + frame.data, frame.datalen);
- *   // 0: all frames were read.  Below 0: frames.offset is the end of the last
- *   // valid frame, and quic_wire_close_code(answer) the code to close with.
+ *   // 0: all frames were read.  Below 0: quic_wire_close_code(answer) is the
+ *   // code to close with, and frames.offset the end of the last valid frame,
+ *   // unless the payload is empty.
  *
  * Open the packets of a datagram.  make_mask and open_payload are your cipher;
  * |expected| is the packet number that you expect next, below 2^62:
@@ -66,6 +67,10 @@
  *   fields.number = number;
  *   fields.numberlen = (uint8_t)quic_wire_number_len(number, largest_acked);
  *   fields.lengthlen = 2;
+ *   quic_wire_frame frame = {0};
+ *   frame.kind = QUIC_WIRE_FRAME_CRYPTO;
+ *   frame.crypto.offset = offset;
+ *   frame.datalen = datalen;
  *   int64_t begin = quic_wire_header_write(&fields, dcid, dcidlen, scid,
  *                                          scidlen, NULL, 0, packet, room);
  *   size_t place = (size_t)begin - fields.numberlen; // of the packet number
@@ -281,8 +286,10 @@ typedef enum quic_wire_code {
 #define QUIC_WIRE_READ_NO_REPEATS 0x100u /* no parameter may occur twice
                                             (7.4) */
 
-/** All that RFC 9000 requires of a receiver that has negotiated no extension:
- * each flag except QUIC_WIRE_READ_GREASED_BIT. */
+/** Each flag except QUIC_WIRE_READ_GREASED_BIT: what RFC 9000 requires of the
+ * bytes alone, if no extension was negotiated.  In which packets and from which
+ * side a frame may come is for you to check (quic_wire_frame_rules), and a
+ * DATAGRAM that you didn't offer to receive. */
 #define QUIC_WIRE_READ_RFC 0x3efu
 
 /* ---- Frames (RFC 9000, section 19) */
@@ -382,8 +389,8 @@ typedef struct quic_wire_path { /* PATH_CHALLENGE and PATH_RESPONSE */
 } QUIC_WIRE_ALIGNED quic_wire_path;
 typedef struct quic_wire_close {
   uint64_t error_code;
-  uint64_t frame_type; /* only for CONNECTION_CLOSE; 0 if none is known, so
-                          PADDING (0) can't be named */
+  uint64_t frame_type; /* only for CONNECTION_CLOSE; 0, not QUIC_WIRE_NO_TYPE,
+                          if none is known, so PADDING (0) can't be named */
 } QUIC_WIRE_ALIGNED quic_wire_close;
 typedef struct quic_wire_ack_frequency {
   uint64_t sequence;
@@ -692,7 +699,7 @@ QUIC_WIRE_API uint32_t quic_wire_close_code(int result);
 
 /** Begins to read a |payload| of |payloadlen| bytes.  |flags| are
  * QUIC_WIRE_READ_... Returns 0, QUIC_WIRE_ERR_PAYLOAD_EMPTY, or
- * QUIC_WIRE_ERR_ARGUMENT for NULL. */
+ * QUIC_WIRE_ERR_ARGUMENT for NULL.  |frames| changes only with 0. */
 QUIC_WIRE_API int quic_wire_frames_init(quic_wire_frame_iter *frames,
                                         const uint8_t *payload,
                                         size_t payloadlen, uint32_t flags);
@@ -815,9 +822,11 @@ QUIC_WIRE_API const uint8_t *quic_wire_path_data(const uint8_t *payload,
  */
 QUIC_WIRE_API uint32_t quic_wire_frame_rules(uint32_t kind);
 
-/** The last type that was read before QUIC_WIRE_ERR_FRAME_..., which may be
- * that of the invalid frame itself; QUIC_WIRE_NO_TYPE if none was.  It may be
- * any number below 2^62, and |frame->type| is 0. */
+/** The type of the invalid frame after QUIC_WIRE_ERR_FRAME_..., any number
+ * below 2^62.  If the bytes end within that type, it is the type of the frame
+ * before, as in quinn-proto, or QUIC_WIRE_NO_TYPE if there is none.  A
+ * CONNECTION_CLOSE names 0 instead of QUIC_WIRE_NO_TYPE.  |frame->type| is
+ * 0. */
 QUIC_WIRE_API uint64_t quic_wire_error_type(const quic_wire_frame *frame);
 
 /* ---- Reading the ranges of an ACK */
@@ -825,11 +834,11 @@ QUIC_WIRE_API uint64_t quic_wire_error_type(const quic_wire_frame *frame);
 /**
  * Begins at the greatest range of |frame|, an ACK that was read from this
  * payload.  |ranges->left| is then how many ranges it has.  Only the type, the
- * largest number, the delay and the count of ranges are read: blocks that are
- * invalid, which an ACK that was read doesn't have, are reported by the call
- * that comes to them.  Returns 0; QUIC_WIRE_ERR_PLACE if no ACK begins at
- * |frame->begin|; QUIC_WIRE_ERR_ARGUMENT for NULL.  |ranges| changes only with
- * 0.
+ * largest number, the delay and the count of ranges are read.  After a call
+ * that read the ACK the next calls can't fail; otherwise the call that comes to
+ * an invalid range reports it.  Returns 0; QUIC_WIRE_ERR_PLACE if no ACK begins
+ * at |frame->begin|; QUIC_WIRE_ERR_ARGUMENT for NULL.  |ranges| changes only
+ * with 0.
  */
 QUIC_WIRE_API int quic_wire_ack_ranges_init(quic_wire_range_iter *ranges,
                                             const uint8_t *payload,
@@ -867,20 +876,23 @@ QUIC_WIRE_API int quic_wire_ack_ranges_fill(quic_wire_range_iter *ranges,
 /**
  * Writes |frame|, any kind except ACK, in its shortest form at the front of
  * |dest|.  |last| is not 0 if it is the last frame of its payload; then STREAM
- * and DATAGRAM need no length.  Its data is |frame->datalen| bytes at
- * |frame->data| of |data|; in a NEW_CONNECTION_ID the token follows them.  If
- * |frame->datalen| is 0, as for each kind without data, |data| and that offset
- * are ignored, so a PING is written as it was read, with any |data| or NULL.
- * The frame's type, begin and end are ignored.
+ * and DATAGRAM need no length.  The frame's data is |frame->datalen| bytes at
+ * |frame->data| of |data|, an array of |datalen| bytes; in a NEW_CONNECTION_ID
+ * the token follows them.  If |frame->datalen| is 0, as for each kind without
+ * data, |data| and that offset are ignored, so a PING is written as it was
+ * read, with any |data| or NULL.  The frame's type, begin and end are ignored.
  *
  * Returns:
  *  - 0, and in |*written| how many bytes were written
  *  - QUIC_WIRE_ERR_NOBUF if |destlen| is less, and in |*written| how many are
  *    needed
- *  - QUIC_WIRE_ERR_ARGUMENT for NULL, or if |frame| can't be written
+ *  - QUIC_WIRE_ERR_ARGUMENT for NULL, or if |frame| can't be written: it is an
+ *    ACK or of no kind, has a flag or number that its kind lacks or a number of
+ *    2^62 or more, or its data isn't in |data|
  *
- * |written| may be NULL.  Bytes of |dest| after those written don't change, and
- * none after an error.
+ * What QUIC_WIRE_READ_DATA_LIMIT and the flags beside it make a reader reject
+ * can be written.  |written| may be NULL.  Bytes of |dest| after those written
+ * don't change, and none after an error.
  */
 QUIC_WIRE_API int quic_wire_frame_write(const quic_wire_frame *frame,
                                         const uint8_t *data, size_t datalen,
@@ -912,6 +924,7 @@ QUIC_WIRE_API int quic_wire_frame_header_write(const quic_wire_frame *frame,
  *  - QUIC_WIRE_ERR_ARGUMENT for NULL, or if this is no ACK: a range goes below
  *    0, a number is 2^62 or more, or there are other flags, such as
  *    QUIC_WIRE_FLAG_MORE, with which ranges are missing
+ *
  * Bytes of |dest| change only if something was written, and only those.
  */
 QUIC_WIRE_API int quic_wire_ack_gaps_write(const quic_wire_frame *ack,

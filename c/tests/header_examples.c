@@ -1,7 +1,8 @@
 /* The examples at the top of quic_wire.h, which scripts/callers cuts out of it
  * as example-1.h to example-3.h: the third seals a packet, the second opens it,
- * and the first reads its frames.  The cipher hides nothing: it inverts each
- * bit, and its tag is the packet number. */
+ * and the first reads its frames, and those of a payload with a STREAM.  The
+ * cipher hides nothing: it inverts each bit, and its tag is the packet
+ * number. */
 #include <stdio.h>
 #include <stdlib.h>
 #include <string.h>
@@ -71,26 +72,23 @@ static void open_packets(uint8_t *packet, size_t len) {
 static size_t seal_a_packet(uint8_t *packet, size_t room) {
   static const uint8_t dcid[] = {1, 2, 3, 4}, scid[] = {5, 6}, data[] = "hello";
   const size_t dcidlen = sizeof dcid, scidlen = sizeof scid, datalen = 5;
-  const uint64_t number = 1, largest_acked = 0;
-  quic_wire_frame frame;
+  const uint64_t number = 1, largest_acked = 0, offset = 9;
   uint8_t mask[5];
   size_t payloadlen = 0;
-  memset(&frame, 0, sizeof frame);
-  frame.kind = QUIC_WIRE_FRAME_STREAM;
-  frame.datalen = datalen;
-  frame.stream.stream_id = 4;
-  frame.stream.offset = 9;
 #include "example-3.h"
   check(sealed == fields.numberlen, "no protection");
   return end;
 }
 
 int main(void) {
+  static const uint8_t stream[] = {0x0d, 4, 9, 'h', 'e', 'l', 'l', 'o'};
   uint8_t datagram[1200];
   size_t len = seal_a_packet(datagram, 600);
   len += seal_a_packet(datagram + len, 600);
   open_packets(datagram, len);
-  check(opened == 2 && delivered == 2, "two packets of one frame each");
+  check(opened == 2 && delivered == 0, "two packets of one CRYPTO each");
+  read_payload(stream, sizeof stream);
+  check(delivered == 1, "one STREAM");
   puts("the examples of quic_wire.h: two packets sealed, opened and read");
   return 0;
 }

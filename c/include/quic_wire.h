@@ -794,6 +794,31 @@ QUIC_WIRE_API int64_t quic_wire_frame_read(const uint8_t *payload,
                                            quic_wire_frame *frame,
                                            quic_wire_gap *gaps, size_t room);
 
+/**
+ * Reads the header of a STREAM, CRYPTO or DATAGRAM at the front of |bytes|: the
+ * frame up to its data, as quic_wire_frame_header_write writes it.  The data
+ * may be in another buffer, or not there yet.  |frame| has the fields that
+ * quic_wire_frame_read gives of the whole frame: |frame->data| is the header's
+ * length, |frame->datalen| the length that the header gives, and |frame->end|
+ * is their sum, which may be above |len|.  If the header gives no length, all
+ * bytes after it are data.  |flags| are QUIC_WIRE_READ_...
+ *
+ * Returns:
+ *  - the header's length, which is above 0
+ *  - QUIC_WIRE_ERR_PAYLOAD_EMPTY if |len| is 0
+ *  - QUIC_WIRE_ERR_FRAME_END if the bytes end within the header
+ *  - QUIC_WIRE_ERR_FRAME_TYPE if the type is unknown
+ *  - QUIC_WIRE_ERR_KIND if it is the type of another kind of frame
+ *  - QUIC_WIRE_ERR_FRAME_LONG_TYPE or QUIC_WIRE_ERR_FRAME_LIMIT if |flags|
+ *    reject the header
+ *  - QUIC_WIRE_ERR_ARGUMENT for NULL
+ *
+ * |frame| changes only if a header was read.
+ */
+QUIC_WIRE_API int64_t quic_wire_frame_header_read(const uint8_t *bytes,
+                                                  size_t len, uint32_t flags,
+                                                  quic_wire_frame *frame);
+
 /** How many PADDING frames an entry of quic_wire_frames_fill has that was read
  * from this payload: one whose type may have up to 8 bytes, and one for each
  * byte after it. 0 for other kinds, and if an offset is outside the payload. */

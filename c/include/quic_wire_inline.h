@@ -26,6 +26,8 @@ int32_t quic_wire_frames_first_(quic_wire_frame_iter *, const uint8_t *, size_t,
                                 uint32_t, quic_wire_frame *, size_t, size_t *);
 int64_t quic_wire_frame_read_(const uint8_t *, size_t, uint32_t,
                               quic_wire_frame *, quic_wire_gap *, size_t);
+int64_t quic_wire_frame_header_read_(const uint8_t *, size_t, uint32_t,
+                                     quic_wire_frame *);
 int32_t quic_wire_ack_ranges_init_(quic_wire_range_iter *, const uint8_t *,
                                    size_t, const quic_wire_frame *);
 int32_t quic_wire_ack_ranges_next_(quic_wire_range_iter *, const uint8_t *,
@@ -180,6 +182,16 @@ QUIC_WIRE_API int64_t quic_wire_frame_read(const uint8_t *payload,
   if (!gaps)
     gaps = (quic_wire_gap *)quic_wire_nothing_();
   return quic_wire_frame_read_(payload, payloadlen, flags, frame, gaps, room);
+}
+
+QUIC_WIRE_API int64_t quic_wire_frame_header_read(const uint8_t *bytes,
+                                                  size_t len, uint32_t flags,
+                                                  quic_wire_frame *frame) {
+  if ((!bytes && len) || !frame)
+    return QUIC_WIRE_ERR_ARGUMENT;
+  if (!bytes)
+    bytes = (const uint8_t *)quic_wire_nothing_();
+  return quic_wire_frame_header_read_(bytes, len, flags, frame);
 }
 
 QUIC_WIRE_API size_t quic_wire_padding_count(const uint8_t *payload,

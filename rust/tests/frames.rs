@@ -3,7 +3,7 @@
 use quic_wire::canonical::{canonical, CanonError};
 use quic_wire::frame::{
     Ack, ApplicationClose, Close, ConnectionClose, CryptoMeta, Datagram, DatagramMeta, EmptyPayload, Entry, Frame,
-    FrameType, InvalidFrame, Iter, NewConnectionId, Reason, Rules, Stream, StreamMeta, WriteError,
+    FrameType, InvalidFrame, Iter, Meta, NewConnectionId, Reason, Rules, Stream, StreamMeta, WriteError,
 };
 use quic_wire::transport_error::Code;
 use quic_wire::Side;
@@ -212,6 +212,43 @@ fn written(write: impl Fn(&mut Vec<u8>) -> Result<usize, WriteError>) -> Vec<u8>
     let len = write(&mut out).unwrap();
     assert_eq!(out.len(), len);
     out
+}
+
+#[test]
+fn headers_are_read_without_their_data() {
+    let read = |bytes: &[u8]| Meta::decode(bytes, Rules::RFC);
+    for (start, fin, len) in [(0, false, 0), (0, true, 3), (1, false, 63), (1 << 14, true, 64), (1 << 30, false, 900)] {
+        let (id, offsets) = (StreamId(start + 4), start..start + len);
+        let (stream, crypto) = (StreamMeta { id, offsets: offsets.clone(), fin }, CryptoMeta { offsets });
+        let counted = [
+            (written(|out| stream.encode(true, out)), Meta::Stream(stream.clone())),
+            (written(|out| crypto.encode(out)), Meta::Crypto(crypto.clone())),
+            (written(|out| DatagramMeta { len }.encode(true, out)), Meta::Datagram(DatagramMeta { len })),
+        ];
+        for (header, meta) in counted {
+            assert_eq!(read(&header), Ok(Some((meta, header.len()))));
+            let cut = read(&header[..header.len() - 1]).unwrap_err();
+            assert_eq!((cut.ty, cut.reason), (None, Reason::UnexpectedEnd));
+        }
+        let mut open = written(|out| stream.encode(false, out));
+        let begin = open.len();
+        open.resize(begin + len as usize, 0xda);
+        assert_eq!(read(&open), Ok(Some((Meta::Stream(stream), begin))));
+    }
+}
+
+#[test]
+fn other_headers_are_rejected() {
+    let reason = |bytes: &[u8], rules| Meta::decode(bytes, rules).map_err(|invalid| invalid.reason);
+    assert_eq!(reason(&[0x10, 5], Rules::RFC), Ok(None));
+    assert_eq!(reason(&[], Rules::RFC), Err(Reason::UnexpectedEnd));
+    assert_eq!(reason(&[0x21], Rules::RFC), Err(Reason::InvalidFrameId));
+    assert_eq!(reason(&[0x40, 0x30], Rules::RFC), Err(Reason::LongType));
+    assert_eq!(reason(&[0x40, 0x30], Rules::default()), Ok(Some((Meta::Datagram(DatagramMeta { len: 0 }), 2))));
+    let far = [0x06, 0xff, 0xff, 0xff, 0xff, 0xff, 0xff, 0xff, 0xff, 1];
+    assert_eq!(reason(&far, Rules::RFC), Err(Reason::LimitExceeded));
+    let crypto = CryptoMeta { offsets: (1 << 62) - 1..1 << 62 };
+    assert_eq!(reason(&far, Rules::default()), Ok(Some((Meta::Crypto(crypto), 10))));
 }
 
 #[test]

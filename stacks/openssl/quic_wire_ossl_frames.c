@@ -66,6 +66,16 @@ static ossl_inline int decode_frame_of(PACKET *pkt, quic_wire_frame_kind kind,
     return skip_frame(pkt, len, frame, kind, kind);
 }
 
+/* Reads a STREAM or CRYPTO frame up to its data, which needn't be there. */
+static ossl_inline int decode_frame_header(PACKET *pkt,
+    quic_wire_frame_kind kind, quic_wire_frame *frame)
+{
+    int64_t len = quic_wire_frame_header_read(PACKET_data(pkt),
+        PACKET_remaining(pkt), 0, frame);
+
+    return skip_frame(pkt, len, frame, kind, kind);
+}
+
 int ossl_quic_wire_peek_frame_ack_num_ranges(const PACKET *orig_pkt,
     uint64_t *total_ranges)
 {
@@ -216,24 +226,15 @@ int ossl_quic_wire_decode_frame_crypto(PACKET *pkt,
 {
     const unsigned char *payload = PACKET_data(pkt);
     quic_wire_frame frame;
-    uint64_t type;
 
-    if (nodata) { /* The data aren't there, so no call can read the frame. */
-        f->data = NULL;
-        return ossl_quic_wire_skip_frame_header(pkt, &type)
-            && type == OSSL_QUIC_FRAME_TYPE_CRYPTO
-            && ossl_quic_wire_skip_frame_header(pkt, &f->offset)
-            && ossl_quic_wire_skip_frame_header(pkt, &f->len)
-            && data_fit(f->offset, f->len);
-    }
-
-    if (!decode_frame(pkt, QUIC_WIRE_FRAME_CRYPTO, QUIC_WIRE_FRAME_CRYPTO,
-            &frame))
+    if (!(nodata ? decode_frame_header(pkt, QUIC_WIRE_FRAME_CRYPTO, &frame)
+                 : decode_frame(pkt, QUIC_WIRE_FRAME_CRYPTO,
+                       QUIC_WIRE_FRAME_CRYPTO, &frame)))
         return 0;
 
     f->offset = frame.crypto.offset;
     f->len = frame.datalen;
-    f->data = payload + frame.data;
+    f->data = nodata ? NULL : payload + frame.data;
     return data_fit(f->offset, f->len);
 }
 
@@ -253,47 +254,24 @@ int ossl_quic_wire_decode_frame_new_token(PACKET *pkt,
     return 1;
 }
 
-/* Reads a STREAM frame whose data aren't there, so that no call can. */
-static int decode_stream_hdr(PACKET *pkt, uint64_t *type,
-    OSSL_QUIC_FRAME_STREAM *f)
-{
-    f->offset = 0;
-    f->len = 0;
-    f->data = NULL;
-    return ossl_quic_wire_skip_frame_header(pkt, type)
-        && (*type & ~OSSL_QUIC_FRAME_FLAG_STREAM_MASK)
-        == OSSL_QUIC_FRAME_TYPE_STREAM
-        && ossl_quic_wire_skip_frame_header(pkt, &f->stream_id)
-        && ((*type & OSSL_QUIC_FRAME_FLAG_STREAM_OFF) == 0
-            || ossl_quic_wire_skip_frame_header(pkt, &f->offset))
-        && ((*type & OSSL_QUIC_FRAME_FLAG_STREAM_LEN) == 0
-            || ossl_quic_wire_skip_frame_header(pkt, &f->len));
-}
-
 int ossl_quic_wire_decode_frame_stream(PACKET *pkt,
     int nodata,
     OSSL_QUIC_FRAME_STREAM *f)
 {
     const unsigned char *payload = PACKET_data(pkt);
     quic_wire_frame frame;
-    uint64_t type;
 
-    if (nodata) {
-        if (!decode_stream_hdr(pkt, &type, f))
-            return 0;
-    } else {
-        if (!decode_frame_of(pkt, QUIC_WIRE_FRAME_STREAM, &frame))
-            return 0;
+    if (!(nodata ? decode_frame_header(pkt, QUIC_WIRE_FRAME_STREAM, &frame)
+                 : decode_frame_of(pkt, QUIC_WIRE_FRAME_STREAM, &frame)))
+        return 0;
 
-        type = frame.type;
-        f->stream_id = frame.stream.stream_id;
-        f->offset = frame.stream.offset;
-        f->len = frame.datalen;
-        f->data = payload + frame.data;
-    }
-
-    f->has_explicit_len = (type & OSSL_QUIC_FRAME_FLAG_STREAM_LEN) != 0;
-    f->is_fin = (type & OSSL_QUIC_FRAME_FLAG_STREAM_FIN) != 0;
+    f->has_explicit_len = (frame.type & OSSL_QUIC_FRAME_FLAG_STREAM_LEN) != 0;
+    f->is_fin = (frame.type & OSSL_QUIC_FRAME_FLAG_STREAM_FIN) != 0;
+    f->stream_id = frame.stream.stream_id;
+    f->offset = frame.stream.offset;
+    /* Without its length and its data a frame's length isn't known. */
+    f->len = nodata && !f->has_explicit_len ? 0 : frame.datalen;
+    f->data = nodata ? NULL : payload + frame.data;
     return data_fit(f->offset, f->len);
 }
 

@@ -11,6 +11,11 @@ void fronts_nulls(void) {
   WANT(quic_wire_frame_read(&byte, 1, 0, &frame, NULL, 1) == INVALID);
   WANT(quic_wire_frame_read(NULL, 0, 0, &frame, NULL, 0) ==
        QUIC_WIRE_ERR_PAYLOAD_EMPTY);
+  WANT(quic_wire_frame_header_read(NULL, 1, 0, &frame) == INVALID);
+  WANT(quic_wire_frame_header_read(&byte, 1, 0, NULL) == INVALID);
+  WANT(quic_wire_frame_header_read(NULL, 0, 0, &frame) ==
+       QUIC_WIRE_ERR_PAYLOAD_EMPTY);
+  WANT(quic_wire_frame_header_read(&byte, 1, 0, &frame) == QUIC_WIRE_ERR_KIND);
 }
 
 /* A frame of |n| bytes that was read at |at| is the next one of an iterator. So
@@ -53,6 +58,30 @@ static void front_refused(const uint8_t *payload, size_t len, size_t at,
        quic_wire_error_type(frame) == QUIC_WIRE_NO_TYPE);
 }
 
+/* A header is read as the whole frame is, whether its data is there or not, and
+ * rejected for the same reason. */
+static void front_header(const uint8_t *payload, size_t len, uint32_t flags) {
+  quic_wire_frame frame, before, whole;
+  int64_t n, end = quic_wire_frame_read(payload, len, flags, &whole, NULL, 0);
+  memset(&before, 0xa5, sizeof before);
+  frame = before;
+  n = quic_wire_frame_header_read(payload, len, flags, &frame);
+  if (n > 0 && frame.end <= len)
+    WANT(end == (int64_t)frame.end && !memcmp(&frame, &whole, sizeof frame));
+  else if (n > 0)
+    WANT(end == QUIC_WIRE_ERR_FRAME_END && n == (int64_t)frame.data);
+  else
+    WANT(!memcmp(&frame, &before, sizeof frame));
+  if (n == QUIC_WIRE_ERR_KIND)
+    WANT(end < 0 || (whole.kind != QUIC_WIRE_FRAME_CRYPTO &&
+                     whole.kind != QUIC_WIRE_FRAME_STREAM &&
+                     whole.kind != QUIC_WIRE_FRAME_DATAGRAM));
+  else if (n == QUIC_WIRE_ERR_FRAME_LIMIT)
+    WANT(end == n || end == QUIC_WIRE_ERR_FRAME_END);
+  else
+    WANT(n > 0 || n == end);
+}
+
 /* The frames of a payload, each read at the front of what is left, are those
  * of an iterator over it. */
 void front_rubbish(const uint8_t *payload, size_t len) {
@@ -68,6 +97,7 @@ void front_rubbish(const uint8_t *payload, size_t len) {
   do {
     memcpy(gaps, before, sizeof gaps);
     memset(&frame, 0xa5, sizeof frame);
+    front_header(payload + at, len - at, flags);
     n = quic_wire_frame_read(payload + at, len - at, flags, &frame, gaps, room);
     if (n < 0)
       break;

@@ -101,6 +101,18 @@ void write_rubbish(const uint8_t *data, size_t len) {
   free(before);
 }
 
+/* A header that was written is read back, whatever follows it. */
+static void header_back(const quic_wire_frame *frame, int last,
+                        const uint8_t *header, size_t n, size_t len) {
+  const int counted = frame->kind == QUIC_WIRE_FRAME_CRYPTO || !last;
+  quic_wire_frame read;
+  WANT(quic_wire_frame_header_read(header, len, 0, &read) == (int64_t)n);
+  WANT(read.kind == frame->kind && read.flags == frame->flags);
+  WANT(!memcmp(read.numbers, frame->numbers, sizeof read.numbers));
+  WANT(read.begin == 0 && read.data == n && read.end == n + read.datalen);
+  WANT(read.datalen == (counted ? frame->datalen : len - n));
+}
+
 /* The header of a frame with any field values is the front of what is written
  * for it with data, and what can be written whole has the length that is
  * reported beforehand. */
@@ -138,8 +150,12 @@ void header_rubbish(void) {
   for (k = answer == 0 ? n : 0; k < sizeof header; k++)
     WANT(header[k] == 0xa5);
   WANT(answer != 0 || !memcmp(header, whole, n));
+  if (answer == 0)
+    header_back(&frame, last, header, n, sizeof header);
   frame.datalen = (size_t)edge();
   answer =
       quic_wire_frame_header_write(&frame, last, header, sizeof header, &n);
   WANT(answer == INVALID || (answer == 0 && n <= 25));
+  if (answer == 0)
+    header_back(&frame, last, header, n, n);
 }

@@ -11,5 +11,10 @@ mod GapFilling
 mod AckGaps
 mod StoredAcks
 mod DataHeaders
+mod HeaderNumbers
+mod HeaderOnce
+mod HeaderBack
+mod HeaderTypes
+mod HeaderSteps
 mod ReadingOn
 mod Types

@@ -11,6 +11,7 @@ mod fill_ranges;
 mod flags;
 mod frames;
 mod front;
+mod headers_read;
 mod rules;
 mod show;
 mod words;

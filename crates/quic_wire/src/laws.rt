@@ -1,6 +1,6 @@
 //! What is proved of the wire layer, in one place (RFC 9000, sections 12, 17, 18 and 19). Each law holds for all bytes,
 //! and speaks of bytes and of the grammar in `specs/`. The module `calls` has functions that return what the laws speak
-//! of. The functions here do nothing at run time.
+//! of. Here each `ensures` is a theorem, which the laws in the body prove; `(x : A) × P` says that there is such an x.
 ghost use Rattle.std.specs.Prelude.{◌≡◌, ◌≢◌, ◌+◌, ◌++◌, ℕ, List, [], Bool, true, false, drop, length, map, None, Option, Ok};
 ghost use Rattle.quic_base.specs.Number.{AreBytes};
 ghost use Rattle.quic_base.specs.One.{ExactlyOne};
@@ -85,7 +85,7 @@ pub fn headers_again()
     ensures plain { (options : DecodeOptions) (header : Header) (rest : List ℕ) → IsPlainInRange options header
         → (read : ProtectedHeader) × IsWithoutNumber read header
         × HeaderAt options (length (header_bytes header ++ rest)) (header_bytes header ++ rest) read rest }
-    // The others, in a packet whose header protection is removed, with their length in any encoding.
+    // The others, in a packet whose header protection is removed, with any number as their length, in any encoding.
     ensures numbered { (options : DecodeOptions) (header : Header) (count : ℕ) (len payload : List ℕ)
         → IsWritable header → IsReadBack options header [] → Encodes count len
         → let packet = header_with len header ++ payload in (read : ProtectedHeader) × (at : ℕ)
@@ -96,7 +96,7 @@ pub fn headers_again()
 }
 
 /// A packet that was sealed with lawful keys is opened with them to its header, packet number and payload, whatever
-/// follows it.
+/// follows a long header's, if nothing follows a short header's.
 pub fn packets_again()
     ensures { (opening : Opening) (bytes : List ℕ) (contents : PacketContents) (rest : List ℕ)
         → IsLawful (opening.keys (space_in contents.header)) → BeginsSealed opening bytes contents rest

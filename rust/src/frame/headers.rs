@@ -1,6 +1,6 @@
-//! Frames without their data, which the caller writes after them.
+//! Frames without their data, which the caller writes after them, or reads elsewhere.
 use super::encode::NO_FRAME;
-use super::StreamId;
+use super::{invalid_by, InvalidFrame, Rules, StreamId};
 use crate::buffer::Buffer;
 use crate::sys::{self, Filled, Room};
 use crate::{varint, WriteError};
@@ -53,6 +53,62 @@ pub struct CryptoMeta {
 pub struct DatagramMeta {
     /// How many bytes the data has.
     pub len: u64,
+}
+
+/// A STREAM, CRYPTO or DATAGRAM without its data.
+///
+/// ```
+/// use quic_wire::frame::{Meta, Rules, StreamMeta};
+/// use quic_wire::StreamId;
+/// let stream = StreamMeta { id: StreamId(4), offsets: 16..116, fin: true };
+/// let mut header = [0; 5];
+/// let len = stream.encode(true, &mut header)?;
+/// assert_eq!(Meta::decode(&header, Rules::RFC)?, Some((Meta::Stream(stream), len)));
+/// # Ok::<(), quic_wire::Error>(())
+/// ```
+#[derive(Clone, Debug, PartialEq, Eq, Hash)]
+pub enum Meta {
+    /// Bytes of a stream.
+    Stream(StreamMeta),
+    /// Bytes of the handshake.
+    Crypto(CryptoMeta),
+    /// Unreliable data.
+    Datagram(DatagramMeta),
+}
+
+impl Meta {
+    /// Reads the frame at the front up to its data, which needn't be there; and returns where its data begins. If its
+    /// length isn't written, all bytes after it are data. `None` for another kind of frame.
+    ///
+    /// ```
+    /// use quic_wire::frame::{CryptoMeta, DatagramMeta, Meta, Reason, Rules};
+    /// let read = |bytes: &[u8]| Meta::decode(bytes, Rules::RFC);
+    /// assert_eq!(read(&[0x06, 0x40, 64, 3]), Ok(Some((Meta::Crypto(CryptoMeta { offsets: 64..67 }), 4))));
+    /// assert_eq!(read(&[0x30, b'h', b'i']), Ok(Some((Meta::Datagram(DatagramMeta { len: 2 }), 1))));
+    /// assert_eq!(read(&[0x01]), Ok(None));
+    /// assert_eq!(read(&[0x06, 0x40]).unwrap_err().reason, Reason::UnexpectedEnd);
+    /// ```
+    ///
+    /// # Errors
+    ///
+    /// If the bytes end within the header, the type is unknown, or the header breaks a rule. The error has no type.
+    #[inline]
+    pub fn decode(bytes: &[u8], rules: Rules) -> Result<Option<(Meta, usize)>, InvalidFrame> {
+        let mut frame = NO_FRAME;
+        let answer = sys::frame_header_read(bytes, rules.flags(), &mut frame);
+        let [id, start, ..] = frame.numbers;
+        let len = frame.datalen as u64;
+        let offsets = start..start + len;
+        let meta = match frame.kind {
+            _ if answer == i64::from(sys::KIND) => return Ok(None),
+            _ if answer == i64::from(sys::PAYLOAD_EMPTY) => return Err(invalid_by(u64::MAX, sys::FRAME_END)),
+            _ if answer < 0 => return Err(invalid_by(u64::MAX, answer as i32)),
+            0x06 => Meta::Crypto(CryptoMeta { offsets }),
+            0x08 => Meta::Stream(StreamMeta { id: StreamId(id), offsets, fin: frame.flags == 1 }),
+            _ => Meta::Datagram(DatagramMeta { len }),
+        };
+        Ok(Some((meta, frame.data)))
+    }
 }
 
 impl StreamMeta {

@@ -20,7 +20,7 @@ mod ty;
 
 pub use ack::{Ack, AckError, AckIter, AckPlace, EcnCounts};
 pub use close::{ApplicationClose, Close, ConnectionClose};
-pub use headers::{CryptoMeta, DatagramMeta, StreamMeta};
+pub use headers::{CryptoMeta, DatagramMeta, Meta, StreamMeta};
 pub(crate) use invalid::invalid_by;
 pub use invalid::{EmptyPayload, InvalidFrame, Reason};
 pub use iter::{Batch, Entry, Iter, Progress};

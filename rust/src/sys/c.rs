@@ -39,6 +39,7 @@ extern "C" {
         out_len: usize,
         written: *mut usize,
     ) -> i32;
+    pub fn quic_wire_frame_header_read_(bytes: *const u8, len: usize, flags: u32, out: *mut Frame) -> i64;
     pub fn quic_wire_canonical_(payload: *const u8, len: usize, dest: *mut u8, room: usize, out: *mut Canon) -> i32;
     pub fn quic_wire_header_read_(
         bytes: *const u8,

@@ -55,6 +55,7 @@ pub fn copied<'r>(bytes: &[u8], out: &'r mut Room) -> (Filled, &'r mut [u8]) {
 pub const OK: i32 = 0;
 pub const ITEM: i32 = 1;
 pub const CHANGED: i32 = 1;
+pub const KIND: i32 = -3;
 pub const NO_ROOM: i32 = -9;
 pub const PAYLOAD_EMPTY: i32 = -20;
 /// From here down to `FRAME_LIMIT` a frame is invalid.
@@ -158,6 +159,13 @@ pub fn frame_header_write(frame: &Frame, last: bool, out: &mut Room) -> Result<F
     // initialised. The library accesses no other memory and keeps no pointer.
     let answer = unsafe { c::quic_wire_frame_header_write_(frame, last, to, room, &mut written) };
     wrote(answer, written)
+}
+
+#[inline]
+pub fn frame_header_read(bytes: &[u8], flags: u32, out: &mut Frame) -> i64 {
+    // SAFETY: `bytes` passes its own pointer and length; `out` is borrowed exclusively. The library accesses no other
+    // memory and keeps no pointer.
+    unsafe { c::quic_wire_frame_header_read_(bytes.as_ptr(), bytes.len(), flags, out) }
 }
 
 #[inline]

@@ -22,25 +22,17 @@ NO_FRAME = (
     " × (type ≡ Some t) × (reason ≡ <long>)) ⊎ ((t : ℕ) × BeginsWithType strict bytes t (λ back. row_of t ≡ None)"
     " × (type ≡ Some t) × (reason ≡ <unknown>)) ⊎ ((t : ℕ) × BeginsWithType strict bytes t (λ back. (r : Row)"
     " × (row_of t ≡ Some r) × StopsWithin r.fields [] back reason) × (type ≡ Some t))")
-# What a law says, besides the statement that it must have.
-SENTENCES = {
-    "every_payload": ("ExactlyOne (IsReadingOf strict bytes)", "a payload has exactly one reading (`Reading`)"),
-    "every_datagram": ("ExactlyOne (CutAnswer options bytes)", (
-        "a datagram has exactly one result: its first packet (`Cut`), or an error (`Uncut`)")),
-    "every_list": ("ExactlyOne (IsReadAnswer options side bytes)", (
-        "a list of transport parameters has exactly one result for a side in each way of reading (`ReadOptions`): a"
-        " record (`IsMeant`, `IsValid`), or an error (`IsBadList`)")),
-    "one_shortest": ("ExactlyOne (λ least. IsLeast least payload)", (
-        "a payload without an error has exactly one shortest payload of the same frames (`IsLeast`), and no other"
-        " payload has one")),
-    "frames_again": ("IsShortestOf frames payload", "the shortest payload of some frames is read as these frames"),
-    "headers_again": ("HeaderAt options", "a written header is read as itself"),
-    "packets_again": ("BeginsSealed opening bytes contents rest", (
-        "a packet that was sealed with lawful keys is opened to what was sealed")),
-    "parameters_again": ("IsReadAnswer options side (written params) (Ok (plain params))", (
-        "written parameters are read as they were, in each way of reading, in any order, without grease")),
-    "lasting": ("IsReadingOf strict (bytes ++ more) (followed_by found rest)", (
-        "bytes that follow change no frame except one without a length, and no error except an unexpected end")),
+# Each law, with a statement that it must have.
+STATEMENTS = {
+    "every_payload": "ExactlyOne (IsReadingOf strict bytes)",
+    "every_datagram": "ExactlyOne (CutAnswer options bytes)",
+    "every_list": "ExactlyOne (IsReadAnswer options side bytes)",
+    "one_shortest": "ExactlyOne (λ least. IsLeast least payload)",
+    "frames_again": "IsShortestOf frames payload",
+    "headers_again": "HeaderAt options",
+    "packets_again": "BeginsSealed opening bytes contents rest",
+    "parameters_again": "IsReadAnswer options side (written params) (Ok (plain params))",
+    "lasting": "IsReadingOf strict (bytes ++ more) (followed_by found rest)",
 }
 
 
@@ -91,16 +83,14 @@ def law_of(name):
 
 
 def laws():
-    """Each law, and what its definitions mean."""
+    """What the definitions in the laws mean."""
     with open(os.path.join(TOP, LAWS), encoding="utf-8") as it:
         names = re.findall(r"\npub fn (\w+)", it.read())
-    if names != list(SENTENCES):
+    if names != list(STATEMENTS):
         fail(f"the laws in {LAWS}", " ".join(names))
-    yield from ["", "## Laws", ""]
-    for name, (statement, sentence) in SENTENCES.items():
+    for name, statement in STATEMENTS.items():
         if statement not in law_of(name):
             fail(f"{name} in {LAWS}", law_of(name))
-        yield f"- `{name}`: {sentence}."
     if fields_of(ONE, "ExactlyOne") != {"it": "A", "is": "Is it", "only": "(other : A) → Is other → other ≡ it"}:
         fail(f"ExactlyOne in crates/{ONE}.antt", source(ONE))
     stated(PAYLOAD, "IsReadingAfter", "strict before bytes (Complete found)", "AreFrames strict found bytes")
@@ -110,10 +100,11 @@ def laws():
     stated(SAME, "IsSameValue", "(Ranges some) (Ranges others)", "(n : ℕ) → is_in some n ≡ is_in others n")
     stated(MEANING, "IsReadAnswer", "options side bytes (Ok params)", (
         "IsMeant options params bytes × IsValid side params"))
-    yield ""
+    yield from ["", "## Laws", ""]
     yield (
-        f"All are in {LAWS}, for all bytes. `ExactlyOne` (crates/{ONE}.antt): there is such a value, and every"
-        f" other such value equals it. A `Reading` (crates/{PAYLOAD}.antt) is `Complete`, the payload's frames"
+        f"README.md states the laws of {LAWS}. `ExactlyOne` (crates/{ONE}.antt): there is such a value, and every"
+        " other such value equals it. A datagram's result is its first packet (`Cut`) or an error (`Uncut`), that of a"
+        f" list a record (`IsMeant`, `IsValid`) or an error (`IsBadList`). A `Reading` (crates/{PAYLOAD}.antt) is `Complete`, the payload's frames"
         " (`AreFrames`), or `FailsAfter`, the frames before something that isn't a frame, and what is reported for it"
         f" (`IsBroken`). `IsLeast` (crates/{LEAST}.antt): each other payload of the same frames is longer; frames are"
         f" the same if their values are equal, ranges if they have the same numbers (`IsSame`, crates/{SAME}.antt).")

@@ -28,7 +28,6 @@ pub record RangeFilling (old : CRangeIter) (payload : List ℕ) (before : List C
   pub shows : Shows (StepsOver payload) old (take count after) (left_at payload bytes left largest)
   pub kept : drop count after ≡ drop count before
 
-
 -- what a step over the bytes that are left means for the words
 pub range_of_left : (payload : List ℕ) (left largest least next : ℕ) (bytes rest : List ℕ)
     → length bytes ≤ length payload → drop (length payload - length bytes) payload ≡ bytes → 0 < left

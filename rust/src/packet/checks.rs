@@ -22,7 +22,7 @@ impl HeaderChecks {
     // The library's flags.
     #[inline]
     pub(super) const fn flags(self) -> u32 {
-        0x10 * self.grease_quic_bit as u32 | 0x20 * self.any_version as u32 | 0x40 * self.whole_retry as u32
+        0x10 * self.grease_quic_bit as u32 + 0x20 * self.any_version as u32 + 0x40 * self.whole_retry as u32
     }
 }
 

@@ -462,9 +462,11 @@ fn entries_are_written_in_parts_and_of_numbers() {
     use crate::transport_parameters::Entry;
     const MALFORMED: i64 = -60;
     for (id, value) in [(0, 0), (4, 63), (0x2ab2, 64), (varint::MAX, varint::MAX)] {
-        let (mut shortest, mut number) = (vec![], vec![]);
-        varint::write(value, &mut number).unwrap();
-        Entry { id, value: &number }.write(&mut shortest).unwrap();
+        let (mut number, mut room) = ([0; 8], [0; 24]);
+        let len = varint::write(value, &mut number).unwrap();
+        let number = &number[..len];
+        let len = Entry { id, value: number }.write(&mut room).unwrap();
+        let shortest = &room[..len];
         let head = shortest.len() - number.len();
         let mut out = vec![0; shortest.len()];
         // SAFETY: `out` passes its own pointer and length, and is borrowed exclusively as `written` is. The library
@@ -486,7 +488,7 @@ fn entries_are_written_in_parts_and_of_numbers() {
             let end = unsafe { c::quic_wire_param_read_number_(list.as_ptr(), list.len(), &mut entry, &mut number) };
             (end, entry.id, number)
         };
-        assert_eq!(read(&shortest), (shortest.len() as i64, id, value));
+        assert_eq!(read(shortest), (shortest.len() as i64, id, value));
         assert_eq!(read(&shortest[..shortest.len() - 1]), (MALFORMED, 0, 77));
     }
 }
@@ -501,15 +503,16 @@ fn a_preferred_address_is_its_entry_alone() {
         stateless_reset_token: [9; 16],
     };
     let given = TransportParameters { preferred_address: Some(preferred_address), ..TransportParameters::default() };
-    let mut list = vec![];
-    given.write(Side::Server, &mut list).unwrap();
+    let mut room = [0; 99];
+    let len = given.write(Side::Server, &mut room).unwrap();
+    let list = &room[..len];
     // The id and the length of its entry have a byte each.
     let value = &list[2..];
     let (mut words, mut whole) = (Params::default(), Params::default());
     // SAFETY: `value` and `list` each pass their own pointer and length; `words`, `whole` and the refusal are borrowed
     // exclusively. The library accesses no other memory and keeps no pointer.
     let read = unsafe { c::quic_wire_preferred_address_read_(value.as_ptr(), value.len(), &mut words) };
-    assert_eq!(super::params_read(0, 0, &list, &mut whole, &mut super::Refusal::default()), OK);
+    assert_eq!(super::params_read(0, 0, list, &mut whole, &mut super::Refusal::default()), OK);
     assert_eq!((read, words), (OK, whole));
     let mut out = vec![0; value.len()];
     // SAFETY: `out` passes its own pointer and length, and is borrowed exclusively as `written` is. Any values are

@@ -1,11 +1,11 @@
 # make            the library for C, in out/lib, and the program quic-show
 # make check      tests them, the crate and callers in C, and proves nothing that is proved
-# make install    installs what make left below PREFIX, with the libraries in PREFIX/LIBDIR, all below DESTDIR where that is set
+# make install    installs what make left below PREFIX, the libraries in PREFIX/LIBDIR, all below DESTDIR if it is set
 # make dist       packs a release in out/dist
 # make bench      counts instructions and takes times
 # make help       prints this
 #
-# Each is a line over a script of scripts/, whose --help says more; CC, AR and CPU are as there.
+# Each calls a script of scripts/, whose --help says more; CC, AR and CPU are as there.
 PREFIX ?= /usr/local
 LIBDIR ?= lib
 CPU ?=

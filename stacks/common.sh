@@ -97,6 +97,6 @@ parts() {
 compared() {
     local lines panics refused read_on other
     read -r lines panics refused read_on other < <(python3 "$here/compare.py" "$2" "$3")
-    row "$1: lines; those that panic, are refused by one alone, are read otherwise" \
-        "$lines; $panics panic, $read_on refused" "$refused refused, $other otherwise"
+    row "$1: lines; those that panic, are rejected by only one, are read otherwise" \
+        "$lines; $panics panic, $read_on rejected" "$refused rejected, $other otherwise"
 }

@@ -83,13 +83,17 @@ static void show_refusal(const shown *s, const refusal *r) {
                          r->place);
 }
 
+/* All that RFC 9000 has a receiver check.  ACK_FREQUENCY and IMMEDIATE_ACK may
+ * have been negotiated. */
+#define CHECKS (QUIC_WIRE_READ_RFC & ~QUIC_WIRE_READ_NO_ACK_FREQUENCY)
+
 /* Reads all frames, and counts them, with a run of PADDING as one.  Returns the
  * last result; an invalid frame is then the first of |some|. */
 static int read_frames(const uint8_t *payload, size_t len,
                        quic_wire_frame_iter *frames, quic_wire_frame *some,
                        uint32_t *count) {
   size_t filled = 0;
-  int answer = quic_wire_frames_init(frames, payload, len, QUIC_WIRE_READ_RFC);
+  int answer = quic_wire_frames_init(frames, payload, len, CHECKS);
   while (answer >= 0 &&
          (answer = quic_wire_frames_fill(frames, payload, len, some, AT_ONCE,
                                          &filled)) == QUIC_WIRE_ITEM)

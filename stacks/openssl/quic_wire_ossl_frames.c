@@ -41,7 +41,8 @@ static ossl_inline int skip_frame(PACKET *pkt, int64_t len,
 
 /*
  * Reads a frame of |kind| or |other| at the front of |pkt|, with the fastest
- * call for kinds except STREAM, ACK and NEW_CONNECTION_ID.
+ * call for kinds except STREAM, ACK and NEW_CONNECTION_ID.  It passes no flags,
+ * which cost more: a frame of another kind is rejected in any case.
  */
 static ossl_inline int decode_frame(PACKET *pkt, quic_wire_frame_kind kind,
     quic_wire_frame_kind other, quic_wire_frame *frame)
@@ -49,8 +50,7 @@ static ossl_inline int decode_frame(PACKET *pkt, quic_wire_frame_kind kind,
     quic_wire_frame_iter frames;
     size_t count;
     int ret = quic_wire_frames_first(&frames, PACKET_data(pkt),
-        PACKET_remaining(pkt), QUIC_WIRE_READ_NO_ACK_FREQUENCY, frame, 1,
-        &count);
+        PACKET_remaining(pkt), 0, frame, 1, &count);
     int64_t len = ret == QUIC_WIRE_ITEM ? (int64_t)frame->end : ret;
 
     return skip_frame(pkt, len, frame, kind, other);
@@ -61,7 +61,7 @@ static ossl_inline int decode_frame_of(PACKET *pkt, quic_wire_frame_kind kind,
     quic_wire_frame *frame)
 {
     int64_t len = quic_wire_frame_read(PACKET_data(pkt),
-        PACKET_remaining(pkt), QUIC_WIRE_READ_NO_ACK_FREQUENCY, frame, NULL, 0);
+        PACKET_remaining(pkt), 0, frame, NULL, 0);
 
     return skip_frame(pkt, len, frame, kind, kind);
 }
@@ -168,8 +168,7 @@ int ossl_quic_wire_decode_frame_ack(PACKET *pkt,
         gaps = (quic_wire_gap *)&ack->ack_ranges[1];
         room = ack->num_ack_ranges - 1;
     }
-    len = quic_wire_frame_read(payload, remaining,
-        QUIC_WIRE_READ_NO_ACK_FREQUENCY, &frame, gaps, room);
+    len = quic_wire_frame_read(payload, remaining, 0, &frame, gaps, room);
     if (!skip_frame(pkt, len, &frame, QUIC_WIRE_FRAME_ACK, QUIC_WIRE_FRAME_ACK))
         return 0;
 

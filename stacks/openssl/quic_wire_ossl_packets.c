@@ -114,7 +114,10 @@ static ossl_inline size_t decode_short_hdr(const unsigned char *p, size_t len,
     return set_pn(hdr, p + pn, p[0], partial) ? pn : 0;
 }
 
-/* The fields of a long header, before those that depend on its type. */
+/*
+ * The fields of a long header, before those that depend on its type.  A Retry's
+ * token is the front of its data, and no field.
+ */
 static void set_long_hdr(QUIC_PKT_HDR *hdr, const unsigned char *p,
     const quic_wire_header *h)
 {
@@ -127,8 +130,12 @@ static void set_long_hdr(QUIC_PKT_HDR *hdr, const unsigned char *p,
     hdr->reserved = 0;
     hdr->pn_len = 0;
     memset(hdr->pn, 0, sizeof(hdr->pn));
-    hdr->token = h->tokenlen > 0 ? p + h->token : NULL;
-    hdr->token_len = h->tokenlen;
+    hdr->token = NULL;
+    hdr->token_len = 0;
+    if (h->kind == QUIC_WIRE_PACKET_INITIAL && h->tokenlen > 0) {
+        hdr->token = p + h->token;
+        hdr->token_len = h->tokenlen;
+    }
     hdr->data = p + h->header_end;
     hdr->len = h->end - h->header_end;
 }

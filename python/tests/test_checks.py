@@ -152,6 +152,13 @@ class Flags(unittest.TestCase):
                 self.assertEqual(error.section, "RFC 9000, section 7.4")
         self.assertEqual(self.parameters("1b00" * 2, q.Checks.RFC), q.TransportParameters())
 
+    def test_a_flag_by_position_is_named(self):
+        for read in (q.read_frames, q.frames):
+            with self.assertRaisesRegex(TypeError, "^one payload is expected; checks is a keyword argument"):
+                read(b"\x01", q.Checks.RFC)
+            with self.assertRaisesRegex(TypeError, "^a payload is expected"):
+                read()
+
     def test_what_is_no_flag_is_not_taken(self):
         for call in (
             lambda **how: q.read_frames(b"\x01", **how),

@@ -50,6 +50,17 @@ class Packets(unittest.TestCase):
         self.assertNotEqual(packet, q.read_packet(data, 7))
         self.assertEqual(repr(q.read_packet(data[:6], 2)), "OneRtt(0..6, dcid=b'\\x83\\x94', spin=False)")
 
+    def test_versions_are_shown_in_hexadecimal(self):
+        handshake = q.write_header(q.PacketType.HANDSHAKE, b"a", version=q.Version.V2) + bytes(4)
+        data = bytearray(handshake)
+        q.set_length(data, len(data) - 8)
+        shown = "Handshake(0..18, version=0x6b3343cf, dcid=b'a', scid=b'', length=8)"
+        self.assertEqual(repr(q.read_packet(data, 0)), shown)
+        for versions, text in (([], "()"), ([1], "(0x00000001,)"), ([1, 0xFF00001D], "(0x00000001, 0xff00001d)")):
+            packet = q.read_packet(q.write_version_negotiation(b"a", b"b", versions), 0)
+            shown = f"VersionNegotiation(0..{packet.end}, dcid=b'a', scid=b'b', versions={text})"
+            self.assertEqual(repr(packet), shown)
+
     def test_versions_and_the_fixed_bit_are_the_callers(self):
         header = q.write_header(q.PacketType.HANDSHAKE, CID, version=q.Version.V2, fixed_bit=False) + bytes(4)
         data = bytearray(header)

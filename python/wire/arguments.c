@@ -59,6 +59,20 @@ int wire_to_uint8(PyObject *value, void *out) {
   return 1;
 }
 
+int wire_to_side(PyObject *value, void *out) {
+  uint64_t number = 0;
+  const int is_number = PyLong_Check(value);
+  if (is_number && wire_number(value, "side", &number) < 0)
+    PyErr_Clear();
+  else if (is_number && number <= QUIC_WIRE_SIDE_SERVER) {
+    *(uint32_t *)out = (uint32_t)number;
+    return 1;
+  }
+  PyErr_SetString(is_number ? PyExc_ValueError : PyExc_TypeError,
+                  "side must be Side.CLIENT or Side.SERVER");
+  return 0;
+}
+
 int wire_to_checks(PyObject *value, void *out) {
   uint64_t number;
   if (wire_number(value, "checks", &number) < 0)

@@ -187,8 +187,8 @@ static PyGetSetDef stream_fields[] = {
     WIRE_END_OF_FIELDS};
 static PyGetSetDef limit_fields[] = {
     NUMBER("limit", 1,
-           "the limit: bytes, or of MAX_STREAMS and "
-           "STREAMS_BLOCKED streams"),
+           "the limit in bytes; in MAX_STREAMS and STREAMS_BLOCKED, in "
+           "streams"),
     WIRE_END_OF_FIELDS};
 static PyGetSetDef stream_limit_fields[] = {
     STREAM_ID, NUMBER("limit", 1, "the limit, bytes"), WIRE_END_OF_FIELDS};
@@ -405,7 +405,9 @@ static PyGetSetDef common_fields[] = {
     {"end", get_end, NULL, PyDoc_STR("where it ends in its payload"), NULL},
     {"type", get_type, NULL, PyDoc_STR("the type in the payload"), NULL},
     {"kind", get_kind, NULL,
-     PyDoc_STR("the type, one for all of STREAM, of ACK, of DATAGRAM"), NULL},
+     PyDoc_STR("the type, but one number for every STREAM (0x08), one for "
+               "every ACK (0x02), one for every DATAGRAM"),
+     NULL},
     {"name", get_name, NULL, PyDoc_STR("the type's name"), NULL},
     RULE("is_ack_eliciting", get_rule_not, QUIC_WIRE_RULE_NOT_ELICITING,
          "whether a packet with it is acknowledged (RFC 9000, section 13.2.1)"),

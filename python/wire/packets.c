@@ -214,6 +214,49 @@ static void packet_dealloc(PyObject *self) {
   Py_DECREF(type);
 }
 
+/* Versions as the program prints them, with 0x. */
+static PyObject *version_text(PyObject *version) {
+  char text[16];
+  PyOS_snprintf(text, sizeof text, "0x%08lx",
+                PyLong_AsUnsignedLong(version) & 0xfffffffful);
+  return PyErr_Occurred() ? NULL : PyUnicode_FromString(text);
+}
+
+static PyObject *versions_text(PyObject *versions) {
+  const Py_ssize_t count = PyTuple_Size(versions);
+  PyObject *text = PyUnicode_FromString("("), *more;
+  Py_ssize_t i;
+  for (i = 0; text && i < count; i++) {
+    PyObject *version = version_text(PyTuple_GetItem(versions, i));
+    more = version
+               ? PyUnicode_FromFormat("%U%s%U", text, i ? ", " : "", version)
+               : NULL;
+    Py_XDECREF(version);
+    Py_DECREF(text);
+    text = more;
+  }
+  more =
+      text ? PyUnicode_FromFormat("%U%s)", text, count == 1 ? "," : "") : NULL;
+  Py_XDECREF(text);
+  return more;
+}
+
+/* A field in repr: data as bytes, versions in hexadecimal. */
+static PyObject *field_text(PyObject *self, const PyGetSetDef *field) {
+  PyObject *value = field->get(self, NULL), *bytes, *text;
+  if (value && PyMemoryView_Check(value)) {
+    bytes = PyBytes_FromObject(value);
+    Py_DECREF(value);
+    value = bytes;
+  }
+  text = !value                       ? NULL
+         : field->get == get_version  ? version_text(value)
+         : field->get == get_versions ? versions_text(value)
+                                      : PyObject_Repr(value);
+  Py_XDECREF(value);
+  return text;
+}
+
 static PyObject *packet_repr(PyObject *self) {
   const struct packet_kind *kind = &packet_kinds[HEADER(self)->kind];
   const PyGetSetDef *field;
@@ -221,14 +264,9 @@ static PyObject *packet_repr(PyObject *self) {
       "%s(%zu..%zu", kind->name + MODULE_LEN, PACKET(self)->begin,
       PACKET(self)->begin + HEADER(self)->end);
   for (field = kind->fields; text && field->name; field++) {
-    PyObject *value = field->get(self, NULL), *more = NULL;
-    if (value && PyMemoryView_Check(value)) {
-      PyObject *bytes = PyBytes_FromObject(value);
-      Py_DECREF(value);
-      value = bytes;
-    }
+    PyObject *value = field_text(self, field), *more = NULL;
     if (value)
-      more = PyUnicode_FromFormat("%U, %s=%R", text, field->name, value);
+      more = PyUnicode_FromFormat("%U, %s=%U", text, field->name, value);
     Py_XDECREF(value);
     Py_DECREF(text);
     text = more;

@@ -107,7 +107,10 @@ int wire_add_iterator(PyObject *module, wire_state *state) {
 static int options(PyObject *const *args, Py_ssize_t nargs, PyObject *names,
                    uint32_t *flags) {
   if (nargs != 1) {
-    PyErr_SetString(PyExc_TypeError, "one payload is expected");
+    PyErr_SetString(PyExc_TypeError,
+                    nargs ? "one payload is expected; checks is a keyword "
+                            "argument: checks=..."
+                          : "a payload is expected");
     return -1;
   }
   return wire_checks(args, nargs, names, flags);

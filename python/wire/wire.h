@@ -62,10 +62,11 @@ PyObject *wire_front(PyObject *bytes, size_t len);
 int wire_number(PyObject *value, const char *name, uint64_t *out);
 /* A number below 2^62. */
 int wire_varint(PyObject *value, const char *name, uint64_t *out);
-/* For "O&" of PyArg_ParseTuple: a number below 2^32, a byte, the argument
- * `checks` as flags of readers. */
+/* For "O&" of PyArg_ParseTuple: a number below 2^32, a byte, a side, the
+ * argument `checks` as flags of readers. */
 int wire_to_uint32(PyObject *value, void *out);
 int wire_to_uint8(PyObject *value, void *out);
+int wire_to_side(PyObject *value, void *out);
 int wire_to_checks(PyObject *value, void *out);
 /* The same, if it is there: the only keyword argument, after the positional
  * ones of a METH_FASTCALL | METH_KEYWORDS function. -1 with an exception. */

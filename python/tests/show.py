@@ -21,7 +21,7 @@ BY_DEFAULT = q.TransportParameters()
 
 
 def invalid(error):
-    kind = error.frame_type
+    kind = error._last_type
     if kind is None:
         return f"error {error.reason}"
     return f"error {error.reason} in {q.type_name(kind) or f'<unknown {kind:x}>'}"

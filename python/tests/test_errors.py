@@ -22,7 +22,8 @@ class Errors(unittest.TestCase):
             ("", "packet payload is empty", 0, None, None, 0x0A, "12.4", None),
             ("0106000561", "unexpected end", 1, "Crypto Data", 4, 0x07, "20.1", 0x06),
             ("0110", "unexpected end", 1, "Maximum Data", 2, 0x07, "20.1", 0x10),
-            ("0140", "unexpected end", 1, "Frame Type", 1, 0x07, "20.1", 0x01),
+            ("0140", "unexpected end", 1, "Frame Type", 1, 0x07, "20.1", None),
+            ("1c0040", "unexpected end", 0, "Frame Type", 2, 0x07, "20.1", 0x1C),
             ("0121", "invalid frame ID", 1, "Frame Type", 1, 0x07, "12.4", 0x21),
             ("02030000" + "04", "malformed", 0, "First ACK Range", 4, 0x07, "19.3.1", 0x02),
             ("180102", "malformed", 0, "Retire Prior To", 2, 0x07, "19.15", 0x18),
@@ -38,6 +39,39 @@ class Errors(unittest.TestCase):
                 self.assertEqual(error.frames, [q.Ping()] if at else [])
                 for call in (q.canonical, lambda payload: list(q.frames(payload))):
                     self.assertEqual(str(rejected(call, bytes.fromhex(digits))), str(error))
+
+    def test_messages_of_payloads(self):
+        rows = [
+            ("0140", "unexpected end at 1, Frame Type at 1 (RFC 9000, section 20.1)"),
+            ("0121", "invalid frame ID in <unknown 0x21> at 1, Frame Type at 1 (RFC 9000, section 12.4)"),
+            (
+                "180102",
+                "malformed in NEW_CONNECTION_ID at 0, Retire Prior To at 2: "
+                "Retire Prior To is greater than Sequence Number (RFC 9000, section 19.15)",
+            ),
+        ]
+        for digits, message in rows:
+            self.assertEqual(str(rejected(q.read_frames, bytes.fromhex(digits))), message)
+
+    def test_why_a_frame_is_malformed_or_exceeds_a_limit(self):
+        below, past = "a packet number would be below 0", "the data end past 2^62 - 1"
+        rows = [
+            ("0203000004", below),
+            ("02030001000200", below),
+            ("02030001000002", below),
+            ("180102", "Retire Prior To is greater than Sequence Number"),
+            ("18010015", "Length must be from 1 to 20"),
+            ("18010000", "Length must be from 1 to 20"),
+            ("0700", "the token is empty"),
+            ("06ffffffffffffffff01aa", past),
+            ("0c00ffffffffffffffff61", past),
+            ("12d000000000000001", "it is greater than 2^60"),
+            ("0110", None),
+            ("4001", None),
+        ]
+        for digits, why in rows:
+            with self.subTest(digits):
+                self.assertEqual(rejected(q.read_frames, bytes.fromhex(digits), checks=q.Checks.RFC).why, why)
 
     def test_of_packets(self):
         initial = "c00000000108" + "aa" * 8 + "00" + "00" + "4004" + "00000000"
@@ -94,6 +128,48 @@ class Errors(unittest.TestCase):
         self.assertEqual(error.section, "RFC 9000, section 18.2")
         error = rejected(list, q.parameters(bytes.fromhex("04010105")))
         self.assertEqual((error.offset, error.why, error.section), (3, "it is cut off", "RFC 9000, section 18"))
+
+    def test_messages_of_parameters(self):
+        client, server = q.Side.CLIENT, q.Side.SERVER
+        rows = [
+            (
+                server,
+                "040105" + "0000",
+                "illegal value of original_destination_connection_id at 3: a client must not send it "
+                "(RFC 9000, section 18.2)",
+            ),
+            (client, "040101040101", "malformed initial_max_data at 3: it occurs twice (RFC 9000, section 7.4)"),
+            (
+                client,
+                "04020505",
+                "malformed initial_max_data at 0: expected one variable-length integer and nothing after it "
+                "(RFC 9000, section 18.2)",
+            ),
+            (
+                client,
+                "03024064",
+                "illegal value of max_udp_payload_size at 0: expected a number of 1200 or more "
+                "(RFC 9000, section 18.2)",
+            ),
+            (client, "1bff", "malformed parameter 0x1b at 0: it is cut off (RFC 9000, section 18)"),
+            (client, "40", "malformed parameter at 0: it is cut off (RFC 9000, section 18)"),
+        ]
+        for side, digits, message in rows:
+            self.assertEqual(str(rejected(q.TransportParameters.read, side, bytes.fromhex(digits))), message)
+
+    def test_classes_list_their_attributes(self):
+        common = ["reason", "why", "offset", "field", "field_offset", "code", "section"]
+        rows = [
+            (q.Error, common),
+            (q.FrameError, ["frame_type", "frames", *common]),
+            (q.PacketError, ["packets", "packet"]),
+            (q.ParameterError, ["id", "name", "value", "why", "wanted"]),
+            (q.Checks, ["QUINN", "RFC", *(flag.name for flag in q.Checks)]),
+        ]
+        for kind, names in rows:
+            for name in names:
+                with self.subTest(f"{kind.__name__}.{name}"):
+                    self.assertRegex(kind.__doc__, rf"\b{name}\b")
 
     def test_of_numbers(self):
         error = rejected(q.read_varint, b"\x01\x40", 1)

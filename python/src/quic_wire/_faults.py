@@ -15,6 +15,7 @@ from ._wire import (
 
 MAX_CID_LEN = 20
 RESET_TOKEN_LEN = 16
+FRAME_TYPE_FIELD = "Frame Type"
 _RETRY_TAG_LEN = 16
 _VERSION_2 = 0x6B3343CF
 
@@ -27,11 +28,11 @@ class Place(NamedTuple):
 
 
 class Fault(Exception):
-    """The field that is cut off or has an invalid value."""
+    """The field that is cut off or has an invalid value, and what is wrong with the value."""
 
-    def __init__(self, place: Place) -> None:
-        super().__init__(place)
-        self.place = place
+    def __init__(self, place: Place, why: Optional[str]) -> None:
+        super().__init__(place, why)
+        self.place, self.why = place, why
 
 
 class Walk:
@@ -44,8 +45,8 @@ class Walk:
         self.last: Optional[Place] = None
         """The last number that was read."""
 
-    def fail(self, field: str, at: int) -> NoReturn:
-        raise Fault(Place(field, at))
+    def fail(self, field: str, at: int, why: Optional[str] = None) -> NoReturn:
+        raise Fault(Place(field, at), why)
 
     def number(self, field: str) -> int:
         """A variable-length integer (RFC 9000, section 16)."""
@@ -102,7 +103,7 @@ _COUNTED = {
 
 
 def _walk_frame(walk: Walk) -> None:
-    kind = walk.number("Frame Type")
+    kind = walk.number(FRAME_TYPE_FIELD)
     if kind in _NUMBERS:
         walk.numbers(_NUMBERS[kind])
     elif kind in _COUNTED:
@@ -128,7 +129,7 @@ def _walk_ack(walk: Walk, has_ecn: bool) -> None:
         at = walk.at
         least -= walk.number(field) + more
         if least < 0:
-            walk.fail(field, at)
+            walk.fail(field, at, "a packet number would be below 0")
         return least
 
     least = walk.number("Largest Acknowledged")
@@ -147,26 +148,36 @@ def _walk_new_connection_id(walk: Walk) -> None:
     sequence = walk.number("Sequence Number")
     at = walk.at
     if walk.number("Retire Prior To") > sequence:
-        walk.fail("Retire Prior To", at)
+        walk.fail("Retire Prior To", at, "Retire Prior To is greater than Sequence Number")
     at = walk.at
     count = walk.byte("Length")
     if not 1 <= count <= MAX_CID_LEN:
-        walk.fail("Length", at)
+        walk.fail("Length", at, "Length must be from 1 to 20")
     walk.take("Connection ID", count)
     walk.take("Stateless Reset Token", RESET_TOKEN_LEN)
 
 
-def of_frame(result: int, payload: memoryview, begin: int) -> Optional[Place]:
-    """The field at fault in the frame that begins there, for the library's result."""
+# What is wrong with the last number of a frame that breaks a rule of Checks, by that number.
+_RULES = {
+    "Token Length": "the token is empty",
+    "Maximum Streams": "it is greater than 2^60",
+    "Length": "the data end past 2^62 - 1",
+    "Offset": "the data end past 2^62 - 1",
+}
+
+
+def of_frame(result: int, payload: memoryview, begin: int) -> tuple[Optional[Place], Optional[str]]:
+    """The field at fault in the frame that begins there, for the library's result, and what is wrong with its value."""
     if result in (FRAME_TYPE, FRAME_LONG_TYPE):
-        return Place("Frame Type", begin)
+        return Place(FRAME_TYPE_FIELD, begin), None
     walk = Walk(payload, begin)
     try:
         _walk_frame(walk)
     except Fault as fault:
-        return fault.place
-    # A rule of Checks that the frame breaks with its last number: an offset, a length or a limit.
-    return walk.last if result in (FRAME_LIMIT, FRAME_MALFORMED) else None
+        return fault.place, fault.why
+    if result in (FRAME_LIMIT, FRAME_MALFORMED) and walk.last is not None:
+        return walk.last, _RULES.get(walk.last.field)
+    return None, None
 
 
 # ---- Headers of packets (RFC 9000, section 17; RFC 8999)

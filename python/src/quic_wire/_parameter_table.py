@@ -11,7 +11,7 @@ from .checks import Checks
 SERVER = 1
 _RFC_9000 = "RFC 9000, section 18.2"
 _CID = "an id of at most 20 bytes"
-_NUMBER = "a number of variable length"
+NUMBER = "one variable-length integer and nothing after it"
 
 
 class Known(NamedTuple):
@@ -26,13 +26,13 @@ class Known(NamedTuple):
 GREASE_QUIC_BIT, MIN_ACK_DELAY = 0x2AB2, 0xFF04DE1B
 KNOWN = {
     0x00: Known("original_destination_connection_id", _CID),
-    0x01: Known("max_idle_timeout", _NUMBER),
+    0x01: Known("max_idle_timeout", NUMBER),
     0x02: Known("stateless_reset_token", "16 bytes"),
     0x03: Known("max_udp_payload_size", "a number of 1200 or more"),
-    0x04: Known("initial_max_data", _NUMBER),
-    0x05: Known("initial_max_stream_data_bidi_local", _NUMBER),
-    0x06: Known("initial_max_stream_data_bidi_remote", _NUMBER),
-    0x07: Known("initial_max_stream_data_uni", _NUMBER),
+    0x04: Known("initial_max_data", NUMBER),
+    0x05: Known("initial_max_stream_data_bidi_local", NUMBER),
+    0x06: Known("initial_max_stream_data_bidi_remote", NUMBER),
+    0x07: Known("initial_max_stream_data_uni", NUMBER),
     0x08: Known("initial_max_streams_bidi", "a number of at most 2^60"),
     0x09: Known("initial_max_streams_uni", "a number of at most 2^60"),
     0x0A: Known("ack_delay_exponent", "a number of at most 20"),
@@ -42,7 +42,7 @@ KNOWN = {
     0x0E: Known("active_connection_id_limit", "a number of 2 or more"),
     0x0F: Known("initial_source_connection_id", _CID),
     0x10: Known("retry_source_connection_id", _CID),
-    0x20: Known("max_datagram_frame_size", _NUMBER, "RFC 9221, section 3"),
+    0x20: Known("max_datagram_frame_size", NUMBER, "RFC 9221, section 3"),
     GREASE_QUIC_BIT: Known("grease_quic_bit", "no bytes", "RFC 9287, section 3"),
     MIN_ACK_DELAY: Known(
         "min_ack_delay",
@@ -51,7 +51,15 @@ KNOWN = {
     ),
 }
 # Those that a client must not send.
-_OF_SERVERS = frozenset((0x00, 0x02, 0x0D, 0x10))
+OF_SERVERS = frozenset((0x00, 0x02, 0x0D, 0x10))
+# The least values of numbers; their greatest ones, with what messages call these.
+LEAST = {"max_udp_payload_size": 1200, "active_connection_id_limit": 2}
+MOST = {
+    "initial_max_streams_bidi": (1 << 60, "2^60"),
+    "initial_max_streams_uni": (1 << 60, "2^60"),
+    "ack_delay_exponent": (20, "20"),
+    "max_ack_delay": ((1 << 14) - 1, "2^14 - 1"),
+}
 # Numbers with a default: quinn-proto, and by default this package, rejects them if longer than their shortest encoding.
 _SHORTEST = frozenset((0x01, *range(0x03, 0x0C), 0x0E))
 # Those that may come twice, unless Checks.NO_REPEATS rejects that.
@@ -107,7 +115,7 @@ def fault_of(side: int, checks: Checks, data: memoryview, begin: int, number: Op
     found = Fault(begin, entry.id, bytes(value), section=known.section)
     if _is_repeat(checks, data[:begin], entry.id):
         return found._replace(why="it occurs twice", section="RFC 9000, section 7.4")
-    if side == SERVER and entry.id in _OF_SERVERS:
+    if side == SERVER and entry.id in OF_SERVERS:
         return found._replace(why="a client must not send it")
     if entry.id in _SHORTEST and Checks.ANY_WIDTH not in checks and _is_long(value):
         return found._replace(why=_LONG)

@@ -14,6 +14,7 @@ if TYPE_CHECKING:
     from ._wire import Frame, Packet
 
 _NEW_TOKEN, _NEW_CONNECTION_ID = 0x07, 0x18
+_OF_TYPES = (FRAME_TYPE, FRAME_LONG_TYPE)  # results for a type that was read
 # For types of frames with a limit, except those of STREAM, the sections that have it.
 _LIMITS = {0x06: "19.6", 0x12: "19.11", 0x13: "19.11", 0x16: "19.14", 0x17: "19.14"}
 
@@ -42,20 +43,21 @@ class Code(enum.IntEnum):
 
 
 class Error(ValueError):
-    """Bytes that a peer must not send."""
+    """Bytes that a peer must not send.
+
+    reason is the library's text for why they are rejected, and why says what is wrong with them, if more is known.
+    offset is where what is rejected begins in the bytes that were read. field is the name in the RFC of the field at
+    fault, and field_offset is where it begins; both are None if it isn't known. code is the code with which an endpoint
+    closes the connection, or None if it drops a packet. section is the document and section that say so.
+    """
 
     reason: str
-    """Why they are rejected, in English."""
+    why: Optional[str] = None
     offset: Optional[int]
-    """Where what is rejected begins in the bytes that were read."""
     field: Optional[str]
-    """The field at fault by its name in the RFC, if that is known."""
     field_offset: Optional[int]
-    """Where that field begins."""
     code: Optional[Code]
-    """The code with which an endpoint closes the connection; None if it drops a packet."""
     section: str
-    """The document and section that say so."""
 
     def __init__(
         self,
@@ -72,58 +74,76 @@ class Error(ValueError):
     def _what(self) -> str:
         return self.reason
 
+    def _detail(self) -> Optional[str]:
+        return self.why
+
     def __str__(self) -> str:
         at = "" if self.offset is None else f" at {self.offset}"
         field = "" if self.field is None else f", {self.field} at {self.field_offset}"
-        return f"{self._what()}{at}{field} ({self.section})"
+        detail = self._detail()
+        why = "" if detail is None else f": {detail}"
+        return f"{self._what()}{at}{field}{why} ({self.section})"
 
 
 class FrameError(Error):
-    """A payload has an invalid frame, or none."""
+    """A payload has an invalid frame, or is empty.
+
+    frame_type is the type of the invalid frame; None if it couldn't be read. frames are the frames before it, or None
+    if they were read one by one. reason, why, offset, field, field_offset, code and section are as in Error.
+    """
 
     frame_type: Optional[int] = None
-    """The last type that was read, including that of the invalid frame."""
     frames: Optional[list[Frame]] = None
-    """The frames before it, if a list of them was asked for."""
+    # The last type that was read: the program prints it, as quinn-proto does.
+    _last_type: Optional[int] = None
 
     def _what(self) -> str:
-        """The library's own text: the reason, and the type that it belongs to."""
         if self.frame_type is None:
             return self.reason
-        return f"{self.reason} in {frame_name(self.frame_type)}"
+        return f"{self.reason} in {type_name(self.frame_type) or f'<unknown {self.frame_type:#x}>'}"
 
 
 class PacketError(Error):
-    """The bytes of a datagram aren't a packet, and are dropped."""
+    """The bytes of a datagram aren't a packet, and are dropped.
+
+    packets are the packets before it, or None if they were read one by one. packet is what was read from a packet that
+    is cut off, or None. reason, offset, field, field_offset and section are as in Error; code is None.
+    """
 
     packets: Optional[list[Packet]] = None
-    """The packets before it, if a list of them was asked for."""
     packet: Optional[Packet] = None
-    """What was read from a packet that is cut off."""
 
 
 class ParameterError(Error):
-    """A list of transport parameters is rejected."""
+    """A list of transport parameters is rejected.
+
+    id, name and value are those of the parameter at fault; each is None if it isn't known. why says what is wrong with
+    it, and wanted what its value must be if it is invalid. reason, offset, code and section are as in Error; field and
+    field_offset are None.
+    """
 
     id: Optional[int] = None
-    """The id of the parameter at fault, if there is one."""
     name: Optional[str] = None
-    """Its name in the RFC."""
     value: Optional[bytes] = None
-    """Its value."""
-    why: Optional[str] = None
-    """What is wrong with it."""
     wanted: Optional[str] = None
-    """What its value must be."""
+
+    def _what(self) -> str:
+        if self.id is None:
+            return f"{self.reason} parameter"
+        name = self.name or f"parameter {self.id:#x}"
+        return f"{self.reason} {name}" if self.reason == "malformed" else f"{self.reason} of {name}"
+
+    def _detail(self) -> Optional[str]:
+        return self.why if self.wanted is None else f"expected {self.wanted}"
 
 
 def frame_name(frame_type: int) -> str:
-    """The name of a frame type, or its number."""
+    """The name of a frame type, or its number, as the program prints it."""
     return type_name(frame_type) or f"<unknown {frame_type:x}>"
 
 
 def _frame_section(result: int, frame_type: Optional[int]) -> str:
-    if result in (PAYLOAD_EMPTY, FRAME_TYPE, FRAME_LONG_TYPE):
+    if result in (PAYLOAD_EMPTY, *_OF_TYPES):
         return "RFC 9000, section 12.4"
     section = "20.1"
     if result == FRAME_MALFORMED:
@@ -142,9 +162,11 @@ def _frame_error(
     frame_type: Optional[int],
     before: Optional[list[Frame]],
 ) -> FrameError:
-    place = None if result == PAYLOAD_EMPTY else _faults.of_frame(result, memoryview(payload), begin)
+    place, why = (None, None) if result == PAYLOAD_EMPTY else _faults.of_frame(result, memoryview(payload), begin)
     error = FrameError(reason, begin, place, Code(code), _frame_section(result, frame_type))
-    error.frame_type, error.frames = frame_type, before
+    is_cut_off = result not in _OF_TYPES and place == _faults.Place(_faults.FRAME_TYPE_FIELD, begin)
+    error.frame_type = None if is_cut_off else frame_type
+    error._last_type, error.why, error.frames = frame_type, why, before
     return error
 
 

@@ -12,6 +12,7 @@ from .. import (
     StreamDataBlocked, StreamsBlockedBidi, StreamsBlockedUni, TransportParameters, canonical, expand_packet_number,
     frames, is_known_parameter, parameters, read_varint, varint_len,
 )  # fmt: skip
+from .._parameter_table import NUMBER
 from .._wire import varint_at
 from ..errors import frame_name
 from ..pcap import Endpoint
@@ -37,8 +38,8 @@ def show_frames(payload: bytes, strict: bool, output: Output) -> None:
 
 
 def show_error(error: FrameError, output: Output) -> None:
-    """Prints why a payload is rejected."""
-    what = error.reason if error.frame_type is None else f"{error.reason} in {frame_name(error.frame_type)}"
+    """Prints why a payload is rejected, with the last type that was read, as quic-wire does."""
+    what = error.reason if error._last_type is None else f"{error.reason} in {frame_name(error._last_type)}"
     output.error(what, error.offset, [*place_of(error), *closed_by(error)])
 
 
@@ -241,6 +242,7 @@ _SHORT_NAMES = {
     "initial_source_connection_id": "initial_src_cid",
     "retry_source_connection_id": "retry_src_cid",
 }
+_SHORT_WANTED = {NUMBER: "a number of variable length"}  # as quic-wire prints it
 _PREFERRED = "preferred_address"
 
 
@@ -269,7 +271,7 @@ def _parameter_at_fault(error: ParameterError) -> list[Field]:
     if error.value is not None:
         fields.append(("value", out.data(error.value[:_VALUE_MOST])))
     if error.wanted is not None:
-        fields.append(("wanted", out.sentence(error.wanted)))
+        fields.append(("wanted", out.sentence(_SHORT_WANTED.get(error.wanted, error.wanted))))
     if error.why is not None:
         fields.append(("why", out.sentence(error.why)))
     return fields

@@ -171,6 +171,8 @@ class Frames(unittest.TestCase):
             (ValueError, "largest must be the greatest", lambda: q.Ack(largest=9, ranges=[range(3)])),
             (ValueError, "count must be 1 or more", lambda: q.Padding(0)),
             (TypeError, "instances", q.Frame),
+            (TypeError, "'int' object", lambda: q.write_frames([1])),
+            (TypeError, "'str' object", lambda: q.write_frames(["01"])),
         ]
         for kind, text, make in rows:
             with self.subTest(text), self.assertRaisesRegex(kind, text):

@@ -93,20 +93,24 @@ class Parameters(unittest.TestCase):
 
     def test_what_the_peer_would_reject_is_not_written(self):
         token = bytes(16)
-        address = type("Address", (), {"packed": bytes(500)})()
+        address = type("Address", (ipaddress.IPv4Address,), {"packed": bytes(500)})("192.0.2.1")
         forged = q.PreferredAddress(b"a", token, v4=(address, 443))
+        as_text = q.PreferredAddress(b"a", token, v6=("2001:db8::1", 443))
         rows = [
             (ValueError, lambda: q.TransportParameters(max_udp_payload_size=1199).write(q.Side.CLIENT)),
             (ValueError, lambda: q.TransportParameters(stateless_reset_token=token).write(q.Side.CLIENT)),
             (ValueError, lambda: q.TransportParameters().write(q.Side.CLIENT, [(4, b"\x01")])),
-            (KeyError, lambda: q.TransportParameters().write(q.Side.CLIENT, order=[27])),
+            (TypeError, lambda: q.TransportParameters().write(q.Side.CLIENT, order=["1"])),
+            (TypeError, lambda: q.TransportParameters().write(q.Side.CLIENT, [("27", b"")])),
+            (TypeError, lambda: q.TransportParameters.read("client", b"")),
             (ValueError, lambda: q.TransportParameters().write(2)),
             (ValueError, lambda: q.TransportParameters.read(2, b"")),
             (ValueError, lambda: q.TransportParameters(initial_max_data=1 << 62)),
             (ValueError, lambda: q.TransportParameters(stateless_reset_token=b"short")),
             (ValueError, lambda: q.TransportParameters(initial_source_connection_id=bytes(21))),
             (ValueError, lambda: q.TransportParameters(preferred_address=q.PreferredAddress(b"", token))),
-            (AttributeError, lambda: q.TransportParameters(preferred_address=1)),
+            (TypeError, lambda: q.TransportParameters(preferred_address=1)),
+            (TypeError, lambda: q.TransportParameters(preferred_address=as_text)),
             (ValueError, lambda: q.TransportParameters(preferred_address=forged)),
             (ValueError, lambda: q.TransportParameters.read(1 << 32, b"")),
             (TypeError, lambda: q.TransportParameters(other=1)),
@@ -117,6 +121,69 @@ class Parameters(unittest.TestCase):
         for i, (kind, call) in enumerate(rows):
             with self.subTest(i), self.assertRaises(kind):
                 call()
+
+    def test_messages_name_what_is_not_written(self):
+        def write(further=(), order=(), side=q.Side.CLIENT, **values):
+            return lambda: q.TransportParameters(**values).write(side, further, order)
+
+        a_side = "side must be Side.CLIENT or Side.SERVER"
+        token, address = bytes(16), q.PreferredAddress(b"1", bytes(16))
+        rows = [
+            ("0x7777 in order is neither a known parameter nor in further", write(order=[0x7777])),
+            ("order has 4 twice", write(order=[4, 4])),
+            ("4 in further is a known parameter", write([(4, b"x")])),
+            ("further has 0x1b twice", write([(27, b"x"), (4, b""), (27, b"")])),
+            ("further must have at most 235 parameters", write([(31 * i + 27, b"") for i in range(236)])),
+            (a_side, write(side=7)),
+            (a_side, lambda: q.TransportParameters.read(7, b"")),
+            ("max_udp_payload_size must be at least 1200", write(max_udp_payload_size=1000)),
+            ("active_connection_id_limit must be at least 2", write(active_connection_id_limit=1)),
+            ("initial_max_streams_bidi must be at most 2^60", write(initial_max_streams_bidi=(1 << 60) + 1)),
+            ("initial_max_streams_uni must be at most 2^60", write(initial_max_streams_uni=(1 << 60) + 1)),
+            ("ack_delay_exponent must be at most 20", write(ack_delay_exponent=21)),
+            ("max_ack_delay must be at most 2^14 - 1", write(max_ack_delay=1 << 14)),
+            ("min_ack_delay must be at most max_ack_delay, 25000 microseconds", write(min_ack_delay=30000)),
+            ("a client must not send stateless_reset_token", write(stateless_reset_token=token)),
+            ("a client must not send preferred_address", write(preferred_address=address)),
+            ("a client must not send retry_source_connection_id", write(retry_source_connection_id=b"a")),
+            (
+                "a client must not send original_destination_connection_id",
+                write(original_destination_connection_id=b""),
+            ),
+        ]
+        for message, call in rows:
+            with self.subTest(message), self.assertRaises(ValueError) as caught:
+                call()
+            self.assertEqual(str(caught.exception), message)
+
+    def test_values_up_to_the_limits_are_written(self):
+        most = q.TransportParameters(
+            max_udp_payload_size=1200,
+            active_connection_id_limit=2,
+            initial_max_streams_bidi=1 << 60,
+            initial_max_streams_uni=1 << 60,
+            ack_delay_exponent=20,
+            max_ack_delay=(1 << 14) - 1,
+            min_ack_delay=1000 * ((1 << 14) - 1),
+        )
+        further = [(31 * i + 27, b"") for i in range(235)]
+        written = most.write(q.Side.CLIENT, further, [further[-1][0]])
+        self.assertEqual(q.TransportParameters.read(q.Side.SERVER, written), most)
+        self.assertEqual(len(list(q.parameters(written))), 235 + 6)  # the limit of ids is 2 by default
+
+    def test_an_entry_is_a_value(self):
+        for data in (b"\x04\x01\x05", bytearray(b"\x04\x01\x05")):
+            (entry,) = q.parameters(data)
+            self.assertEqual(repr(entry), "Parameter(id=4, value=b'\\x05', begin=0, end=3)")
+            for other in (pickle.loads(pickle.dumps(entry)), copy.copy(entry), copy.deepcopy(entry)):
+                self.assertEqual((other, hash(other), type(other.value)), (entry, hash(entry), memoryview))
+
+    def test_help_has_the_units(self):
+        docs = {name: getattr(q.TransportParameters, name).__doc__ for name in q.TransportParameters.__match_args__}
+        self.assertTrue(all(docs.values()), docs)
+        self.assertIn("milliseconds", docs["max_ack_delay"])
+        self.assertIn("microseconds", docs["min_ack_delay"])
+        self.assertIn("pass Side.CLIENT for a server's list", q.TransportParameters.read.__doc__)
 
     def test_a_class_of_ones_own_is_read(self):
         class Mine(q.TransportParameters):

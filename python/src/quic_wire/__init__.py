@@ -54,4 +54,4 @@ def write_frames(payload: Iterable[Frame]) -> bytes:
     """A payload of frames, each in its shortest form; the last one without a length that it doesn't need."""
     all_frames = list(payload)
     last = len(all_frames) - 1
-    return b"".join(frame.encode(last=i == last) for i, frame in enumerate(all_frames))
+    return b"".join(Frame.encode(frame, last=i == last) for i, frame in enumerate(all_frames))

@@ -9,7 +9,7 @@ from dataclasses import dataclass
 from typing import Any, NamedTuple, Optional
 
 from . import _faults
-from ._parameter_table import KNOWN, ROWS, cut_off
+from ._parameter_table import KNOWN, LEAST, MOST, OF_SERVERS, ROWS, cut_off
 from ._types import Buffer
 from ._wire import _Parameters, is_known_parameter, varint_at, write_parameter
 from .errors import Code, _parameter_fault
@@ -18,6 +18,8 @@ __all__ = ["Parameter", "PreferredAddress", "Side", "TransportParameters", "para
 
 _RESERVED_ROW = 11
 _FURTHER_ROW = 21
+_MOST_FURTHER = 256 - _FURTHER_ROW  # a row is a byte
+_MICROSECONDS = 1000  # in a millisecond
 _MAX_CID_LEN = 20
 _RESET_TOKEN_LEN = 16
 
@@ -45,22 +47,74 @@ class TransportParameters(_Parameters):
     __slots__ = ()
 
     def write(self, side: Side, further: Iterable[tuple[int, Buffer]] = (), order: Iterable[int] = ()) -> bytes:
-        """The shortest list of these parameters, as a side sends them. Raises ValueError if its peer would reject them.
+        """The shortest list of these parameters, as `side` sends them.
 
-        further has parameters that this class doesn't have, as ids and values. order has the ids that come first, each
-        once, in their order; the others follow.
+        further has parameters that this class doesn't have, as ids and values: at most 235, each id once. order has the
+        ids that come first, each once, in their order; the others follow. Raises ValueError if the peer would reject
+        the list.
         """
-        more = list(further)
-        rows = dict(ROWS)
-        rows.update({number: _FURTHER_ROW + i for i, (number, _) in enumerate(more)})
-        first = [rows[number] for number in order]
+        if side not in (Side.CLIENT, Side.SERVER):
+            raise ValueError("side must be Side.CLIENT or Side.SERVER")
+        more, first_ids = list(further), list(order)
+        _check_ids([number for number, _ in more], first_ids)
+        rows = ROWS | {number: _FURTHER_ROW + i for i, (number, _) in enumerate(more)}
+        first = [rows[number] for number in first_ids]
         rest = sorted({*rows.values(), _RESERVED_ROW} - set(first))
         listed = b"".join(write_parameter(number, value) for number, value in more)
-        return self._write(side, listed, bytes(first + rest) if first else b"")
+        try:
+            return self._write(side, listed, bytes(first + rest) if first else b"")
+        except ValueError:
+            fault = _fault_in(self, side)
+            if fault is None:
+                raise
+            raise ValueError(fault) from None
+
+
+def _shown(number: int) -> str:
+    return str(number) if number < 10 else hex(number)
+
+
+def _check_ids(further: list[int], order: list[int]) -> None:
+    """Raises ValueError or TypeError if TransportParameters.write can't be given these ids."""
+    for name, ids in (("further", further), ("order", order)):
+        for i, number in enumerate(ids):
+            if not isinstance(number, int):
+                raise TypeError(f"the ids in {name} must be int")
+            if number in ids[:i]:
+                raise ValueError(f"{name} has {_shown(number)} twice")
+    for number in further:
+        if number in KNOWN:
+            raise ValueError(f"{_shown(number)} in further is a known parameter")
+    for number in order:
+        if number not in KNOWN and number not in further:
+            raise ValueError(f"{_shown(number)} in order is neither a known parameter nor in further")
+    if len(further) > _MOST_FURTHER:
+        raise ValueError(f"further must have at most {_MOST_FURTHER} parameters")
+
+
+def _fault_in(values: TransportParameters, side: Side) -> Optional[str]:
+    """Why the peer would reject these parameters of a side, or None."""
+    for name, least in LEAST.items():
+        if getattr(values, name) < least:
+            return f"{name} must be at least {least}"
+    for name, (most, shown) in MOST.items():
+        if getattr(values, name) > most:
+            return f"{name} must be at most {shown}"
+    most_delay = values.max_ack_delay * _MICROSECONDS
+    if values.min_ack_delay is not None and values.min_ack_delay > most_delay:
+        return f"min_ack_delay must be at most max_ack_delay, {most_delay} microseconds"
+    for number in sorted(OF_SERVERS):
+        name = KNOWN[number].name
+        if side == Side.CLIENT and getattr(values, name) is not None:
+            return f"a client must not send {name}"
+    return None
 
 
 class Parameter(NamedTuple):
-    """An entry of a list, whether TransportParameters has it or not, and its offset in the list."""
+    """An entry of a list, whether TransportParameters has it or not.
+
+    begin and end are its offsets in the list. value is a view of the bytes that were read.
+    """
 
     id: int
     value: memoryview
@@ -76,6 +130,19 @@ class Parameter(NamedTuple):
     def name(self) -> Optional[str]:
         """Its name in the RFC, if it is known."""
         return KNOWN[self.id].name if self.id in KNOWN else None
+
+    def __repr__(self) -> str:
+        return f"Parameter(id={self.id}, value={bytes(self.value)!r}, begin={self.begin}, end={self.end})"
+
+    def __hash__(self) -> int:
+        return hash((self.id, bytes(self.value), self.begin, self.end))
+
+    def __reduce__(self) -> tuple[Any, ...]:
+        return _of_entry, (self.id, bytes(self.value), self.begin, self.end)
+
+
+def _of_entry(number: int, value: bytes, begin: int, end: int) -> Parameter:
+    return Parameter(number, memoryview(value), begin, end)
 
 
 def parameters(data: Buffer) -> Iterator[Parameter]:
@@ -109,6 +176,11 @@ def _address_read(
 
 def _address_parts(a: PreferredAddress) -> tuple[bytes, bytes, Optional[bytes], int, Optional[bytes], int]:
     """The parts of a preferred address, checked."""
+    if not isinstance(a, PreferredAddress):
+        raise TypeError("preferred_address must be a PreferredAddress")
+    for name, address, kind in (("v4", a.v4, ipaddress.IPv4Address), ("v6", a.v6, ipaddress.IPv6Address)):
+        if address and not isinstance(address[0], kind):
+            raise TypeError(f"{name} of a PreferredAddress must be an ipaddress.{kind.__name__} and a port")
     cid, token = bytes(a.connection_id), bytes(a.reset_token)
     if not 1 <= len(cid) <= _MAX_CID_LEN or len(token) != _RESET_TOKEN_LEN:
         raise ValueError("a preferred address has an id of 1 to 20 bytes and a token of 16")

@@ -230,6 +230,29 @@ class Captures(unittest.TestCase):
         read = list(capture.packets(pcap_file(packets), KeyLog([])))
         self.assertEqual({one.why for one in read if one.opened is None}, {"no keys open it"})
 
+    def test_checks_say_which_rules_a_capture_is_read_by(self):
+        def frames_and_error(payload, **how):
+            client, _ = ciphers.initial_keys(q.Version.V1, DCID)
+            sealed = seal_packet(q.PacketType.INITIAL, payload, client, dcid=DCID)
+            (one,) = capture.packets(pcap_file([udp(True, sealed)]), **how)
+            return one.frames, one.error and one.error.reason
+
+        long_ping = b"\x01\x40\x01" + bytes(20)
+        self.assertEqual(frames_and_error(long_ping), ((q.Ping(), q.Ping(), q.Padding(20)), None))
+        for checks in (q.Checks.RFC, q.Checks.SHORT_TYPES):
+            found = frames_and_error(long_ping, checks=checks)
+            self.assertEqual(found, ((q.Ping(),), "frame type not in shortest form"))
+        # What isn't checked: STREAM in an Initial packet.
+        self.assertIsNone(frames_and_error(b"\x08\x00" + bytes(20), checks=q.Checks.RFC)[1])
+        retry = q.write_header(q.PacketType.RETRY, b"cl", b"server") + b"short"
+        for checks, error in ((q.Checks.QUINN, None), (q.Checks.RFC, "Retry without a token or a tag")):
+            (one,) = capture.packets(pcap_file([udp(False, retry)]), checks=checks)
+            self.assertEqual(one.error and one.error.reason, error)
+        # The fixed bit may be clear with any checks.
+        clear = bytes([retry[0] & ~0x40]) + retry[1:] + bytes(16)
+        (one,) = capture.packets(pcap_file([udp(False, clear)]), checks=q.Checks.RFC)
+        self.assertEqual((type(one.packet), one.error), (q.Retry, None))
+
     def test_what_is_no_packet_is_told(self):
         packets, _ = self.connection()
         broken = packets[0][28:]

@@ -1,9 +1,8 @@
 """The QUIC packets of a capture file, opened with the keys that there are, with their frames.
 
 Initial packets are opened with keys from the ids that they carry, others with the secrets of a key log file; both need
-the package `cryptography`, which `quic-wire[ciphers]` installs. A datagram counts as QUIC if it begins with a long
-header of version 1 or 2, of version 0 (a version negotiation) or of a reserved one (RFC 9000, section 15), or if an
-earlier one of its flow did.
+the package `cryptography`. A flow counts as QUIC from its first datagram on that begins with a long header of version
+0, 1, 2 or a reserved one (RFC 9000, section 15).
 
     for captured in packets("file.pcap", KeyLog.open("keys.log")):
         print(captured.packet, captured.frames)
@@ -51,20 +50,22 @@ _LABELS = {
 
 @dataclass(frozen=True, slots=True)
 class Captured:
-    """A packet of a capture, or the rest of a datagram that can't be cut into packets."""
+    """A packet of a capture, or the rest of a datagram that can't be cut into packets.
+
+    datagram is the UDP datagram, and sender the side that sent it. packet is the packet with its protection, or None
+    for a rest. opened is the packet without its protection, or None if no keys open it, and frames are its frames, up
+    to an invalid one. error is the first rule that the packet breaks, of those that `checks` has. why says in English
+    why the packet isn't read or opened, or that its reserved bits are set. rest is how many bytes a rest has.
+    """
 
     datagram: Datagram
     sender: Side
     packet: Optional[Packet]
     opened: Optional[Opened] = None
     frames: Optional[tuple[Frame, ...]] = None
-    """The frames of an opened packet, up to an invalid one."""
     error: Optional[Error] = None
-    """The first rule that it breaks."""
     why: Optional[str] = None
-    """Why it isn't read or opened, in English."""
     rest: int = 0
-    """How many bytes the rest has."""
 
 
 class _PhaseKeys:
@@ -112,13 +113,14 @@ class _Endpoint:
 class _Flow:
     """The datagrams between two endpoints."""
 
-    __slots__ = ("ends", "initial_id", "version", "keylog")
+    __slots__ = ("ends", "initial_id", "version", "keylog", "checks")
 
-    def __init__(self, first: Datagram, keylog: Optional[KeyLog]) -> None:
+    def __init__(self, first: Datagram, keylog: Optional[KeyLog], checks: Checks) -> None:
         self.ends = [_Endpoint(first.source), _Endpoint(first.destination)]
         self.initial_id: Optional[bytes] = None  # the keys of Initial packets come from this id
         self.version: int = Version.V1
         self.keylog = keylog
+        self.checks = checks
 
     def sender(self, datagram: Datagram) -> Side:
         return Side.CLIENT if datagram.source == self.ends[Side.CLIENT].address else Side.SERVER
@@ -220,19 +222,21 @@ def _is_first(data: memoryview) -> bool:
     return version in (0, *_VERSIONS) or version & _RESERVED_MASK == _RESERVED
 
 
-def _frames(payload: bytes) -> tuple[tuple[Frame, ...], Optional[FrameError]]:
+def _frames(payload: bytes, checks: Checks) -> tuple[tuple[Frame, ...], Optional[FrameError]]:
     try:
-        return tuple(read_frames(payload)), None
+        return tuple(read_frames(payload, checks=checks)), None
     except FrameError as error:
         return tuple(error.frames or ()), error
 
 
-def _read(data: memoryview, at: int, cid_len: Optional[int]) -> tuple[Optional[Packet], Optional[Error], Optional[str]]:
+def _read(
+    data: memoryview, at: int, cid_len: Optional[int], checks: Checks
+) -> tuple[Optional[Packet], Optional[Error], Optional[str]]:
     """The packet that begins there, what is wrong with it, and why there is none or it isn't opened."""
     if cid_len is None and not data[at] & _LONG:
         return None, None, "the length of its id isn't known"
     try:
-        packet = read_packet(data, cid_len or 0, at, _VERSIONS, checks=Checks.GREASED_BIT)
+        packet = read_packet(data, cid_len or 0, at, _VERSIONS, checks=checks | Checks.GREASED_BIT)
     except PacketError as error:
         return error.packet, error, error.reason
     return packet, None, "unsupported version" if packet.kind == PacketType.UNKNOWN_VERSION else None
@@ -245,7 +249,7 @@ def _captured(flow: _Flow, datagram: Datagram, sender: Side, packet: Packet) -> 
     opened, sender, why = flow.open(packet, sender)
     if opened is None:
         return Captured(datagram, sender, packet, why=why)
-    frames, error = _frames(opened.payload)
+    frames, error = _frames(opened.payload, flow.checks)
     why = None if opened.reserved_bits_are_zero else "reserved bits are set"
     return Captured(datagram, sender, packet, opened, frames, error, why)
 
@@ -256,7 +260,7 @@ def _packets(flow: _Flow, datagram: Datagram, sender: Side) -> Iterator[Captured
     cid_len = flow.ends[1 - sender].cid_len
     first_id: Optional[bytes] = None
     while at < len(data):
-        packet, error, why = _read(data, at, cid_len)
+        packet, error, why = _read(data, at, cid_len, flow.checks)
         if packet is not None and first_id is not None and packet.dcid != first_id:
             packet, error, why = None, None, "no packet with the id of the first one"
         if packet is None:
@@ -272,10 +276,14 @@ def _packets(flow: _Flow, datagram: Datagram, sender: Side) -> Iterator[Captured
         first_id, cid_len, at = bytes(packet.dcid), len(packet.dcid), packet.end
 
 
-def packets(file: Union[pcap.Path, BinaryIO], keylog: Optional[KeyLog] = None) -> Iterator[Captured]:
+def packets(
+    file: Union[pcap.Path, BinaryIO], keylog: Optional[KeyLog] = None, *, checks: Checks = Checks.QUINN
+) -> Iterator[Captured]:
     """The QUIC packets of a capture file, pcap or pcapng, in its order.
 
-    Raises CaptureError if the file isn't a capture, and OSError.
+    checks says which rules packets and frames are read by. The fixed bit may always be clear, since a capture needn't
+    show whether that was negotiated. Which packets may carry a frame (`is_permitted_in`), which side may send it, and
+    transport parameters aren't checked. Raises CaptureError if the file isn't a capture, and OSError.
     """
     flows: dict[frozenset[pcap.Endpoint], _Flow] = {}
     for datagram in pcap.datagrams(file):
@@ -283,6 +291,6 @@ def packets(file: Union[pcap.Path, BinaryIO], keylog: Optional[KeyLog] = None) -
         if key not in flows:
             if not _is_first(datagram.data):
                 continue
-            flows[key] = _Flow(datagram, keylog)
+            flows[key] = _Flow(datagram, keylog, checks)
         flow = flows[key]
         yield from _packets(flow, datagram, flow.sender(datagram))

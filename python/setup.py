@@ -22,6 +22,10 @@ IS_LIMITED = not sysconfig.get_config_var("Py_GIL_DISABLED")
 COMPILE = [] if os.name == "nt" else ["-O2", "-fvisibility=hidden", "-ffunction-sections", "-g0"]
 # The library's own symbols stay inside the module, and what it doesn't call stays out.
 LINK = ["-Wl,--exclude-libs,ALL", "-Wl,--gc-sections"] if sys.platform == "linux" else []
+NO_LIBRARY = (
+    "setup.py: no library: set QUIC_WIRE_LIB to the folder of libquic_wire.a, or QUIC_WIRE_PORTABLE to what "
+    "scripts/portable made (README.md, Building)"
+)
 PORTABLE = ("quic_wire_proved.c", "quic_wire.c", "texts.c")
 
 
@@ -56,7 +60,7 @@ class BuildWithLibrary(build_ext):
         if AS_C:
             sources = [AS_C / "src" / name for name in PORTABLE]
             if not sources[0].is_file():
-                sys.exit("setup.py: no library: QUIC_WIRE_LIB or QUIC_WIRE_PORTABLE names its folder (README.md)")
+                sys.exit(NO_LIBRARY)
             ext.extra_objects = self.compiler.compile(
                 [str(source) for source in sources],
                 output_dir=self.build_temp,

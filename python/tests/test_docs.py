@@ -1,5 +1,6 @@
 """The examples of the package's documents."""
 
+import contextlib
 import doctest
 import importlib
 import pathlib
@@ -7,12 +8,8 @@ import unittest
 
 MODULES = ("quic_wire", "quic_wire.keylog", "quic_wire.protection")
 README = pathlib.Path(__file__).parents[1] / "README.md"
-CAPTURES = pathlib.Path(__file__).parents[2] / "c" / "tests"
-
-
-def fixture(name):
-    """A file that an example names."""
-    return CAPTURES / name
+REPOSITORY = pathlib.Path(__file__).parents[2]
+in_repository = contextlib.chdir(REPOSITORY)  # the examples name its files
 
 
 def load_tests(loader, tests, pattern):
@@ -23,9 +20,14 @@ def load_tests(loader, tests, pattern):
         pass
     else:
         modules.append("quic_wire.ciphers")
-        if CAPTURES.is_dir():
-            globs = {"getfixture": fixture}
-            suite = doctest.DocFileSuite(str(README), module_relative=False, optionflags=doctest.ELLIPSIS, globs=globs)
+        if (REPOSITORY / "c" / "tests").is_dir():
+            suite = doctest.DocFileSuite(
+                str(README),
+                module_relative=False,
+                optionflags=doctest.ELLIPSIS,
+                setUp=lambda test: in_repository.__enter__(),
+                tearDown=lambda test: in_repository.__exit__(),
+            )
             tests.addTest(suite)
     for name in modules:
         tests.addTest(doctest.DocTestSuite(name, optionflags=doctest.ELLIPSIS))

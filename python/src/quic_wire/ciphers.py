@@ -1,4 +1,4 @@
-"""The ciphers of QUIC by the package `cryptography`, which `quic-wire[ciphers]` installs (RFC 9001, section 5).
+"""The ciphers of QUIC by the package `cryptography`, which must be installed (RFC 9001, section 5).
 
 >>> client, server = initial_keys(1, bytes.fromhex("8394c8f03e515708"))
 >>> client.key.hex(), client.iv.hex()
@@ -117,8 +117,11 @@ class PacketKeys:
 
 
 def initial_keys(version: int, dcid: Buffer) -> tuple[PacketKeys, PacketKeys]:
-    """The keys of Initial packets of the client and of the server, from the id to which the client sent its first one
-    (RFC 9001, section 5.2; RFC 9369, section 3.3.1)."""
+    """The keys of Initial packets of the client and of the server.
+
+    They are made from the Destination Connection ID of the client's first Initial packet (RFC 9001, section 5.2;
+    RFC 9369, section 3.3.1).
+    """
     initial = hmac.new(_SALTS[Version(version)], bytes(dcid), hashlib.sha256).digest()
     secrets = (expand_label(initial, f"{side} in", 32, "sha256") for side in ("client", "server"))
     client, server = (PacketKeys.of(secret, _INITIAL_SUITE, version) for secret in secrets)

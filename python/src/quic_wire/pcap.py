@@ -35,17 +35,18 @@ class Endpoint(NamedTuple):
 
 @dataclass(frozen=True, slots=True)
 class Datagram:
-    """A UDP datagram of a capture."""
+    """A UDP datagram of a capture.
+
+    frame is its number in the capture, from 1 on. time is when it was captured, in seconds since 1970; 0 if the file
+    doesn't say. lost is how many of its bytes the capture lacks.
+    """
 
     frame: int
-    """Its number in the capture, from 1 on."""
     time: float
-    """When it was captured, in seconds since 1970; 0 if the file doesn't say."""
     source: Endpoint
     destination: Endpoint
     data: memoryview
     lost: int = 0
-    """How many bytes the capture lacks."""
 
 
 class _Record(NamedTuple):

@@ -53,12 +53,15 @@ class Keys(Protocol):
 
 @dataclass(frozen=True, slots=True)
 class Opened:
-    """A packet without its protection."""
+    """A packet without its protection.
+
+    packet is the packet as it was read, and number its packet number. header is the header without its protection, up
+    to the end of the packet number, and payload the plaintext.
+    """
 
     packet: Packet
     number: int
     header: bytes
-    """The header without its protection, up to the end of the packet number."""
     payload: bytes
 
     @property
@@ -82,8 +85,8 @@ def open_header(packet: Packet, mask: Buffer, expected: int = 0) -> tuple[int, b
 def open_packet(packet: Packet, keys: Keys, expected: int = 0) -> Opened:
     """An opened packet. expected is the packet number that comes next in its number space (RFC 9000, appendix A.3).
 
-    Raises PacketError if the packet is too short, and what keys raises if it isn't authentic. The packet itself doesn't
-    change.
+    Raises PacketError if the packet is too short. If it isn't authentic, the exception of `keys.open` passes through.
+    The packet itself doesn't change.
     """
     sample = packet.sample(_SAMPLE_LEN)
     if sample is None:

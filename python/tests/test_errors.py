@@ -1,10 +1,12 @@
 """Rejections: their reasons, offsets, fields, codes and sections."""
 
 import copy
+import dataclasses
 import pickle
 import unittest
 
 import quic_wire as q
+from quic_wire import capture, pcap, protection
 
 
 def rejected(call, *args, **keywords):
@@ -160,6 +162,9 @@ class Errors(unittest.TestCase):
     def test_classes_list_their_attributes(self):
         common = ["reason", "why", "offset", "field", "field_offset", "code", "section"]
         rows = [
+            (capture.Captured, [field.name for field in dataclasses.fields(capture.Captured)]),
+            (pcap.Datagram, [field.name for field in dataclasses.fields(pcap.Datagram)]),
+            (protection.Opened, [field.name for field in dataclasses.fields(protection.Opened)]),
             (q.Error, common),
             (q.FrameError, ["frame_type", "frames", *common]),
             (q.PacketError, ["packets", "packet"]),

@@ -5,6 +5,7 @@ from __future__ import annotations
 from typing import Optional
 
 import quic_wire as q
+from quic_wire import capture
 from quic_wire.protection import Keys, Opened, open_packet
 
 
@@ -33,6 +34,15 @@ def limit(data: memoryview) -> Optional[int]:
         assert field is None and code is not None
         return None
     return read.max_datagram_frame_size
+
+
+def broken(file: str) -> list[Optional[str]]:
+    read = capture.packets(file, checks=q.Checks.RFC)
+    return [one.error.why for one in read if one.error is not None]
+
+
+def entries(data: bytes) -> dict[int, bytes]:
+    return {entry.id: bytes(entry.value) for entry in q.parameters(data)}
 
 
 def acknowledged(numbers: q.RangeSet) -> bytes:

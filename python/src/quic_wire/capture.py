@@ -52,10 +52,14 @@ _LABELS = {
 class Captured:
     """A packet of a capture, or the rest of a datagram that can't be cut into packets.
 
-    datagram is the UDP datagram, and sender the side that sent it. packet is the packet with its protection, or None
-    for a rest. opened is the packet without its protection, or None if no keys open it, and frames are its frames, up
-    to an invalid one. error is the first rule that the packet breaks, of those that `checks` has. why says in English
-    why the packet isn't read or opened, or that its reserved bits are set. rest is how many bytes a rest has.
+    - datagram: the UDP datagram.
+    - sender: the side that sent it.
+    - packet: the packet with its protection; None for a rest.
+    - opened: the packet without its protection; None if it has none or no keys open it.
+    - frames: the frames of an opened packet, up to an invalid one; None if it isn't opened.
+    - error: the first rule that the packet breaks, by the argument `checks` of `packets`.
+    - why: why the packet isn't read or opened, or that its reserved bits are set, in English.
+    - rest: how many bytes a rest has.
     """
 
     datagram: Datagram
@@ -281,9 +285,9 @@ def packets(
 ) -> Iterator[Captured]:
     """The QUIC packets of a capture file, pcap or pcapng, in its order.
 
-    checks says which rules packets and frames are read by. The fixed bit may always be clear, since a capture needn't
-    show whether that was negotiated. Which packets may carry a frame (`is_permitted_in`), which side may send it, and
-    transport parameters aren't checked. Raises CaptureError if the file isn't a capture, and OSError.
+    checks says by which rules packets and frames are read. The fixed bit may be clear in any case, since a capture
+    needn't show whether that was negotiated. Not checked are which packets may carry a frame (`is_permitted_in`), which
+    side may send it, and transport parameters. Raises CaptureError if the file isn't a capture, and OSError.
     """
     flows: dict[frozenset[pcap.Endpoint], _Flow] = {}
     for datagram in pcap.datagrams(file):

@@ -15,11 +15,11 @@ class Checks(enum.IntFlag):
     QUINN, the default, has no flag: it reads as quinn-proto does. RFC has each flag except GREASED_BIT: it reads as RFC
     9000 asks of a receiver that has negotiated no extension, except that DATAGRAM frames are read; which packets may
     carry a frame (`is_permitted_in`) and who may send it are yours to check. Each reader ignores the flags that aren't
-    for it, so one value serves all.
+    for it, so one value serves all. Sections are those of RFC 9000 if no other is named.
 
     These flags reject more:
 
-    - SHORT_TYPES: a frame's type must be in its shortest encoding (RFC 9000, section 12.4).
+    - SHORT_TYPES: a frame's type must be in its shortest encoding (section 12.4).
     - DATA_LIMIT: data of CRYPTO and STREAM must not end past 2^62 - 1 (sections 19.6 and 19.8).
     - STREAM_LIMIT: MAX_STREAMS and STREAMS_BLOCKED must not allow more than 2^60 streams (sections 19.11 and 19.14).
     - NO_ACK_FREQUENCY: the frames of the ACK frequency extension are unknown, as it wasn't negotiated (section 12.4).

@@ -45,10 +45,12 @@ class Code(enum.IntEnum):
 class Error(ValueError):
     """Bytes that a peer must not send.
 
-    reason is the library's text for why they are rejected, and why says what is wrong with them, if more is known.
-    offset is where what is rejected begins in the bytes that were read. field is the name in the RFC of the field at
-    fault, and field_offset is where it begins; both are None if it isn't known. code is the code with which an endpoint
-    closes the connection, or None if it drops a packet. section is the document and section that say so.
+    - reason: the library's text for why they are rejected.
+    - why: what is wrong with them, or None if no more is known.
+    - offset: where what is rejected begins in the bytes that were read.
+    - field, field_offset: the RFC's name of the field at fault, and where it begins; None if it isn't known.
+    - code: the code with which an endpoint closes the connection; None if it drops a packet.
+    - section: the document and section that say so.
     """
 
     reason: str
@@ -88,8 +90,9 @@ class Error(ValueError):
 class FrameError(Error):
     """A payload has an invalid frame, or is empty.
 
-    frame_type is the type of the invalid frame; None if it couldn't be read. frames are the frames before it, or None
-    if they were read one by one. reason, why, offset, field, field_offset, code and section are as in Error.
+    - frame_type: the type of the invalid frame; None if it couldn't be read.
+    - frames: the frames before it; None if they were read one by one.
+    - reason, why, offset, field, field_offset, code, section: as in Error.
     """
 
     frame_type: Optional[int] = None
@@ -106,8 +109,9 @@ class FrameError(Error):
 class PacketError(Error):
     """The bytes of a datagram aren't a packet, and are dropped.
 
-    packets are the packets before it, or None if they were read one by one. packet is what was read from a packet that
-    is cut off, or None. reason, offset, field, field_offset and section are as in Error; code is None.
+    - packets: the packets before it; None if they were read one by one.
+    - packet: what was read from a packet that is cut off, or None.
+    - reason, offset, field, field_offset, section: as in Error. code is None.
     """
 
     packets: Optional[list[Packet]] = None
@@ -117,9 +121,10 @@ class PacketError(Error):
 class ParameterError(Error):
     """A list of transport parameters is rejected.
 
-    id, name and value are those of the parameter at fault; each is None if it isn't known. why says what is wrong with
-    it, and wanted what its value must be if it is invalid. reason, offset, code and section are as in Error; field and
-    field_offset are None.
+    - id, name, value: those of the parameter at fault; each is None if it isn't known.
+    - why: what is wrong with it.
+    - wanted: what its value must be; None if that isn't what is wrong.
+    - reason, offset, code, section: as in Error. field and field_offset are None.
     """
 
     id: Optional[int] = None

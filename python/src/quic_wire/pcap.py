@@ -37,8 +37,11 @@ class Endpoint(NamedTuple):
 class Datagram:
     """A UDP datagram of a capture.
 
-    frame is its number in the capture, from 1 on. time is when it was captured, in seconds since 1970; 0 if the file
-    doesn't say. lost is how many of its bytes the capture lacks.
+    - frame: its number in the capture, from 1 on.
+    - time: when it was captured, in seconds since 1970; 0 if the file doesn't say.
+    - source, destination: the addresses with their ports.
+    - data: its bytes.
+    - lost: how many bytes the capture lacks.
     """
 
     frame: int

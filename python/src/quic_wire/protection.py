@@ -55,8 +55,10 @@ class Keys(Protocol):
 class Opened:
     """A packet without its protection.
 
-    packet is the packet as it was read, and number its packet number. header is the header without its protection, up
-    to the end of the packet number, and payload the plaintext.
+    - packet: the packet with its protection.
+    - number: its packet number.
+    - header: the header without its protection, up to the end of the packet number.
+    - payload: the plaintext.
     """
 
     packet: Packet

@@ -80,6 +80,11 @@ class Modes(unittest.TestCase):
         text = lines("params", given="03024064")[0]
         self.assertTrue(text.startswith("1: error at 0: illegal value parameter=max_udp_payload_size id=3 value=4064 "))
 
+    def test_it_prints_the_library_s_text_where_exceptions_say_more(self):
+        self.assertTrue(lines("frames", given="0140")[1].startswith("1: error at 1: unexpected end in PING field="))
+        self.assertTrue(lines("frames", given="21")[0].startswith("1: error at 0: invalid frame ID in <unknown 21> "))
+        self.assertIn(' wanted="a number of variable length" ', lines("params", given="04020505")[0])
+
     def test_other_programs_read_objects(self):
         found = [json.loads(line) for line in lines("frames", "--json", given="020a00020100000202\n01060005\n")]
         self.assertEqual(

@@ -99,6 +99,11 @@ class Packets(unittest.TestCase):
             with self.subTest(i), self.assertRaises(kind):
                 call()
 
+    def test_a_header_without_a_packet_type_is_named(self):
+        for kind in (q.PacketType.VERSION_NEGOTIATION, q.PacketType.UNKNOWN_VERSION, 9):
+            with self.subTest(kind), self.assertRaisesRegex(ValueError, "^packet_type must be INITIAL, .* or ONE_RTT$"):
+                q.write_header(kind, CID)
+
     # RFC 9001, appendix A.5: the header of a short packet, with its sample and mask.
     def test_protection_is_removed_and_applied(self):
         packet = bytearray.fromhex("4cfe4189655e5cd55c41f69080575d7999c25a5bfb")

@@ -131,9 +131,9 @@ static int parse_header(PyObject *args, PyObject *keywords,
   a->fields.version = version;
   a->fields.numberlen = number_len;
   a->fields.lengthlen = length_len;
-  if (kind == QUIC_WIRE_PACKET_VERSION_NEGOTIATION ||
-      kind == QUIC_WIRE_PACKET_UNKNOWN_VERSION) {
-    PyErr_SetString(PyExc_ValueError, "no header of this type is written here");
+  if (kind >= QUIC_WIRE_PACKET_VERSION_NEGOTIATION) {
+    PyErr_SetString(PyExc_ValueError, "packet_type must be INITIAL, ZERO_RTT, "
+                                      "HANDSHAKE, RETRY or ONE_RTT");
     return -1;
   }
   a->fields.flags = (uint8_t)((fixed_bit ? 0 : QUIC_WIRE_CLEAR_FIXED_BIT) |

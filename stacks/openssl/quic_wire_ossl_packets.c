@@ -375,21 +375,18 @@ static int write_short_hdr(const QUIC_PKT_HDR *hdr,
 }
 
 /*
- * Writes a long header of |len| bytes, up to a Retry's token.
- * quic_wire_header_write has lengths of 2 and 4 bytes: one of 1 or 8 replaces
- * it, and the number after it.  No call writes the low bits of the first byte.
+ * Writes a long header of |len| bytes, up to a Retry's token.  No call writes
+ * the low bits of the first byte.
  */
 static int write_long_hdr(const QUIC_PKT_HDR *hdr,
     quic_wire_header_fields *fields, unsigned char *p, size_t len, size_t room)
 {
     size_t length_len = fields->lengthlen;
-    unsigned char *length;
 
     fields->version = hdr->version;
     fields->flags = hdr->type == QUIC_PKT_TYPE_VERSION_NEG && !hdr->fixed
         ? QUIC_WIRE_CLEAR_FIXED_BIT
         : 0;
-    fields->lengthlen = length_len < 4 ? 2 : 4;
     if (write_fields(hdr, fields, p, room) < 0)
         return 0;
 
@@ -399,11 +396,8 @@ static int write_long_hdr(const QUIC_PKT_HDR *hdr,
         return 1;
 
     p[0] |= hdr->reserved << 2;
-    length = p + len - hdr->pn_len - length_len;
-    if (length_len != fields->lengthlen)
-        memcpy(length + length_len, hdr->pn, hdr->pn_len);
     return quic_wire_varint_write(hdr->len + hdr->pn_len, (uint32_t)length_len,
-               length, length_len)
+               p + len - hdr->pn_len - length_len, length_len)
         > 0;
 }
 
@@ -433,10 +427,9 @@ int ossl_quic_wire_encode_pkt_hdr(WPACKET *pkt,
 
     len = quic_wire_header_len(&fields, hdr->dst_conn_id.id_len,
         hdr->src_conn_id.id_len, hdr->token_len);
-    /* Room for the payload too; a length of 1 byte is written as one of 2. */
-    room = len;
+    room = len; /* for the payload too */
     if (hdr->type != QUIC_PKT_TYPE_RETRY)
-        room += fields.lengthlen == 1 && hdr->len == 0 ? 1 : hdr->len;
+        room += hdr->len;
 
     if (!WPACKET_reserve_bytes(pkt, room, &p)
         || !(is_short ? write_short_hdr(hdr, &fields, p, room)

@@ -1,5 +1,5 @@
 //! The header of a packet as offsets in it.
-use super::{HeaderChecks, LongType, PacketPlace, ProtectedHeader};
+use super::{HeaderChecks, LongType, PacketPlace, PacketType, ProtectedHeader};
 use crate::sys;
 use crate::text::Hex32;
 use core::fmt;
@@ -131,13 +131,13 @@ impl fmt::Debug for UnsupportedVersion {
     }
 }
 
-// The kinds of packets, as the library numbers them.
-const INITIAL: u8 = 0;
-const ZERO_RTT: u8 = 1;
-const HANDSHAKE: u8 = 2;
-const RETRY: u8 = 3;
-const ONE_RTT: u8 = 4;
-const VERSION_NEGOTIATION: u8 = 5;
+// The types of packets, as the library numbers them.
+const INITIAL: u8 = PacketType::Initial as u8;
+const ZERO_RTT: u8 = PacketType::ZeroRtt as u8;
+const HANDSHAKE: u8 = PacketType::Handshake as u8;
+const RETRY: u8 = PacketType::Retry as u8;
+const ONE_RTT: u8 = PacketType::OneRtt as u8;
+const VERSION_NEGOTIATION: u8 = PacketType::VersionNegotiation as u8;
 
 impl HeaderPlaces {
     /// Reads the header of the packet at the front of the bytes. Ids of short headers have `cid_len` bytes. For
@@ -256,7 +256,7 @@ impl HeaderPlaces {
             sys::PACKET_CID => "malformed cid",
             sys::PACKET_TOKEN => "token out of bounds",
             // Offsets have 32 bits.
-            _ => "packet of 4 GiB or more",
+            _ => "datagram of 4 GiB or more",
         })
     }
 
@@ -287,6 +287,26 @@ impl HeaderPlaces {
     #[inline]
     pub fn fixed_bit(&self) -> bool {
         self.0.first & 0x40 != 0
+    }
+
+    /// The packet's type.
+    ///
+    /// ```
+    /// use quic_wire::packet::{HeaderPlaces, PacketType};
+    /// let packet = [0xc0, 0, 0, 0, 1, 1, 0xaa, 1, 0xbb, 1, 0x77, 2, 9, 9];
+    /// assert_eq!(HeaderPlaces::read(&packet, 0, &[1])?.packet_type(), PacketType::Initial);
+    /// # Ok::<(), quic_wire::Error>(())
+    /// ```
+    #[inline]
+    pub fn packet_type(&self) -> PacketType {
+        match self.0.kind {
+            INITIAL => PacketType::Initial,
+            ZERO_RTT => PacketType::ZeroRtt,
+            HANDSHAKE => PacketType::Handshake,
+            RETRY => PacketType::Retry,
+            ONE_RTT => PacketType::OneRtt,
+            _ => PacketType::VersionNegotiation,
+        }
     }
 
     /// Whether it is a short header (RFC 9000, section 17.3).

@@ -168,7 +168,7 @@ impl HeaderPlaces {
         HeaderPlaces::read_with(bytes, cid_len, versions, checks)
     }
 
-    /// The same with these checks.
+    /// As [`HeaderPlaces::read`], but with these checks.
     ///
     /// ```
     /// use quic_wire::packet::{HeaderChecks, HeaderError, HeaderPlaces};
@@ -176,6 +176,37 @@ impl HeaderPlaces {
     /// assert!(HeaderPlaces::read_with(&retry, 0, &[1], HeaderChecks::QUINN).is_ok());
     /// let refused = HeaderPlaces::read_with(&retry, 0, &[1], HeaderChecks::RFC);
     /// assert!(matches!(refused, Err(HeaderError::InvalidHeader("Retry without a token or a tag"))));
+    /// ```
+    ///
+    /// The packets of a datagram, as an inspector shows them:
+    ///
+    /// ```
+    /// use quic_wire::packet::{HeaderChecks, HeaderError, HeaderPlaces};
+    ///
+    /// fn show(datagram: &[u8], cid_len: usize) -> Vec<String> {
+    ///     let (mut shown, mut rest) = (vec![], datagram);
+    ///     while !rest.is_empty() {
+    ///         let begin = datagram.len() - rest.len();
+    ///         let (text, end) = match HeaderPlaces::read_with(rest, cid_len, &[1], HeaderChecks::RFC) {
+    ///             Ok(header) => (format!("{:?} to {:x?}", header.packet_type(), header.dst_cid(rest)), header.end()),
+    ///             // Nothing after these can be read: the packet's end is unknown, or it is that of the datagram.
+    ///             Err(HeaderError::CutOff(header)) => (format!("{:?}, cut off", header.packet_type()), rest.len()),
+    ///             Err(HeaderError::UnsupportedVersion(packet)) => {
+    ///                 (format!("version {:x} to {:x?}", packet.version(), packet.dst_cid(rest)), rest.len())
+    ///             }
+    ///             Err(HeaderError::InvalidHeader(reason)) => (reason.to_string(), rest.len()),
+    ///         };
+    ///         shown.push(format!("{begin}: {text}"));
+    ///         rest = &rest[end..];
+    ///     }
+    ///     shown
+    /// }
+    ///
+    /// // An Initial with five bytes after its header, and a Handshake packet of which four bytes are missing.
+    /// let datagram = [0xc0, 0, 0, 0, 1, 1, 0xaa, 0, 0, 5, 1, 2, 3, 4, 5, 0xe0, 0, 0, 0, 1, 1, 0xaa, 0, 5, 9];
+    /// assert_eq!(show(&datagram, 0), ["0: Initial to [aa]", "15: Handshake, cut off"]);
+    /// assert_eq!(show(&[0xc0, 0, 0, 0, 9, 1, 0xaa, 0, 7], 0), ["0: version 9 to [aa]"]);
+    /// assert_eq!(show(&[0x00, 0xaa, 7], 1), ["0: fixed bit unset"]);
     /// ```
     ///
     /// # Errors

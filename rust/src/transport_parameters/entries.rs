@@ -146,14 +146,14 @@ impl fmt::Debug for Entries<'_> {
 }
 
 impl TransportParameters {
-    /// How many rows the table has in which [`TransportParameters::write_with`] numbers the struct's parameters: those
-    /// of quinn-proto's `TransportParameterId::SUPPORTED`.
+    /// How many numbers the struct's parameters have in the order of [`TransportParameters::write_with`]: one for each
+    /// row of quinn-proto's `TransportParameterId::SUPPORTED`.
     pub const ROWS: usize = 21;
 
     /// Writes the list that `side` sends with `further` entries, which the struct has no fields for and which
-    /// [`Entry::write`] wrote one after the other. The struct's parameters are numbered by their rows, whether they are
-    /// written or not, and the further entries from [`TransportParameters::ROWS`] on. `order` has each of these numbers
-    /// once, or is empty; then the further entries follow the others.
+    /// [`Entry::write`] wrote one after the other. With n further entries, `order` is the numbers below
+    /// [`TransportParameters::ROWS`]` + n`, shuffled; which number is which parameter needn't concern you. It may be
+    /// empty; then the further entries follow the others.
     ///
     /// ```
     /// use quic_wire::transport_parameters::{entries, Entry, TransportParameters};

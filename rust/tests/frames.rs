@@ -382,7 +382,7 @@ fn a_reason_in_utf8_is_cut_between_characters() {
         let short = close(text.as_bytes()).shortened(max_len).unwrap();
         assert_eq!(std::str::from_utf8(short.reason()), Ok(&text[..longest]), "{max_len}");
         // Bytes after 0xff aren't text.
-        let bytes = [&text.as_bytes()[..], b"\xff"].concat();
+        let bytes = [text.as_bytes(), b"\xff"].concat();
         let short = close(&bytes).shortened(max_len).unwrap();
         assert_eq!(short.reason(), &bytes[..bytes.len().min(max_len - 4)], "{max_len}");
     }

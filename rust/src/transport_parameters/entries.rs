@@ -159,9 +159,9 @@ impl TransportParameters {
     /// use quic_wire::transport_parameters::{entries, Entry, TransportParameters};
     /// use quic_wire::Side;
     /// let sent = TransportParameters { initial_max_data: 9, ..TransportParameters::default() };
-    /// let mut further = vec![];
-    /// Entry { id: 0x11, value: &[0, 0, 0, 1] }.write(&mut further)?;
-    /// Entry::reserved(4, b"?").unwrap().write(&mut further)?;
+    /// let mut further = [0; 10];
+    /// let first = Entry { id: 0x11, value: &[0, 0, 0, 1] }.write(&mut further)?;
+    /// Entry::reserved(4, b"?").unwrap().write(&mut further[first..])?;
     /// // As with `order.shuffle(&mut rng)`.
     /// let order: Vec<u8> = (0..TransportParameters::ROWS as u8 + 2).rev().collect();
     /// let mut list = [0; 64];

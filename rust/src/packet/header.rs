@@ -189,7 +189,7 @@ impl HeaderPlaces {
     ///         let begin = datagram.len() - rest.len();
     ///         let (text, end) = match HeaderPlaces::read_with(rest, cid_len, &[1], HeaderChecks::RFC) {
     ///             Ok(header) => (format!("{:?} to {:x?}", header.packet_type(), header.dst_cid(rest)), header.end()),
-    ///             // Nothing after these can be read: the packet's end is unknown, or it is that of the datagram.
+    ///             // No other packet can be found after these.
     ///             Err(HeaderError::CutOff(header)) => (format!("{:?}, cut off", header.packet_type()), rest.len()),
     ///             Err(HeaderError::UnsupportedVersion(packet)) => {
     ///                 (format!("version {:x} to {:x?}", packet.version(), packet.dst_cid(rest)), rest.len())

@@ -146,14 +146,14 @@ impl fmt::Debug for Entries<'_> {
 }
 
 impl TransportParameters {
-    /// How many numbers the struct's parameters have in the order of [`TransportParameters::write_with`]: one for each
-    /// row of quinn-proto's `TransportParameterId::SUPPORTED`.
+    /// How many numbers the struct's parameters have in the order of [`TransportParameters::write_with`]: 21, the rows
+    /// of quinn-proto's `TransportParameterId::SUPPORTED`. Which number is which parameter needn't concern you.
     pub const ROWS: usize = 21;
 
     /// Writes the list that `side` sends with `further` entries, which the struct has no fields for and which
-    /// [`Entry::write`] wrote one after the other. With n further entries, `order` is the numbers below
-    /// [`TransportParameters::ROWS`]` + n`, shuffled; which number is which parameter needn't concern you. It may be
-    /// empty; then the further entries follow the others.
+    /// [`Entry::write`] wrote one after the other. With n further entries, `order` is a shuffled `0..ROWS + n`
+    /// ([`TransportParameters::ROWS`]): it also has the numbers of parameters that aren't written. It may be empty; then
+    /// the further entries follow the others.
     ///
     /// ```
     /// use quic_wire::transport_parameters::{entries, Entry, TransportParameters};

@@ -144,8 +144,8 @@ impl Frame<'_> {
         !matches!(self, Frame::Ack(_) | Frame::Padding | Frame::Close(_))
     }
 
-    /// Whether a packet that has only such frames counts toward bytes in flight: all frames except ACK (RFC 9000, section
-    /// 12.4, table 3, letter C).
+    /// Whether a packet that has only such frames counts toward bytes in flight: all frames except ACK (RFC 9000,
+    /// section 12.4, table 3, letter C).
     ///
     /// ```
     /// use quic_wire::frame::Frame;

@@ -1,8 +1,8 @@
 //! What is checked in frames besides their encoding.
 
 /// What is checked in a payload's frames besides their encoding. `Rules::default()` checks nothing more, as quinn-proto
-/// does; [`Rules::RFC`] checks all that RFC 9000 requires of the bytes by themselves. The first frame that breaks a rule
-/// is an [`InvalidFrame`](super::InvalidFrame) with its type.
+/// does; [`Rules::RFC`] checks all that RFC 9000 requires of the bytes by themselves. The first frame that breaks a
+/// rule is an [`InvalidFrame`](super::InvalidFrame) with its type.
 ///
 /// You check which packets may carry a frame ([`Frame::is_permitted_in`](super::Frame::is_permitted_in)) and which side
 /// may send it, and you reject a DATAGRAM if you didn't offer to receive it.

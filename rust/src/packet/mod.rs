@@ -102,7 +102,8 @@ pub enum LongType {
 /// ```
 /// use quic_wire::packet::{HeaderPlaces, ProtectedHeader};
 /// let packet = [0x60, 0xaa, 1, 2];
-/// assert_eq!(HeaderPlaces::read(&packet, 1, &[])?.header(&packet), ProtectedHeader::Short { spin: true, dst_cid: &[0xaa] });
+/// let header = HeaderPlaces::read(&packet, 1, &[])?.header(&packet);
+/// assert_eq!(header, ProtectedHeader::Short { spin: true, dst_cid: &[0xaa] });
 /// # Ok::<(), quic_wire::Error>(())
 /// ```
 #[derive(Clone, PartialEq, Eq, Hash)]

@@ -242,9 +242,9 @@ impl PacketPlace {
         Some((behind.get(..sample_len)?, first, header.last_chunk_mut()?))
     }
 
-    /// As [`PacketPlace::unprotect`], but with a cipher that removes its mask itself and doesn't reveal it, like that of
-    /// `rustls`. It gets the sample of `sample_len` bytes, the first byte, and four bytes from the packet number on, of
-    /// which it changes the number's.
+    /// As [`PacketPlace::unprotect`], but with a cipher that removes its mask itself and doesn't reveal it, like that
+    /// of `rustls`. It gets the sample of `sample_len` bytes, the first byte, and four bytes from the packet number on,
+    /// of which it changes the number's.
     ///
     /// ```
     /// use quic_wire::packet::PacketPlace;

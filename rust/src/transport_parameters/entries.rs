@@ -152,8 +152,8 @@ impl TransportParameters {
 
     /// Writes the list that `side` sends with `further` entries, which the struct has no fields for and which
     /// [`Entry::write`] wrote one after the other. With n further entries, `order` is a shuffled `0..ROWS + n`
-    /// ([`TransportParameters::ROWS`]): it also has the numbers of parameters that aren't written. It may be empty; then
-    /// the further entries follow the others.
+    /// ([`TransportParameters::ROWS`]): it also has the numbers of parameters that aren't written. It may be empty;
+    /// then the further entries follow the others.
     ///
     /// ```
     /// use quic_wire::transport_parameters::{entries, Entry, TransportParameters};

@@ -1,6 +1,6 @@
 //! All errors of this crate.
 use crate::canonical::CanonError;
-use crate::frame::{EmptyPayload, FrameType, InvalidFrame, Reason};
+use crate::frame::{EmptyPayload, FrameType, InvalidFrame};
 use crate::packet::{HeaderError, PacketDecodeError, UnprotectError};
 use crate::transport_error::Code;
 use crate::{range_set, transport_parameters};
@@ -56,6 +56,34 @@ impl core::error::Error for WriteError {}
 /// assert_eq!(error.code(), Some(Code::FRAME_ENCODING_ERROR));
 /// assert_eq!(first_limit(&[], &mut []).unwrap_err().code(), Some(Code::PROTOCOL_VIOLATION));
 /// ```
+///
+/// The close that an endpoint sends for an error:
+///
+/// ```
+/// use quic_wire::frame::{ConnectionClose, Frame, Iter};
+/// use quic_wire::{Error, WriteError};
+///
+/// /// Writes the close, and returns how many bytes it has. `None` if the connection isn't closed for this error.
+/// fn write_close(error: &Error, out: &mut [u8]) -> Option<Result<usize, WriteError>> {
+///     let reason = match error {
+///         Error::Frame(invalid) => invalid.reason.as_str(),
+///         _ => "",
+///     };
+///     let close = ConnectionClose {
+///         error_code: error.code()?,
+///         frame_type: error.frame_type(),
+///         reason: reason.as_bytes(),
+///     };
+///     Some(Frame::Close(close.into()).encode(true, out))
+/// }
+///
+/// let invalid = Iter::new(&[0x21])?.next().unwrap().unwrap_err();
+/// let mut out = [0; 20];
+/// assert_eq!(write_close(&invalid.into(), &mut out), Some(Ok(20)));
+/// assert_eq!(out, *b"\x1c\x07\x21\x10invalid frame ID");
+/// assert_eq!(write_close(&Error::UnsupportedVersion(9), &mut out), None);
+/// # Ok::<(), Error>(())
+/// ```
 #[derive(Clone, Copy, Debug, PartialEq, Eq, Hash)]
 #[non_exhaustive]
 pub enum Error {
@@ -65,7 +93,7 @@ pub enum Error {
     Frame(InvalidFrame),
     /// A packet's version isn't supported.
     UnsupportedVersion(u32),
-    /// No packet begins at this offset of a datagram, or it is cut off.
+    /// The rest of a datagram doesn't begin with a whole packet; why.
     Packet(&'static str),
     /// Header protection can't be removed or applied.
     Protection(UnprotectError),
@@ -88,30 +116,31 @@ impl Error {
     /// assert_eq!(Error::Packet("fixed bit unset").code(), None);
     /// ```
     ///
-    /// An invalid frame is a `FRAME_ENCODING_ERROR`. But a type that isn't in its shortest encoding (RFC 9000, section
-    /// 12.4), which only [`Rules::short_types`](crate::frame::Rules::short_types) rejects, is a `PROTOCOL_VIOLATION`.
+    /// That of an invalid frame is [`InvalidFrame::code`].
     pub fn code(&self) -> Option<Code> {
         match self {
-            Error::EmptyPayload | Error::Frame(InvalidFrame { reason: Reason::LongType, .. }) => {
-                Some(Code::PROTOCOL_VIOLATION)
-            }
-            Error::Frame(_) => Some(Code::FRAME_ENCODING_ERROR),
+            Error::EmptyPayload => Some(Code::PROTOCOL_VIOLATION),
+            Error::Frame(invalid) => Some(invalid.code()),
             Error::TransportParameters(_) => Some(Code::TRANSPORT_PARAMETER_ERROR),
             _ => None,
         }
     }
 
-    /// The type of the frame that caused it, if one did.
+    /// The type of the invalid frame; if that is cut off, the type of the frame before it, as in quinn-proto, or
+    /// `None`. `None` for PADDING too, which a close can't name: its type, 0, means that none is known.
     ///
     /// ```
     /// use quic_wire::frame::{FrameType, Iter};
-    /// let error = quic_wire::Error::from(Iter::new(&[0x10])?.next().unwrap().unwrap_err());
-    /// assert_eq!(error.frame_type(), Some(FrameType::MAX_DATA));
-    /// # Ok::<(), quic_wire::Error>(())
+    /// let error = |payload| quic_wire::Error::from(Iter::new(payload).unwrap().find_map(Result::err).unwrap());
+    /// assert_eq!(error(&[0x10]).frame_type(), Some(FrameType::MAX_DATA));
+    /// // A type of two bytes is cut off, after PING, after PADDING, and at the front.
+    /// assert_eq!(error(&[0x01, 0x40]).frame_type(), Some(FrameType::PING));
+    /// assert_eq!(error(&[0x00, 0x40]).frame_type(), None);
+    /// assert_eq!(error(&[0x40]).frame_type(), None);
     /// ```
     pub fn frame_type(&self) -> Option<FrameType> {
         match self {
-            Error::Frame(invalid) => invalid.ty,
+            Error::Frame(invalid) => invalid.ty.filter(|ty| *ty != FrameType::PADDING),
             _ => None,
         }
     }

@@ -3,10 +3,11 @@
 //! [`frame`], with their shortest form in [`canonical`]; the transport parameters (RFC 9000, section 18) in
 //! [`transport_parameters`]; sets of packet numbers in [`range_set`], and varints in [`varint`].
 //!
-//! A library with proved contracts does the reading and writing: it reads exactly what the RFC's grammar allows, and no
-//! input makes it read out of bounds or ends the process. This crate adds types that borrow from your bytes, with the
-//! names of `quinn-proto`. It has no global state, and allocates only to grow a `Vec` or a set. You bring the ciphers.
-//! A few calls panic on arguments of their own caller, as their documentation says, and none on what a peer sends.
+//! A library with proved contracts does the reading and writing: it reads exactly what a written grammar allows, the
+//! RFC's except for the departures below. No input makes it read out of bounds or ends the process. This crate adds
+//! types that borrow from your bytes, with the names of `quinn-proto`. It has no global state, and allocates only to
+//! grow a `Vec` or a set. You bring the ciphers. A few calls panic on arguments of their own caller, as their
+//! documentation says, and none on what a peer sends.
 //!
 //! ```
 //! use quic_wire::frame::{Frame, Iter};
@@ -29,10 +30,10 @@
 //! A transport parameter that is an integer with a default is malformed unless it is in its shortest encoding, although
 //! section 16 allows longer ones; `max_datagram_frame_size` and `min_ack_delay` are accepted in any encoding.
 //! [`packet::Packets`] and [`packet::PacketsMut`] reject a version negotiation whose fixed bit is clear unless packets
-//! are greased, although clients must ignore that bit (section 17.2.1); [`packet::HeaderPlaces::read`] ignores it. Near
-//! 2^62, [`packet::PacketNumber::expand`] may return 2^62 or more, for which appendix A.3 has a number below. Data that
-//! ends past 2^62 - 1 and limits above 2^60 streams are accepted unless you check them, with [`frame::Rules`] or in
-//! your connection.
+//! are greased, although clients must ignore that bit (section 17.2.1); [`packet::HeaderPlaces::read`] checks the
+//! fixed bit of no packet. Near 2^62, [`packet::PacketNumber::expand`] may return 2^62 or more, for which appendix A.3
+//! has a number below. Data that ends past 2^62 - 1 and limits above 2^60 streams are accepted unless you check them,
+//! with [`frame::Rules`] or in your connection.
 #![no_std]
 #![deny(unsafe_code)]
 

@@ -5,6 +5,7 @@ use quic_wire::frame::{
     Ack, ApplicationClose, Close, ConnectionClose, CryptoMeta, Datagram, DatagramMeta, EmptyPayload, Entry, Frame,
     FrameType, InvalidFrame, Iter, Meta, NewConnectionId, Reason, Rules, Stream, StreamMeta, WriteError,
 };
+use quic_wire::packet::PacketType;
 use quic_wire::transport_error::Code;
 use quic_wire::Side;
 use quic_wire::{varint, Dir, StreamId};
@@ -366,6 +367,89 @@ fn a_close_names_a_frame_and_is_shortened() {
     assert_eq!(read(&out), [Frame::Close(connection.into())]);
     assert_eq!(connection.to_string(), format!("STREAM_LIMIT_ERROR in STREAM: {}", "x".repeat(reason.len())));
     assert_eq!(ApplicationClose { error_code: 5, reason: b"a\xffb" }.to_string(), "application error 5: a\u{fffd}b");
+}
+
+#[test]
+fn a_reason_in_utf8_is_cut_between_characters() {
+    let text = "Größe: 20 €, 𝄞";
+    for max_len in 4..40 {
+        let close = |reason| {
+            let (error_code, frame_type) = (Code::PROTOCOL_VIOLATION, None);
+            Close::Connection(ConnectionClose { error_code, frame_type, reason })
+        };
+        let room = text.len().min(max_len - 4);
+        let longest = (0..=room).rev().find(|len| text.is_char_boundary(*len)).unwrap();
+        let short = close(text.as_bytes()).shortened(max_len).unwrap();
+        assert_eq!(std::str::from_utf8(short.reason()), Ok(&text[..longest]), "{max_len}");
+        // Bytes after 0xff aren't text.
+        let bytes = [text.as_bytes(), b"\xff"].concat();
+        let short = close(&bytes).shortened(max_len).unwrap();
+        assert_eq!(short.reason(), &bytes[..bytes.len().min(max_len - 4)], "{max_len}");
+    }
+}
+
+#[test]
+fn each_error_of_a_payload_can_be_written_as_a_close() {
+    let (mut count, mut unnamed) = (0, 0);
+    for payload in (0..=u16::MAX).map(u16::to_be_bytes) {
+        for mut frames in [Iter::new(&payload).unwrap(), Iter::with_rules(&payload, Rules::RFC).unwrap()] {
+            let Some(invalid) = frames.find_map(Result::err) else { continue };
+            let error = quic_wire::Error::from(invalid);
+            assert_eq!(error.code(), Some(invalid.code()));
+            let close = ConnectionClose { error_code: invalid.code(), frame_type: error.frame_type(), reason: b"" };
+            let out = written(|out| Frame::Close(close.into()).encode(true, out));
+            assert_eq!(read(&out), [Frame::Close(close.into())], "of {payload:x?}");
+            count += 1;
+            unnamed += usize::from(error.frame_type() != invalid.ty);
+        }
+    }
+    assert!(count > 50_000 && unnamed > 100, "{count} {unnamed}");
+}
+
+// RFC 9000, section 12.4, table 3; RFC 9221, section 4; and what quinn-proto does with the ACK frequency extension.
+#[test]
+fn a_frame_has_its_row_of_table_3() {
+    let rows = [
+        (0x00..=0x00, "IH01", "NP"),
+        (0x01..=0x01, "IH01", ""),
+        (0x02..=0x03, "IH_1", "NC"),
+        (0x04..=0x05, "__01", ""),
+        (0x06..=0x06, "IH_1", ""),
+        (0x07..=0x07, "___1", ""),
+        (0x08..=0x0f, "__01", "F"),
+        (0x10..=0x17, "__01", ""),
+        (0x18..=0x18, "__01", "P"),
+        (0x19..=0x19, "__01", ""),
+        (0x1a..=0x1a, "__01", "P"),
+        (0x1b..=0x1b, "___1", "P"),
+        (0x1c..=0x1c, "IH01", "N"),
+        (0x1d..=0x1d, "__01", "N"),
+        (0x1e..=0x1e, "___1", ""),
+        (0x1f..=0x1f, "__01", ""),
+        (0x30..=0x31, "__01", ""),
+        (0xaf..=0xaf, "__01", ""),
+    ];
+    let types = [
+        (PacketType::Initial, 'I'),
+        (PacketType::Handshake, 'H'),
+        (PacketType::ZeroRtt, '0'),
+        (PacketType::OneRtt, '1'),
+        (PacketType::Retry, '-'),
+        (PacketType::VersionNegotiation, '-'),
+    ];
+    for (ty, packets, spec) in rows.into_iter().flat_map(|(tys, packets, spec)| tys.map(move |ty| (ty, packets, spec)))
+    {
+        // Fields of 0, except the length of an id.
+        let payload = [&[0x40, ty, 0, 0, u8::from(ty == 0x18)][..], &[0; 20]].concat();
+        let frame = Iter::new(&payload).unwrap().next().unwrap().unwrap();
+        for (packet, letter) in types {
+            assert_eq!(frame.is_permitted_in(packet), packets.contains(letter), "{frame:?} in {packet:?}");
+        }
+        assert_eq!(frame.is_ack_eliciting(), !spec.contains('N'), "{frame:?}");
+        assert_eq!(frame.is_counted_in_flight(), !spec.contains('C'), "{frame:?}");
+        assert_eq!(frame.is_probing(), spec.contains('P'), "{frame:?}");
+        assert_eq!(frame.is_flow_controlled(), spec.contains('F'), "{frame:?}");
+    }
 }
 
 #[test]

@@ -2,7 +2,7 @@
 #![cfg(feature = "alloc")]
 use quic_wire::packet::{
     Header, HeaderChecks, HeaderError, HeaderPlaces, LongType, Opened, PacketDecodeError, PacketNumber, PacketPlace,
-    Packets, PacketsMut, ProtectedHeader, UnprotectError, VersionNegotiation, DEFAULT_SUPPORTED_VERSIONS,
+    PacketType, Packets, PacketsMut, ProtectedHeader, UnprotectError, VersionNegotiation, DEFAULT_SUPPORTED_VERSIONS,
 };
 use quic_wire::transport_error::Code;
 use quic_wire::{Error, WriteError};
@@ -364,6 +364,15 @@ fn every_header_is_read_back() {
         let read = Packets::new(&packet, 8, &[version], false).next().unwrap().unwrap();
         assert_eq!((read.dst_cid(), read.data()), (ID, &packet[..]));
         let places = read.header_places();
+        let ty = match header {
+            Header::Initial { .. } => PacketType::Initial,
+            Header::Long { ty: LongType::Handshake, .. } => PacketType::Handshake,
+            Header::Long { ty: LongType::ZeroRtt, .. } => PacketType::ZeroRtt,
+            Header::Retry { .. } => PacketType::Retry,
+            Header::Short { .. } => PacketType::OneRtt,
+            Header::VersionNegotiate { .. } => PacketType::VersionNegotiation,
+        };
+        assert_eq!((places.packet_type(), read.header().packet_type()), (ty, ty));
         assert_eq!(places.header_end() + if places.is_protected() { 2 } else { 0 }, written.header_len);
         let reported =
             (places.src_cid(&packet), places.token(&packet), places.retry(&packet), places.versions(&packet).count());

@@ -85,8 +85,8 @@ impl<'a> Close<'a> {
         }
     }
 
-    /// The same with the reason cut so that the frame has at most `max_len` bytes. `None` if not even an empty reason
-    /// fits.
+    /// This close with its reason cut so that the frame has at most `max_len` bytes. A reason in UTF-8 is cut between
+    /// two characters, another one between two bytes. `None` if not even an empty reason fits.
     ///
     /// ```
     /// use quic_wire::frame::{ApplicationClose, Close, Frame};
@@ -95,6 +95,8 @@ impl<'a> Close<'a> {
     /// assert_eq!(short.reason(), b"a long");
     /// assert_eq!(Frame::Close(short).encode(true, &mut [0; 9]), Ok(9));
     /// assert_eq!(close.shortened(2), None);
+    /// let close = Close::Application(ApplicationClose { error_code: 5, reason: "Größe".as_bytes() });
+    /// assert_eq!(close.shortened(6).unwrap().reason(), b"Gr");
     /// ```
     pub fn shortened(mut self, max_len: usize) -> Option<Close<'a>> {
         let front = match &self {
@@ -111,11 +113,22 @@ impl<'a> Close<'a> {
         };
         let most = [1, 2, 4].into_iter().filter_map(fits).max()?;
         match &mut self {
-            Close::Connection(c) => c.reason = &c.reason[..c.reason.len().min(most)],
-            Close::Application(c) => c.reason = &c.reason[..c.reason.len().min(most)],
+            Close::Connection(c) => c.reason = cut(c.reason, most),
+            Close::Application(c) => c.reason = cut(c.reason, most),
         }
         Some(self)
     }
+}
+
+// The front of a reason, without a part of a character if it is UTF-8.
+fn cut(reason: &[u8], most: usize) -> &[u8] {
+    let Some(mut front) = reason.get(..most) else { return reason };
+    if let Ok(text) = core::str::from_utf8(reason) {
+        while !text.is_char_boundary(front.len()) {
+            front = &front[..front.len() - 1];
+        }
+    }
+    front
 }
 
 impl<'a> From<ConnectionClose<'a>> for Close<'a> {

@@ -112,8 +112,8 @@ impl Meta {
 }
 
 impl StreamMeta {
-    /// Writes the frame up to its data, with the data's length or, as the last of its payload, without; and returns how
-    /// many bytes that is.
+    /// Writes the frame up to its data, with the data's length if `length` is true, which is the opposite of `last` in
+    /// [`Frame::encode`](super::Frame::encode). Returns how many bytes that is.
     ///
     /// ```
     /// use quic_wire::frame::StreamMeta;
@@ -203,8 +203,8 @@ impl CryptoMeta {
 }
 
 impl DatagramMeta {
-    /// Writes the frame up to its data, with the data's length or, as the last of its payload, without; and returns how
-    /// many bytes that is.
+    /// Writes the frame up to its data, with the data's length if `length` is true, which is the opposite of `last` in
+    /// [`Frame::encode`](super::Frame::encode). Returns how many bytes that is.
     ///
     /// ```
     /// use quic_wire::frame::DatagramMeta;

@@ -1,6 +1,7 @@
 //! Invalid frames.
 use super::FrameType;
 use crate::sys;
+use crate::transport_error::Code;
 use core::fmt;
 
 /// A payload without frames (`PROTOCOL_VIOLATION`; RFC 9000, section 12.4).
@@ -20,7 +21,7 @@ impl fmt::Display for EmptyPayload {
 
 impl core::error::Error for EmptyPayload {}
 
-/// The first invalid frame of a payload (`FRAME_ENCODING_ERROR`; RFC 9000, section 12.4).
+/// The first invalid frame of a payload (RFC 9000, section 12.4).
 ///
 /// ```
 /// use quic_wire::frame::{FrameType, InvalidFrame, Iter, Reason};
@@ -31,10 +32,30 @@ impl core::error::Error for EmptyPayload {}
 /// ```
 #[derive(Clone, Copy, Debug, PartialEq, Eq, Hash)]
 pub struct InvalidFrame {
-    /// The last type that was read, which may be that of the invalid frame itself.
+    /// The type of the invalid frame; if that is cut off, the type of the frame before it, or `None`.
     pub ty: Option<FrameType>,
     /// Why the frame is invalid.
     pub reason: Reason,
+}
+
+impl InvalidFrame {
+    /// The code to close the connection with: `PROTOCOL_VIOLATION` for a type that isn't in its shortest encoding (RFC
+    /// 9000, section 12.4), which only [`Rules::short_types`](super::Rules::short_types) rejects; otherwise
+    /// `FRAME_ENCODING_ERROR`.
+    ///
+    /// ```
+    /// use quic_wire::frame::Iter;
+    /// use quic_wire::transport_error::Code;
+    /// let code = |payload| Iter::strict(payload).unwrap().find_map(Result::err).unwrap().code();
+    /// assert_eq!(code(&[0x10]), Code::FRAME_ENCODING_ERROR);
+    /// assert_eq!(code(&[0x40, 0x01]), Code::PROTOCOL_VIOLATION);
+    /// ```
+    pub const fn code(&self) -> Code {
+        match self.reason {
+            Reason::LongType => Code::PROTOCOL_VIOLATION,
+            _ => Code::FRAME_ENCODING_ERROR,
+        }
+    }
 }
 
 /// Why a frame is invalid.

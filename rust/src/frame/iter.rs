@@ -11,8 +11,9 @@ use core::iter::FusedIterator;
 use core::mem::MaybeUninit;
 use core::ops::Range;
 
-/// The frames of a payload, and then one [`InvalidFrame`] if the rest isn't a valid frame. A run of PADDING is a frame
-/// for each type, mostly a byte. It has 40 bytes; [`Iter::fill`] reads many frames with one call.
+/// The frames of a payload, and then one [`InvalidFrame`] if the rest isn't a valid frame. Each PADDING is a frame of
+/// its own, so a run of zeros gives one per byte; [`Iter::fill`] joins them, and reads many frames with one call. An
+/// `Iter` has 40 bytes.
 ///
 /// ```
 /// use quic_wire::frame::{Frame, Iter};
@@ -46,8 +47,8 @@ impl<'a> Iter<'a> {
         Iter::with_rules(payload, Rules::default())
     }
 
-    /// The same, but a type that is not in its shortest encoding is an error (RFC 9000, section 12.4). Other fields may
-    /// have any width.
+    /// As [`Iter::new`], but a type that is not in its shortest encoding is an error (RFC 9000, section 12.4). Other
+    /// fields may have any width.
     ///
     /// ```
     /// use quic_wire::frame::{Frame, Iter, Reason};
@@ -65,7 +66,7 @@ impl<'a> Iter<'a> {
         Iter::with_rules(payload, Rules { short_types: true, ..Rules::default() })
     }
 
-    /// The same, but each frame is checked against `rules`, and the first that breaks one is an error.
+    /// As [`Iter::new`], but each frame is checked against `rules`, and the first that breaks one is an error.
     ///
     /// ```
     /// use quic_wire::frame::{Frame, Iter, Reason, Rules};

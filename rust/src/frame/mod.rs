@@ -30,6 +30,8 @@ pub use ty::{FrameType, NoFrameType};
 pub use crate::ids::{Dir, StreamId};
 pub use crate::WriteError;
 
+use crate::packet::PacketType;
+use crate::sys;
 use crate::text::{Hex, Short};
 use core::fmt;
 
@@ -140,6 +142,60 @@ impl Frame<'_> {
     /// ```
     pub fn is_ack_eliciting(&self) -> bool {
         !matches!(self, Frame::Ack(_) | Frame::Padding | Frame::Close(_))
+    }
+
+    /// Whether a packet that has only such frames counts toward bytes in flight: all frames except ACK (RFC 9000,
+    /// section 12.4, table 3, letter C).
+    ///
+    /// ```
+    /// use quic_wire::frame::Frame;
+    /// assert!(Frame::Padding.is_counted_in_flight());
+    /// ```
+    pub fn is_counted_in_flight(&self) -> bool {
+        self.rules() & sys::RULE_NOT_COUNTED == 0
+    }
+
+    /// Whether a packet that has only such frames probes a path (RFC 9000, section 9.1): PADDING, NEW_CONNECTION_ID,
+    /// PATH_CHALLENGE and PATH_RESPONSE.
+    ///
+    /// ```
+    /// use quic_wire::frame::Frame;
+    /// assert!(Frame::PathChallenge(7).is_probing() && !Frame::Ping.is_probing());
+    /// ```
+    pub fn is_probing(&self) -> bool {
+        self.rules() & sys::RULE_PROBING != 0
+    }
+
+    /// Whether its data counts for flow control: only that of STREAM (RFC 9000, section 12.4, table 3, letter F).
+    ///
+    /// ```
+    /// use quic_wire::frame::{Crypto, Frame};
+    /// assert!(!Frame::Crypto(Crypto { offset: 0, data: b"hi" }).is_flow_controlled());
+    /// ```
+    pub fn is_flow_controlled(&self) -> bool {
+        self.rules() & sys::RULE_FLOW_CONTROLLED != 0
+    }
+
+    /// Whether packets of this type may carry it (RFC 9000, section 12.4, table 3). DATAGRAM, ACK_FREQUENCY and
+    /// IMMEDIATE_ACK may be in 0-RTT and 1-RTT packets (RFC 9221, section 4; as in quinn-proto). A frame in another
+    /// packet is a `PROTOCOL_VIOLATION`, which [`Iter`] doesn't check.
+    ///
+    /// ```
+    /// use quic_wire::frame::{Frame, Iter};
+    /// use quic_wire::packet::PacketType;
+    /// let payload = [0x01, 0x10, 0x05]; // PING and MAX_DATA
+    /// let frames = Iter::new(&payload)?.collect::<Result<Vec<_>, _>>()?;
+    /// assert!(frames.iter().all(|frame| frame.is_permitted_in(PacketType::OneRtt)));
+    /// assert!(!frames.iter().all(|frame| frame.is_permitted_in(PacketType::Handshake)));
+    /// # Ok::<(), quic_wire::Error>(())
+    /// ```
+    pub fn is_permitted_in(&self, packet: PacketType) -> bool {
+        self.rules() & 1 << packet as u32 != 0
+    }
+
+    // The flags of `quic_wire.h`, QUIC_WIRE_RULE_...
+    fn rules(&self) -> u32 {
+        sys::frame_rules(self.kind())
     }
 }
 

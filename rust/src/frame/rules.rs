@@ -1,8 +1,11 @@
 //! What is checked in frames besides their encoding.
 
 /// What is checked in a payload's frames besides their encoding. `Rules::default()` checks nothing more, as quinn-proto
-/// does; [`Rules::RFC`] checks all that RFC 9000 requires of a receiver. The first frame that breaks a rule is an
-/// [`InvalidFrame`](super::InvalidFrame) with its type.
+/// does; [`Rules::RFC`] checks all that RFC 9000 requires of the bytes by themselves. The first frame that breaks a
+/// rule is an [`InvalidFrame`](super::InvalidFrame) with its type.
+///
+/// You check which packets may carry a frame ([`Frame::is_permitted_in`](super::Frame::is_permitted_in)) and which side
+/// may send it, and you reject a DATAGRAM if you didn't offer to receive it.
 ///
 /// ```
 /// use quic_wire::frame::{Iter, Reason, Rules};
@@ -30,7 +33,8 @@ pub struct Rules {
 }
 
 impl Rules {
-    /// All that RFC 9000 requires of a receiver that hasn't negotiated the ACK frequency extension.
+    /// All that RFC 9000 requires of the bytes by themselves, if the ACK frequency extension wasn't negotiated. What
+    /// remains for you to check is at [`Rules`].
     pub const RFC: Rules =
         Rules { short_types: true, data_limit: true, stream_limit: true, tokens: true, no_ack_frequency: true };
 

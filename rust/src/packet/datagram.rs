@@ -60,7 +60,7 @@ pub struct Packets<'a, 'v> {
 impl<'a, 'v> Packets<'a, 'v> {
     /// Begins at the front of a datagram. Ids of short headers have `cid_len` bytes. For versions other than `versions`
     /// only the ids are read. With `grease` the fixed bit may be clear (RFC 9287). Without it, a version negotiation
-    /// whose fixed bit is clear is also rejected, although clients must ignore it there (RFC 9000, section 17.2.1).
+    /// whose fixed bit is clear is also rejected, although clients must ignore that bit (RFC 9000, section 17.2.1).
     ///
     /// ```
     /// use quic_wire::packet::{Packets, DEFAULT_SUPPORTED_VERSIONS};
@@ -154,11 +154,8 @@ impl<'a> PartialDecode<'a> {
     /// assert_eq!((packet.place().range(), packet.place().number()), (0..14, 12));
     /// # Ok::<(), quic_wire::Error>(())
     /// ```
-    ///
-    /// # Panics
-    ///
-    /// If the packet ends at 4 GiB of its datagram or later.
     pub fn place(&self) -> PacketPlace {
+        // It doesn't panic, since only a datagram of less than 4 GiB has packets.
         self.places.place(self.begin)
     }
 

@@ -217,7 +217,7 @@ impl Header<'_> {
         self.encode_with(false, out)
     }
 
-    /// The same, but the fixed bit may be clear (RFC 9287).
+    /// As [`Header::encode`], but the fixed bit may be clear (RFC 9287).
     ///
     /// ```
     /// use quic_wire::packet::{Header, PacketNumber};

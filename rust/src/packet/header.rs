@@ -1,5 +1,5 @@
 //! The header of a packet as offsets in it.
-use super::{HeaderChecks, LongType, PacketPlace, ProtectedHeader};
+use super::{HeaderChecks, LongType, PacketPlace, PacketType, ProtectedHeader};
 use crate::sys;
 use crate::text::Hex32;
 use core::fmt;
@@ -131,13 +131,13 @@ impl fmt::Debug for UnsupportedVersion {
     }
 }
 
-// The kinds of packets, as the library numbers them.
-const INITIAL: u8 = 0;
-const ZERO_RTT: u8 = 1;
-const HANDSHAKE: u8 = 2;
-const RETRY: u8 = 3;
-const ONE_RTT: u8 = 4;
-const VERSION_NEGOTIATION: u8 = 5;
+// The types of packets, as the library numbers them.
+const INITIAL: u8 = PacketType::Initial as u8;
+const ZERO_RTT: u8 = PacketType::ZeroRtt as u8;
+const HANDSHAKE: u8 = PacketType::Handshake as u8;
+const RETRY: u8 = PacketType::Retry as u8;
+const ONE_RTT: u8 = PacketType::OneRtt as u8;
+const VERSION_NEGOTIATION: u8 = PacketType::VersionNegotiation as u8;
 
 impl HeaderPlaces {
     /// Reads the header of the packet at the front of the bytes. Ids of short headers have `cid_len` bytes. For
@@ -168,7 +168,7 @@ impl HeaderPlaces {
         HeaderPlaces::read_with(bytes, cid_len, versions, checks)
     }
 
-    /// The same with these checks.
+    /// As [`HeaderPlaces::read`], but with these checks.
     ///
     /// ```
     /// use quic_wire::packet::{HeaderChecks, HeaderError, HeaderPlaces};
@@ -176,6 +176,37 @@ impl HeaderPlaces {
     /// assert!(HeaderPlaces::read_with(&retry, 0, &[1], HeaderChecks::QUINN).is_ok());
     /// let refused = HeaderPlaces::read_with(&retry, 0, &[1], HeaderChecks::RFC);
     /// assert!(matches!(refused, Err(HeaderError::InvalidHeader("Retry without a token or a tag"))));
+    /// ```
+    ///
+    /// The packets of a datagram, as an inspector shows them:
+    ///
+    /// ```
+    /// use quic_wire::packet::{HeaderChecks, HeaderError, HeaderPlaces};
+    ///
+    /// fn show(datagram: &[u8], cid_len: usize) -> Vec<String> {
+    ///     let (mut shown, mut rest) = (vec![], datagram);
+    ///     while !rest.is_empty() {
+    ///         let begin = datagram.len() - rest.len();
+    ///         let (text, end) = match HeaderPlaces::read_with(rest, cid_len, &[1], HeaderChecks::RFC) {
+    ///             Ok(header) => (format!("{:?} to {:x?}", header.packet_type(), header.dst_cid(rest)), header.end()),
+    ///             // No other packet can be found after these.
+    ///             Err(HeaderError::CutOff(header)) => (format!("{:?}, cut off", header.packet_type()), rest.len()),
+    ///             Err(HeaderError::UnsupportedVersion(packet)) => {
+    ///                 (format!("version {:x} to {:x?}", packet.version(), packet.dst_cid(rest)), rest.len())
+    ///             }
+    ///             Err(HeaderError::InvalidHeader(reason)) => (reason.to_string(), rest.len()),
+    ///         };
+    ///         shown.push(format!("{begin}: {text}"));
+    ///         rest = &rest[end..];
+    ///     }
+    ///     shown
+    /// }
+    ///
+    /// // An Initial with five bytes after its header, and a Handshake packet of which four bytes are missing.
+    /// let datagram = [0xc0, 0, 0, 0, 1, 1, 0xaa, 0, 0, 5, 1, 2, 3, 4, 5, 0xe0, 0, 0, 0, 1, 1, 0xaa, 0, 5, 9];
+    /// assert_eq!(show(&datagram, 0), ["0: Initial to [aa]", "15: Handshake, cut off"]);
+    /// assert_eq!(show(&[0xc0, 0, 0, 0, 9, 1, 0xaa, 0, 7], 0), ["0: version 9 to [aa]"]);
+    /// assert_eq!(show(&[0x00, 0xaa, 7], 1), ["0: fixed bit unset"]);
     /// ```
     ///
     /// # Errors
@@ -256,7 +287,7 @@ impl HeaderPlaces {
             sys::PACKET_CID => "malformed cid",
             sys::PACKET_TOKEN => "token out of bounds",
             // Offsets have 32 bits.
-            _ => "packet of 4 GiB or more",
+            _ => "datagram of 4 GiB or more",
         })
     }
 
@@ -287,6 +318,26 @@ impl HeaderPlaces {
     #[inline]
     pub fn fixed_bit(&self) -> bool {
         self.0.first & 0x40 != 0
+    }
+
+    /// The packet's type.
+    ///
+    /// ```
+    /// use quic_wire::packet::{HeaderPlaces, PacketType};
+    /// let packet = [0xc0, 0, 0, 0, 1, 1, 0xaa, 1, 0xbb, 1, 0x77, 2, 9, 9];
+    /// assert_eq!(HeaderPlaces::read(&packet, 0, &[1])?.packet_type(), PacketType::Initial);
+    /// # Ok::<(), quic_wire::Error>(())
+    /// ```
+    #[inline]
+    pub fn packet_type(&self) -> PacketType {
+        match self.0.kind {
+            INITIAL => PacketType::Initial,
+            ZERO_RTT => PacketType::ZeroRtt,
+            HANDSHAKE => PacketType::Handshake,
+            RETRY => PacketType::Retry,
+            ONE_RTT => PacketType::OneRtt,
+            _ => PacketType::VersionNegotiation,
+        }
     }
 
     /// Whether it is a short header (RFC 9000, section 17.3).

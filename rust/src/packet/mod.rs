@@ -52,6 +52,34 @@ pub use crate::WriteError;
 pub const DEFAULT_SUPPORTED_VERSIONS: &[u32] =
     &[0x0000_0001, 0xff00_001d, 0xff00_001e, 0xff00_001f, 0xff00_0020, 0xff00_0021, 0xff00_0022, 0x6b33_43cf];
 
+/// The type of a packet (RFC 9000, section 17).
+///
+/// ```
+/// use quic_wire::frame::Frame;
+/// use quic_wire::packet::{HeaderPlaces, PacketType};
+/// let packet = [0xe0, 0, 0, 0, 1, 0, 0, 0];
+/// let ty = HeaderPlaces::read(&packet, 0, &[1])?.packet_type();
+/// assert_eq!(ty, PacketType::Handshake);
+/// assert!(Frame::Ping.is_permitted_in(ty) && !Frame::HandshakeDone.is_permitted_in(ty));
+/// # Ok::<(), quic_wire::Error>(())
+/// ```
+// The numbers are those of `quic_wire.h`, QUIC_WIRE_PACKET_...
+#[derive(Clone, Copy, Debug, PartialEq, Eq, Hash)]
+pub enum PacketType {
+    /// Initial (RFC 9000, section 17.2.2).
+    Initial = 0,
+    /// 0-RTT (RFC 9000, section 17.2.3).
+    ZeroRtt = 1,
+    /// Handshake (RFC 9000, section 17.2.4).
+    Handshake = 2,
+    /// Retry (RFC 9000, section 17.2.5), which has no frames.
+    Retry = 3,
+    /// 1-RTT, which has a short header (RFC 9000, section 17.3.1).
+    OneRtt = 4,
+    /// Version negotiation (RFC 9000, section 17.2.1), which has no frames.
+    VersionNegotiation = 5,
+}
+
 /// The kinds of long headers with a packet number but without a token.
 ///
 /// ```
@@ -74,7 +102,8 @@ pub enum LongType {
 /// ```
 /// use quic_wire::packet::{HeaderPlaces, ProtectedHeader};
 /// let packet = [0x60, 0xaa, 1, 2];
-/// assert_eq!(HeaderPlaces::read(&packet, 1, &[])?.header(&packet), ProtectedHeader::Short { spin: true, dst_cid: &[0xaa] });
+/// let header = HeaderPlaces::read(&packet, 1, &[])?.header(&packet);
+/// assert_eq!(header, ProtectedHeader::Short { spin: true, dst_cid: &[0xaa] });
 /// # Ok::<(), quic_wire::Error>(())
 /// ```
 #[derive(Clone, PartialEq, Eq, Hash)]
@@ -146,6 +175,23 @@ impl<'a> ProtectedHeader<'a> {
             | ProtectedHeader::Retry { dst_cid, .. }
             | ProtectedHeader::Short { dst_cid, .. }
             | ProtectedHeader::VersionNegotiate { dst_cid, .. } => dst_cid,
+        }
+    }
+
+    /// The packet's type.
+    ///
+    /// ```
+    /// use quic_wire::packet::{PacketType, ProtectedHeader};
+    /// assert_eq!(ProtectedHeader::Short { spin: true, dst_cid: &[0xaa] }.packet_type(), PacketType::OneRtt);
+    /// ```
+    pub fn packet_type(&self) -> PacketType {
+        match self {
+            ProtectedHeader::Initial { .. } => PacketType::Initial,
+            ProtectedHeader::Long { ty: LongType::ZeroRtt, .. } => PacketType::ZeroRtt,
+            ProtectedHeader::Long { ty: LongType::Handshake, .. } => PacketType::Handshake,
+            ProtectedHeader::Retry { .. } => PacketType::Retry,
+            ProtectedHeader::Short { .. } => PacketType::OneRtt,
+            ProtectedHeader::VersionNegotiate { .. } => PacketType::VersionNegotiation,
         }
     }
 }

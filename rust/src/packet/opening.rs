@@ -116,8 +116,8 @@ impl<'a> PacketMut<'a> {
         Ok(self.opened(opened))
     }
 
-    /// The same with a cipher that removes its mask itself and doesn't reveal it, like that of `rustls`: see
-    /// [`PacketPlace::unprotect_by`](super::PacketPlace::unprotect_by).
+    /// As [`PacketMut::open_with`], but with a cipher that removes its mask itself and doesn't reveal it, like that of
+    /// `rustls`: see [`PacketPlace::unprotect_by`](super::PacketPlace::unprotect_by).
     ///
     /// ```
     /// use quic_wire::packet::PacketsMut;

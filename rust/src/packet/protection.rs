@@ -208,7 +208,7 @@ impl PacketPlace {
         }
     }
 
-    /// The same with the mask that is made from a sample of `sample_len` bytes.
+    /// As [`PacketPlace::unprotect`], but with the mask that `mask` makes from a sample of `sample_len` bytes.
     ///
     /// ```
     /// use quic_wire::packet::PacketPlace;
@@ -242,9 +242,9 @@ impl PacketPlace {
         Some((behind.get(..sample_len)?, first, header.last_chunk_mut()?))
     }
 
-    /// The same with a cipher that removes its mask itself and doesn't reveal it, like that of `rustls`. It gets the
-    /// sample of `sample_len` bytes, the first byte, and four bytes from the packet number on, of which it changes the
-    /// number's.
+    /// As [`PacketPlace::unprotect`], but with a cipher that removes its mask itself and doesn't reveal it, like that
+    /// of `rustls`. It gets the sample of `sample_len` bytes, the first byte, and four bytes from the packet number on,
+    /// of which it changes the number's.
     ///
     /// ```
     /// use quic_wire::packet::PacketPlace;
@@ -286,8 +286,8 @@ impl PacketPlace {
         self.open(packet, &[0; 5], expected)
     }
 
-    /// The same for a datagram that doesn't change: the unprotected header is written to `places`, with four bytes from
-    /// the packet number on, of which `number_len` are the number's.
+    /// As [`PacketPlace::unprotect`], but the datagram doesn't change: the unprotected header is written to `header`,
+    /// with four bytes from the packet number on, of which [`Opened::number_len`] are the number's.
     ///
     /// ```
     /// use quic_wire::packet::PacketPlace;
@@ -300,7 +300,7 @@ impl PacketPlace {
     ///
     /// # Errors
     ///
-    /// As [`PacketPlace::unprotect`], and if `places` has too little room. Nothing is written then.
+    /// As [`PacketPlace::unprotect`], and if `header` has too little room. Nothing is written then.
     pub fn unprotect_header<B: Buffer + ?Sized>(
         &self,
         datagram: &[u8],
@@ -346,8 +346,8 @@ impl PacketPlace {
         Ok(())
     }
 
-    /// The same with a cipher that applies its mask itself and doesn't reveal it, like that of `rustls`. It gets what
-    /// [`PacketPlace::unprotect_by`] passes.
+    /// As [`PacketPlace::protect`], but with a cipher that applies its mask itself and doesn't reveal it, like that of
+    /// `rustls`. It gets what [`PacketPlace::unprotect_by`] passes.
     ///
     /// ```
     /// use quic_wire::packet::PacketPlace;

@@ -39,6 +39,7 @@ extern "C" {
         out_len: usize,
         written: *mut usize,
     ) -> i32;
+    pub fn quic_wire_frame_rules_(kind: u32) -> u32;
     pub fn quic_wire_frame_header_read_(bytes: *const u8, len: usize, flags: u32, out: *mut Frame) -> i64;
     pub fn quic_wire_canonical_(payload: *const u8, len: usize, dest: *mut u8, room: usize, out: *mut Canon) -> i32;
     pub fn quic_wire_header_read_(
@@ -153,7 +154,6 @@ extern "C" {
 // Those that this crate doesn't use, for `c_alone`.
 #[cfg(test)]
 extern "C" {
-    pub fn quic_wire_frame_rules_(kind: u32) -> u32;
     pub fn quic_wire_param_read_number_(list: *const u8, len: usize, entry: *mut Param, value: *mut u64) -> i64;
     pub fn quic_wire_param_header_write_(
         id: u64,

@@ -1,5 +1,6 @@
-//! The calls that only C needs, and `quic_wire_set_len_`, with random bytes and field values: their results are among
-//! those in `quic_wire.h`, nothing changes except where it says so, and they agree with this crate.
+//! The calls that only C needs, `quic_wire_frame_rules_` and `quic_wire_set_len_`, with random bytes and field values:
+//! their results are among those in `quic_wire.h`, nothing changes except where it says so, and they agree with this
+//! crate.
 extern crate std;
 
 use super::words::Gap;

@@ -73,6 +73,11 @@ pub const PACKET_CUT: i32 = -46;
 pub const PACKET_RETRY: i32 = -47;
 pub const PARAMS_ILLEGAL: i32 = -61;
 
+/// Flags in the result of [`frame_rules`].
+pub const RULE_NOT_COUNTED: u32 = 0x200;
+pub const RULE_PROBING: u32 = 0x400;
+pub const RULE_FLOW_CONTROLLED: u32 = 0x800;
+
 /// Flags of [`params_read`].
 pub const READ_ANY_WIDTH: u32 = 0x080;
 pub const READ_NO_REPEATS: u32 = 0x100;
@@ -166,6 +171,13 @@ pub fn frame_header_read(bytes: &[u8], flags: u32, out: &mut Frame) -> i64 {
     // SAFETY: `bytes` passes its own pointer and length; `out` is borrowed exclusively. The library accesses no other
     // memory and keeps no pointer.
     unsafe { c::quic_wire_frame_header_read_(bytes.as_ptr(), bytes.len(), flags, out) }
+}
+
+/// The rules of RFC 9000, section 12.4, table 3, for a kind of frame: a bit for each type of packets, and `RULE_...`.
+#[inline]
+pub fn frame_rules(kind: u16) -> u32 {
+    // SAFETY: it takes and returns only numbers, and any are valid.
+    unsafe { c::quic_wire_frame_rules_(kind.into()) }
 }
 
 #[inline]

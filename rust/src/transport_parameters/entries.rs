@@ -146,22 +146,22 @@ impl fmt::Debug for Entries<'_> {
 }
 
 impl TransportParameters {
-    /// How many rows the table has in which [`TransportParameters::write_with`] numbers the struct's parameters: those
-    /// of quinn-proto's `TransportParameterId::SUPPORTED`.
+    /// How many numbers the struct's parameters have in the order of [`TransportParameters::write_with`]: 21, the rows
+    /// of quinn-proto's `TransportParameterId::SUPPORTED`. Which number is which parameter needn't concern you.
     pub const ROWS: usize = 21;
 
     /// Writes the list that `side` sends with `further` entries, which the struct has no fields for and which
-    /// [`Entry::write`] wrote one after the other. The struct's parameters are numbered by their rows, whether they are
-    /// written or not, and the further entries from [`TransportParameters::ROWS`] on. `order` has each of these numbers
-    /// once, or is empty; then the further entries follow the others.
+    /// [`Entry::write`] wrote one after the other. With n further entries, `order` is a shuffled `0..ROWS + n`
+    /// ([`TransportParameters::ROWS`]): it also has the numbers of parameters that aren't written. It may be empty;
+    /// then the further entries follow the others.
     ///
     /// ```
     /// use quic_wire::transport_parameters::{entries, Entry, TransportParameters};
     /// use quic_wire::Side;
     /// let sent = TransportParameters { initial_max_data: 9, ..TransportParameters::default() };
-    /// let mut further = vec![];
-    /// Entry { id: 0x11, value: &[0, 0, 0, 1] }.write(&mut further)?;
-    /// Entry::reserved(4, b"?").unwrap().write(&mut further)?;
+    /// let mut further = [0; 10];
+    /// let first = Entry { id: 0x11, value: &[0, 0, 0, 1] }.write(&mut further)?;
+    /// Entry::reserved(4, b"?").unwrap().write(&mut further[first..])?;
     /// // As with `order.shuffle(&mut rng)`.
     /// let order: Vec<u8> = (0..TransportParameters::ROWS as u8 + 2).rev().collect();
     /// let mut list = [0; 64];

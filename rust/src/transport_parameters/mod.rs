@@ -31,7 +31,7 @@ use core::net::{SocketAddrV4, SocketAddrV6};
 pub enum ErrorKind {
     /// A value is out of range, a client sent what only servers send, or the preferred address has no address.
     IllegalValue,
-    /// An entry is cut off, has an invalid value, or is a repeat.
+    /// An entry is cut off, its value has the wrong length or encoding, or it is a repeat.
     Malformed,
 }
 
@@ -57,7 +57,7 @@ impl Error {
         self.kind
     }
 
-    /// The id of the parameter that is rejected; `None` if the list ends within it.
+    /// The id of the parameter that is rejected; `None` if the list ends within the id.
     ///
     /// For an entry that is cut off, invalid or a repeat, it is that entry's. If the parameters as a whole are
     /// rejected, it belongs to the first rule that they break, in the order in which quinn-proto checks them.
@@ -105,7 +105,7 @@ impl core::error::Error for Error {}
 /// ```
 #[derive(Clone, Copy, Debug, Default, PartialEq, Eq, Hash)]
 pub struct ReadOptions {
-    /// Accepts an integer that has a default in any encoding (RFC 9000, section 16), not only in the shortest one.
+    /// Accepts any encoding of the integers that have a default (RFC 9000, section 16), not only the shortest.
     pub any_width: bool,
     /// Rejects each known parameter that occurs twice (RFC 9000, section 7.4), also `grease_quic_bit` and
     /// `min_ack_delay`, whose last value counts otherwise.
@@ -287,7 +287,7 @@ impl TransportParameters {
     ///
     /// # Errors
     ///
-    /// If the peer would reject it, or there is too little room.
+    /// If [`TransportParameters::read`] would reject it at the peer, or there is too little room.
     pub fn write<B: Buffer + ?Sized>(&self, side: Side, out: &mut B) -> Result<usize, WriteError> {
         self.check_scope()?;
         let (words, reader) = (self.words(), !side as u32);

@@ -18,13 +18,12 @@ pub fn of_frame(payload: &[u8], begin: usize, invalid: &InvalidFrame) -> Vec<Fie
         Reason::Malformed => "RFC 9000, section 19.3.1",
         _ => "RFC 9000, section 20.1",
     };
-    let code = quic_wire::Error::from(*invalid).code().unwrap_or(Code::FRAME_ENCODING_ERROR);
     let place = match invalid.reason {
         Reason::InvalidFrameId | Reason::LongType => Some(Place { field: "Frame Type", at: 0 }),
         _ => place(&payload[begin..]),
     };
     let place = place.map(|place| place.fields(begin));
-    [place.as_slice().as_flattened(), &closed(code, section)].concat()
+    [place.as_slice().as_flattened(), &closed(invalid.code(), section)].concat()
 }
 
 // The first field of a frame that is cut off or has an invalid value.

@@ -32,14 +32,16 @@ use quic_params::transport_parameters::{ReadOptions, TransportParameters};
 
 // ---- What bytes are.
 
-/// Every payload has one reading: its frames; or its frames up to an error, with that error's type and reason.
+/// Every payload has one reading: its frames; or its frames up to an error, with the frame type that is reported, if
+/// any, and the reason.
 pub fn every_payload()
     ensures { (strict : Bool) (bytes : List ℕ) → AreBytes bytes → ExactlyOne (IsReadingOf strict bytes) }
 {
     quic_frames::laws::one_reading();
 }
 
-/// Every datagram begins with one packet, or is rejected for one reason.
+/// With given options, whose parser of ids never takes more bytes than there are, every datagram begins with one packet,
+/// or is rejected for one reason.
 pub fn every_datagram()
     ensures { (options : DecodeOptions) (bytes : List ℕ) → AreBytes bytes → TakesWithin options
         → ExactlyOne (CutAnswer options bytes) }
@@ -56,7 +58,8 @@ pub fn every_list()
     quic_params::laws::answer_as_a_function();
 }
 
-/// Every payload without an error has one shortest payload of the same meaning, and no other payload has one.
+/// Every payload with frames and without an error has one shortest payload of the same meaning; no other payload has
+/// one.
 pub fn one_shortest()
     ensures one { (frames : List TypedFrame) (payload : List ℕ) → payload ≢ []
         → IsReadingOf false payload (Complete frames) → ExactlyOne (λ least. IsLeast least payload) }
@@ -81,11 +84,11 @@ pub fn frames_again()
 
 /// A header is read as itself.
 pub fn headers_again()
-    // Those without a packet number, a Retry's and a version negotiation's, whatever follows them.
+    // Headers without a packet number, of Retry and version negotiation, up to the ids; any bytes may follow.
     ensures plain { (options : DecodeOptions) (header : Header) (rest : List ℕ) → IsPlainInRange options header
         → (read : ProtectedHeader) × IsWithoutNumber read header
         × HeaderAt options (length (header_bytes header ++ rest)) (header_bytes header ++ rest) read rest }
-    // The others, in a packet whose header protection is removed, with any number as their length, in any encoding.
+    // The other headers, after header protection is removed, whatever the Length field's value and encoding.
     ensures numbered { (options : DecodeOptions) (header : Header) (count : ℕ) (len payload : List ℕ)
         → IsWritable header → IsReadBack options header [] → Encodes count len
         → let packet = header_with len header ++ payload in (read : ProtectedHeader) × (at : ℕ)
@@ -95,8 +98,8 @@ pub fn headers_again()
     quic_header_decode::laws::written();
 }
 
-/// A packet that was sealed with lawful keys is opened with them to its header, packet number and payload, whatever
-/// follows a long header's, if nothing follows a short header's.
+/// A packet that was sealed with lawful keys is opened with them to its header, packet number and payload. Any bytes may
+/// follow a packet with a long header, none one with a short header.
 pub fn packets_again()
     ensures { (opening : Opening) (bytes : List ℕ) (contents : PacketContents) (rest : List ℕ)
         → IsLawful (opening.keys (space_in contents.header)) → BeginsSealed opening bytes contents rest
@@ -105,8 +108,8 @@ pub fn packets_again()
     quic_packets::laws::sealed_opens();
 }
 
-/// Parameters in range for a side are read by it, in each way of reading, as they were written, except for grease and
-/// the order.
+/// Parameters in range for a side are read by it, in each way of reading, as the record that was written, without its
+/// grease and its order of writing.
 pub fn parameters_again()
     ensures own { (options : ReadOptions) (side : Side) (params : TransportParameters) → IsTypedRecord params
         → IsRecordInRange side params → IsReadAnswer options side (written params) (Ok (plain params)) }
@@ -129,7 +132,7 @@ pub fn lasting()
     ensures error { (strict : Bool) (found : List TypedFrame) (bytes more : List ℕ) (type : Option ℕ) (reason : Fault)
         → AreBytes (bytes ++ more) → reason ≢ UnexpectedEnd → IsReadingOf strict bytes (FailsAfter found type reason)
         → IsReadingOf strict (bytes ++ more) (FailsAfter found type reason) }
-    // So no front of a payload without an error is malformed, or has an invalid frame type or one in a longer encoding.
+    // So if a payload has no error, the only error that a front of it can have is an unexpected end.
     ensures front { (strict : Bool) (found others : List TypedFrame) (bytes more : List ℕ) (type : Option ℕ)
         (reason : Fault) → AreBytes (bytes ++ more) → IsReadingOf strict (bytes ++ more) (Complete found)
         → IsReadingOf strict bytes (FailsAfter others type reason) → reason ≡ UnexpectedEnd }

@@ -1,6 +1,7 @@
-//! What is proved of the wire layer, in one place (RFC 9000, sections 12, 17, 18 and 19). Each law holds for all bytes,
-//! and speaks of bytes and of the grammar in `specs/`. The module `calls` has functions that return what the laws speak
-//! of. Here each `ensures` is a theorem, which the laws in the body prove; `(x : A) × P` says that there is such an x.
+//! What is proved of the wire layer, in one place (RFC 9000, sections 12, 17, 18 and 19). Each `ensures` is a theorem
+//! about all bytes, in terms of the grammar in `specs/`; it follows from the laws of other crates that the body names.
+//! `(x : A) × P` says that there is an x for which P holds. The functions in the module `calls` compute the readings,
+//! packets, records and shortest payloads that exist by these laws.
 ghost use Rattle.std.specs.Prelude.{◌≡◌, ◌≢◌, ◌+◌, ◌++◌, ℕ, List, [], Bool, true, false, drop, length, map, None, Option, Ok};
 ghost use Rattle.quic_base.specs.Number.{AreBytes};
 ghost use Rattle.quic_base.specs.One.{ExactlyOne};
@@ -33,15 +34,15 @@ use quic_params::transport_parameters::{ReadOptions, TransportParameters};
 // ---- What bytes are.
 
 /// Every payload has one reading: its frames; or its frames up to an error, with the frame type that is reported, if
-/// any, and the reason.
+/// any, and the reason. If `strict` is true, a frame type that isn't in its shortest encoding is an error.
 pub fn every_payload()
     ensures { (strict : Bool) (bytes : List ℕ) → AreBytes bytes → ExactlyOne (IsReadingOf strict bytes) }
 {
     quic_frames::laws::one_reading();
 }
 
-/// With given options, whose parser of ids never takes more bytes than there are, every datagram begins with one packet,
-/// or is rejected for one reason.
+/// For given options, every datagram begins with one packet, or is rejected with one error. The options' parser of ids
+/// must never take more bytes than there are (`TakesWithin`).
 pub fn every_datagram()
     ensures { (options : DecodeOptions) (bytes : List ℕ) → AreBytes bytes → TakesWithin options
         → ExactlyOne (CutAnswer options bytes) }
@@ -49,7 +50,8 @@ pub fn every_datagram()
     quic_header_decode::laws::one_answer();
 }
 
-/// Every list of transport parameters has, for a side and a way of reading, one record or one error.
+/// Every list of transport parameters has one record or one error, for the side that reads it and for each way of
+/// reading (`ReadOptions`).
 pub fn every_list()
     ensures { (options : ReadOptions) (side : Side) (bytes : List ℕ) → AreBytes bytes
         → ExactlyOne (IsReadAnswer options side bytes) }
@@ -71,7 +73,8 @@ pub fn one_shortest()
 
 // ---- What is written is read back.
 
-/// The shortest payload of some frames is read as these frames, also if types must be in their shortest encodings.
+/// The shortest payload of some frames is read as these frames, whether or not frame types must be in their shortest
+/// encodings.
 pub fn frames_again()
     ensures { (strict : Bool) (frames : List Meaning) (payload : List ℕ) → frames ≢ [] → IsShortestOf frames payload
         → (found : List TypedFrame) × IsReadingOf strict payload (Complete found)
@@ -82,13 +85,15 @@ pub fn frames_again()
     quic_canon::laws::written_is_least();
 }
 
-/// A header is read as itself.
+/// A header is read as it was written, with ids of at most 20 bytes.
 pub fn headers_again()
-    // Headers without a packet number, of Retry and version negotiation, up to the ids; any bytes may follow.
+    // The headers without a packet number, through the last connection id: a Retry of a known version, and a version
+    // negotiation whose fixed bit the options accept. Any bytes may follow.
     ensures plain { (options : DecodeOptions) (header : Header) (rest : List ℕ) → IsPlainInRange options header
         → (read : ProtectedHeader) × IsWithoutNumber read header
         × HeaderAt options (length (header_bytes header ++ rest)) (header_bytes header ++ rest) read rest }
-    // The other headers, after header protection is removed, whatever the Length field's value and encoding.
+    // The headers with a packet number, after header protection is removed: a long header of a known version, whatever
+    // the Length field's value and encoding, and a short header whose id the options' parser returns.
     ensures numbered { (options : DecodeOptions) (header : Header) (count : ℕ) (len payload : List ℕ)
         → IsWritable header → IsReadBack options header [] → Encodes count len
         → let packet = header_with len header ++ payload in (read : ProtectedHeader) × (at : ℕ)
@@ -98,8 +103,9 @@ pub fn headers_again()
     quic_header_decode::laws::written();
 }
 
-/// A packet that was sealed with lawful keys is opened with them to its header, packet number and payload. Any bytes may
-/// follow a packet with a long header, none one with a short header.
+/// A sealed packet is opened to its header, packet number and payload, if the keys keep the laws of their traits
+/// (`IsLawful`), its version is known and its number is near the expected one (`BeginsSealed`). Any bytes may follow a
+/// packet with a long header; nothing may follow one with a short header.
 pub fn packets_again()
     ensures { (opening : Opening) (bytes : List ℕ) (contents : PacketContents) (rest : List ℕ)
         → IsLawful (opening.keys (space_in contents.header)) → BeginsSealed opening bytes contents rest
@@ -108,8 +114,8 @@ pub fn packets_again()
     quic_packets::laws::sealed_opens();
 }
 
-/// Parameters in range for a side are read by it, in each way of reading, as the record that was written, without its
-/// grease and its order of writing.
+/// Parameters in range for the side that reads them are read, in each way of reading, as the record that was written,
+/// with `grease_transport_parameter` and `write_order` None.
 pub fn parameters_again()
     ensures own { (options : ReadOptions) (side : Side) (params : TransportParameters) → IsTypedRecord params
         → IsRecordInRange side params → IsReadAnswer options side (written params) (Ok (plain params)) }
@@ -123,7 +129,8 @@ pub fn parameters_again()
 
 // ---- What lasts, whatever follows.
 
-/// Appending bytes removes no frame that isn't open, and no error except an unexpected end.
+/// What was read stays when bytes are appended: all frames, if none is open (a STREAM or DATAGRAM without a length);
+/// and an error that isn't an unexpected end, with the frames before it.
 pub fn lasting()
     ensures frames { (strict : Bool) (found : List TypedFrame) (bytes more : List ℕ) (rest : Reading)
         → IsReadingOf strict bytes (Complete found) → AreClosed found
@@ -132,7 +139,7 @@ pub fn lasting()
     ensures error { (strict : Bool) (found : List TypedFrame) (bytes more : List ℕ) (type : Option ℕ) (reason : Fault)
         → AreBytes (bytes ++ more) → reason ≢ UnexpectedEnd → IsReadingOf strict bytes (FailsAfter found type reason)
         → IsReadingOf strict (bytes ++ more) (FailsAfter found type reason) }
-    // So if a payload has no error, the only error that a front of it can have is an unexpected end.
+    // So if a payload has no error, the only error that its first bytes can have is an unexpected end.
     ensures front { (strict : Bool) (found others : List TypedFrame) (bytes more : List ℕ) (type : Option ℕ)
         (reason : Fault) → AreBytes (bytes ++ more) → IsReadingOf strict (bytes ++ more) (Complete found)
         → IsReadingOf strict bytes (FailsAfter others type reason) → reason ≡ UnexpectedEnd }

@@ -689,9 +689,9 @@ QUIC_WIRE_CHECKED extern int quic_wire_check(uint32_t header);
 /**
  * The code with which an endpoint closes the connection after |result|:
  * FRAME_ENCODING_ERROR, PROTOCOL_VIOLATION or TRANSPORT_PARAMETER_ERROR if its
- * peer broke a rule; INTERNAL_ERROR for the caller's mistakes; NO_ERROR, 0, if
- * nothing is closed, that is for results from 0 on, and for packets, which are
- * dropped.
+ * peer broke a rule; INTERNAL_ERROR for the caller's mistakes, -1 to -9;
+ * NO_ERROR, 0, if nothing is closed, that is for results from 0 on, and for
+ * packets, which are dropped.
  */
 QUIC_WIRE_API uint32_t quic_wire_close_code(int result);
 

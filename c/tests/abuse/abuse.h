@@ -44,6 +44,10 @@ extern uint8_t *block(size_t len);
 /* The length of the shortest encoding of a varint. */
 extern size_t varint_len(uint64_t n);
 
+/* results.c: what results mean. */
+extern void results_examples(void);
+extern void results_any(void);
+
 /* frames.c: frames that are read. */
 extern void frames_nulls(void);
 extern void padding_any(void);

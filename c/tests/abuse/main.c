@@ -41,6 +41,7 @@ size_t varint_len(uint64_t n) {
 
 /* What is rejected for NULL, and single examples. */
 static void nulls(void) {
+  results_examples();
   frames_nulls();
   fronts_nulls();
   rules_examples();
@@ -85,6 +86,7 @@ static void rubbish(int rounds) {
     number_bytes_any();
     negotiation_any();
     varint_any();
+    results_any();
     place_any(bytes, len);
     params_any(bytes, len);
     set_rubbish();

@@ -5,8 +5,8 @@ use Rattle.quic_header_decode.specs.Reading.{DecodeOptions}
 use Rattle.quic_header_encode.specs.declared.header.Header.{Header}
 use Rattle.quic_header_encode.specs.declared.header.Header.TheVariants as header
 
--- A Retry has a known version. In a version negotiation's first byte the bits below the highest are free, except for
--- the fixed bit.
+-- Ids have at most 20 bytes. A Retry has a known version. In a version negotiation the seven low bits of the first byte
+-- are free, except for the fixed bit.
 abbrev pub IsPlainInRange : DecodeOptions → Header → Type 0
 IsPlainInRange options (header.Retry dst src version) =
     (version < 2 ^ 32) × IsKnownVersion options version × (length dst ≤ 20) × (length src ≤ 20)

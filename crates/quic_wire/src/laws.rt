@@ -1,7 +1,7 @@
 //! What is proved of the wire layer, in one place (RFC 9000, sections 12, 17, 18 and 19). Each `ensures` is a theorem
-//! about all bytes, in terms of the grammar in `specs/`; it follows from the laws of other crates that the body names.
-//! `(x : A) × P` says that there is an x for which P holds. The functions in the module `calls` compute the readings,
-//! packets, records and shortest payloads that exist by these laws.
+//! about all bytes, in terms of the grammar in `crates/*/specs/`; it follows from the laws of other crates that the
+//! body names. `(x : A) × P` says that there is an x for which P holds. The functions in the module `calls` compute the
+//! readings, packets, records and shortest payloads that exist by these laws.
 ghost use Rattle.std.specs.Prelude.{◌≡◌, ◌≢◌, ◌+◌, ◌++◌, ℕ, List, [], Bool, true, false, drop, length, map, None, Option, Ok};
 ghost use Rattle.quic_base.specs.Number.{AreBytes};
 ghost use Rattle.quic_base.specs.One.{ExactlyOne};
@@ -33,16 +33,18 @@ use quic_params::transport_parameters::{ReadOptions, TransportParameters};
 
 // ---- What bytes are.
 
-/// Every payload has one reading: its frames; or its frames up to an error, with the frame type that is reported, if
-/// any, and the reason. If `strict` is true, a frame type that isn't in its shortest encoding is an error.
+/// Every payload, also the empty one, has one reading: its frames; or its frames up to an error, with the frame type
+/// that is reported, if any, and the reason. If `strict` is true, a frame type that isn't in its shortest encoding is
+/// an error. Limits of values, such as the number of streams, aren't part of it
+/// (`quic_frames::laws::checked_readings`).
 pub fn every_payload()
     ensures { (strict : Bool) (bytes : List ℕ) → AreBytes bytes → ExactlyOne (IsReadingOf strict bytes) }
 {
     quic_frames::laws::one_reading();
 }
 
-/// For given options, every datagram begins with one packet, or is rejected with one error. The options' parser of ids
-/// must never take more bytes than there are (`TakesWithin`).
+/// For given options, every datagram has one first packet, or one error. The options' parser of ids must never take
+/// more bytes than there are (`TakesWithin`).
 pub fn every_datagram()
     ensures { (options : DecodeOptions) (bytes : List ℕ) → AreBytes bytes → TakesWithin options
         → ExactlyOne (CutAnswer options bytes) }
@@ -60,8 +62,8 @@ pub fn every_list()
     quic_params::laws::answer_as_a_function();
 }
 
-/// Every payload with frames and without an error has one shortest payload of the same meaning; no other payload has
-/// one.
+/// Every payload with frames and without an error, its types in any encoding, has one shortest payload of the same
+/// meaning; no other payload has one.
 pub fn one_shortest()
     ensures one { (frames : List TypedFrame) (payload : List ℕ) → payload ≢ []
         → IsReadingOf false payload (Complete frames) → ExactlyOne (λ least. IsLeast least payload) }
@@ -85,15 +87,16 @@ pub fn frames_again()
     quic_canon::laws::written_is_least();
 }
 
-/// A header is read as it was written, with ids of at most 20 bytes.
+/// A header whose ids have at most 20 bytes is read as it was written.
 pub fn headers_again()
-    // The headers without a packet number, through the last connection id: a Retry of a known version, and a version
-    // negotiation whose fixed bit the options accept. Any bytes may follow.
+    // Headers without a packet number, which here end with the last connection id: a Retry of a known version, and a
+    // version negotiation whose fixed bit the options accept. Any bytes may follow.
     ensures plain { (options : DecodeOptions) (header : Header) (rest : List ℕ) → IsPlainInRange options header
         → (read : ProtectedHeader) × IsWithoutNumber read header
         × HeaderAt options (length (header_bytes header ++ rest)) (header_bytes header ++ rest) read rest }
-    // The headers with a packet number, after header protection is removed: a long header of a known version, whatever
-    // the Length field's value and encoding, and a short header whose id the options' parser returns.
+    // Headers that can be written with a packet number, in a packet without header protection: a long header of a known
+    // version, whatever the Length field's value and encoding; and a short header whose id the options' parser returns,
+    // whatever follows the id.
     ensures numbered { (options : DecodeOptions) (header : Header) (count : ℕ) (len payload : List ℕ)
         → IsWritable header → IsReadBack options header [] → Encodes count len
         → let packet = header_with len header ++ payload in (read : ProtectedHeader) × (at : ℕ)
@@ -103,9 +106,9 @@ pub fn headers_again()
     quic_header_decode::laws::written();
 }
 
-/// A sealed packet is opened to its header, packet number and payload, if the keys keep the laws of their traits
-/// (`IsLawful`), its version is known and its number is near the expected one (`BeginsSealed`). Any bytes may follow a
-/// packet with a long header; nothing may follow one with a short header.
+/// A packet that is sealed as this library seals (`Sealed`) is opened to its header, packet number and payload, if the
+/// keys undo what they did (`IsLawful`), its header is read as in `headers_again`, and its number is near the expected
+/// one (`BeginsSealed`). Any bytes may follow a packet with a long header; nothing may follow one with a short header.
 pub fn packets_again()
     ensures { (opening : Opening) (bytes : List ℕ) (contents : PacketContents) (rest : List ℕ)
         → IsLawful (opening.keys (space_in contents.header)) → BeginsSealed opening bytes contents rest
@@ -129,8 +132,8 @@ pub fn parameters_again()
 
 // ---- What lasts, whatever follows.
 
-/// What was read stays when bytes are appended: all frames, if none is open (a STREAM or DATAGRAM without a length);
-/// and an error that isn't an unexpected end, with the frames before it.
+/// What was read stays when bytes are appended: all frames, and then what these bytes are read as, if no frame is open
+/// (a STREAM or DATAGRAM without a length); and an error that isn't an unexpected end, with the frames before it.
 pub fn lasting()
     ensures frames { (strict : Bool) (found : List TypedFrame) (bytes more : List ℕ) (rest : Reading)
         → IsReadingOf strict bytes (Complete found) → AreClosed found

@@ -174,12 +174,13 @@ fn read_other(payload: &[u8], flags: u32, out: &mut CFrame, gaps: &mut [CGap]) -
     read_front::<1, false>(payload, rules, out, gaps)
 }
 
-/// Reads the frame at the front of the rest of a payload (RFC 9000, section 19), by the rules of these flags. It returns
-/// where the frame ends, with its words, whose places count from this front; a run of PADDING, each byte of which is a
-/// frame, is one. The ranges of an ACK below the first are filled into `gaps` as gap and length, as many as there is room
-/// for; the offset of data is how many were filled, and `flags` has 4 if there are more. It returns `PayloadEmpty` exactly
-/// if nothing is left; the reason, with the type in `out`, if the bytes don't begin with a valid frame or begin with one
-/// that breaks a rule. `out` doesn't change with `PayloadEmpty`, and `gaps` changes only for an ACK.
+/// Reads the frame at the front of the rest of a payload (RFC 9000, section 19), by the rules of these flags. It
+/// returns where the frame ends, with its words, whose places count from this front; a run of PADDING, each byte of
+/// which is a frame, is one. The ranges of an ACK below the first are filled into `gaps` as gap and length, as many as
+/// there is room for; the offset of data is how many were filled, and `flags` has 4 if there are more. It returns
+/// `PayloadEmpty` exactly if nothing is left; the reason, with the type in `out`, if the bytes don't begin with a valid
+/// frame or begin with one that breaks a rule. `out` doesn't change with `PayloadEmpty`, and `gaps` changes only for an
+/// ACK.
 #[unsafe(no_mangle)]
 pub extern "C" fn quic_wire_frame_read_(
     payload: &[u8],

@@ -17,7 +17,7 @@ pub struct CHeader {
     pub dst_len: u8,
     /// How many bytes the sender's id has, likewise.
     pub src_len: u8,
-    /// The version of QUIC.
+    /// The version (RFC 9000, section 15).
     pub version: u32,
     /// The offset at which the header ends, or at which the packet number begins if there is one.
     pub header_end: u32,
@@ -45,7 +45,7 @@ pub struct HeaderFields {
     pub number_len: u8,
     /// How many bytes the length has, 1, 2, 4 or 8; for Initial, 0-RTT and Handshake.
     pub length_len: u8,
-    /// The version of QUIC.
+    /// The version (RFC 9000, section 15).
     pub version: u32,
     /// The packet number, below 2^62.
     pub number: u64,

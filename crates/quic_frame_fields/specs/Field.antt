@@ -23,7 +23,8 @@ pub data Field : Type 0 where
   Uint64 : Field
   -- sixteen bytes
   Bytes16 : Field
-  -- the ranges of an ACK whose greatest number is the first number before: their count minus one, and their blocks
+  -- an ACK's count of further ranges, the first range, and for each further one its gap and its length (section 19.3);
+  -- the first value before is the greatest number
   Blocks : Field
   -- all that is left
   Rest : Field
@@ -41,7 +42,7 @@ abbrev pub is_ordered : List Value → Bool
 is_ordered (Number first ∷ Number second ∷ []) = nat_le second first
 is_ordered _ = false
 
--- the number that an ACK's ranges begin at
+-- Largest Acknowledged, the first of an ACK's values
 abbrev pub greatest_of : List Value → ℕ
 greatest_of (Number greatest ∷ values) = greatest
 greatest_of _ = 0
@@ -54,7 +55,7 @@ AreBelow low (range ∷ ranges) bytes =
     (gap block others : List ℕ) × (bytes ≡ gap ++ (block ++ others)) × (range.0 ≤ range.1) × (range.1 + 2 ≤ low)
     × Encodes (low - (range.1 + 2)) gap × Encodes (range.1 - range.0) block × AreBelow range.0 ranges others
 
--- the same, for the range that the greatest number ends and ranges below it
+-- Bytes that encode ranges, of which the first ends at the greatest number: its length, then the ranges below it.
 abbrev pub AreBlocks : ℕ → List (ℕ × ℕ) → List ℕ → Type 0
 AreBlocks greatest [] bytes = ⊥
 AreBlocks greatest (range ∷ ranges) bytes =
@@ -92,7 +93,8 @@ NoNumber bytes = (n : ℕ) → NoFront (Encodes n) bytes
 abbrev pub Begins : List ℕ → (ℕ → List ℕ → Type 0) → Type 0
 Begins bytes P = (n : ℕ) × (front back : List ℕ) × (bytes ≡ front ++ back) × Encodes n front × P n back
 
--- A number can't be read: it is cut off, or it would make a bound negative, or what comes after it can't be read.
+-- Why reading stops at a number or after it: the number is cut off; or it is so large that a range would begin below 0;
+-- or it is read, and reading stops at what follows.
 abbrev pub NumberStops : List ℕ → Fault → (ℕ → Bool) → (ℕ → List ℕ → Type 0) → Type 0
 NumberStops bytes reason is_large After =
     (NoNumber bytes × (reason ≡ UnexpectedEnd))
@@ -133,7 +135,8 @@ pub record Stops (field : Field) (before : List Value) (bytes : List ℕ) (reaso
       → ⊥
   pub why : IsReason field before bytes reason
 
--- The bytes encode fields of these kinds, one after the other, by which the values grow from before to after.
+-- The bytes encode fields of these kinds, one after the other. Before are the values of the fields in front of them,
+-- after the same values and theirs.
 abbrev pub AreFields : List Field → List Value → List Value → List ℕ → Type 0
 AreFields [] before after bytes = (after ≡ before) × (bytes ≡ [])
 AreFields (field ∷ fields) before after bytes =

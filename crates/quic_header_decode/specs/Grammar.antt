@@ -80,7 +80,7 @@ IsHeaderField options Length before values bytes rest = IsVarint values bytes
 IsHeaderField options ShortId before values bytes rest =
     (id : List ℕ) × (values ≡ Bytes id ∷ []) × (options.parsed (bytes ++ rest) ≡ Ok (id, length bytes))
 
--- The error if the bytes don't begin with such a field.
+-- The error if the bytes don't begin with such a field. A version is looked up after both ids were read.
 abbrev pub refusal_at : HeaderField → List HeaderValue → Refusal
 refusal_at DestinationId before = Invalid (codes "malformed cid")
 refusal_at SourceId before = Invalid (codes "malformed cid")

@@ -6,7 +6,8 @@ ghost use Rattle.quic_base.specs.Codec.{NoFront};
 ghost use Rattle.quic_base.specs.Number.{IsNumber, IsOctets};
 ghost use Rattle.std.specs.Net.Addr.{ipv4_octets, ipv6_octets};
 ghost use Rattle.quic_params.specs.Record.{IsOfKind, Sets};
-ghost use Rattle.quic_params.specs.State.{FitsKind, PutsParameter};
+ghost use Rattle.quic_params.specs.Options.{kind_in};
+ghost use Rattle.quic_params.specs.State.{PutsParameter};
 ghost use Rattle.quic_params.specs.Table.{row_of};
 ghost use Rattle.quic_params.specs.Value.{IsAddressAnswer, IsNoValue};
 
@@ -39,14 +40,16 @@ pub fn value_number(bytes: &[u8]) -> Option<VarInt>
     }
 }
 
-// The number of which the bytes are the shortest encoding.
-fn integer(bytes: &[u8]) -> Option<VarInt>
-    ensures { MatchOption result ((n : ℕ) → n < 2 ^ 62 → bytes.now ≢ shortest_varint n)
-        (λ n. (n < 2 ^ 62) × (bytes.now ≡ shortest_varint n)) }
+// The number that the bytes encode, in any width or in the least.
+fn integer(any_width: bool, bytes: &[u8]) -> Option<VarInt>
+    ensures any { any_width ≡ true → MatchOption result ((n : ℕ) → ¬ (Encodes n bytes.now)) (λ n. Encodes n bytes.now) }
+    ensures shortest { any_width ≡ false → MatchOption result ((n : ℕ) → n < 2 ^ 62 → bytes.now ≢ shortest_varint n)
+        (λ n. bytes.now ≡ shortest_varint n) }
+    ensures bound { MatchOption result (Unit {0}) (λ n. n < 2 ^ 62) }
 {
     encodings();
     let n = value_number(bytes)?;
-    if n.size() == bytes.len() {
+    if any_width || n.size() == bytes.len() {
         Some(n)
     } else {
         None
@@ -60,15 +63,16 @@ impl TransportParameters {
         &mut self,
         id: TransportParameterId,
         kind: Kind,
+        any_width: bool,
         bytes: &[u8],
     ) -> Result<(), Error>
-        requires { FitsKind kind (row_of id).kind }
-        ensures ok { OnOk result (PutsParameter id kind bytes.now self.old self.new) }
-        ensures err { IfErr result (λ e. IsNoValue kind bytes.now e) }
+        requires { kind ≡ (row_of id).kind }
+        ensures ok { OnOk result (PutsParameter id (kind_in any_width kind) bytes.now self.old self.new) }
+        ensures err { IfErr result (λ e. IsNoValue (kind_in any_width kind) bytes.now e) }
     {
         match kind {
             Kind::Integer(_) => {
-                let Some(n) = integer(bytes) else {
+                let Some(n) = integer(any_width, bytes) else {
                     return Err(Error::Malformed);
                 };
                 self.set_number(id, n);

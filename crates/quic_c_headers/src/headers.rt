@@ -9,7 +9,9 @@ ghost use Rattle.quic_c_headers.specs.Headers.{word_of};
 ghost use Rattle.quic_c_headers.specs.Reading.{header_words, is_partial, outcome_of, token_in, IsOfVersion, IsReceiverAt, LacksFixedBit, Reported};
 ghost use Rattle.quic_results.specs.Results.{failed, returned};
 
-use crate::words::CHeader;
+use crate::words::{
+    CHeader, HANDSHAKE, INITIAL, RETRY, SHORT, UNKNOWN_VERSION, VERSION_NEGOTIATION, ZERO_RTT,
+};
 use quic_base::coding::are_bytes;
 use quic_header_decode::laws::{one_reading, places_cut};
 use quic_header_decode::places::{
@@ -24,12 +26,12 @@ fn kind_word(kind: HeaderKind) -> u8
     ensures { result ≡ word_of (row kind) }
 {
     match kind {
-        HeaderKind::Initial => 0,
-        HeaderKind::ZeroRtt => 1,
-        HeaderKind::Handshake => 2,
-        HeaderKind::Retry => 3,
-        HeaderKind::Short => 4,
-        HeaderKind::VersionNegotiate => 5,
+        HeaderKind::Initial => INITIAL,
+        HeaderKind::ZeroRtt => ZERO_RTT,
+        HeaderKind::Handshake => HANDSHAKE,
+        HeaderKind::Retry => RETRY,
+        HeaderKind::Short => SHORT,
+        HeaderKind::VersionNegotiate => VERSION_NEGOTIATION,
     }
 }
 
@@ -40,7 +42,7 @@ fn is_partial(flags: u32, places: &HeaderPlaces, whole: usize) -> bool
     requires small { whole < 2 ^ 32 }
     ensures { result ≡ is_partial flags places.now whole }
 {
-    kind_word(places.kind) == 3 && flags / 0x40 % 2 == 1 && whole < places.header_end + 17
+    kind_word(places.kind) == RETRY && flags / 0x40 % 2 == 1 && whole < places.header_end + 17
 }
 
 // The token of an Initial or a Retry packet.
@@ -52,7 +54,7 @@ fn token_in(places: &HeaderPlaces, whole: usize) -> Place
     ensures ordered { result.start ≤ result.end }
     ensures within { result.end ≤ whole }
 {
-    if kind_word(places.kind) == 3 && places.header_end + 16 <= whole {
+    if kind_word(places.kind) == RETRY && places.header_end + 16 <= whole {
         return Place {
             start: places.header_end,
             end: whole - 16,
@@ -125,7 +127,7 @@ fn show(
             },
         ) => {
             *head = CHeader {
-                kind: 6,
+                kind: UNKNOWN_VERSION,
                 first: packet[0],
                 dst_len: dst_len as u8,
                 src_len: src_len as u8,

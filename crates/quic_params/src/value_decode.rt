@@ -40,16 +40,14 @@ pub fn value_number(bytes: &[u8]) -> Option<VarInt>
     }
 }
 
-// The number that the bytes encode, in any width or in the least.
-fn integer(any_width: bool, bytes: &[u8]) -> Option<VarInt>
-    ensures any { any_width ≡ true → MatchOption result ((n : ℕ) → ¬ (Encodes n bytes.now)) (λ n. Encodes n bytes.now) }
-    ensures shortest { any_width ≡ false → MatchOption result ((n : ℕ) → n < 2 ^ 62 → bytes.now ≢ shortest_varint n)
-        (λ n. bytes.now ≡ shortest_varint n) }
-    ensures bound { MatchOption result (Unit {0}) (λ n. n < 2 ^ 62) }
+// The number of which the bytes are the shortest encoding.
+fn integer(bytes: &[u8]) -> Option<VarInt>
+    ensures { MatchOption result ((n : ℕ) → n < 2 ^ 62 → bytes.now ≢ shortest_varint n)
+        (λ n. (n < 2 ^ 62) × (bytes.now ≡ shortest_varint n)) }
 {
     encodings();
     let n = value_number(bytes)?;
-    if any_width || n.size() == bytes.len() {
+    if n.size() == bytes.len() {
         Some(n)
     } else {
         None
@@ -71,13 +69,13 @@ impl TransportParameters {
         ensures err { IfErr result (λ e. IsNoValue (kind_in any_width kind) bytes.now e) }
     {
         match kind {
-            Kind::Integer(_) => {
-                let Some(n) = integer(any_width, bytes) else {
+            Kind::Integer(_) if !any_width => {
+                let Some(n) = integer(bytes) else {
                     return Err(Error::Malformed);
                 };
                 self.set_number(id, n);
             }
-            Kind::Varint => {
+            Kind::Integer(_) | Kind::Varint => {
                 let Some(n) = value_number(bytes) else {
                     return Err(Error::Malformed);
                 };

@@ -47,7 +47,7 @@ abbrev pub greatest_of : List Value → ℕ
 greatest_of (Number greatest ∷ values) = greatest
 greatest_of _ = 0
 
--- Bytes that encode ranges below a range with the least number low: for each, how many numbers are between it and the
+-- Bytes that encode ranges below a range whose least number is low: for each, how many numbers are between it and the
 -- range above, minus one, and how many numbers it has, minus one (RFC 9000, section 19.3.1).
 abbrev pub AreBelow : ℕ → List (ℕ × ℕ) → List ℕ → Type 0
 AreBelow low [] bytes = bytes ≡ []
@@ -68,7 +68,7 @@ AreApart [] = ⊤
 AreApart (range ∷ []) = range.0 ≤ range.1
 AreApart (range ∷ below ∷ ranges) = (range.0 ≤ range.1) × (below.1 + 2 ≤ range.0) × AreApart (below ∷ ranges)
 
--- After fields with the values before, the bytes encode a field of this kind with these values.
+-- The bytes encode a field of this kind with these values, after fields with the values in before.
 abbrev pub IsField : Field → List Value → List Value → List ℕ → Type 0
 IsField Varint before values bytes = (n : ℕ) × (values ≡ Number n ∷ []) × Encodes n bytes
 IsField Counted before values bytes = (front back : List ℕ) × (values ≡ Bytes back ∷ []) × Encodes (length back) front
@@ -129,7 +129,7 @@ abbrev pub IsReason : Field → List Value → List ℕ → Fault → Type 0
 IsReason Blocks before bytes reason = BlocksStop (greatest_of before) bytes reason
 IsReason field before bytes reason = reason ≡ reason_of field bytes
 
--- No prefix of the bytes encodes such a field.
+-- No prefix of the bytes encodes such a field, and why.
 pub record Stops (field : Field) (before : List Value) (bytes : List ℕ) (reason : Fault) : Type 0 where
   pub no_front : (values : List Value) (front back : List ℕ) → bytes ≡ front ++ back → IsField field before values front
       → ⊥

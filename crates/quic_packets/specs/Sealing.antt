@@ -40,8 +40,8 @@ plain_packet keys packet =
 
 -- The bytes are a packet with these contents, sealed with these keys: the header can be written, and its number is the
 -- low part of the packet's, which is below 2^62; from the number on there are at least four bytes and the sample, and
--- fewer than 2^14 if the header has a length; the bytes are the header with its length, then protected, and the sealed
--- payload.
+-- fewer than 2^14 if the header has a length; the bytes are the header with its length and the sealed payload, with the
+-- header then protected.
 pub record Sealed (keys : KeyPair) (packet : PacketContents) (bytes : List ℕ) : Type 0 where
   pub writable : IsWritable packet.header
   pub low : IsLowPart packet.header packet.number

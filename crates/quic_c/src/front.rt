@@ -148,8 +148,8 @@ fn read_front<const COPY: usize, const CHECKED: bool>(
     }
 }
 
-// A frame where frames are checked, by a copy for STREAM, one for ACK, which can only break the rule of short types, and
-// one for the others.
+// A frame where frames are checked, by a copy for STREAM, one for ACK, which can break only the rule of short types,
+// and one for the others.
 #[inline(never)]
 fn read_checked(payload: &[u8], flags: u32, out: &mut CFrame, gaps: &mut [CGap]) -> i64
     ensures { AnswersRead (rules_in flags) payload.now out.old gaps.old result out.new gaps.new }

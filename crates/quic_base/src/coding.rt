@@ -122,7 +122,7 @@ pub fn store_array<const N: usize>(bytes: &mut [u8], at: usize, array: [u8; N]) 
     at + N
 }
 
-/// One byte.
+/// A byte is encoded as itself.
 impl Codec for u8 {
     ghost encoded = { IsNumber 1 };
 

@@ -7,7 +7,7 @@ use Rattle.quic_header_encode.specs.Writing.{IsWritable}
 use Rattle.quic_packets.specs.declared.opening.OpenError.TheVariants as error
 use Rattle.quic_packets.specs.declared.opening.Opened.{Opened}
 use Rattle.quic_packets.specs.declared.seal.SealError.{SealError}
-use Rattle.quic_packets.specs.Opening.{ExpandsIn, IsReadBack, Opening}
+use Rattle.quic_packets.specs.Opening.{ExpandsIn, IsReadable, Opening}
 use Rattle.quic_packets.specs.Pairs.{KeyPair}
 use Rattle.quic_frames.specs.Written.{IsPayload}
 use Rattle.quic_packets.specs.Sealing.{IsLowPart, SealedFrames, SealRefused, payload_of}
@@ -27,7 +27,7 @@ pub record CanBeSealed (packet : Outgoing) : Type 0 where
 -- A packet that is found again if these bytes follow it: its header is read back, and its number is found by the one
 -- that is expected in its space.
 pub record IsFoundAgain (opening : Opening) (packet : Outgoing) (rest : List ℕ) : Type 0 where
-  pub head : IsReadBack opening.options packet.header.now rest
+  pub head : IsReadable opening.options packet.header.now rest
   pub number : ExpandsIn packet.header.now (opening.expected (space_in packet.header.now)) packet.number
 
 -- bytes are two sealed packets, one after the other

@@ -116,7 +116,7 @@ gaps_go_on least ranges before left after count gap len behind rest s room some 
       kept = drop-set-lt (count + 1) after count entry (omega arith) ∙ drop_more_same after before count s.kept;
     }
 
--- nothing is left just where no range is
+-- nothing is left exactly if no range is
 none_left : (low : ℕ) (others : List (ℕ × ℕ)) (left : List ℕ) → AreBelow low others left → length left ≡ 0
     → length others ≡ 0
 none_left low [] left s none = refl

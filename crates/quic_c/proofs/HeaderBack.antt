@@ -124,144 +124,58 @@ OfStream fin last id offset len behind = IsOf 0x08 (if fin then 1 else 0) (two_n
 is_zero : (n : ℕ) → eqb n 0 ≡ true → n ≡ 0
 is_zero n e = grind (arith, nat_tests)
 
+-- The header of a type, which has the bits that these words ask for.
+stream_of : (type : ℕ) (fin last : Bool) (id offset len read : ℕ) (behind : List ℕ)
+    → data_header_by 0x08 (if fin then 1 else 0) (two_numbers id offset) len last
+    ≡ shortest_varint type ++ shortest_varints (header_numbers type id offset read)
+    → type < 16 → header_kind type ≡ 0x08 → is_stream type ≡ true → AreNumeric (header_numbers type id offset read)
+    → (has_offset type ≡ false → offset ≡ 0) → (has_length type ≡ false → read ≡ length behind)
+    → (if has_fin type then 1 else 0) ≡ (if fin then 1 else 0)
+    → read ≡ (if not last then len else length behind) → OfStream fin last id offset len behind
+stream_of type fin last id offset len read behind shortest small kind is numeric no_offset no_length flags count = record {
+  header = header_of type id offset read;
+  written = record {
+    shortest = shortest;
+    typed = omega (arith, small);
+    numeric = numeric;
+    kind = inr (inl kind);
+    no_id = λ f. true_not_false (sym is ∙ f);
+    no_offset = no_offset;
+    no_length = no_length;
+  };
+  kind_is = kind;
+  flags_are = flags;
+  id_is = refl;
+  offset_is = refl;
+  len_is = count;
+}
+
 stream : (no_offset fin last : Bool) (id offset len : ℕ) (behind : List ℕ) → eqb offset 0 ≡ no_offset → id < 2 ^ 62
     → offset < 2 ^ 62 → (last ≡ false → len < 2 ^ 62) → OfStream fin last id offset len behind
-stream true true true id offset len behind e i o l = record {
-  header = header_of 0x09 id offset (length behind);
-  written = record {
-    shortest = rw e (simp append-nil);
-    typed = omega arith;
-    numeric = (i, tt);
-    kind = inr (inl refl);
-    no_id = λ f. true_not_false f;
-    no_offset = λ f. is_zero offset e;
-    no_length = λ f. refl;
-  };
-  kind_is = refl;
-  flags_are = refl;
-  id_is = refl;
-  offset_is = refl;
-  len_is = refl;
-}
-stream true true false id offset len behind e i o l = record {
-  header = header_of 0x0b id offset len;
-  written = record {
-    shortest = rw e (simp append-nil);
-    typed = omega arith;
-    numeric = (i, (l refl, tt));
-    kind = inr (inl refl);
-    no_id = λ f. true_not_false f;
-    no_offset = λ f. is_zero offset e;
-    no_length = λ f. true_not_false f;
-  };
-  kind_is = refl;
-  flags_are = refl;
-  id_is = refl;
-  offset_is = refl;
-  len_is = refl;
-}
-stream true false true id offset len behind e i o l = record {
-  header = header_of 0x08 id offset (length behind);
-  written = record {
-    shortest = rw e (simp append-nil);
-    typed = omega arith;
-    numeric = (i, tt);
-    kind = inr (inl refl);
-    no_id = λ f. true_not_false f;
-    no_offset = λ f. is_zero offset e;
-    no_length = λ f. refl;
-  };
-  kind_is = refl;
-  flags_are = refl;
-  id_is = refl;
-  offset_is = refl;
-  len_is = refl;
-}
-stream true false false id offset len behind e i o l = record {
-  header = header_of 0x0a id offset len;
-  written = record {
-    shortest = rw e (simp append-nil);
-    typed = omega arith;
-    numeric = (i, (l refl, tt));
-    kind = inr (inl refl);
-    no_id = λ f. true_not_false f;
-    no_offset = λ f. is_zero offset e;
-    no_length = λ f. true_not_false f;
-  };
-  kind_is = refl;
-  flags_are = refl;
-  id_is = refl;
-  offset_is = refl;
-  len_is = refl;
-}
-stream false true true id offset len behind e i o l = record {
-  header = header_of 0x0d id offset (length behind);
-  written = record {
-    shortest = rw e (simp append-nil);
-    typed = omega arith;
-    numeric = (i, (o, tt));
-    kind = inr (inl refl);
-    no_id = λ f. true_not_false f;
-    no_offset = λ f. true_not_false f;
-    no_length = λ f. refl;
-  };
-  kind_is = refl;
-  flags_are = refl;
-  id_is = refl;
-  offset_is = refl;
-  len_is = refl;
-}
-stream false true false id offset len behind e i o l = record {
-  header = header_of 0x0f id offset len;
-  written = record {
-    shortest = rw e (simp append-nil);
-    typed = omega arith;
-    numeric = (i, (o, (l refl, tt)));
-    kind = inr (inl refl);
-    no_id = λ f. true_not_false f;
-    no_offset = λ f. true_not_false f;
-    no_length = λ f. true_not_false f;
-  };
-  kind_is = refl;
-  flags_are = refl;
-  id_is = refl;
-  offset_is = refl;
-  len_is = refl;
-}
-stream false false true id offset len behind e i o l = record {
-  header = header_of 0x0c id offset (length behind);
-  written = record {
-    shortest = rw e (simp append-nil);
-    typed = omega arith;
-    numeric = (i, (o, tt));
-    kind = inr (inl refl);
-    no_id = λ f. true_not_false f;
-    no_offset = λ f. true_not_false f;
-    no_length = λ f. refl;
-  };
-  kind_is = refl;
-  flags_are = refl;
-  id_is = refl;
-  offset_is = refl;
-  len_is = refl;
-}
-stream false false false id offset len behind e i o l = record {
-  header = header_of 0x0e id offset len;
-  written = record {
-    shortest = rw e (simp append-nil);
-    typed = omega arith;
-    numeric = (i, (o, (l refl, tt)));
-    kind = inr (inl refl);
-    no_id = λ f. true_not_false f;
-    no_offset = λ f. true_not_false f;
-    no_length = λ f. true_not_false f;
-  };
-  kind_is = refl;
-  flags_are = refl;
-  id_is = refl;
-  offset_is = refl;
-  len_is = refl;
-}
+stream true true true id offset len behind e i o l =
+    stream_of 0x09 true true id offset len (length behind) behind (rw e (simp append-nil)) (omega arith) refl refl (i, tt)
+    (λ f. is_zero offset e) (λ f. refl) refl refl
+stream true true false id offset len behind e i o l =
+    stream_of 0x0b true false id offset len len behind (rw e (simp append-nil)) (omega arith) refl refl (i, (l refl, tt))
+    (λ f. is_zero offset e) (λ f. true_not_false f) refl refl
+stream true false true id offset len behind e i o l =
+    stream_of 0x08 false true id offset len (length behind) behind (rw e (simp append-nil)) (omega arith) refl refl (i, tt)
+    (λ f. is_zero offset e) (λ f. refl) refl refl
+stream true false false id offset len behind e i o l =
+    stream_of 0x0a false false id offset len len behind (rw e (simp append-nil)) (omega arith) refl refl (i, (l refl, tt))
+    (λ f. is_zero offset e) (λ f. true_not_false f) refl refl
+stream false true true id offset len behind e i o l =
+    stream_of 0x0d true true id offset len (length behind) behind (rw e (simp append-nil)) (omega arith) refl refl (i, (o, tt))
+    (λ f. true_not_false f) (λ f. refl) refl refl
+stream false true false id offset len behind e i o l =
+    stream_of 0x0f true false id offset len len behind (rw e (simp append-nil)) (omega arith) refl refl (i, (o, (l refl, tt)))
+    (λ f. true_not_false f) (λ f. true_not_false f) refl refl
+stream false false true id offset len behind e i o l =
+    stream_of 0x0c false true id offset len (length behind) behind (rw e (simp append-nil)) (omega arith) refl refl (i, (o, tt))
+    (λ f. true_not_false f) (λ f. refl) refl refl
+stream false false false id offset len behind e i o l =
+    stream_of 0x0e false false id offset len len behind (rw e (simp append-nil)) (omega arith) refl refl (i, (o, (l refl, tt)))
+    (λ f. true_not_false f) (λ f. true_not_false f) refl refl
 
 flag_is : (fin : Bool) (flags : ℕ) → eqb flags 1 ≡ fin → flags ≡ 0 ⊎ flags ≡ 1 → (if fin then 1 else 0) ≡ flags
 flag_is true flags e (inl z) = grind (arith, nat_tests)

@@ -156,7 +156,7 @@ stored_ack t behind middle end old front mid one new place at stop first le x y 
 abbrev pub none : CGap
 none = record { gap = 0; len = 0 }
 
--- what is left fits just where all do
+-- what is left fits exactly if all do
 pub record FitsOn (first : ℕ) (gaps : List CGap) (i low : ℕ) : Type 0 where
   pub on : Fit low (drop i gaps) → Fit first gaps
   pub back : Fit first gaps → Fit low (drop i gaps)

@@ -29,8 +29,8 @@ pub record GivesInvalid (rules : Rules) (old : CFrameIter) (payload : List ℕ) 
   pub over : new ≡ record old { ended = 1 }
   pub words : out ≡ invalid_words old.offset (type_word reported.type)
 
--- What a call for the next frame returns and leaves, by rules: 1 with the frame; 0 if none is left; the reason why a frame isn't given, with its type; that the place is outside of
--- the payload. Nothing changes with 0 and outside.
+-- What a call for the next frame returns and leaves, by rules: 1 with the frame; 0 if none is left; the reason why a
+-- frame isn't given, with its type; that the place is outside of the payload. Nothing changes with 0 and outside.
 pub record AnswersNext (rules : Rules) (old : CFrameIter) (payload : List ℕ) (before : CFrame) (result : ℤ)
     (new : CFrameIter) (after : CFrame) : Type 0 where
   pub returns : (result ≡ pos 1) ⊎ (result ≡ pos 0) ⊎ (result ≡ failed failure.Place)

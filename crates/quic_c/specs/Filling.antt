@@ -18,8 +18,8 @@ use Rattle.quic_c.specs.Ranges.{GivesRange, LacksRange}
 use Rattle.quic_results.specs.declared.results.Failure.TheVariants as failure
 use Rattle.quic_results.specs.Results.{failed}
 
--- One entry describes a frame that breaks no rule; an entry of PADDING (RFC 9000, section 19.1) includes the PADDING that
--- follows, each byte of which is a frame.
+-- One entry describes a frame that breaks no rule; an entry of PADDING (RFC 9000, section 19.1) includes the PADDING
+-- that follows, each byte of which is a frame.
 pub record GivesEntry (rules : Rules) (old : IterState) (entry : CFrame) (new : IterState) : Type 0 where
   pub frame : Frame
   pub next : IterState
@@ -54,9 +54,10 @@ pub record ReportsInvalid (rules : Rules) (old : CFrameIter) (payload : List ℕ
   pub invalid : GivesInvalid rules old payload result new entry
   pub entries : after ≡ entry ∷ drop 1 before
 
--- What a call for the next frames returns and leaves, by rules: 1 with how many entries were filled, at least one; 0 if no frame is left; the reason why a frame isn't given, with its
--- type in the first entry; that there is no entry, and the place is in the payload; that it is outside. Nothing changes
--- with the last three except that entry, and the count changes only with 1.
+-- What a call for the next frames returns and leaves, by rules: 1 with how many entries were filled, at least one; 0 if
+-- no frame is left; the reason why a frame isn't given, with its type in the first entry; that there is no entry, and
+-- the place is in the payload; that it is outside. Nothing changes with the last three except that entry, and the count
+-- changes only with 1.
 pub record AnswersFill (rules : Rules) (old : CFrameIter) (payload : List ℕ) (before : List CFrame) (count_before : ℕ)
     (result : ℤ) (new : CFrameIter) (after : List CFrame) (count : ℕ) : Type 0 where
   pub returns : (result ≡ pos 1) ⊎ (result ≡ pos 0) ⊎ (result ≡ failed failure.NoRoom) ⊎ (result ≡ failed failure.Place)
@@ -70,10 +71,10 @@ pub record AnswersFill (rules : Rules) (old : CFrameIter) (payload : List ℕ) (
       ⊎ ((new ≡ old) × (after ≡ before))
   pub counted : (result ≡ pos 1) ⊎ (count ≡ count_before)
 
--- What a call returns and leaves that begins at the front of a payload with these flags, and fills entries with its first
--- frames: 1 with how many were filled, at least one; that the payload is empty; that there is no entry; the reason why
--- the first frame isn't given, with its type in the first entry. Nothing changes with the second and the third, and the
--- count changes only with 1.
+-- What a call returns and leaves that begins at the front of a payload with these flags, and fills entries with its
+-- first frames: 1 with how many were filled, at least one; that the payload is empty; that there is no entry; the
+-- reason why the first frame isn't given, with its type in the first entry. Nothing changes with the second and the
+-- third, and the count changes only with 1.
 pub record AnswersFirst (flags : ℕ) (payload : List ℕ) (old : CFrameIter) (before : List CFrame) (count_before : ℕ)
     (result : ℤ) (new : CFrameIter) (after : List CFrame) (count : ℕ) : Type 0 where
   pub returns : (result ≡ pos 1) ⊎ (result ≡ failed failure.PayloadEmpty) ⊎ (result ≡ failed failure.NoRoom)

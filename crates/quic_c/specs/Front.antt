@@ -40,8 +40,8 @@ pub record FillsGaps (low : ℕ) (ranges : List (ℕ × ℕ)) (before after : Li
 abbrev pub more_flag : ℕ → List (ℕ × ℕ) → ℕ
 more_flag count ranges = if nat_lt count (length ranges) then 4 else 0
 
--- The words of an ACK of this type up to a place; the offset of its data is how many entries were filled with the ranges
--- below its first.
+-- The words of an ACK of this type up to a place; the offset of its data is how many entries were filled with the
+-- ranges below its first.
 pub record ShowsAck (stop type : ℕ) (ack : Ack) (before : List CGap) (words : CFrame) (after : List CGap) : Type 0 where
   pub least : ℕ
   pub below : List (ℕ × ℕ)
@@ -55,9 +55,9 @@ abbrev pub ShowsFront : ℕ → ℕ → Frame → List CGap → CFrame → List 
 ShowsFront stop type (frames.Ack a) before words after = ShowsAck stop type a before words after
 ShowsFront stop type frame before words after = (words ≡ frame_words 0 stop type frame) × (after ≡ before)
 
--- The frame at the front is given as the iterator over the payload gives it, and breaks no rule. A frame of PADDING (RFC
--- 9000, section 19.1) includes the PADDING that follows, each byte of which is a frame. The rest of the payload begins
--- where it ends.
+-- The frame at the front is given as the iterator over the payload gives it, and breaks no rule. A frame of PADDING
+-- (RFC 9000, section 19.1) includes the PADDING that follows, each byte of which is a frame. The rest of the payload
+-- begins where it ends.
 pub record ReadsFront (rules : Rules) (payload : List ℕ) (before : List CGap) (stop : ℕ) (words : CFrame)
     (after : List CGap) : Type 0 where
   pub frame : Frame

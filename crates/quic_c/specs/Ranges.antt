@@ -15,8 +15,8 @@ use Rattle.quic_c.specs.declared.words.CRangeIter.{CRangeIter}
 abbrev pub frame_of_words : CFrame → List ℕ → List ℕ
 frame_of_words frame payload = slice_range payload frame.begin frame.end
 
--- The bytes begin as an ACK: the type, the greatest number, the delay, and how many ranges are below the first. The rest
--- may be no blocks.
+-- The bytes begin as an ACK: the type, the greatest number, the delay, and how many ranges are below the first. The
+-- rest may be no blocks.
 pub record BeginsWithHead (bytes : List ℕ) (largest count : ℕ) (rest : List ℕ) : Type 0 where
   pub type : ℕ
   pub is_ack : (type ≡ 2) ⊎ (type ≡ 3)
@@ -35,8 +35,8 @@ pub record HasLeft (it : CRangeIter) (payload : List ℕ) (ranges : List (ℕ ×
   pub parts : drop it.offset payload ≡ blocks ++ behind
   pub encoded : AreLeft it.largest ranges blocks
 
--- The frame begins as an ACK; its greatest number, the count of its ranges and where their blocks begin were given. If it
--- is an ACK, all of its ranges are left.
+-- The frame begins as an ACK; its greatest number, the count of its ranges and where their blocks begin were given. If
+-- it is an ACK, all of its ranges are left.
 pub record GivesHead (frame : CFrame) (payload : List ℕ) (new : CRangeIter) : Type 0 where
   pub ordered : frame.begin ≤ frame.end
   pub ends : frame.end ≤ length payload
@@ -55,8 +55,8 @@ LacksHead frame payload =
     (frame.end < frame.begin) ⊎ (length payload < frame.end)
     ⊎ ((largest count : ℕ) (rest : List ℕ) → BeginsWithHead (frame_of_words frame payload) largest count rest → ⊥)
 
--- The bytes begin with the block of the range from least to greatest. If there are more ranges, the gap above the next one
--- follows, which ends with next, and the rest, which isn't empty.
+-- The bytes begin with the block of the range from least to greatest. If there are more ranges, the gap above the next
+-- one follows, which ends with next, and the rest, which isn't empty.
 pub record TakesRange (greatest more : ℕ) (bytes : List ℕ) (least next : ℕ) (rest : List ℕ) : Type 0 where
   pub block : List ℕ
   pub gap : List ℕ
@@ -66,8 +66,8 @@ pub record TakesRange (greatest more : ℕ) (bytes : List ℕ) (least next : ℕ
   pub last : more ≡ 0 → (gap ≡ []) × (next ≡ 0)
   pub below : 0 < more → (next + 2 ≤ least) × Encodes (least - (next + 2)) gap × (0 < length rest)
 
--- why the bytes don't begin so: the block can't be read; or there are more ranges, and the gap can't be read, or nothing
--- follows it
+-- why the bytes don't begin so: the block can't be read; or there are more ranges, and the gap can't be read, or
+-- nothing follows it
 abbrev pub CutRange : ℕ → ℕ → List ℕ → Fault → Type 0
 CutRange greatest more bytes reason = NumberStops bytes reason (λ block. nat_lt greatest block)
     (λ block rest. (0 < more)
@@ -86,8 +86,8 @@ pub record GivesRange (old : CRangeIter) (payload : List ℕ) (new : CRangeIter)
   pub ranges : (ranges : List (ℕ × ℕ)) → HasLeft old payload ranges
       → (others : List (ℕ × ℕ)) × (ranges ≡ (out.start, old.largest) ∷ others) × HasLeft new payload others
 
--- More ranges are to come, but the offset is outside of the payload, the greatest number is too large, or the bytes don't
--- begin with a range; so no ranges of an ACK are left.
+-- More ranges are to come, but the offset is outside of the payload, the greatest number is too large, or the bytes
+-- don't begin with a range; so no ranges of an ACK are left.
 pub record LacksRange (it : CRangeIter) (payload : List ℕ) : Type 0 where
   pub some : 0 < it.left
   pub why : (length payload < it.offset) ⊎ (2 ^ 62 ≤ it.largest)

@@ -29,8 +29,8 @@ P = 0x400
 abbrev pub F : ℕ
 F = 0x800
 
--- The row of a kind, as a sum; 0 of what is no kind. DATAGRAM is RFC 9221's (section 4). ACK_FREQUENCY and IMMEDIATE_ACK
--- are taken where quinn-proto takes them.
+-- The row of a kind, as a sum; 0 of what is no kind. DATAGRAM is RFC 9221's (section 4). ACK_FREQUENCY and
+-- IMMEDIATE_ACK are taken where quinn-proto takes them.
 abbrev pub rules_of : ℕ → ℕ
 rules_of kind =
     if kind == 0x00 then IH01 + N + P  -- PADDING

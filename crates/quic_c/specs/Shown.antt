@@ -138,7 +138,8 @@ abbrev pub data_len_of : Frame → ℕ
 data_len_of (frames.Ack a) = first_length (ranges_acked a)
 data_len_of frame = length (data_of frame)
 
--- the word for the place of data in a payload, of a frame that ends at stop: of an ACK 0, as none of its gaps was written
+-- the word for the place of data in a payload, of a frame that ends at stop: of an ACK 0, as none of its gaps was
+-- written
 abbrev pub data_offset_of : ℕ → Frame → ℕ
 data_offset_of stop (frames.Ack a) = 0
 data_offset_of stop frame = stop - tail_of frame - length (data_of frame)

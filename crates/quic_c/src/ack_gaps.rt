@@ -240,8 +240,8 @@ fn write_counted(ack: &CFrame, gaps: &[CGap], out: &mut [u8], written: &mut usiz
 /// the first range, less one; and `gaps` has the ranges below it, as gap and length. Of the other words only the kind
 /// and the flags are read. It returns 0 with how many bytes were written, and bytes after those don't change;
 /// `NoRoom` with how many are needed, if `out` has fewer; `Argument` exactly if the words and gaps describe no ACK: the
-/// kind is another, the flags are neither 0 nor 2, a range goes below 0, or a number is 2^62 or more. `out` changes only
-/// with 0, and `written` doesn't change with `Argument`.
+/// kind is another, the flags are neither 0 nor 2, a range goes below 0, or a number is 2^62 or more. `out` changes
+/// only with 0, and `written` doesn't change with `Argument`.
 #[unsafe(no_mangle)]
 pub extern "C" fn quic_wire_ack_gaps_write_(
     ack: &CFrame,

@@ -10,10 +10,10 @@ use quic_frame_fields::frame::fault::Fault;
 use quic_frames::frame::split_first_range;
 use quic_results::results::Failure;
 
-/// Begins at the greatest range of the ACK at the place in the frame's words, of which only the type, the greatest number,
-/// the delay and the count of its ranges are read (RFC 9000, section 19.3). Invalid blocks are reported by the call that
-/// reaches them. It returns 0, or `Place` if the place is outside of the payload or no ACK begins there; then nothing
-/// changes.
+/// Begins at the greatest range of the ACK at the place in the frame's words, of which only the type, the greatest
+/// number, the delay and the count of its ranges are read (RFC 9000, section 19.3). Invalid blocks are reported by the
+/// call that reaches them. It returns 0, or `Place` if the place is outside of the payload or no ACK begins there; then
+/// nothing changes.
 #[unsafe(no_mangle)]
 pub extern "C" fn quic_wire_ack_ranges_init_(
     ranges: &mut CRangeIter,
@@ -86,8 +86,8 @@ pub(crate) fn split_range(greatest: u64, more: u64, bytes: &[u8]) -> Option<(u64
 }
 
 /// The next range of an ACK, the greatest first (RFC 9000, section 19.3.1). It returns 1 with the range; 0 exactly if
-/// none is left; `Place` if no range is there: the offset is outside of the payload, the greatest number is 2^62 or more,
-/// or the bytes there don't begin with a range. Nothing changes unless it returns 1.
+/// none is left; `Place` if no range is there: the offset is outside of the payload, the greatest number is 2^62 or
+/// more, or the bytes there don't begin with a range. Nothing changes unless it returns 1.
 #[unsafe(no_mangle)]
 pub extern "C" fn quic_wire_ack_ranges_next_(
     ranges: &mut CRangeIter,

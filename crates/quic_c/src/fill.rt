@@ -128,11 +128,12 @@ fn fill_checked(
     fill_on::<3, true>(frames, payload, rules_in(frames.flags), out, count)
 }
 
-/// The next frames (RFC 9000, section 19), as many as `out` has room for, by the rules of the iterator's flags; a run of
-/// PADDING, each byte of which is a frame, is one entry. It returns 1 with how many entries were filled, at least one; 0
-/// if no frame is left; the reason, once, with the type in the first entry, if the next bytes aren't a valid frame or are
-/// one that breaks a rule; `NoRoom` exactly if `out` has no entry and the place is in the payload; `Place` exactly if the
-/// place is outside of it. `count` changes only with 1, and nothing changes with 0, `NoRoom` and `Place`.
+/// The next frames (RFC 9000, section 19), as many as `out` has room for, by the rules of the iterator's flags; a run
+/// of PADDING, each byte of which is a frame, is one entry. It returns 1 with how many entries were filled, at least
+/// one; 0 if no frame is left; the reason, once, with the type in the first entry, if the next bytes aren't a valid
+/// frame or are one that breaks a rule; `NoRoom` exactly if `out` has no entry and the place is in the payload; `Place`
+/// exactly if the place is outside of it. `count` changes only with 1, and nothing changes with 0, `NoRoom` and
+/// `Place`.
 #[unsafe(no_mangle)]
 pub extern "C" fn quic_wire_frames_fill_(
     frames: &mut CFrameIter,
@@ -211,10 +212,11 @@ fn first_checked(
 }
 
 /// Begins at the front of a payload and reads its first frames (RFC 9000, section 19), as `quic_wire_frames_init_` and
-/// then `quic_wire_frames_fill_` do. It returns 1 with how many entries were filled, at least one; `PayloadEmpty` exactly
-/// if the payload is empty, which is a PROTOCOL_VIOLATION (section 12.4); the reason, with the type in the first entry, if
-/// the payload doesn't begin with a valid frame or begins with one that breaks a rule; `NoRoom` exactly if the payload
-/// isn't empty and `out` has no entry. `count` changes only with 1, and nothing changes with `PayloadEmpty` and `NoRoom`.
+/// then `quic_wire_frames_fill_` do. It returns 1 with how many entries were filled, at least one; `PayloadEmpty`
+/// exactly if the payload is empty, which is a PROTOCOL_VIOLATION (section 12.4); the reason, with the type in the
+/// first entry, if the payload doesn't begin with a valid frame or begins with one that breaks a rule; `NoRoom` exactly
+/// if the payload isn't empty and `out` has no entry. `count` changes only with 1, and nothing changes with
+/// `PayloadEmpty` and `NoRoom`.
 #[unsafe(no_mangle)]
 pub extern "C" fn quic_wire_frames_first_(
     frames: &mut CFrameIter,

@@ -50,8 +50,8 @@ fn words_at(payload: &[u8], bytes: &[u8], left: u64, largest: u64) -> CRangeIter
 
 /// The next ranges of an ACK, the greatest first (RFC 9000, section 19.3.1), as many as `out` has room for. It returns
 /// 1 with how many entries were filled, at least one; `NoRoom` exactly if `out` has no entry; otherwise 0 exactly if no
-/// range is left, and `Place` if no range is there, as for `quic_wire_ack_ranges_next_`. Ranges before an invalid block are
-/// given first. Nothing changes unless it returns 1.
+/// range is left, and `Place` if no range is there, as for `quic_wire_ack_ranges_next_`. Ranges before an invalid block
+/// are given first. Nothing changes unless it returns 1.
 #[unsafe(no_mangle)]
 pub extern "C" fn quic_wire_ack_ranges_fill_(
     ranges: &mut CRangeIter,

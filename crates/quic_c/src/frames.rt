@@ -165,9 +165,9 @@ fn next_checked(frames: &mut CFrameIter, payload: &[u8], out: &mut CFrame) -> i3
     next_on::<2, 3, true>(frames, payload, rules_in(frames.flags), out)
 }
 
-/// The next frame (RFC 9000, section 19), by the rules of the iterator's flags. It returns 1 with the frame; 0 if none is
-/// left, and nothing changes; the reason, once, with the type, if the next bytes aren't a valid frame or are one that
-/// breaks a rule; `Place` exactly if the place is outside of the payload, and nothing changes.
+/// The next frame (RFC 9000, section 19), by the rules of the iterator's flags. It returns 1 with the frame; 0 if none
+/// is left, and nothing changes; the reason, once, with the type, if the next bytes aren't a valid frame or are one
+/// that breaks a rule; `Place` exactly if the place is outside of the payload, and nothing changes.
 #[unsafe(no_mangle)]
 pub extern "C" fn quic_wire_frames_next_(
     frames: &mut CFrameIter,

@@ -148,38 +148,39 @@ fn read_front<const COPY: usize, const CHECKED: bool>(
     }
 }
 
-// A frame where frames are checked, by a copy for STREAM and one for the others.
+// A frame where frames are checked, by a copy for STREAM, one for ACK, which can break only the rule of short types,
+// and one for the others.
 #[inline(never)]
 fn read_checked(payload: &[u8], flags: u32, out: &mut CFrame, gaps: &mut [CGap]) -> i64
     ensures { AnswersRead (rules_in flags) payload.now out.old gaps.old result out.new gaps.new }
 {
     let rules = rules_in(flags);
-    if !payload.is_empty() && payload[0] & 0xf8 == 0x08 {
-        return read_front::<3, true>(payload, rules, out, gaps);
+    match payload.first() {
+        Some(0x08..=0x0f) => read_front::<3, true>(payload, rules, out, gaps),
+        Some(0x02 | 0x03) => read_front::<4, true>(payload, rules, out, gaps),
+        _ => read_front::<5, true>(payload, rules, out, gaps),
     }
-    read_front::<4, true>(payload, rules, out, gaps)
 }
 
-// An ACK, or a frame with another first byte, or any where frames are checked, by a call that isn't inlined.
+// An ACK, or a frame with another first byte, where frames aren't checked, by a call that isn't inlined.
 #[inline(never)]
-fn read_other(payload: &[u8], flags: u32, out: &mut CFrame, gaps: &mut [CGap]) -> i64
-    ensures { AnswersRead (rules_in flags) payload.now out.old gaps.old result out.new gaps.new }
+fn read_other(payload: &[u8], out: &mut CFrame, gaps: &mut [CGap]) -> i64
+    ensures { AnswersRead no_rules payload.now out.old gaps.old result out.new gaps.new }
 {
-    let Some(rules) = no_rules(flags) else {
-        return read_checked(payload, flags, out, gaps);
-    };
-    if !payload.is_empty() && payload[0] & 0xfe == 0x02 {
-        return read_front::<0, false>(payload, rules, out, gaps);
+    let rules = Rules::default();
+    match payload.first() {
+        Some(0x02 | 0x03) => read_front::<0, false>(payload, rules, out, gaps),
+        _ => read_front::<1, false>(payload, rules, out, gaps),
     }
-    read_front::<1, false>(payload, rules, out, gaps)
 }
 
-/// Reads the frame at the front of the rest of a payload (RFC 9000, section 19), by the rules of these flags. It returns
-/// where the frame ends, with its words, whose places count from this front; a run of PADDING, each byte of which is a
-/// frame, is one. The ranges of an ACK below the first are filled into `gaps` as gap and length, as many as there is room
-/// for; the offset of data is how many were filled, and `flags` has 4 if there are more. It returns `PayloadEmpty` exactly
-/// if nothing is left; the reason, with the type in `out`, if the bytes don't begin with a valid frame or begin with one
-/// that breaks a rule. `out` doesn't change with `PayloadEmpty`, and `gaps` changes only for an ACK.
+/// Reads the frame at the front of the rest of a payload (RFC 9000, section 19), by the rules of these flags. It
+/// returns where the frame ends, with its words, whose places count from this front; a run of PADDING, each byte of
+/// which is a frame, is one. The ranges of an ACK below the first are filled into `gaps` as gap and length, as many as
+/// there is room for; the offset of data is how many were filled, and `flags` has 4 if there are more. It returns
+/// `PayloadEmpty` exactly if nothing is left; the reason, with the type in `out`, if the bytes don't begin with a valid
+/// frame or begin with one that breaks a rule. `out` doesn't change with `PayloadEmpty`, and `gaps` changes only for an
+/// ACK.
 #[unsafe(no_mangle)]
 pub extern "C" fn quic_wire_frame_read_(
     payload: &[u8],
@@ -189,15 +190,13 @@ pub extern "C" fn quic_wire_frame_read_(
 ) -> i64
     ensures answers { AnswersRead (rules_in flags) payload.now out.old gaps.old result out.new gaps.new }
 {
-    if payload.is_empty() {
-        return none_left();
+    let Some(rules) = no_rules(flags) else {
+        return read_checked(payload, flags, out, gaps);
+    };
+    match payload.first() {
+        Some(0x08..=0x0f) => read_front::<2, false>(payload, rules, out, gaps),
+        _ => read_other(payload, out, gaps),
     }
-    if payload[0] & 0xf8 == 0x08 {
-        if let Some(rules) = no_rules(flags) {
-            return read_front::<2, false>(payload, rules, out, gaps);
-        }
-    }
-    read_other(payload, flags, out, gaps)
 }
 
 /// A payload can be read frame by frame, each at the front of what is left: what an iterator gives from a place on is

@@ -316,8 +316,8 @@ fn described<'a>(words: &CFrame, data: &'a [u8], last: bool) -> Option<Frame<'a>
 /// NEW_CONNECTION_ID they are the id, and the sixteen bytes of its token follow it. If the words describe no data, or a
 /// kind that has none, neither `data` nor that place is read; the words for where the frame begins and ends never
 /// are. It returns 0 with how many bytes were written, and bytes after those don't change; `NoRoom` with how many are
-/// needed, if `out` has fewer; `Argument` if the words describe no frame that can be written, or an ACK: ACKs are written
-/// from sets. `out` changes only with 0, and `written` doesn't change with `Argument`.
+/// needed, if `out` has fewer; `Argument` if the words describe no frame that can be written, or an ACK: ACKs are
+/// written from sets. `out` changes only with 0, and `written` doesn't change with `Argument`.
 #[unsafe(no_mangle)]
 pub extern "C" fn quic_wire_frame_write_(
     frame: &CFrame,

@@ -5,7 +5,7 @@ use Rattle.quic_frame_fields.specs.Payload.{TypedFrame, AreFrames, IsBroken}
 use Rattle.quic_frame_fields.specs.Reading.{Invalid, invalid}
 use Rattle.quic_frames.specs.Least.{frame_in, shortest_frames}
 use Rattle.quic_canon.specs.Least.{IsLeast}
-use Rattle.quic_c_canon.specs.declared.words.CCanonical.{CCanonical}
+use Rattle.quic_c_canon.specs.declared.words.CCanon.{CCanon}
 use Rattle.quic_results.specs.Results.{failed, frame_failure}
 
 -- the number of a type, as C sees it
@@ -15,14 +15,14 @@ type_word (Some n) = n
 
 -- The shortest payload of the meaning was written at the front, the bytes after it didn't change, and its length was
 -- reported.
-pub record GivesLeastLen (payload before after : List ℕ) (old new : CCanonical) : Type 0 where
+pub record GivesLeastLen (payload before after : List ℕ) (old new : CCanon) : Type 0 where
   pub least : List ℕ
   pub is_least : IsLeast least payload
   pub front : after ≡ least ++ drop (length least) before
   pub words : new ≡ record old { len = length least }
 
 -- There is less room than the least payload of the meaning needs, and how much that is was reported.
-pub record LeastNeedsMore (payload before : List ℕ) (old new : CCanonical) : Type 0 where
+pub record LeastNeedsMore (payload before : List ℕ) (old new : CCanon) : Type 0 where
   pub least : List ℕ
   pub is_least : IsLeast least payload
   pub full : length before < length least
@@ -37,7 +37,7 @@ pub record IsReportedOf (payload : List ℕ) (reported : Invalid) : Type 0 where
   pub reported_is : reported ≡ invalid type reason
 
 -- Something in the payload isn't a frame, and that is returned, with the type.
-pub record ReportsInvalidPayload (payload : List ℕ) (old : CCanonical) (result : ℤ) (new : CCanonical) : Type 0 where
+pub record ReportsInvalidPayload (payload : List ℕ) (old : CCanon) (result : ℤ) (new : CCanon) : Type 0 where
   pub reported : Invalid
   pub of_it : IsReportedOf payload reported
   pub reason : result ≡ failed (frame_failure reported.reason)

@@ -9,7 +9,7 @@ ghost use Rattle.quic_frames.specs.Walk.{invalid_of, first_of};
 ghost use Rattle.quic_c_canon.specs.Answers.{type_word, GivesLeastLen, LeastNeedsMore, IsReportedOf, ReportsInvalidPayload, HasLength};
 ghost use Rattle.quic_results.specs.Results.{failed};
 
-use crate::words::CCanonical;
+use crate::words::CCanon;
 use quic_canon::laws::one_least;
 use quic_frames::frame::{Frame, FrameType, InvalidFrame, Iter};
 use quic_frames::laws::{least_encoding, one_reading, read_back};
@@ -161,7 +161,7 @@ fn write(payload: &[u8], len: usize, dest: &mut [u8])
 /// payload is empty; `FrameEnd`, `FrameType` or `FrameMalformed` if it has an invalid frame, and the last type that was
 /// read. `dest` changes only with 0, and `out` only in the fields that are named here. It doesn't allocate.
 #[unsafe(no_mangle)]
-pub extern "C" fn quic_wire_canonical_(payload: &[u8], dest: &mut [u8], out: &mut CCanonical) -> i32
+pub extern "C" fn quic_wire_canonical_(payload: &[u8], dest: &mut [u8], out: &mut CCanon) -> i32
     ensures { (result ≡ pos 0) × GivesLeastLen payload.now dest.old dest.new out.old out.new
         ⊎ (dest.new ≡ dest.old) × ((result ≡ failed Failure.NoRoom) × LeastNeedsMore payload.now dest.old out.old out.new
         ⊎ (result ≡ failed Failure.PayloadEmpty) × (payload.now ≡ []) × (out.new ≡ out.old)

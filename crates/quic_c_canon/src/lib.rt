@@ -5,4 +5,4 @@
 mod canonical;
 mod words;
 
-pub use words::CCanonical;
+pub use words::CCanon;

@@ -3,7 +3,7 @@
 /// The length of a payload's shortest form, or the type of the invalid frame if it has none.
 #[repr(C)]
 #[derive(Clone, Copy, PartialEq, Eq)]
-pub struct CCanonical {
+pub struct CCanon {
     /// How many bytes the shortest form has.
     pub len: usize,
     /// For an invalid frame: the last type that was read, which may be its own. `u64::MAX` if none was.
@@ -11,4 +11,4 @@ pub struct CCanonical {
 }
 
 // The size that every declaration of this struct in C must have.
-const _: () = prove!(std::mem::size_of::<CCanonical>() == 16);
+const _: () = prove!(std::mem::size_of::<CCanon>() == 16);

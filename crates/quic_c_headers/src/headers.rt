@@ -9,7 +9,9 @@ ghost use Rattle.quic_c_headers.specs.Headers.{word_of};
 ghost use Rattle.quic_c_headers.specs.Reading.{header_words, is_partial, outcome_of, token_in, IsOfVersion, IsReceiverAt, LacksFixedBit, Reported};
 ghost use Rattle.quic_results.specs.Results.{failed, returned};
 
-use crate::words::CHeader;
+use crate::words::{
+    CHeader, HANDSHAKE, INITIAL, RETRY, SHORT, UNKNOWN_VERSION, VERSION_NEGOTIATION, ZERO_RTT,
+};
 use quic_base::coding::are_bytes;
 use quic_header_decode::laws::{one_reading, places_cut};
 use quic_header_decode::places::{
@@ -24,12 +26,12 @@ fn kind_word(kind: HeaderKind) -> u8
     ensures { result ≡ word_of (row kind) }
 {
     match kind {
-        HeaderKind::Initial => 0,
-        HeaderKind::ZeroRtt => 1,
-        HeaderKind::Handshake => 2,
-        HeaderKind::Retry => 3,
-        HeaderKind::Short => 4,
-        HeaderKind::VersionNegotiate => 5,
+        HeaderKind::Initial => INITIAL,
+        HeaderKind::ZeroRtt => ZERO_RTT,
+        HeaderKind::Handshake => HANDSHAKE,
+        HeaderKind::Retry => RETRY,
+        HeaderKind::Short => SHORT,
+        HeaderKind::VersionNegotiate => VERSION_NEGOTIATION,
     }
 }
 
@@ -40,7 +42,7 @@ fn is_partial(flags: u32, places: &HeaderPlaces, whole: usize) -> bool
     requires small { whole < 2 ^ 32 }
     ensures { result ≡ is_partial flags places.now whole }
 {
-    kind_word(places.kind) == 3 && flags / 0x40 % 2 == 1 && whole < places.header_end + 17
+    kind_word(places.kind) == RETRY && flags / 0x40 % 2 == 1 && whole < places.header_end + 17
 }
 
 // The token of an Initial or a Retry packet.
@@ -52,7 +54,7 @@ fn token_in(places: &HeaderPlaces, whole: usize) -> Place
     ensures ordered { result.start ≤ result.end }
     ensures within { result.end ≤ whole }
 {
-    if kind_word(places.kind) == 3 && places.header_end + 16 <= whole {
+    if kind_word(places.kind) == RETRY && places.header_end + 16 <= whole {
         return Place {
             start: places.header_end,
             end: whole - 16,
@@ -125,7 +127,7 @@ fn show(
             },
         ) => {
             *head = CHeader {
-                kind: 6,
+                kind: UNKNOWN_VERSION,
                 first: packet[0],
                 dst_len: dst_len as u8,
                 src_len: src_len as u8,
@@ -145,18 +147,20 @@ fn show(
     }
 }
 
-// Stores a long header in `head`. It is a separate function, so that no registers are saved for a short header.
+// Stores a long header in `head`. It is a separate function, so that no registers are saved for a short header. It gets
+// the first byte from the packet, since a seventh argument would be on the stack.
 #[inline(never)]
-fn show_long(packet: &[u8], first: u8, versions: &[u32], flags: u32, head: &mut CHeader) -> i64
+fn show_long(packet: &[u8], versions: &[u32], flags: u32, head: &mut CHeader) -> i64
     requires whole { length packet.now < 2 ^ 32 }
-    requires begins { packet.now ≡ first ∷ drop 1 packet.now }
-    requires long { 128 ≤ first }
+    requires begins { packet.now ≡ slice_index packet.now 0 ∷ drop 1 packet.now }
+    requires long { 128 ≤ slice_index packet.now 0 }
     ensures reported { (outcome : Result ℕ Failure) × (result ≡ returned outcome)
         × ((id_len : ℕ) → Reported flags id_len versions.now packet.now head.old outcome head.new) }
     ensures length { result ≢ failed Failure.Length }
     ensures fixed { result ≢ failed Failure.PacketFixedBit }
 {
     distinct();
+    let first = packet[0];
     returned(show(packet, read_long(packet, first, versions), flags, head))
 }
 
@@ -253,7 +257,7 @@ pub extern "C" fn quic_wire_header_read_(
     }
     if let Some(first) = packet.first() {
         if *first >= 0x80 {
-            return show_long(packet, *first, versions, flags, head);
+            return show_long(packet, versions, flags, head);
         }
     }
     returned(show(

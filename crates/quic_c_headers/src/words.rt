@@ -1,6 +1,15 @@
 //! The structs that C sees. Each of their fields may have any value: no function relies on it. No field has the
 //! machine's word size, so the layout is the same on all machines.
 
+// The kinds, as C numbers them.
+pub(crate) const INITIAL: u8 = 0;
+pub(crate) const ZERO_RTT: u8 = 1;
+pub(crate) const HANDSHAKE: u8 = 2;
+pub(crate) const RETRY: u8 = 3;
+pub(crate) const SHORT: u8 = 4;
+pub(crate) const VERSION_NEGOTIATION: u8 = 5;
+pub(crate) const UNKNOWN_VERSION: u8 = 6;
+
 /// The header of a packet. Offsets count from the packet's front. The receiver's id begins at offset 6 in a long header
 /// and at 1 in a short one; the sender's follows it, after its own length byte. Fields that the kind doesn't have are
 /// 0.
@@ -17,7 +26,7 @@ pub struct CHeader {
     pub dst_len: u8,
     /// How many bytes the sender's id has, likewise.
     pub src_len: u8,
-    /// The version of QUIC.
+    /// The version (RFC 9000, section 15).
     pub version: u32,
     /// The offset at which the header ends, or at which the packet number begins if there is one.
     pub header_end: u32,
@@ -45,7 +54,7 @@ pub struct HeaderFields {
     pub number_len: u8,
     /// How many bytes the length has, 1, 2, 4 or 8; for Initial, 0-RTT and Handshake.
     pub length_len: u8,
-    /// The version of QUIC.
+    /// The version (RFC 9000, section 15).
     pub version: u32,
     /// The packet number, below 2^62.
     pub number: u64,

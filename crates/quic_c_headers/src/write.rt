@@ -11,7 +11,9 @@ ghost use Rattle.quic_c_headers.specs.Headers.{first_word, short_size, word_of, 
 ghost use Rattle.quic_c_headers.specs.Headers.{HasPossibleNumbers, IsReason, WritesHeader};
 ghost use Rattle.quic_results.specs.Results.{failed};
 
-use crate::words::HeaderFields;
+use crate::words::{
+    HANDSHAKE, HeaderFields, INITIAL, RETRY, SHORT, VERSION_NEGOTIATION, ZERO_RTT,
+};
 use quic_base::coding::store_array;
 use quic_crypto::packet_number::PacketNumber;
 use quic_header_encode::fields::store_low;
@@ -35,10 +37,10 @@ fn is_numbered(words: &HeaderFields) -> bool
     requires { words.now.kind ≤ 5 }
     ensures { IsTrue result ↔ IsNumbered words.now }
 {
-    if words.kind == 3 || words.kind == 5 {
+    if words.kind == RETRY || words.kind == VERSION_NEGOTIATION {
         return true;
     }
-    let fits = words.kind == 4 || is_width(words.length_len);
+    let fits = words.kind == SHORT || is_width(words.length_len);
     0 < words.number_len && words.number_len <= 4 && words.number < 1 << 62 && fits
 }
 
@@ -47,7 +49,7 @@ fn is_numbered(words: &HeaderFields) -> bool
 fn are_parts(kind: u8, dst: &[u8], src: &[u8], token: &[u8]) -> bool
     ensures { IsTrue result ↔ AreParts kind dst.now src.now token.now }
 {
-    dst.len() <= 20 && (kind == 4 || src.len() <= 20) && (kind != 0 || token.len() < 1 << 62)
+    dst.len() <= 20 && (kind == SHORT || src.len() <= 20) && (kind != INITIAL || token.len() < 1 << 62)
 }
 
 // Whether a header of the kind can have these fields, ids and token.
@@ -55,8 +57,8 @@ fn are_parts(kind: u8, dst: &[u8], src: &[u8], token: &[u8]) -> bool
 fn is_shaped(words: &HeaderFields, dst: &[u8], src: &[u8], token: &[u8]) -> bool
     ensures { IsTrue result ↔ IsShaped words.now dst.now src.now token.now }
 {
-    words.kind <= 5
-        && (words.kind >= 4 || words.version != 0)
+    words.kind <= VERSION_NEGOTIATION
+        && (words.kind >= SHORT || words.version != 0)
         && is_numbered(words)
         && are_parts(words.kind, dst, src, token)
 }
@@ -66,8 +68,8 @@ fn has_possible_numbers(words: &HeaderFields) -> bool
     requires { words.now.kind ≤ 5 }
     ensures { IsTrue result ↔ HasPossibleNumbers words.now }
 {
-    (words.kind >= 4 || words.version != 0)
-        && (words.kind == 3 || words.kind == 5 || words.number < 1 << 62)
+    (words.kind >= SHORT || words.version != 0)
+        && (words.kind == RETRY || words.kind == VERSION_NEGOTIATION || words.number < 1 << 62)
 }
 
 // Why no header with these fields can be written, if none can.
@@ -75,7 +77,7 @@ fn has_possible_numbers(words: &HeaderFields) -> bool
 fn why_not(words: &HeaderFields) -> Failure
     ensures { IsReason words.now result }
 {
-    if words.kind > 5 {
+    if words.kind > VERSION_NEGOTIATION {
         Failure::Kind
     } else if has_possible_numbers(words) {
         Failure::Length
@@ -90,7 +92,7 @@ fn source_of<'a>(kind: u8, src: &'a [u8]) -> &'a [u8]
     ensures has { kind ≢ 4 → result.now ≡ src.now }
     ensures none { kind ≡ 4 → result.now ≡ [] }
 {
-    if kind == 4 { &[] } else { src }
+    if kind == SHORT { &[] } else { src }
 }
 
 // The token, if the header has one.
@@ -99,7 +101,7 @@ fn token_of<'a>(kind: u8, token: &'a [u8]) -> &'a [u8]
     ensures has { kind ≡ 0 → result.now ≡ token.now }
     ensures none { kind ≢ 0 → result.now ≡ [] }
 {
-    if kind == 0 { token } else { &[] }
+    if kind == INITIAL { token } else { &[] }
 }
 
 // The part of a number that is written, in one to four bytes.
@@ -354,12 +356,12 @@ pub extern "C" fn quic_wire_header_write_(
     ensures { WritesHeader words.now dst.now src.now token.now dest.old result dest.new }
 {
     match words.kind {
-        0 => write_as(HeaderKind::Initial, words, dst, src, token, dest),
-        1 => write_as(HeaderKind::ZeroRtt, words, dst, src, token, dest),
-        2 => write_as(HeaderKind::Handshake, words, dst, src, token, dest),
-        3 => write_as(HeaderKind::Retry, words, dst, src, token, dest),
-        4 => write_as(HeaderKind::Short, words, dst, src, token, dest),
-        5 => write_as(HeaderKind::VersionNegotiate, words, dst, src, token, dest),
+        INITIAL => write_as(HeaderKind::Initial, words, dst, src, token, dest),
+        ZERO_RTT => write_as(HeaderKind::ZeroRtt, words, dst, src, token, dest),
+        HANDSHAKE => write_as(HeaderKind::Handshake, words, dst, src, token, dest),
+        RETRY => write_as(HeaderKind::Retry, words, dst, src, token, dest),
+        SHORT => write_as(HeaderKind::Short, words, dst, src, token, dest),
+        VERSION_NEGOTIATION => write_as(HeaderKind::VersionNegotiate, words, dst, src, token, dest),
         _ => i64::from(why_not(words).number()),
     }
 }

@@ -9,7 +9,7 @@ use Rattle.quic_params.specs.Further.{AreInOrder, AreOthers, IsOrderOf, asked, l
 use Rattle.quic_params.specs.Meaning.{IsReadAnswer}
 use Rattle.quic_params.specs.Options.{as_quinn}
 use Rattle.quic_params.specs.Table.{parameter_count}
-use Rattle.quic_c_params.specs.declared.words.CEntry.{CEntry}
+use Rattle.quic_c_params.specs.declared.words.CParam.{CParam}
 use Rattle.quic_c_params.specs.declared.words.CParams.{CParams}
 use Rattle.quic_c_params.specs.Written.{CanWriteParams}
 
@@ -20,19 +20,19 @@ TellsKnown known number = ((known ≡ 1) × (id : TransportParameterId) × IsKno
 
 -- The struct describes the entry at the front of a list: its number, and the byte range of its value, after which the
 -- next entry begins.
-pub record GivesParameter (list : List ℕ) (words : CEntry) : Type 0 where
+pub record GivesParameter (list : List ℕ) (words : CParam) : Type 0 where
   pub entry : Takes (IsEntry words.id (take words.value_len (drop words.value list))) list
       (drop (words.value + words.value_len) list)
   pub within : words.value + words.value_len ≤ length list
 
 -- The struct describes that entry, whose value is this number in some width.
-pub record GivesNumber (list : List ℕ) (words : CEntry) (number : ℕ) : Type 0 where
+pub record GivesNumber (list : List ℕ) (words : CParam) (number : ℕ) : Type 0 where
   pub entry : GivesParameter list words
   pub value : Encodes number (take words.value_len (drop words.value list))
 
 -- No entry is whole at the front, or the value of the one that is there is no number.
 abbrev pub HasNoNumber : List ℕ → Type 0
-HasNoNumber list = IsCutEntry list ⊎ ((words : CEntry) × GivesParameter list words
+HasNoNumber list = IsCutEntry list ⊎ ((words : CParam) × GivesParameter list words
     × ((number : ℕ) → ¬ (Encodes number (take words.value_len (drop words.value list)))))
 
 -- The bytes were written at the front, those after them didn't change, and their count is given; or there is less room

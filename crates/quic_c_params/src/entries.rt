@@ -6,7 +6,7 @@ ghost use Rattle.quic_params.specs.Writing.{entry_header, shortest_entry};
 ghost use Rattle.quic_c_params.specs.Lists.{GivesNumber, GivesParameter, HasNoNumber, BytesNeedMore, WroteBytes, TellsKnown};
 ghost use Rattle.quic_results.specs.Results.{failed};
 
-use crate::words::CEntry;
+use crate::words::CParam;
 use quic_params::transport_parameters::{
     known, split_entry, value_number, write_entry_header_into, write_entry_into,
     write_number_entry_into,
@@ -30,7 +30,7 @@ pub extern "C" fn quic_wire_param_is_known_(id: u64) -> u32
 /// and the length of its value; 0 exactly if the list is empty; `ParametersMalformed` exactly if its first entry is cut
 /// off. `entry` changes only with the first. Whether the value is valid for its parameter isn't tested.
 #[unsafe(no_mangle)]
-pub extern "C" fn quic_wire_param_read_(list: &[u8], entry: &mut CEntry) -> i64
+pub extern "C" fn quic_wire_param_read_(list: &[u8], entry: &mut CParam) -> i64
     ensures { (result ≡ pos (entry.new.value + entry.new.value_len)) × GivesParameter list.now entry.new
         ⊎ (result ≡ pos 0) × (list.now ≡ []) × (entry.new ≡ entry.old)
         ⊎ (result ≡ failed Failure.ParametersMalformed) × IsCutEntry list.now × (entry.new ≡ entry.old) }
@@ -42,7 +42,7 @@ pub extern "C" fn quic_wire_param_read_(list: &[u8], entry: &mut CEntry) -> i64
         return i64::from(Failure::ParametersMalformed.number());
     };
     let end = list.len() - rest.len();
-    *entry = CEntry {
+    *entry = CParam {
         id,
         value: end - value.len(),
         value_len: value.len(),
@@ -91,7 +91,7 @@ pub extern "C" fn quic_wire_param_write_(
 }
 
 // The number that the value of the entry in front is.
-fn number_of(list: &[u8], read: &CEntry) -> Option<u64>
+fn number_of(list: &[u8], read: &CParam) -> Option<u64>
     requires { GivesParameter list.now read.now }
     ensures { MatchOption result (HasNoNumber list.now) (GivesNumber list.now read.now) }
 {
@@ -108,7 +108,7 @@ fn number_of(list: &[u8], read: &CEntry) -> Option<u64>
 #[unsafe(no_mangle)]
 pub extern "C" fn quic_wire_param_read_number_(
     list: &[u8],
-    entry: &mut CEntry,
+    entry: &mut CParam,
     value: &mut u64,
 ) -> i64
     ensures { (result ≡ pos (entry.new.value + entry.new.value_len)) × GivesNumber list.now entry.new value.new
@@ -116,7 +116,7 @@ pub extern "C" fn quic_wire_param_read_number_(
         ⊎ (result ≡ failed Failure.ParametersMalformed) × HasNoNumber list.now × (entry.new ≡ entry.old)
         × (value.new ≡ value.old) }
 {
-    let mut read = CEntry {
+    let mut read = CParam {
         id: 0,
         value: 0,
         value_len: 0,

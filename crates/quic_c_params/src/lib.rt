@@ -11,4 +11,4 @@ mod show;
 mod words;
 mod write;
 
-pub use words::{CEntry, CParams, CRefusal};
+pub use words::{CParam, CParams, CRefusal};

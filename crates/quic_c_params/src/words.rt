@@ -70,7 +70,7 @@ pub struct CParams {
 /// An entry of a list of parameters (RFC 9000, section 18).
 #[repr(C)]
 #[derive(Clone, Copy, PartialEq, Eq)]
-pub struct CEntry {
+pub struct CParam {
     /// Its number, below 2^62.
     pub id: u64,
     /// The offset of its value in the bytes that were read.
@@ -92,6 +92,6 @@ pub struct CRefusal {
 // The sizes that every declaration of these structs in C must have.
 const _: () = prove!(std::mem::size_of::<CParams>() == 264);
 
-const _: () = prove!(std::mem::size_of::<CEntry>() == 24);
+const _: () = prove!(std::mem::size_of::<CParam>() == 24);
 
 const _: () = prove!(std::mem::size_of::<CRefusal>() == 16);

@@ -4,8 +4,8 @@ ghost use Rattle.std.specs.Prelude.{◌≡◌, ◌<◌, ◌^◌, ◌↔◌, IsTr
 use quic_base::ids::{ConnectionId, Dir, Side, StreamId};
 use quic_base::laws;
 
-/// Whether two streams are the same one, by who opened each, its direction and its index (RFC 9000, section 2.1): exactly
-/// if all three are equal. Indices must be below 2^60.
+/// Whether two streams are the same one, by who opened each, its direction and its index (RFC 9000, section 2.1):
+/// exactly if all three are equal. Indices must be below 2^60.
 pub fn is_same_stream(one: (Side, Dir, u64), other: (Side, Dir, u64)) -> bool
     requires one { one.2 < 2 ^ 60 }
     requires other { other.2 < 2 ^ 60 }

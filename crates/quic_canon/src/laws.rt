@@ -43,8 +43,8 @@ pub fn one_least()
     least_encoding();
 }
 
-/// A payload that is written from frames is canonical: `canonical` appends exactly its bytes, and `canonical_of` returns
-/// it without a copy. A sealed packet has such a payload.
+/// A payload that is written from frames is canonical: `canonical` appends exactly its bytes, and `canonical_of`
+/// returns it without a copy. A sealed packet has such a payload.
 pub fn written_is_least()
     ensures { (frames : List Meaning) (payload : List ℕ) → frames ≢ [] → IsShortestOf frames payload
         → IsLeast payload payload }

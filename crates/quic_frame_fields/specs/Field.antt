@@ -23,7 +23,8 @@ pub data Field : Type 0 where
   Uint64 : Field
   -- sixteen bytes
   Bytes16 : Field
-  -- the ranges of an ACK whose greatest number is the first number before: their count minus one, and their blocks
+  -- an ACK's count of further ranges, the first range, and for each further one its gap and its length (section 19.3);
+  -- the first value before is the greatest number
   Blocks : Field
   -- all that is left
   Rest : Field
@@ -41,12 +42,12 @@ abbrev pub is_ordered : List Value → Bool
 is_ordered (Number first ∷ Number second ∷ []) = nat_le second first
 is_ordered _ = false
 
--- the number that an ACK's ranges begin at
+-- Largest Acknowledged, the first of an ACK's values
 abbrev pub greatest_of : List Value → ℕ
 greatest_of (Number greatest ∷ values) = greatest
 greatest_of _ = 0
 
--- Bytes that encode ranges below a range with the least number low: for each, how many numbers are between it and the
+-- Bytes that encode ranges below a range whose least number is low: for each, how many numbers are between it and the
 -- range above, minus one, and how many numbers it has, minus one (RFC 9000, section 19.3.1).
 abbrev pub AreBelow : ℕ → List (ℕ × ℕ) → List ℕ → Type 0
 AreBelow low [] bytes = bytes ≡ []
@@ -54,7 +55,7 @@ AreBelow low (range ∷ ranges) bytes =
     (gap block others : List ℕ) × (bytes ≡ gap ++ (block ++ others)) × (range.0 ≤ range.1) × (range.1 + 2 ≤ low)
     × Encodes (low - (range.1 + 2)) gap × Encodes (range.1 - range.0) block × AreBelow range.0 ranges others
 
--- the same, for the range that the greatest number ends and ranges below it
+-- Bytes that encode ranges, of which the first ends at the greatest number: its length, then the ranges below it.
 abbrev pub AreBlocks : ℕ → List (ℕ × ℕ) → List ℕ → Type 0
 AreBlocks greatest [] bytes = ⊥
 AreBlocks greatest (range ∷ ranges) bytes =
@@ -67,7 +68,7 @@ AreApart [] = ⊤
 AreApart (range ∷ []) = range.0 ≤ range.1
 AreApart (range ∷ below ∷ ranges) = (range.0 ≤ range.1) × (below.1 + 2 ≤ range.0) × AreApart (below ∷ ranges)
 
--- After fields with the values before, the bytes encode a field of this kind with these values.
+-- The bytes encode a field of this kind with these values, after fields with the values in before.
 abbrev pub IsField : Field → List Value → List Value → List ℕ → Type 0
 IsField Varint before values bytes = (n : ℕ) × (values ≡ Number n ∷ []) × Encodes n bytes
 IsField Counted before values bytes = (front back : List ℕ) × (values ≡ Bytes back ∷ []) × Encodes (length back) front
@@ -92,7 +93,8 @@ NoNumber bytes = (n : ℕ) → NoFront (Encodes n) bytes
 abbrev pub Begins : List ℕ → (ℕ → List ℕ → Type 0) → Type 0
 Begins bytes P = (n : ℕ) × (front back : List ℕ) × (bytes ≡ front ++ back) × Encodes n front × P n back
 
--- A number can't be read: it is cut off, or it would make a bound negative, or what comes after it can't be read.
+-- Why reading stops at a number or after it: the number is cut off; or it is so large that a range would begin below 0;
+-- or it is read, and reading stops at what follows.
 abbrev pub NumberStops : List ℕ → Fault → (ℕ → Bool) → (ℕ → List ℕ → Type 0) → Type 0
 NumberStops bytes reason is_large After =
     (NoNumber bytes × (reason ≡ UnexpectedEnd))
@@ -127,13 +129,14 @@ abbrev pub IsReason : Field → List Value → List ℕ → Fault → Type 0
 IsReason Blocks before bytes reason = BlocksStop (greatest_of before) bytes reason
 IsReason field before bytes reason = reason ≡ reason_of field bytes
 
--- No prefix of the bytes encodes such a field.
+-- No prefix of the bytes encodes such a field, and why.
 pub record Stops (field : Field) (before : List Value) (bytes : List ℕ) (reason : Fault) : Type 0 where
   pub no_front : (values : List Value) (front back : List ℕ) → bytes ≡ front ++ back → IsField field before values front
       → ⊥
   pub why : IsReason field before bytes reason
 
--- The bytes encode fields of these kinds, one after the other, by which the values grow from before to after.
+-- The bytes encode fields of these kinds, one after the other. Before are the values of the fields in front of them,
+-- after the same values and theirs.
 abbrev pub AreFields : List Field → List Value → List Value → List ℕ → Type 0
 AreFields [] before after bytes = (after ≡ before) × (bytes ≡ [])
 AreFields (field ∷ fields) before after bytes =

@@ -66,8 +66,8 @@ pub record HasLongType (strict : Bool) (bytes : List ℕ) (t : ℕ) : Type 0 whe
   pub encoded : Encodes t front
   pub long : front ≢ shortest_varint t
 
--- The type and the reason of the error if no frame begins here, after a frame of the given type: no type can be read;
--- or it must be in its shortest encoding and isn't; or it has no row; or a field of its row can't be read.
+-- Why no frame begins here, and the type that is reported: no type can be read, and the one before is reported; or the
+-- type must be in its shortest encoding and isn't; or it has no row; or a field of its row can't be read.
 abbrev pub IsNoFrame : Bool → Option ℕ → List ℕ → Option ℕ → Fault → Type 0
 IsNoFrame strict before bytes type reason =
     ((bytes ≢ []) × NoNumber bytes × (type ≡ before) × (reason ≡ UnexpectedEnd))

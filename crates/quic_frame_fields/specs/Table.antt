@@ -114,7 +114,7 @@ offset_field is_written = if is_written then Varint else Implied 0
 abbrev pub data_field : Bool → Field
 data_field is_counted = if is_counted then Counted else Rest
 
--- a STREAM, by the low three bits of its type: whether it ends the stream, then its id, offset and data
+-- A STREAM, given its type's low three bits. Its values are FIN, id, offset and data.
 abbrev pub stream_row : Bool → Bool → Bool → Row
 stream_row has_offset has_length fin = row Stream
     (Implied (if fin then 1 else 0) ∷ stream_id ∷ offset_field has_offset ∷ data_field has_length ∷ [])

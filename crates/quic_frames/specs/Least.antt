@@ -16,10 +16,11 @@ abbrev pub shortest_frames : List Meaning → List ℕ
 shortest_frames [] = []
 shortest_frames (frame ∷ frames) = shortest_frame (is_end frames) frame ++ shortest_frames frames
 
--- a frame without the type that it has in a payload, and with the type with which it is written
+-- a frame without the type that it has in a payload
 abbrev pub frame_in : TypedFrame → Meaning
 frame_in found = found.frame
 
+-- a frame with the type with which it is written
 abbrev pub as_written : Bool → Meaning → TypedFrame
 as_written last frame = record { type = written_type last frame.name frame.values; frame = frame }
 

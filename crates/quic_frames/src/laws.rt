@@ -46,8 +46,8 @@ pub fn one_reading()
         → AreFrames strict found bytes → AreFrames false found bytes }
 {}
 
-/// Appending bytes changes no result: frames that aren't open are read again, and then what follows them; an error other
-/// than `unexpected end` is reported again, after the same frames, with the same type and reason.
+/// Appending bytes changes no result: frames that aren't open are read again, and then what follows them; an error
+/// other than `unexpected end` is reported again, after the same frames, with the same type and reason.
 pub fn lasting()
     ensures frames { (strict : Bool) (found : List TypedFrame) (bytes more : List ℕ) (rest : Reading)
         → IsReadingOf strict bytes (Complete found) → AreClosed found

@@ -65,8 +65,8 @@ IsId values bytes = (id : List ℕ) × (values ≡ Bytes id ∷ []) × (length i
 abbrev pub IsVarint : List HeaderValue → List ℕ → Type 0
 IsVarint values bytes = (n : ℕ) × (values ≡ Number n ∷ []) × Encodes n bytes
 
--- After fields with the values before, and in front of rest, the bytes are a field of this kind, with these values. The
--- value of a token is how many bytes follow it, which determines its offset.
+-- After fields with the values in before, and in front of rest, the bytes are a field of this kind, with these values.
+-- The value of a token is the number of bytes after it, which gives its offset.
 abbrev pub IsHeaderField : DecodeOptions → HeaderField → List HeaderValue → List HeaderValue → List ℕ → List ℕ → Type 0
 IsHeaderField options Version before values bytes rest = (n : ℕ) × (values ≡ Number n ∷ []) × IsNumber 4 n bytes
 IsHeaderField options DestinationId before values bytes rest = IsId values bytes
@@ -80,7 +80,7 @@ IsHeaderField options Length before values bytes rest = IsVarint values bytes
 IsHeaderField options ShortId before values bytes rest =
     (id : List ℕ) × (values ≡ Bytes id ∷ []) × (options.parsed (bytes ++ rest) ≡ Ok (id, length bytes))
 
--- The error if the bytes don't begin with such a field.
+-- The error if the bytes don't begin with such a field. A version is looked up after both ids were read.
 abbrev pub refusal_at : HeaderField → List HeaderValue → Refusal
 refusal_at DestinationId before = Invalid (codes "malformed cid")
 refusal_at SourceId before = Invalid (codes "malformed cid")
@@ -107,7 +107,7 @@ AreHeaderFields options (field ∷ fields) before after bytes rest =
     (values : List HeaderValue) × (left : List ℕ) × BeginsWithField options field before values bytes left
     × AreHeaderFields options fields (before ++ values) after left rest
 
--- The bytes do not begin with such a field.
+-- The bytes don't begin with such a field, and why.
 pub record StopsAtField (options : DecodeOptions) (field : HeaderField) (before : List HeaderValue) (bytes : List ℕ)
     (e : Refusal) : Type 0 where
   pub none : (values : List HeaderValue) (rest : List ℕ) → BeginsWithField options field before values bytes rest → ⊥
@@ -123,8 +123,8 @@ StopsWithinRow options (field ∷ fields) before bytes e =
 
 -- ---- headers
 
--- The header for a first byte and the values of its row. The spin bit is 0x20 (section 17.3.1). Offsets are counted
--- from the end of the datagram, of this length.
+-- The header for a first byte and the values of its row. The spin bit is 0x20 (section 17.3.1). Offsets
+-- follow from how many bytes of a datagram of this length are left.
 abbrev pub IsHeader : ℕ → ℕ → List HeaderValue → ProtectedHeader → Type 0
 IsHeader datagram_len first values (protected.Short spin dst) =
     (is_long first ≡ false) × (spin ≡ has_bit 0x20 first) × (values ≡ Bytes dst ∷ [])
@@ -164,7 +164,7 @@ IsKnownVersion options version = (version ≢ 0) × Contains options.versions ve
 
 -- ---- packets
 
--- a packet of q bytes begins the datagram, and its header ends at p
+-- a packet of q bytes begins the datagram, and its header without the number ends at p
 abbrev pub Cut : DecodeOptions → List ℕ → ProtectedHeader → ℕ → ℕ → Type 0
 Cut options bytes h p q =
     (rest : List ℕ) × HeaderAt options (length bytes) bytes h rest × (p + length rest ≡ length bytes)

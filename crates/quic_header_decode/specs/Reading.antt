@@ -23,7 +23,7 @@ pub record DecodeOptions : Type 0 where
 abbrev pub read_by : (List ℕ → Result (List ℕ × ℕ) Refusal) → List ℕ → Bool → DecodeOptions
 read_by parsed versions grease = record { parsed = parsed; versions = versions; grease = grease }
 
--- the ids of short headers are among the bytes that are there
+-- the parser takes no more bytes than there are
 abbrev pub TakesWithin : DecodeOptions → Type 0
 TakesWithin options = (text id : List ℕ) (count : ℕ) → options.parsed text ≡ Ok (id, count) → count ≤ length text
 

@@ -3,7 +3,7 @@ ghost use Rattle.std.specs.Prelude.{◌≡◌, ◌+◌, ◌<◌, ◌≤◌, ◌�
 ghost use Rattle.std.specs.List.{list_any};
 ghost use Rattle.quic_header_encode.specs.Writing.{IsTyped};
 ghost use Rattle.quic_header_decode.specs.Reading.{Reads, wide_id_at, word_at};
-ghost use Rattle.quic_header_decode.specs.Places.{any_fixed, ends_at, seen_in, type_placed, ArePlacesWithin, IsSeen, ReadAnswer};
+ghost use Rattle.quic_header_decode.specs.Places.{any_fixed, ends_at, seen_in, src_part, type_placed, ArePlacesWithin, IsSeen, ReadAnswer};
 ghost use Rattle.quic_header_decode.specs.Reading.{wide_at, wide_header_at, typed_at};
 
 pub use crate::fields::Place;
@@ -235,8 +235,7 @@ fn read_typed(
     requires typed { IsTyped kind }
     requires front { ArePlacesWithin HeaderKind.Retry front (length bytes.now) }
     ensures exact { typed_at (type_placed kind) (length bytes.now) (slice_range bytes.now 6 (6 + front.dst_len))
-        (slice_range bytes.now (6 + front.dst_len + 1) (6 + front.dst_len + 1 + front.src_len)) front.version
-        (drop front.header_end bytes.now)
+        (src_part bytes.now front) front.version (drop front.header_end bytes.now)
         ≡ seen_in bytes.now result }
     ensures seen { IsSeen result (length bytes.now) }
     ensures first { IfOk result (λ x. x.first ≡ front.first) }

@@ -24,7 +24,7 @@ pub struct ProtectedInitialHeader {
     pub token_pos: Range<usize>,
     /// How many bytes the packet has after its header, including those of the packet number.
     pub len: u64,
-    /// The version of QUIC.
+    /// The version (RFC 9000, section 15).
     pub version: u32,
 }
 
@@ -43,7 +43,7 @@ pub enum ProtectedHeader {
         src_cid: ConnectionId,
         /// How many bytes the packet has after its header, including those of the packet number.
         len: u64,
-        /// The version of QUIC.
+        /// The version (RFC 9000, section 15).
         version: u32,
     },
     /// The header of a Retry packet (RFC 9000, section 17.2.5). Its token and tag follow it.
@@ -52,7 +52,7 @@ pub enum ProtectedHeader {
         dst_cid: ConnectionId,
         /// The sender's id.
         src_cid: ConnectionId,
-        /// The version of QUIC.
+        /// The version (RFC 9000, section 15).
         version: u32,
     },
     /// The header of a 1-RTT packet (RFC 9000, section 17.3.1).

@@ -62,6 +62,10 @@ place_in h = option_map (λ number. (number_size number, has_length h)) (number_
 abbrev pub size_in : Header → ℕ
 size_in h = option_map_or number_size (number_in h) 0
 
+-- where the number of a header begins: at its end, less the number
+abbrev pub number_place : Header → ℕ
+number_place h = header_size h - size_in h
+
 -- all packets have a number except Retry and version negotiation
 abbrev pub has_number : Header → Bool
 has_number h = (fields_of h).row.has_number

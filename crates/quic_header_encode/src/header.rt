@@ -19,7 +19,7 @@ pub struct InitialHeader {
     pub token: Bytes,
     /// The truncated packet number.
     pub number: PacketNumber,
-    /// The version of QUIC.
+    /// The version (RFC 9000, section 15).
     pub version: u32,
 }
 
@@ -39,7 +39,7 @@ pub enum Header {
         src_cid: ConnectionId,
         /// The truncated packet number.
         number: PacketNumber,
-        /// The version of QUIC.
+        /// The version (RFC 9000, section 15).
         version: u32,
     },
     /// The header of a Retry packet (RFC 9000, section 17.2.5). Its token and tag follow it.
@@ -48,7 +48,7 @@ pub enum Header {
         dst_cid: ConnectionId,
         /// The sender's id.
         src_cid: ConnectionId,
-        /// The version of QUIC.
+        /// The version (RFC 9000, section 15).
         version: u32,
     },
     /// The header of a 1-RTT packet (RFC 9000, section 17.3.1).

@@ -87,7 +87,7 @@ pub struct HeaderRef<'a, I> {
     /// the fixed bit (RFC 9287). In short headers: 0x40, or 0 to clear the fixed bit, plus 0x20 for the spin bit and
     /// 0x04 for the key phase. In a version negotiation: the whole byte, with 0x80 set.
     pub first: u8,
-    /// The version of QUIC. Short headers and version negotiations have none.
+    /// The version (RFC 9000, section 15). Short headers and version negotiations have none.
     pub version: u32,
     /// The receiver's id.
     pub dst_cid: I,

@@ -28,7 +28,7 @@ use Rattle.quic_packets.specs.Opening.{
   ExpandsIn,
   IsCutUnopened,
   IsDecode,
-  IsReadBack,
+  IsReadable,
   NextAnswer,
   OpenedPacket,
   Opening,
@@ -127,7 +127,7 @@ sealed_cut found contents packet =
 record Given (key : KeyPair) (options : DecodeOptions) (expected : ℕ) (contents : PacketContents) (packet rest : List ℕ) : Type 0 where
   laws : IsLawful key
   sealed : Sealed key contents packet
-  read : IsReadBack options contents.header rest
+  read : IsReadable options contents.header rest
   number : ExpandsIn contents.header expected contents.number
 
 abbrev FoundOf : KeyPair → DecodeOptions → PacketContents → List ℕ → List ℕ → Type 0
@@ -141,7 +141,7 @@ found_of key options expected contents packet rest given =
     given.sealed given.read
 
 top_length : (key : KeyPair) (options : DecodeOptions) (contents : PacketContents) (rest : List ℕ)
-    → IsReadBack options contents.header rest
+    → IsReadable options contents.header rest
     → length (sealed_header key.tag_size contents.header contents.payload) ≡ header_size contents.header
 top_length key options contents rest read =
     header_length contents.header (bytes_of 2 (2 ^ 14 + protected_len key.tag_size contents.header contents.payload))

@@ -32,7 +32,7 @@ use Rattle.quic_header_encode.specs.Kinds.{bit_value}
 use Rattle.quic_header_encode.specs.Writing.{header_size, size_in, has_number}
 use Rattle.quic_packets.specs.Pairs.{KeyPair}
 use Rattle.quic_packets.specs.Sealing.{sealed_header, protected_len}
-use Rattle.quic_packets.specs.Opening.{IsReadBack}
+use Rattle.quic_packets.specs.Opening.{IsReadable}
 use Rattle.quic_packets.proofs.Sealings.{SealedOf, plain_of, long_first, number_length, front_length, header_length, size_within, middle}
 use Rattle.quic_header_encode.proofs.Sizes.{long_length}
 use Rattle.quic_packets.proofs.Parts.{length_encoded}
@@ -154,7 +154,7 @@ joined front len behind rest = append_assoc (front ++ len) behind rest ∙ appen
 long_sealed : (seal : KeyPair) (key : KeyPair) → Lawful seal key
     → (options : DecodeOptions) (ty : LongType) (dst src : List ℕ) (number : PacketNumber) (version n : ℕ) (payload packet rest : List ℕ)
     → SealedOf seal (header.Long ty dst src number version) n payload packet
-    → IsReadBack options (header.Long ty dst src number version) rest
+    → IsReadable options (header.Long ty dst src number version) rest
     → Found seal key options (header.Long ty dst src number version) n payload packet rest
 long_sealed seal key laws options ty dst src number version n payload packet rest sealed read =
     let h : Header = header.Long ty dst src number version in
@@ -228,7 +228,7 @@ long_sealed seal key laws options ty dst src number version n payload packet res
 
 initial_sealed : (seal : KeyPair) (key : KeyPair) → Lawful seal key
     → (options : DecodeOptions) (i : InitialHeader) (n : ℕ) (payload packet rest : List ℕ)
-    → SealedOf seal (header.Initial i) n payload packet → IsReadBack options (header.Initial i) rest
+    → SealedOf seal (header.Initial i) n payload packet → IsReadable options (header.Initial i) rest
     → Found seal key options (header.Initial i) n payload packet rest
 initial_sealed seal key laws options i n payload packet rest sealed read =
     let h : Header = header.Initial i in
@@ -401,7 +401,7 @@ short_byte false false size b low up h =
 short_sealed : (seal : KeyPair) (key : KeyPair) → Lawful seal key
     → (options : DecodeOptions) (spin key_phase : Bool) (dst : List ℕ) (number : PacketNumber) (n : ℕ) (payload packet rest : List ℕ)
     → SealedOf seal (header.Short spin key_phase dst number) n payload packet
-    → IsReadBack options (header.Short spin key_phase dst number) rest
+    → IsReadable options (header.Short spin key_phase dst number) rest
     → Found seal key options (header.Short spin key_phase dst number) n payload packet rest
 short_sealed seal key laws options spin key_phase dst number n payload packet rest sealed read =
     let h : Header = header.Short spin key_phase dst number in
@@ -463,7 +463,7 @@ short_sealed seal key laws options spin key_phase dst number n payload packet re
 
 pub sealed_found : (seal : KeyPair) (key : KeyPair) → Lawful seal key
     → (options : DecodeOptions) (h : Header) (n : ℕ) (payload packet rest : List ℕ)
-    → SealedOf seal h n payload packet → IsReadBack options h rest → Found seal key options h n payload packet rest
+    → SealedOf seal h n payload packet → IsReadable options h rest → Found seal key options h n payload packet rest
 sealed_found seal key laws options (header.Initial i) n payload packet rest sealed read =
     initial_sealed seal key laws options i n payload packet rest sealed read
 sealed_found seal key laws options (header.Long ty dst src number version) n payload packet rest sealed read =
@@ -474,7 +474,7 @@ sealed_found seal key laws options (header.Short spin key_phase dst number) n pa
 sealed_found seal key laws options (header.VersionNegotiate random src dst) n payload packet rest sealed read =
     absurd read
 
-pub read_numbered : (options : DecodeOptions) (h : Header) (rest : List ℕ) → IsReadBack options h rest
+pub read_numbered : (options : DecodeOptions) (h : Header) (rest : List ℕ) → IsReadable options h rest
     → IsTrue (has_number h)
 read_numbered options (header.Initial i) rest read = refl
 read_numbered options (header.Long ty dst src number version) rest read = refl

@@ -165,22 +165,22 @@ pub data OpensRow (opening : Opening) : List ℕ → List OpenedPacket → Optio
 -- ---- sealed bytes
 
 -- a header that is read back if these bytes follow its packet
-abbrev pub IsReadBack : DecodeOptions → Header → List ℕ → Type 0
-IsReadBack options (header.Initial h) rest =
+abbrev pub IsReadable : DecodeOptions → Header → List ℕ → Type 0
+IsReadable options (header.Initial h) rest =
     (h.version < 2 ^ 32) × IsKnownVersion options h.version × (length h.dst_cid ≤ 20) × (length h.src_cid ≤ 20)
-IsReadBack options (header.Long ty dst src number version) rest =
+IsReadable options (header.Long ty dst src number version) rest =
     (version < 2 ^ 32) × IsKnownVersion options version × (length dst ≤ 20) × (length src ≤ 20)
-IsReadBack options (header.Retry dst src version) rest = ⊥
-IsReadBack options (header.Short spin key_phase dst number) rest =
+IsReadable options (header.Retry dst src version) rest = ⊥
+IsReadable options (header.Short spin key_phase dst number) rest =
     (rest ≡ []) × ((tail : List ℕ) → options.parsed (dst ++ tail) ≡ Ok (dst, length dst))
-IsReadBack options (header.VersionNegotiate random src dst) rest = ⊥
+IsReadable options (header.VersionNegotiate random src dst) rest = ⊥
 
 -- The bytes begin with a packet that was sealed with the keys of its space, whose header is read back, and whose number
 -- is derived from the expected one; rest follows it.
 pub record BeginsSealed (opening : Opening) (bytes : List ℕ) (contents : PacketContents) (rest : List ℕ) : Type 0 where
   pub packet : List ℕ
   pub sealed : Sealed (opening.keys (space_in contents.header)) contents packet
-  pub read : IsReadBack opening.options contents.header rest
+  pub read : IsReadable opening.options contents.header rest
   pub number : ExpandsIn contents.header (opening.expected (space_in contents.header)) contents.number
   pub text : bytes ≡ packet ++ rest
 

@@ -9,16 +9,18 @@ use Rattle.quic_packets.specs.declared.keys.Keys.{Keys}
 use Rattle.quic_packets.specs.declared.keys.SpaceKeys.{SpaceKeys}
 use Rattle.quic_packets.specs.declared.keys.Expected.{Expected}
 
--- What a header key and a packet key do (RFC 9001, sections 5.3 and 5.4): how many bytes are sampled; how many bytes
--- longer a sealed payload is; a packet, whose number begins at an offset, with its header protected, and with that
--- protection removed; the sealed payload for a number, a header and a payload; and the payload for a number, a header
--- and a sealed payload, if they belong together.
+-- what a header key and a packet key do (RFC 9001, sections 5.3 and 5.4)
 pub record KeyPair : Type 0 where
+  -- how many bytes are sampled
   pub sample_len : ℕ
+  -- how many bytes longer a sealed payload is
   pub tag_size : ℕ
+  -- a packet whose number begins at an offset, with its header protected, and with that protection removed
   pub protected : ℕ → List ℕ → List ℕ
   pub unprotected : ℕ → List ℕ → List ℕ
+  -- the sealed payload for a number, a header and a payload
   pub sealed : ℕ → List ℕ → List ℕ → List ℕ
+  -- the payload for a number, a header and a sealed payload, if they belong together
   pub opened : ℕ → List ℕ → List ℕ → Option (List ℕ)
 
 -- The laws of a pair of keys, as the traits of keys state them: protecting changes only a header's low bits and its

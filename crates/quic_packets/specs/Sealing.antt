@@ -11,7 +11,7 @@ use Rattle.quic_header_encode.specs.Kinds.{number_in}
 use Rattle.quic_packets.specs.declared.seal.SealError.{SealError}
 use Rattle.quic_packets.specs.declared.seal.SealError.TheVariants as refusal
 use Rattle.quic_packets.specs.Pairs.{KeyPair}
-use Rattle.quic_header_encode.specs.Writing.{header_with, header_size, IsWritable, size_in, has_length}
+use Rattle.quic_header_encode.specs.Writing.{header_with, header_size, IsWritable, number_place, size_in, has_length}
 
 -- what is in a packet
 pub record PacketContents : Type 0 where
@@ -40,8 +40,8 @@ plain_packet keys packet =
 
 -- The bytes are a packet with these contents, sealed with these keys: the header can be written, and its number is the
 -- low part of the packet's, which is below 2^62; from the number on there are at least four bytes and the sample, and
--- fewer than 2^14 if the header has a length; the bytes are the header with its length, then protected, and the sealed
--- payload.
+-- fewer than 2^14 if the header has a length; the bytes are the header with its length and the sealed payload, with the
+-- header then protected.
 pub record Sealed (keys : KeyPair) (packet : PacketContents) (bytes : List ℕ) : Type 0 where
   pub writable : IsWritable packet.header
   pub low : IsLowPart packet.header packet.number
@@ -50,7 +50,7 @@ pub record Sealed (keys : KeyPair) (packet : PacketContents) (bytes : List ℕ) 
   pub short : IsTrue (has_length packet.header) → protected_len keys.tag_size packet.header packet.payload < 2 ^ 14
   pub are_bytes : AreBytes (plain_packet keys packet)
   pub payload_bytes : AreBytes packet.payload
-  pub text : bytes ≡ keys.protected (header_size packet.header - size_in packet.header) (plain_packet keys packet)
+  pub text : bytes ≡ keys.protected (number_place packet.header) (plain_packet keys packet)
 
 -- Why a packet isn't sealed with that much spare room: the first of these that holds, in this order. From the number on
 -- there are fewer than four bytes and the sample; there are 2^14 or more, and the header has a length; the spare room

@@ -26,8 +26,9 @@ pub fn one_packet()
         → Expands (low_part number) (window_of number) expected other → one ≡ other }
 {}
 
-/// A packet that was sealed with lawful keys can be opened with them, whatever bytes follow it. It is cut where it
-/// ends, its number's space is that of its header, and its header, number and payload are returned.
+/// A packet that was sealed with lawful keys can be opened with them: whatever bytes follow a long header's packet, and
+/// if nothing follows a short header's. It is cut where it ends, its number's space is that of its header, and its
+/// header, number and payload are returned.
 pub fn sealed_opens()
     ensures opens { (opening : Opening) (bytes : List ℕ) (contents : PacketContents) (rest : List ℕ)
         → IsLawful (opening.keys (space_in contents.header)) → BeginsSealed opening bytes contents rest

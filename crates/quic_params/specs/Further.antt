@@ -57,7 +57,10 @@ abbrev pub asked : ℕ → List ℕ → List ℕ
 asked count [] = upward 0 count
 asked count (first ∷ others) = first ∷ others
 
--- the list of a record with further entries, in an order
+-- the list of a record with further entries, in this order
+abbrev pub listed_in : TransportParameters → List Entry → List ℕ → List ℕ
+listed_in params further order = flat_map (λ index. get_or (encoded_entries params further) index []) order
+
+-- the same in an order that may be left open
 abbrev pub listed : TransportParameters → List Entry → List ℕ → List ℕ
-listed params further order = flat_map (λ index. get_or (encoded_entries params further) index [])
-    (asked (parameter_count + length further) order)
+listed params further order = listed_in params further (asked (parameter_count + length further) order)

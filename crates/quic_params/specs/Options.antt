@@ -19,5 +19,8 @@ in_any_width (K.Integer default) = K.Varint
 in_any_width kind = kind
 
 -- the kind by which a value is read: an integer in any width as other numbers are
+abbrev pub kind_in : Bool → Kind → Kind
+kind_in any_width kind = cond any_width (in_any_width kind) kind
+
 abbrev pub kind_read : ReadOptions → Kind → Kind
-kind_read options kind = cond options.any_width (in_any_width kind) kind
+kind_read options kind = kind_in options.any_width kind

@@ -1,6 +1,6 @@
 //! How lists of parameters are read.
 ghost use Rattle.std.specs.Prelude.{◌≡◌, ◌||◌};
-ghost use Rattle.quic_params.specs.Options.{as_quinn, kind_read};
+ghost use Rattle.quic_params.specs.Options.{as_quinn};
 
 use crate::parameter::Kind;
 
@@ -27,20 +27,6 @@ impl ReadOptions {
         any_width: true,
         no_repeats: true,
     };
-
-    // The kind by which a value is read.
-    #[inline(always)]
-    pub(crate) fn kind_read(self, kind: Kind) -> Kind
-        ensures { result ≡ kind_read self kind }
-    {
-        if !self.any_width {
-            return kind;
-        }
-        match kind {
-            Kind::Integer(_) => Kind::Varint,
-            _ => kind,
-        }
-    }
 
     // Whether a parameter that is there twice is rejected, from what its row says.
     #[inline(always)]

@@ -226,8 +226,8 @@ impl PreferredAddress {
     }
 
     /// Stores the value of `preferred_address`, of at most 61 bytes, at the front of a slice, and returns how many
-    /// bytes it has (RFC 9000, section 18.2); the bytes after them don't change. If the slice is shorter, and only then,
-    /// nothing changes, and the error is how many bytes are needed. It allocates no memory.
+    /// bytes it has (RFC 9000, section 18.2); the bytes after them don't change. If the slice is shorter, and only
+    /// then, nothing changes, and the error is how many bytes are needed. It allocates no memory.
     pub fn encode_into(&self, dest: &mut [u8]) -> Result<usize, usize>
         ensures count { IfOk result (λ n. n ≡ length (encoding (Value.Address self.now))) }
         ensures front { IfOk result (λ n. dest.new ≡ encoding (Value.Address self.now) ++ drop n dest.old) }

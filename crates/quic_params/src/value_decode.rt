@@ -6,7 +6,8 @@ ghost use Rattle.quic_base.specs.Codec.{NoFront};
 ghost use Rattle.quic_base.specs.Number.{IsNumber, IsOctets};
 ghost use Rattle.std.specs.Net.Addr.{ipv4_octets, ipv6_octets};
 ghost use Rattle.quic_params.specs.Record.{IsOfKind, Sets};
-ghost use Rattle.quic_params.specs.State.{FitsKind, PutsParameter};
+ghost use Rattle.quic_params.specs.Options.{kind_in};
+ghost use Rattle.quic_params.specs.State.{PutsParameter};
 ghost use Rattle.quic_params.specs.Table.{row_of};
 ghost use Rattle.quic_params.specs.Value.{IsAddressAnswer, IsNoValue};
 
@@ -60,20 +61,21 @@ impl TransportParameters {
         &mut self,
         id: TransportParameterId,
         kind: Kind,
+        any_width: bool,
         bytes: &[u8],
     ) -> Result<(), Error>
-        requires { FitsKind kind (row_of id).kind }
-        ensures ok { OnOk result (PutsParameter id kind bytes.now self.old self.new) }
-        ensures err { IfErr result (λ e. IsNoValue kind bytes.now e) }
+        requires { kind ≡ (row_of id).kind }
+        ensures ok { OnOk result (PutsParameter id (kind_in any_width kind) bytes.now self.old self.new) }
+        ensures err { IfErr result (λ e. IsNoValue (kind_in any_width kind) bytes.now e) }
     {
         match kind {
-            Kind::Integer(_) => {
+            Kind::Integer(_) if !any_width => {
                 let Some(n) = integer(bytes) else {
                     return Err(Error::Malformed);
                 };
                 self.set_number(id, n);
             }
-            Kind::Varint => {
+            Kind::Integer(_) | Kind::Varint => {
                 let Some(n) = value_number(bytes) else {
                     return Err(Error::Malformed);
                 };

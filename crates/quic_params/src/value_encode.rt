@@ -72,7 +72,7 @@ fn write_ip_v6<W: BufMut>(address: SocketAddrV6, out: &mut W) -> Result<(), NoRo
     write_bytes(&address.ip().octets(), out)
 }
 
-// One byte.
+// Writes one byte.
 pub(crate) fn write_u8<W: BufMut>(x: u8, out: &mut W) -> Result<(), NoRoom>
     ensures { WritesTo W.written W.spare (bytes_of 1 x) out.old out.new result }
 {

@@ -3,7 +3,7 @@ ghost use Rattle.std.specs.Prelude.{◌≡◌, ◌≤◌, ◌<◌, ◌^◌, ◌+
 ghost use Rattle.quic_header_encode.specs.Writing.{IsWritable};
 ghost use Rattle.quic_header_decode.specs.Grammar.{IsKnownVersion};
 ghost use Rattle.quic_header_decode.specs.Reading.{DecodeOptions};
-ghost use Rattle.quic_packets.specs.Opening.{ExpandsIn, IsReadBack};
+ghost use Rattle.quic_packets.specs.Opening.{ExpandsIn, IsReadable};
 ghost use Rattle.quic_packets.specs.Sealing.{IsLowPart};
 
 use bytes::Bytes;
@@ -57,7 +57,7 @@ pub fn handshake(version: u32) -> Header
     ensures low { IsLowPart result 0 }
     ensures found { ExpandsIn result 0 0 }
     ensures read { (context : DecodeOptions) (rest : List ℕ) → IsKnownVersion context version
-        → IsReadBack context result rest }
+        → IsReadable context result rest }
 {
     Header::Long {
         ty: LongType::Handshake,
@@ -76,7 +76,7 @@ pub fn short(id: &[u8], number: u64) -> Header
     ensures found { number ≤ 128 → ExpandsIn result 0 number }
     ensures read { (context : DecodeOptions)
         → ((tail : List ℕ) → context.parsed (id.now ++ tail) ≡ Ok (id.now, length id.now))
-        → IsReadBack context result [] }
+        → IsReadable context result [] }
 {
     Header::Short {
         spin: false,

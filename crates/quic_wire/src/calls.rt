@@ -206,8 +206,8 @@ fn are_typed(frames: &[Frame<'_>])
     }
 }
 
-/// Cuts a datagram that begins with a written Retry or version negotiation: its header is what was written, and the only
-/// error is that memory ran out.
+/// Cuts a datagram that begins with a written Retry or version negotiation: its header is what was written, and the
+/// only error is that memory ran out.
 pub fn cut_plain<P: ConnectionIdParser>(
     datagram: BytesMut,
     options: &DecodeOptions<'_, P>,

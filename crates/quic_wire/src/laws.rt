@@ -18,7 +18,7 @@ ghost use Rattle.quic_header_decode.specs.Reading.{DecodeOptions, TakesWithin};
 ghost use Rattle.quic_header_decode.specs.declared.protected.ProtectedHeader.{ProtectedHeader};
 ghost use Rattle.quic_header_encode.specs.Kinds.{space_in};
 ghost use Rattle.quic_header_encode.specs.Writing.{IsWritable, header_bytes, header_with, size_in};
-ghost use Rattle.quic_packets.specs.Opening.{BeginsSealed, IsReadBack, Opening, Opens, returned_by};
+ghost use Rattle.quic_packets.specs.Opening.{BeginsSealed, IsReadable, Opening, Opens, returned_by};
 ghost use Rattle.quic_packets.specs.Pairs.{IsLawful};
 ghost use Rattle.quic_packets.specs.Sealing.{PacketContents};
 ghost use Rattle.quic_params.specs.Meaning.{IsReadAnswer};
@@ -98,7 +98,7 @@ pub fn headers_again()
     // version, whatever the Length field's value and encoding; and a short header whose id the options' parser returns,
     // whatever follows the id.
     ensures numbered { (options : DecodeOptions) (header : Header) (count : ℕ) (len payload : List ℕ)
-        → IsWritable header → IsReadBack options header [] → Encodes count len
+        → IsWritable header → IsReadable options header [] → Encodes count len
         → let packet = header_with len header ++ payload in (read : ProtectedHeader) × (at : ℕ)
         × HeaderAt options (length packet) packet read (drop at packet)
         × IsOpenedBy true read at header packet (at + size_in header) }

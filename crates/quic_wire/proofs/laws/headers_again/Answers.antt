@@ -18,7 +18,7 @@ use Rattle.quic_header_encode.specs.declared.header.Header.TheVariants as header
 use Rattle.quic_header_encode.specs.declared.long_type.LongHeaderType.TheVariants as kind
 use Rattle.quic_packets.proofs.Opened.{number_there}
 use Rattle.quic_packets.proofs.Sealings.{middle}
-use Rattle.quic_packets.specs.Opening.{IsReadBack}
+use Rattle.quic_packets.specs.Opening.{IsReadable}
 use Rattle.quic_wire.specs.Plain.{IsPlainInRange}
 use Rattle.quic_wire.proofs.Numbered.{behind, long_first, long_low, regroup, short_first, short_low, short_phase, size_bounds}
 use Rattle.quic_wire.proofs.laws.headers_again.Goals as goal
@@ -49,7 +49,7 @@ pub returns-clause-numbered : goal.returns-clause-numbered
 returns-clause-numbered c = of
   where
     of : (options : DecodeOptions) (h : Header) (count : ℕ) (len payload : List ℕ) → IsWritable h
-        → IsReadBack options h [] → Encodes count len
+        → IsReadable options h [] → Encodes count len
         → (read : ProtectedHeader) × (at : ℕ)
         × HeaderAt options (length (header_with len h ++ payload)) (header_with len h ++ payload) read
         (drop at (header_with len h ++ payload))

@@ -147,20 +147,18 @@ fn show(
     }
 }
 
-// Stores a long header in `head`. It is a separate function, so that no registers are saved for a short header. It gets
-// the first byte from the packet, since a seventh argument would be on the stack.
+// Stores a long header in `head`. It is a separate function, so that no registers are saved for a short header.
 #[inline(never)]
-fn show_long(packet: &[u8], versions: &[u32], flags: u32, head: &mut CHeader) -> i64
+fn show_long(packet: &[u8], first: u8, versions: &[u32], flags: u32, head: &mut CHeader) -> i64
     requires whole { length packet.now < 2 ^ 32 }
-    requires begins { packet.now ≡ slice_index packet.now 0 ∷ drop 1 packet.now }
-    requires long { 128 ≤ slice_index packet.now 0 }
+    requires begins { packet.now ≡ first ∷ drop 1 packet.now }
+    requires long { 128 ≤ first }
     ensures reported { (outcome : Result ℕ Failure) × (result ≡ returned outcome)
         × ((id_len : ℕ) → Reported flags id_len versions.now packet.now head.old outcome head.new) }
     ensures length { result ≢ failed Failure.Length }
     ensures fixed { result ≢ failed Failure.PacketFixedBit }
 {
     distinct();
-    let first = packet[0];
     returned(show(packet, read_long(packet, first, versions), flags, head))
 }
 
@@ -257,7 +255,7 @@ pub extern "C" fn quic_wire_header_read_(
     }
     if let Some(first) = packet.first() {
         if *first >= 0x80 {
-            return show_long(packet, versions, flags, head);
+            return show_long(packet, *first, versions, flags, head);
         }
     }
     returned(show(

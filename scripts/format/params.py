@@ -132,7 +132,8 @@ def page():
         "Follows (AreEntries earlier) (IsEntry last.number last.bytes) bytes"))
     stated(ENTRY, "IsRepeat", "options id before", (
         "((options.no_repeats || (row_of id).once) ≡ true) × IsGiven id before"))
-    stated(OPTIONS, "kind_read", "options kind", "cond options.any_width (in_any_width kind) kind")
+    stated(OPTIONS, "kind_read", "options kind", "kind_in options.any_width kind")
+    stated(OPTIONS, "kind_in", "any_width kind", "cond any_width (in_any_width kind) kind")
     stated(OPTIONS, "in_any_width", "(K.Integer default)", "K.Varint")
     stated(OPTIONS, "as_quinn", "", "reading false false")
     stated(ENTRY, "Accepts", "Passed", (

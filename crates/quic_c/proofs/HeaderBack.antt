@@ -130,7 +130,7 @@ stream_of : (type : ℕ) (fin last : Bool) (id offset len read : ℕ) (behind : 
     ≡ shortest_varint type ++ shortest_varints (header_numbers type id offset read)
     → type < 16 → header_kind type ≡ 0x08 → is_stream type ≡ true → AreNumeric (header_numbers type id offset read)
     → (has_offset type ≡ false → offset ≡ 0) → (has_length type ≡ false → read ≡ length behind)
-    → (if has_fin type then 1 else 0) ≡ (if fin then 1 else 0)
+    → ◌≡◌ {A = ℕ} (if has_fin type then 1 else 0) (if fin then 1 else 0)
     → read ≡ (if not last then len else length behind) → OfStream fin last id offset len behind
 stream_of type fin last id offset len read behind shortest small kind is numeric no_offset no_length flags count = record {
   header = header_of type id offset read;

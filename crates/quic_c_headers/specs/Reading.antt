@@ -1,6 +1,6 @@
 -- Headers as C sees them, and what the call that reads them returns; version negotiation packets (RFC 9000, section
 -- 17.2.1), whose ids have up to 255 bytes (RFC 8999, section 6).
-use Rattle.std.specs.Prelude.{◌≡◌, ◌≢◌, ℕ, ◌+◌, ◌-◌, ◌<◌, ◌≤◌, ◌⊎◌, Bool, true, false, List, [], length, Result, Ok, Err, IfOk, slice_index, take, drop, unwrap_or, ◌%◌, ◌++◌, bit_xor, Contains, nat_le, nat_lt, ◌==◌, ◌&&◌, if◌then◌else◌}
+use Rattle.std.specs.Prelude.{◌≡◌, ◌≢◌, ℕ, ℤ, ◌+◌, ◌-◌, ◌<◌, ◌≤◌, ◌⊎◌, Bool, true, false, List, [], length, Result, Ok, Err, IfOk, slice_index, take, drop, unwrap_or, ◌%◌, ◌++◌, bit_xor, Contains, nat_le, nat_lt, ◌==◌, ◌&&◌, if◌then◌else◌}
 use Rattle.quic_header_encode.specs.Kinds.{row}
 use Rattle.quic_header_decode.specs.declared.fields.Place.{Place}
 use Rattle.quic_header_decode.specs.declared.places.HeaderPlaces.{HeaderPlaces}
@@ -16,6 +16,7 @@ use Rattle.quic_header_encode.specs.Writing.{header_bytes}
 use Rattle.std.specs.Option.{option_map_or}
 use Rattle.quic_results.specs.declared.results.Failure.{Failure}
 use Rattle.quic_results.specs.declared.results.Failure.TheVariants as failure
+use Rattle.quic_results.specs.Results.{returned}
 
 -- ---- what the flags mean: 0x10, the fixed bit may be clear (RFC 9287); 0x20, it is ignored in packets of versions
 -- other than those given, and in version negotiations (section 17.2.1); 0x40, a Retry must be complete
@@ -103,6 +104,11 @@ pub record Reported (flags id_len : ℕ) (versions packet : List ℕ) (old : CHe
   pub first : IfOk read (λ x. x.first ≡ slice_index packet 0)
   pub outcome_is : outcome ≡ outcome_of flags read (length packet)
   pub words : new ≡ header_words flags packet read old
+
+-- the number that is returned for it, and the fields
+abbrev pub IsReported : ℕ → ℕ → List ℕ → List ℕ → CHeader → ℤ → CHeader → Type 0
+IsReported flags id_len versions packet old result new =
+    (outcome : Result ℕ Failure) × (result ≡ returned outcome) × Reported flags id_len versions packet old outcome new
 
 -- ---- only the receiver's id
 

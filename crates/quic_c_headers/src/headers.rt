@@ -1,12 +1,12 @@
 //! Reads packet headers, which are still protected.
-ghost use Rattle.std.specs.Prelude.{◌≡◌, ◌≢◌, ◌+◌, ◌<◌, ◌≤◌, ◌⊎◌, ◌↔◌, ◌^◌, ◌∷◌, ℕ, Contains, List, [], IsTrue, MatchOption, Result, Ok, Err, drop, length, pos, slice_index, take};
+ghost use Rattle.std.specs.Prelude.{◌≡◌, ◌≢◌, ◌+◌, ◌<◌, ◌≤◌, ◌⊎◌, ◌↔◌, ◌^◌, ◌∷◌, ℕ, Contains, List, [], IsTrue, MatchOption, Result, Ok, Err, drop, length, pos, false, slice_index, take};
 ghost use Rattle.quic_base.specs.Number.{num};
 ghost use Rattle.quic_header_decode.specs.Grammar.{Cut, HeaderAt};
 ghost use Rattle.quic_header_decode.specs.Places.{any_fixed, ArePlacesWithin, IsSeen};
 ghost use Rattle.quic_header_decode.specs.declared.protected.ProtectedHeader.{ProtectedHeader};
 ghost use Rattle.quic_header_encode.specs.Kinds.{row};
 ghost use Rattle.quic_c_headers.specs.Headers.{word_of};
-ghost use Rattle.quic_c_headers.specs.Reading.{header_words, is_partial, outcome_of, token_in, IsOfVersion, IsReceiverAt, LacksFixedBit, Reported};
+ghost use Rattle.quic_c_headers.specs.Reading.{header_words, is_partial, outcome_of, token_in, IsOfVersion, IsReceiverAt, IsReported, LacksFixedBit, Reported};
 ghost use Rattle.quic_results.specs.Results.{failed, returned};
 
 use crate::words::{
@@ -153,8 +153,7 @@ fn show_long(packet: &[u8], first: u8, versions: &[u32], flags: u32, head: &mut 
     requires whole { length packet.now < 2 ^ 32 }
     requires begins { packet.now ≡ first ∷ drop 1 packet.now }
     requires long { 128 ≤ first }
-    ensures reported { (outcome : Result ℕ Failure) × (result ≡ returned outcome)
-        × ((id_len : ℕ) → Reported flags id_len versions.now packet.now head.old outcome head.new) }
+    ensures reported { (id_len : ℕ) → IsReported flags id_len versions.now packet.now head.old result head.new }
     ensures length { result ≢ failed Failure.Length }
     ensures fixed { result ≢ failed Failure.PacketFixedBit }
 {
@@ -207,6 +206,59 @@ fn lacks_fixed_bit(packet: &[u8], versions: &[u32], flags: u32) -> bool
     }
 }
 
+// Reads the header at the front, whatever its fixed bit is.
+#[inline(always)]
+fn read_any(packet: &[u8], id_len: u32, versions: &[u32], flags: u32, head: &mut CHeader) -> i64
+    requires whole { length packet.now < 2 ^ 32 }
+    requires few { id_len ≤ 20 }
+    ensures reported { IsReported flags id_len versions.now packet.now head.old result head.new }
+    ensures length { result ≢ failed Failure.Length }
+    ensures fixed { result ≢ failed Failure.PacketFixedBit }
+{
+    distinct();
+    if let Some(first) = packet.first() {
+        if *first >= 0x80 {
+            return show_long(packet, *first, versions, flags, head);
+        }
+    }
+    returned(show(
+        packet,
+        read_header(packet, id_len as usize, versions),
+        flags,
+        head,
+    ))
+}
+
+// Whether the fixed bit is clear, and the flags don't accept that in all packets.
+#[inline(always)]
+fn is_clear(packet: &[u8], flags: u32) -> bool
+    ensures { result ≡ false → (versions : List ℕ) → LacksFixedBit flags versions packet.now → ⊥ }
+{
+    match packet.first() {
+        Some(first) => *first / 0x40 % 2 == 0 && flags / 0x10 % 2 == 0,
+        None => false,
+    }
+}
+
+// Reads the header of a packet whose fixed bit is clear. It is a separate function, so that no registers are saved for
+// other packets.
+#[inline(never)]
+fn read_clear(packet: &[u8], id_len: u32, versions: &[u32], flags: u32, head: &mut CHeader) -> i64
+    requires whole { length packet.now < 2 ^ 32 }
+    requires few { id_len ≤ 20 }
+    ensures reported { (result ≡ failed Failure.PacketFixedBit)
+        ⊎ IsReported flags id_len versions.now packet.now head.old result head.new }
+    ensures length { result ≢ failed Failure.Length }
+    ensures fixed { (result ≡ failed Failure.PacketFixedBit) ↔ LacksFixedBit flags versions.now packet.now }
+    ensures same { result ≡ failed Failure.PacketFixedBit → head.new ≡ head.old }
+{
+    distinct();
+    if lacks_fixed_bit(packet, versions, flags) {
+        return i64::from(Failure::PacketFixedBit.number());
+    }
+    read_any(packet, id_len, versions, flags, head)
+}
+
 /// Reads the header of the packet at the front of the bytes, whether the packet is complete or ends after its header
 /// (RFC 9000, section 17). Ids of short headers have `id_len` bytes. For versions other than `versions` only the ids
 /// are read. It returns the offset at which the packet ends, with its header; `PacketCut`, with the header of a packet
@@ -231,8 +283,7 @@ pub extern "C" fn quic_wire_header_read_(
     ensures fixed { (result ≡ failed Failure.PacketFixedBit)
         ↔ (length packet.now < 2 ^ 32) × (id_len ≤ 20) × LacksFixedBit flags versions.now packet.now }
     ensures reported { (result ≡ failed Failure.Length) ⊎ (result ≡ failed Failure.PacketFixedBit)
-        ⊎ ((outcome : Result ℕ Failure) × (result ≡ returned outcome)
-        × Reported flags id_len versions.now packet.now head.old outcome head.new) }
+        ⊎ IsReported flags id_len versions.now packet.now head.old result head.new }
     ensures same { (result ≡ failed Failure.Length) ⊎ (result ≡ failed Failure.PacketFixedBit) → head.new ≡ head.old }
     // There is exactly one right outcome, with its fields.
     ensures one { (result ≡ failed Failure.Length) ⊎ (result ≡ failed Failure.PacketFixedBit)
@@ -250,20 +301,10 @@ pub extern "C" fn quic_wire_header_read_(
     if packet.len() > u32::MAX as usize || id_len > 20 {
         return i64::from(Failure::Length.number());
     }
-    if lacks_fixed_bit(packet, versions, flags) {
-        return i64::from(Failure::PacketFixedBit.number());
+    if is_clear(packet, flags) {
+        return read_clear(packet, id_len, versions, flags, head);
     }
-    if let Some(first) = packet.first() {
-        if *first >= 0x80 {
-            return show_long(packet, *first, versions, flags, head);
-        }
-    }
-    returned(show(
-        packet,
-        read_header(packet, id_len as usize, versions),
-        flags,
-        head,
-    ))
+    read_any(packet, id_len, versions, flags, head)
 }
 
 /// The offset at which the short header at the front of a packet ends, with an id of `id_len` bytes (RFC 9000, section

@@ -3,11 +3,17 @@
 
 // The kinds, as C numbers them.
 pub(crate) const INITIAL: u8 = 0;
+
 pub(crate) const ZERO_RTT: u8 = 1;
+
 pub(crate) const HANDSHAKE: u8 = 2;
+
 pub(crate) const RETRY: u8 = 3;
+
 pub(crate) const SHORT: u8 = 4;
+
 pub(crate) const VERSION_NEGOTIATION: u8 = 5;
+
 pub(crate) const UNKNOWN_VERSION: u8 = 6;
 
 /// The header of a packet. Offsets count from the packet's front. The receiver's id begins at offset 6 in a long header

@@ -11,9 +11,7 @@ ghost use Rattle.quic_c_headers.specs.Headers.{first_word, short_size, word_of, 
 ghost use Rattle.quic_c_headers.specs.Headers.{HasPossibleNumbers, IsReason, WritesHeader};
 ghost use Rattle.quic_results.specs.Results.{failed};
 
-use crate::words::{
-    HANDSHAKE, HeaderFields, INITIAL, RETRY, SHORT, VERSION_NEGOTIATION, ZERO_RTT,
-};
+use crate::words::{HANDSHAKE, HeaderFields, INITIAL, RETRY, SHORT, VERSION_NEGOTIATION, ZERO_RTT};
 use quic_base::coding::store_array;
 use quic_crypto::packet_number::PacketNumber;
 use quic_header_encode::fields::store_low;
@@ -49,7 +47,9 @@ fn is_numbered(words: &HeaderFields) -> bool
 fn are_parts(kind: u8, dst: &[u8], src: &[u8], token: &[u8]) -> bool
     ensures { IsTrue result ↔ AreParts kind dst.now src.now token.now }
 {
-    dst.len() <= 20 && (kind == SHORT || src.len() <= 20) && (kind != INITIAL || token.len() < 1 << 62)
+    dst.len() <= 20
+        && (kind == SHORT || src.len() <= 20)
+        && (kind != INITIAL || token.len() < 1 << 62)
 }
 
 // Whether a header of the kind can have these fields, ids and token.

@@ -12,11 +12,11 @@ first_of (Ok x) first packet is stands = is ∙ sym stands
 first_of (Err e) first packet is stands = tt
 
 pub returns-clause-reported : goal.returns-clause-reported
-returns-clause-reported c =
+returns-clause-reported c = λ id_len.
     let count : to_z w64 (of_z w64 c.returned.result) ≡ c.returned.result = search rules in (
       c.show.result,
       count ∙ c.returned.ensures,
-      λ id_len. record {
+      record {
         read = c.read_long.result;
         right = c.read_long.ensures.answer id_len;
         stored = c.read_long.ensures.seen;

@@ -35,8 +35,8 @@
  *       deliver(frame.stream.stream_id, frame.stream.offset,
  *               payload + frame.data, frame.datalen);
  *   // 0: all frames were read.  Below 0: quic_wire_close_code(answer) is the
- *   // code to close with, and frames.offset the end of the last valid frame,
- *   // unless the payload is empty.
+ *   // code to close with, and frames.offset the end of the last valid frame
+ *   // (not set if the payload is empty).
  *
  * Open the packets of a datagram.  make_mask and open_payload are your cipher;
  * |expected| is the packet number that you expect next, below 2^62:
@@ -287,9 +287,9 @@ typedef enum quic_wire_code {
                                             (7.4) */
 
 /** Each flag except QUIC_WIRE_READ_GREASED_BIT: what RFC 9000 requires of the
- * bytes alone, if no extension was negotiated.  In which packets and from which
- * side a frame may come is for you to check (quic_wire_frame_rules), and a
- * DATAGRAM that you didn't offer to receive. */
+ * bytes alone, if no extension was negotiated.  You check in which packets
+ * (quic_wire_frame_rules) and from which side a frame may come, and that you
+ * offered to receive DATAGRAM. */
 #define QUIC_WIRE_READ_RFC 0x3efu
 
 /* ---- Frames (RFC 9000, section 19) */
@@ -690,8 +690,8 @@ QUIC_WIRE_CHECKED extern int quic_wire_check(uint32_t header);
  * The code with which an endpoint closes the connection after |result|:
  * FRAME_ENCODING_ERROR, PROTOCOL_VIOLATION or TRANSPORT_PARAMETER_ERROR if its
  * peer broke a rule; INTERNAL_ERROR for the caller's mistakes, -1 to -9;
- * NO_ERROR, 0, if nothing is closed, that is for results from 0 on, and for
- * packets, which are dropped.
+ * NO_ERROR, 0, for all others, after which nothing is closed: results from 0
+ * on, and QUIC_WIRE_ERR_PACKET_..., whose packets are dropped.
  */
 QUIC_WIRE_API uint32_t quic_wire_close_code(int result);
 
@@ -847,11 +847,11 @@ QUIC_WIRE_API const uint8_t *quic_wire_path_data(const uint8_t *payload,
  */
 QUIC_WIRE_API uint32_t quic_wire_frame_rules(uint32_t kind);
 
-/** The type of the invalid frame after QUIC_WIRE_ERR_FRAME_..., any number
- * below 2^62.  If the bytes end within that type, it is the type of the frame
- * before, as in quinn-proto, or QUIC_WIRE_NO_TYPE if there is none.  A
- * CONNECTION_CLOSE names 0 instead of QUIC_WIRE_NO_TYPE.  |frame->type| is
- * 0. */
+/** After QUIC_WIRE_ERR_FRAME_...: the type of the invalid frame, below 2^62.
+ * If the bytes end within that type, it is the type of the frame before, as in
+ * quinn-proto, or QUIC_WIRE_NO_TYPE if there is none.  A CONNECTION_CLOSE names
+ * 0 instead of QUIC_WIRE_NO_TYPE.  |frame->kind| is then no kind, 0xffff, and
+ * |frame->type| is 0. */
 QUIC_WIRE_API uint64_t quic_wire_error_type(const quic_wire_frame *frame);
 
 /* ---- Reading the ranges of an ACK */
@@ -1504,7 +1504,7 @@ QUIC_WIRE_API int quic_wire_ack_write(uint64_t delay,
  * QUIC_WIRE_ERR_PACKET_VERSION, add the version's number. */
 extern const char *quic_wire_strerror(int result);
 
-/** The name of a frame |type|, as it is on the wire; NULL if it is unknown. */
+/** The name of a frame with this |type| or kind; NULL if it is unknown. */
 extern const char *quic_wire_type_name(uint64_t type);
 
 #ifdef QUIC_WIRE_INLINE

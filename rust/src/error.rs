@@ -126,7 +126,7 @@ impl Error {
         }
     }
 
-    /// The type of the invalid frame; if that is cut off, the type of the frame before it, as in quinn-proto, or
+    /// The type of the invalid frame; if this type is cut off, that of the frame before, as in quinn-proto, or
     /// `None`. `None` for PADDING too, which a close can't name: its type, 0, means that none is known.
     ///
     /// ```

@@ -25,15 +25,15 @@
 //! The crate is `no_std`. With `alloc` you can write to a `Vec` ([`Buffer`]) and use a set that grows
 //! (`range_set::GrowingRangeSet`). `std`, the default, also builds the program `quic-wire`.
 //!
-//! # What is read otherwise than RFC 9000 has it
+//! # Where it departs from RFC 9000
 //!
-//! A transport parameter that is an integer with a default is malformed unless it is in its shortest encoding, although
-//! section 16 allows longer ones; `max_datagram_frame_size` and `min_ack_delay` are accepted in any encoding.
+//! By default it reads as quinn-proto does. [`frame::Rules::RFC`], [`packet::HeaderChecks`]`::RFC` and
+//! [`transport_parameters::ReadOptions::RFC`] read as RFC 9000 asks. Without them a transport parameter that is an
+//! integer with a default is malformed unless it is in its shortest encoding (section 16); types in longer encodings,
+//! the ACK frequency extension, empty tokens, data past 2^62 - 1 and limits above 2^60 streams are accepted; and
 //! [`packet::Packets`] and [`packet::PacketsMut`] reject a version negotiation whose fixed bit is clear unless packets
-//! are greased, although clients must ignore that bit (section 17.2.1); [`packet::HeaderPlaces::read`] checks the
-//! fixed bit of no packet. Near 2^62, [`packet::PacketNumber::expand`] may return 2^62 or more, for which appendix A.3
-//! has a number below. Data that ends past 2^62 - 1 and limits above 2^60 streams are accepted unless you check them,
-//! with [`frame::Rules`] or in your connection.
+//! are greased (section 17.2.1), while [`packet::HeaderPlaces::read`] checks the fixed bit of no packet. Near 2^62,
+//! [`packet::PacketNumber::expand`] may return 2^62 or more, for which appendix A.3 has a number below.
 #![no_std]
 #![deny(unsafe_code)]
 

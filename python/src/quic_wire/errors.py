@@ -49,7 +49,7 @@ class Error(ValueError):
     - why: what is wrong with them, or None if no more is known.
     - offset: where what is rejected begins in the bytes that were read.
     - field, field_offset: the RFC's name of the field at fault, and where it begins; None if it isn't known.
-    - code: the code with which an endpoint closes the connection; None if it drops a packet.
+    - code: the code to close the connection with; only those of frames and parameters have one.
     - section: the document and section that say so.
     """
 
@@ -95,6 +95,7 @@ class FrameError(Error):
     - reason, why, offset, field, field_offset, code, section: as in Error.
     """
 
+    code: Code
     frame_type: Optional[int] = None
     frames: Optional[list[Frame]] = None
     # The last type that was read: the program prints it, as quinn-proto does.

@@ -32,7 +32,7 @@ impl core::error::Error for EmptyPayload {}
 /// ```
 #[derive(Clone, Copy, Debug, PartialEq, Eq, Hash)]
 pub struct InvalidFrame {
-    /// The type of the invalid frame; if that is cut off, the type of the frame before it, or `None`.
+    /// The type of the invalid frame; if this type is cut off, that of the frame before, or `None`.
     pub ty: Option<FrameType>,
     /// Why the frame is invalid.
     pub reason: Reason,

@@ -115,7 +115,7 @@ impl<'a> Iter<'a> {
         (offset <= payload.len()).then_some(Iter { payload, state })
     }
 
-    /// The end of the last whole frame in the payload, in bytes.
+    /// The end of the last valid frame that was read, in bytes; an invalid one begins there.
     ///
     /// ```
     /// use quic_wire::frame::Iter;
@@ -291,7 +291,7 @@ impl Progress {
         (state.offset <= payload.len()).then_some(Iter { payload, state })
     }
 
-    /// The end of the last whole frame in the payload, in bytes.
+    /// The end of the last valid frame that was read, in bytes; an invalid one begins there.
     ///
     /// ```
     /// use quic_wire::frame::Iter;

@@ -120,8 +120,8 @@ pub enum Frame<'a> {
 }
 
 impl Frame<'_> {
-    /// The type that names the frame: ACK also with ECN counts, 0x30 for each DATAGRAM. That of a STREAM has the OFF
-    /// bit if the offset isn't 0, and never the LEN bit; [`Iter::last_type`] has the type as it is in the payload.
+    /// The type that names the frame: 0x02 for each ACK, 0x30 for each DATAGRAM. That of a STREAM has the OFF bit if
+    /// the offset isn't 0, and never the LEN bit; [`Iter::last_type`] has the type as it is in the payload.
     ///
     /// ```
     /// use quic_wire::frame::{Frame, FrameType};

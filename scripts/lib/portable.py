@@ -43,7 +43,7 @@ def functions_of(text):
     found = re.finditer(
         rf"^(u32|u64|void) ({PREFIX}\w+)\({PREFIX[:-1]}\* instance(.*?)\) \{{\n(.*?)^\}}", text, re.M | re.S
     )
-    return {m[2]: Function(m[1], " ".join(m[3].split()), m[4]) for m in found}
+    return {m[2]: Function(m[1], " ".join(m[3].split()), unchecked(m[4])) for m in found}
 
 
 def data_of(text):
@@ -130,17 +130,54 @@ def reached(roots, calls):
     return found
 
 
+POINTER = "instance->w2c_0x5F_stack_pointer"
+# How a function reads the stack pointer, and perhaps lowers it; then it may check that enough is left of the stack.
+READS = re.compile(
+    rf"var_j\d = {POINTER};\n"
+    rf"(?:\s*(?:var_[jl]\d+ = (?:var_[jl]\d+|\d+ull)|var_j\d -= var_j\d|{POINTER} = var_j\d);\n)*"
+)
+CHECK = re.compile(
+    rf"({READS.pattern})(?<=16ull;\n)\s*(var_i\d) = \(u64\)\(\(s64\)var_j\d < \(s64\)var_j\d\);\n"
+    rf"\s*if \(\2\) {{goto var_B\d+;}}\n"
+)
+# How a function that the module exports refuses a call during a call.
+ENTERS = re.compile(
+    rf"\s*var_i0 = {PREFIX}0x5F_rattle_enter\(instance\);\n\s*var_i0 = !\(var_i0\);\n"
+    rf"\s*if \(var_i0\) {{goto var_B0;}}\n\s*{PREFIX}0x5F_rattle_trap\(instance\);\n\s*UNREACHABLE;\n"
+)
+LEAVES = re.compile(rf"\s*{PREFIX}0x5F_rattle_leave\(instance\);\n")
+# How it restores the pointer.
+RESTORES = re.compile(rf"(var_j\d) (?:= var_l\d+|\+= var_j\d);\n\s*{POINTER} = \1;")
+
+
+def unchecked(body):
+    """A function without the checks that each call from outside needs none of: it has a stack of its own, of the size
+    that it needs."""
+
+    def without_check(found):
+        head = found[1]
+        needs_it = "-=" in head or "var_l" in head
+        return head[: head.rindex("\n", 0, -1) + 1] if needs_it else ""
+
+    body = LEAVES.sub("\n", ENTERS.sub("\n", CHECK.sub(without_check, body)))
+    body = re.sub(r"\n\s*(var_B\d+):;(?=\n)", lambda it: it[0] if f"goto {it[1]};" in body else "", body)
+    return re.sub(r"^  (u32|u64) (var_[ij][^;()]*);\n", lambda it: declared(*it.groups(), body), body, flags=re.M)
+
+
+def declared(kind, names, body):
+    """The declaration of those of these variables that a function has."""
+    used = [it for it in names.replace("\n", "").split(",") if len(re.findall(rf"\b{it.strip()}\b", body)) > 1]
+    return f"  {kind} {', '.join(it.strip() for it in used)};\n" if used else ""
+
+
 def frame_of(name, body):
-    """The bytes of stack that a function itself uses: it lowers the pointer once at its beginning, and restores it at
-    its end."""
-    uses = body.count("stack_pointer")
-    lowered = re.findall(
-        r"(var_j\d) = instance->w2c_0x5F_stack_pointer;\n\s*(var_j\d) = (\d+)ull;\n\s*\1 -= \2;", body
-    )
-    need(len(lowered) <= 1 and uses in (0, 1, 3) and bool(lowered) == bool(uses), f"the stack of {name}")
-    size = int(lowered[0][2]) if lowered else 0
-    need(size % 16 == 0, f"the stack of {name} isn't aligned")
-    return size
+    """The bytes of stack that a function itself uses, at most."""
+    reads = [it[0] for it in READS.finditer(body)]
+    known = sum(it.count(POINTER) for it in reads) + len(RESTORES.findall(READS.sub("", body)))
+    need(known == body.count(POINTER) and len(reads) == body.count(f"= {POINTER};"), f"the stack of {name}")
+    lowered = [int(size) for it in reads for size in re.findall(r"(?:(?<=\n)|(?<= ))var_j\d = (\d+)ull;\n\s*var_j\d -= ", it)]
+    need(sum(lowered) % 16 == 0, f"the stack of {name} isn't aligned")
+    return sum(lowered)
 
 
 def depth_of(name, frames, calls, above=()):
@@ -208,13 +245,16 @@ class Translation:
         line = re.sub(r"checked_add_u64\((\w+), ([^()]*(?:\(\d+\))?)\)", r"(\1 + \2)", line)
         line = line.replace("(u64)(var_j", "(var_j").replace("(u64)((", "((")
         line = self.pointers_moved(line)
-        line = line.replace("instance->w2c_0x5F_stack_pointer", "sp")
+        line = line.replace(POINTER, "sp")
         line = re.sub(rf"\b({PREFIX}\w+)\(instance(?:, )?", self.called, line)
         line = re.sub(r"\bvar_(\w+)", r"\1", line)
         need("instance" not in line and "wasm" not in line, f"not known here: {line}")
         return line
 
-    def body(self, first, second):
+    def body(self, first, second, depth):
+        if not depth:
+            # A function without a stack has no pointer to it.
+            first, second = (re.sub(rf"\n\s*{POINTER} = .*", "", it).replace(POINTER, "0ull") for it in (first, second))
         lines, others = first.split("\n"), second.split("\n")
         need(len(lines) == len(others), "a function differs")
         kept = []
@@ -355,7 +395,7 @@ def file_of(head, first, second, include):
     data = joined_data(data_of(first), data_of(second))
     depths = {name: depth_of(name, frames, calls) for name in order}
     translation = Translation(data, names, depths)
-    bodies = {name: translation.body(functions[name].body, others[name].body) for name in order}
+    bodies = {name: translation.body(functions[name].body, others[name].body, depths[name]) for name in order}
     heads = {name: head_of(functions[name], names[name], depths[name]) for name in order}
     bodies = {name: comparison(heads[name], body) or body for name, body in bodies.items()}
     parts = [f"/* SPDX-License-Identifier: MIT OR Apache-2.0 */\n/*\n{head} */\n#define QUIC_WIRE_INLINE\n"

@@ -175,7 +175,7 @@ def frame_of(name, body):
     reads = [it[0] for it in READS.finditer(body)]
     known = sum(it.count(POINTER) for it in reads) + len(RESTORES.findall(READS.sub("", body)))
     need(known == body.count(POINTER) and len(reads) == body.count(f"= {POINTER};"), f"the stack of {name}")
-    lowered = [int(size) for it in reads for size in re.findall(r"(?:(?<=\n)|(?<= ))var_j\d = (\d+)ull;\n\s*var_j\d -= ", it)]
+    lowered = [int(size) for it in reads for size in re.findall(r"\bvar_j\d = (\d+)ull;\n\s*var_j\d -= ", it)]
     need(sum(lowered) % 16 == 0, f"the stack of {name} isn't aligned")
     return sum(lowered)
 

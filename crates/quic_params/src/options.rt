@@ -2,8 +2,6 @@
 ghost use Rattle.std.specs.Prelude.{◌≡◌, ◌||◌};
 ghost use Rattle.quic_params.specs.Options.{as_quinn};
 
-use crate::parameter::Kind;
-
 /// How a list is read in what RFC 9000 and quinn-proto differ. The default is quinn-proto's reading: both `false`.
 #[derive(Clone, Copy, Debug, PartialEq, Eq)]
 pub struct ReadOptions {

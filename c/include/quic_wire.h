@@ -18,7 +18,8 @@
  * beside it says, or to one struct.  What a call writes must not overlap
  * anything else that you pass to it.  Everything else is checked: NULL,
  * lengths, offsets, numbers that can't be encoded, unknown kinds, and any field
- * values.
+ * values.  A pointer to no items may be NULL, except to a packet, a header, a
+ * packet number or the payload of an ACK's ranges.
  *
  * Results: an error is below 0, and quic_wire_strerror describes it.
  *
@@ -189,8 +190,8 @@ typedef enum quic_wire_result {
                                   function can't read what is there */
   QUIC_WIRE_ERR_KIND = -3, /* there is no such kind or side, or the function
                               doesn't accept it */
-  QUIC_WIRE_ERR_NUMBER = -5,   /* a number is too large for its field, or is 0
-                                  although it mustn't be */
+  QUIC_WIRE_ERR_NUMBER = -5,   /* a number is out of range, such as above
+                                  2^62 - 1 */
   QUIC_WIRE_ERR_LENGTH = -6,   /* a length or width is impossible for its
                                   field */
   QUIC_WIRE_ERR_RANGES = -7,   /* there are no ranges, or they aren't sorted, or
@@ -411,7 +412,7 @@ typedef struct quic_wire_frame {
                      STREAM, 0x02 and 0x03 of an ACK, 0x30 and 0x31 of a
                      DATAGRAM, of others |kind|.  Ignored when the frame is
                      written */
-  uint32_t flags; /* QUIC_WIRE_FLAG_FIN, QUIC_WIRE_FLAG_ECN */
+  uint32_t flags; /* QUIC_WIRE_FLAG_... */
   quic_wire_size begin;   /* where the frame begins in the payload, in bytes */
   quic_wire_size end;     /* where it ends */
 #ifdef QUIC_WIRE_PLAIN
@@ -595,7 +596,7 @@ typedef struct quic_wire_params {
   uint8_t preferred_cid[20];    /* the id at the preferred address */
   uint8_t stateless_reset_token[16];
   uint8_t preferred_token[16]; /* that id's stateless reset token */
-  uint8_t preferred_v6[16];    /* the highest byte first */
+  uint8_t preferred_v6[16];    /* the highest byte first, as in the next */
   uint8_t preferred_v4[4];
 } QUIC_WIRE_ALIGNED quic_wire_params;
 
@@ -624,8 +625,8 @@ typedef struct quic_wire_refusal {
 #define QUIC_WIRE_PARAM_VERSION_INFORMATION 0x11
 #define QUIC_WIRE_PARAM_RESERVED(n) (31 * (uint64_t)(n) + 27)
 
-/** How many rows the list in quic_wire_params_write_with has, which numbers the
- * parameters of quic_wire_params. */
+/** The number of the first further entry in quic_wire_params_write_with: lower
+ * ones are those of the parameters of quic_wire_params. */
 #define QUIC_WIRE_PARAM_ROWS 21
 
 /* ---- The linked library */
@@ -682,8 +683,9 @@ extern const char *quic_wire_lib_text(void);
 
 /** Checks that the linked library fits this header.  Call it once, at the
  * start of the program, as quic_wire_check(QUIC_WIRE_LIB).  Returns 0 if the
- * library has the same major version, and the same or a later minor version;
- * otherwise QUIC_WIRE_ERR_LIBRARY. */
+ * library has the same major version, and the same or a later minor version
+ * with the same number in its name libquic_wire.so.0, which changes with the
+ * interface; otherwise QUIC_WIRE_ERR_LIBRARY. */
 QUIC_WIRE_CHECKED extern int quic_wire_check(uint32_t header);
 
 /**
@@ -691,7 +693,8 @@ QUIC_WIRE_CHECKED extern int quic_wire_check(uint32_t header);
  * FRAME_ENCODING_ERROR, PROTOCOL_VIOLATION or TRANSPORT_PARAMETER_ERROR if its
  * peer broke a rule; INTERNAL_ERROR for the caller's mistakes, -1 to -9;
  * NO_ERROR, 0, for all others, after which nothing is closed: results from 0
- * on, and QUIC_WIRE_ERR_PACKET_..., whose packets are dropped.
+ * on, QUIC_WIRE_ERR_LIBRARY, and QUIC_WIRE_ERR_PACKET_..., whose packets are
+ * dropped.
  */
 QUIC_WIRE_API uint32_t quic_wire_close_code(int result);
 
@@ -734,7 +737,7 @@ QUIC_WIRE_API int quic_wire_frames_next(quic_wire_frame_iter *frames,
  *  - QUIC_WIRE_ERR_FRAME_..., once, if the next frame is invalid or rejected by
  *    |frames->flags|, with its type in |out[0]| (quic_wire_error_type); later
  *    calls return 0
- *  - QUIC_WIRE_ERR_NOBUF if |room| is 0
+ *  - QUIC_WIRE_ERR_NOBUF if |room| is 0, also if no frame is left
  *  - QUIC_WIRE_ERR_PLACE if |frames->offset| is above |payloadlen|
  *  - QUIC_WIRE_ERR_ARGUMENT for NULL
  *
@@ -842,7 +845,7 @@ QUIC_WIRE_API const uint8_t *quic_wire_path_data(const uint8_t *payload,
 
 /** The rules of RFC 9000 for a |kind| of frame, QUIC_WIRE_RULE_...; 0 if there
  * is no such kind.  DATAGRAM, ACK_FREQUENCY and IMMEDIATE_ACK may be in 0-RTT
- * and 1-RTT packets (RFC 9221, section 4; as in quinn-proto).  A frame in
+ * and 1-RTT packets (RFC 9221, section 5; as in quinn-proto).  A frame in
  * another kind of packet is a PROTOCOL_VIOLATION, which the caller must check.
  */
 QUIC_WIRE_API uint32_t quic_wire_frame_rules(uint32_t kind);
@@ -912,8 +915,9 @@ QUIC_WIRE_API int quic_wire_ack_ranges_fill(quic_wire_range_iter *ranges,
  *  - QUIC_WIRE_ERR_NOBUF if |destlen| is less, and in |*written| how many are
  *    needed
  *  - QUIC_WIRE_ERR_ARGUMENT for NULL, or if |frame| can't be written: it is an
- *    ACK or of no kind, has a flag or number that its kind lacks or a number of
- *    2^62 or more, or its data isn't in |data|
+ *    ACK or of no kind, has a flag or number that its kind lacks, a number of
+ *    2^62 or more other than |path.data|, data outside |data|, or is a
+ *    NEW_CONNECTION_ID that section 19.15 rules out
  *
  * What QUIC_WIRE_READ_DATA_LIMIT and the flags beside it make a reader reject
  * can be written.  |written| may be NULL.  Bytes of |dest| after those written
@@ -1015,9 +1019,9 @@ QUIC_WIRE_CHECKED QUIC_WIRE_API int64_t quic_wire_header_read(
     size_t nversions, uint32_t flags, quic_wire_header *header);
 
 /** Where the short header at the front of |packet| ends, which is where the
- * packet number begins.  Its id has |cidlen| bytes.  It returns what
- * quic_wire_header_read does, faster.  0 if no short header is there, if
- * |cidlen| is above 20, and for NULL.  The fixed bit is ignored. */
+ * packet number begins.  Its id has |cidlen| bytes.  It is the |header_end|
+ * that quic_wire_header_read finds, but faster.  0 if no short header is there,
+ * if |cidlen| is above 20, and for NULL.  The fixed bit is ignored. */
 QUIC_WIRE_API size_t quic_wire_short_read(const uint8_t *packet,
                                           size_t packetlen, uint32_t cidlen);
 
@@ -1025,7 +1029,8 @@ QUIC_WIRE_API size_t quic_wire_short_read(const uint8_t *packet,
  * Reads the header of a version negotiation (RFC 9000, section 17.2.1).  Its
  * ids are those of the packet that it responds to, which may have any version,
  * so they have up to 255 bytes (RFC 8999, section 6).  If both have at most
- * 20, the result is that of quic_wire_header_read, which rejects longer ones.
+ * 20, the header is that of quic_wire_header_read with
+ * QUIC_WIRE_READ_ANY_VERSION, which rejects longer ones.
  * The seven low bits of the first byte are ignored.
  *
  * Returns:
@@ -1053,8 +1058,8 @@ QUIC_WIRE_API const uint8_t *quic_wire_dcid_read(const uint8_t *packet,
                                                  size_t cidlen,
                                                  size_t *dcidlen);
 
-/** Where the receiver's or the sender's id begins in a packet with this header;
- * NULL for NULL. */
+/** Where the receiver's id, or the sender's of a long header, begins in a packet
+ * with this header; NULL for NULL. */
 QUIC_WIRE_API const uint8_t *quic_wire_dcid(const uint8_t *packet,
                                             const quic_wire_header *header);
 QUIC_WIRE_API const uint8_t *quic_wire_scid(const uint8_t *packet,
@@ -1167,8 +1172,9 @@ QUIC_WIRE_API size_t quic_wire_varint_read(const uint8_t *bytes, size_t len,
                                            uint64_t *value);
 
 /** Writes a varint at the front of |dest|, in |width| bytes, 1, 2, 4 or 8, or
- * in as few as possible if |width| is 0.  Returns how many bytes were written,
- * or 0 if the value doesn't fit; |dest| doesn't change then. */
+ * in as few as possible if |width| is 0.  Returns how many bytes were written.
+ * 0 if the value doesn't fit, or |width| is another; |dest| doesn't change
+ * then. */
 QUIC_WIRE_API size_t quic_wire_varint_write(uint64_t value, uint32_t width,
                                             uint8_t *dest, size_t destlen);
 
@@ -1317,8 +1323,8 @@ QUIC_WIRE_API int quic_wire_params_write(uint32_t side,
 
 /**
  * The same with further entries, in an order of your choice.  |further| is a
- * list of at most 235 entries that quic_wire_params has no fields for, none of
- * them twice, as quic_wire_param_write writes them one after the other.  The
+ * list of at most 235 entries, below 2^40 bytes, that quic_wire_params has no
+ * fields for, none of them twice, as quic_wire_param_write writes them.  The
  * parameters of quic_wire_params have the numbers of this list, whether they
  * are written or not; the further entries have numbers from
  * QUIC_WIRE_PARAM_ROWS on.  |order| has each of these numbers once.  If
@@ -1456,6 +1462,7 @@ QUIC_WIRE_API int quic_wire_param_is_known(uint64_t id);
  *  - QUIC_WIRE_ERR_NOBUF if the set would need one more entry than there are
  *  - QUIC_WIRE_ERR_RANGES if |*count| is above |room|, or the entries aren't
  *    such runs
+ *  - QUIC_WIRE_ERR_ARGUMENT for NULL
  *
  * Entries after the set don't change, and nothing changes except with
  * QUIC_WIRE_CHANGED.
@@ -1472,14 +1479,16 @@ QUIC_WIRE_API int quic_wire_set_remove(quic_wire_range *runs, size_t room,
                                        uint64_t end);
 
 /** Whether |number| is in the set of the |count| runs: 1 if it is, 0 if it
- * isn't, and QUIC_WIRE_ERR_RANGES if they aren't such runs. */
+ * isn't, QUIC_WIRE_ERR_RANGES if they aren't such runs, and
+ * QUIC_WIRE_ERR_ARGUMENT for NULL. */
 QUIC_WIRE_API int quic_wire_set_contains(const quic_wire_range *runs,
                                          size_t count, uint64_t number);
 
 /**
  * Writes an ACK of the set of the |count| runs in its shortest form at the
- * front of |dest| (RFC 9000, section 19.3).  |counts| has the ECT(0), ECT(1)
- * and ECN-CE counts, or is NULL for an ACK without them.
+ * front of |dest| (RFC 9000, section 19.3).  |delay| is the ACK Delay field,
+ * already scaled by ack_delay_exponent.  |counts| has the ECT(0), ECT(1) and
+ * ECN-CE counts, or is NULL for an ACK without them.
  *
  * Returns:
  *  - 0, and in |*written| how many bytes were written

@@ -3,7 +3,8 @@
  * What the functions of quic_wire.h do besides the proved library: they check
  * their pointers, and call it with their arguments.  Some make no call and are
  * one expression each: those that return a part of what was read,
- * quic_wire_padding_count and quic_wire_header_len.  quic_wire_frame_len makes
+ * quic_wire_padding_count, quic_wire_sample and quic_wire_header_len.
+ * quic_wire_frame_len makes
  * the call that writes, without room.  quic_wire_header_write chooses one of
  * two proved calls with the same meaning.  c/tests/abuse/ compares all of these
  * with the proved calls.  quic_wire.h includes this file if QUIC_WIRE_INLINE is

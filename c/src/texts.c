@@ -6,9 +6,14 @@ uint32_t quic_wire_lib(void) { return QUIC_WIRE_LIB; }
 
 const char *quic_wire_lib_text(void) { return QUIC_WIRE_LIB_TEXT; }
 
+/* The first minor version whose programs this one serves: until 1.0, the first
+ * with the number in the name libquic_wire.so.0; then 0. */
+#define OLDEST_MINOR 1
+
 int quic_wire_check(uint32_t header) {
-  return header >> 16 == QUIC_WIRE_LIB_MAJOR &&
-                 (header >> 8 & 0xff) <= QUIC_WIRE_LIB_MINOR
+  uint32_t minor = header >> 8 & 0xff;
+  return header >> 16 == QUIC_WIRE_LIB_MAJOR && minor >= OLDEST_MINOR &&
+                 minor <= QUIC_WIRE_LIB_MINOR
              ? QUIC_WIRE_OK
              : QUIC_WIRE_ERR_LIBRARY;
 }

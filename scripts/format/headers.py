@@ -281,9 +281,9 @@ def packet_numbers():
     stated(CRYPTO, "IsInWindow", "below", "n ≤ expected + window / 2")
     stated(CRYPTO, "window_of", "number", "2 ^ (8 * number_size number)")
     return (
-        "It is the low bytes of the one number with these that is greater than the expected one less half the window,"
-        f" and at most half the window greater (17.1, A.3; `IsInWindow`, crates/{CRYPTO}.antt),"
-        " or these themselves if that is below 0 (`Expands`).")
+        "Its bytes are the low ones of a number. That is above the expected number less half the window, and at most half"
+        f" the window above it (17.1, A.3; `IsInWindow`, crates/{CRYPTO}.antt); if that would be negative, it is the"
+        " bytes' own number (`Expands`).")
 
 
 def writing():

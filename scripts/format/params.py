@@ -151,7 +151,7 @@ def page():
         "Transport Parameter ID (i)", "Transport Parameter Length (i)", "Transport Parameter Value (..)"])
     yield (
         f"`AreEntries`, `IsEntry`, crates/{ENTRY}.antt. Entries without a row are ignored (`Accepts`), repeated ones"
-        " rejected unless they may repeat (`IsRepeat`). By RFC 9000 none with a row may repeat, and integers may be"
+        " rejected unless they may repeat (`IsRepeat`). By RFC 9000 none with a row but `reserved` may repeat, and integers may be"
         f" in any width (`as_rfc`, crates/{OPTIONS}.antt); the table is for quinn-proto's reading, `as_quinn`.")
     yield from ["", "### Parameters (18.2)", ""]
     yield from columns([["ID", "Name", "Value", "Default", "Must be"], *rows()])

@@ -44,6 +44,9 @@ void results_examples(void) {
     WANT(strcmp(text, "ok") != 0 && strcmp(text, "unknown") != 0);
   }
   WANT(quic_wire_check(QUIC_WIRE_LIB) == QUIC_WIRE_OK);
+  WANT(quic_wire_check(0) == QUIC_WIRE_ERR_LIBRARY);
+  WANT(quic_wire_check(QUIC_WIRE_LIB + 0x100) == QUIC_WIRE_ERR_LIBRARY);
+  WANT(quic_wire_check(QUIC_WIRE_LIB + 0x10000) == QUIC_WIRE_ERR_LIBRARY);
   WANT(quic_wire_lib() == QUIC_WIRE_LIB);
   WANT(strcmp(quic_wire_lib_text(), QUIC_WIRE_LIB_TEXT) == 0);
 }

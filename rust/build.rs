@@ -1,8 +1,9 @@
-//! Finds the library `quic_wire`: in the folder that `QUIC_WIRE_LIB` names, in this package, with `pkg-config`, or
-//! where `scripts/install out` left it in the repository. If there is none, it is built from the library as C, which
-//! this package contains or `scripts/portable out/portable` left in the repository, with a C compiler like gcc or
-//! clang: `cc`, or what `CC_TARGET`, `TARGET_CC` or `CC` name, with `AR` in the same way. If that is missing too, only
-//! linking fails: `cargo check`, `cargo clippy` and `cargo doc` need no library.
+//! Finds the library `quic_wire`: in the folder that `QUIC_WIRE_LIB` names, in this package, with `pkg-config`, where
+//! `scripts/install out` left it in the repository, or in the repository's release of this version, `dist/`. If there is
+//! none, it is built from the library as C, which this package contains, `scripts/portable out/portable` left in the
+//! repository, or that release contains, with a C compiler like gcc or clang: `cc`, or what `CC_TARGET`, `TARGET_CC` or
+//! `CC` name, with `AR` in the same way. If that is missing too, only linking fails: `cargo check`, `cargo clippy` and
+//! `cargo doc` need no library.
 use std::env;
 use std::ffi::OsString;
 use std::path::{Path, PathBuf};
@@ -19,9 +20,11 @@ fn main() {
     let top = PathBuf::from(variable("CARGO_MANIFEST_DIR"));
     let found =
         named().or_else(|| packed(&top, &target)).or_else(|| installed_for(&target)).or_else(|| left(&top, &target));
-    match found {
+    // The release is unpacked only if nothing else is there.
+    let release = if found.is_some() || has_c(&top.join("portable")) { None } else { released(&top) };
+    match found.or_else(|| packed(release.as_ref()?, &target)) {
         Some(folder) => link(&folder),
-        None => match as_c(&top).and_then(|sources| built(&sources, &target)) {
+        None => match as_c(&top, release.as_deref()).and_then(|sources| built(&sources, &target)) {
             Some(folder) => link_built(&folder),
             None => miss(&top, &target),
         },
@@ -64,11 +67,29 @@ fn left(top: &Path, target: &str) -> Option<PathBuf> {
     with_archive(out.join(target).join("lib")).or_else(here)
 }
 
+// The crate of this version in the repository's release, unpacked.
+fn released(top: &Path) -> Option<PathBuf> {
+    let name = format!("quic-wire-{}", variable("CARGO_PKG_VERSION"));
+    let archive = top.parent()?.join("dist").join(format!("{name}.crate"));
+    // A missing file makes cargo run this again.
+    println!("cargo:rerun-if-changed={}", archive.display());
+    if !archive.is_file() {
+        return None;
+    }
+    let to = variable("OUT_DIR");
+    run(Command::new("tar").args(["-xzf"]).arg(&archive).args(["-C", &to]))?;
+    Some(Path::new(&to).join(name))
+}
+
 // The library as C, as `scripts/portable` leaves it.
-fn as_c(top: &Path) -> Option<PathBuf> {
+fn as_c(top: &Path, release: Option<&Path>) -> Option<PathBuf> {
     let left = top.parent().map(|parent| parent.join("out").join("portable"));
-    let folders = [Some(top.join("portable")), left];
-    folders.into_iter().flatten().find(|folder| folder.join("src").join("quic_wire_proved.c").is_file())
+    let folders = [Some(top.join("portable")), left, release.map(|folder| folder.join("portable"))];
+    folders.into_iter().flatten().find(|folder| has_c(folder))
+}
+
+fn has_c(folder: &Path) -> bool {
+    folder.join("src").join("quic_wire_proved.c").is_file()
 }
 
 // A tool for the target, from the variables that other crates use; arguments may follow its name.

@@ -82,8 +82,9 @@ export const PARAMS_REASONS = { [PARAMS_MALFORMED]: "malformed", [PARAMS_ILLEGAL
 // For a packet: QUIC_WIRE_ERR_PACKET_VERSION and so on.
 export const PACKET_UNSUPPORTED_VERSION = -45;
 export const PACKET_MALFORMED_CID = -43;
+export const PACKET_FIXED_BIT = -41;
 export const PACKET_REASONS = {
-  [PACKET_UNSUPPORTED_VERSION]: "unsupported version", [-41]: "fixed bit unset",
+  [PACKET_UNSUPPORTED_VERSION]: "unsupported version", [PACKET_FIXED_BIT]: "fixed bit unset",
   [PACKET_MALFORMED_CID]: "malformed cid", [-40]: "unexpected end of packet", [-42]: "packet too small",
   [-44]: "token out of bounds", [-46]: "packet too short to contain payload length",
 };

@@ -5,7 +5,7 @@
 import { agrees, frameFields, frameSummary, paddingRun } from "./frame-fields.js";
 import { Words } from "./library.js";
 import {
-  ACK, allowedOf, FRAME_REASONS, frameName, frameTone, MIN_ACK_DELAY, PACKET_REASONS,
+  ACK, allowedOf, FRAME_REASONS, frameName, frameTone, MIN_ACK_DELAY, PACKET_FIXED_BIT, PACKET_REASONS,
   PACKET_UNSUPPORTED_VERSION, packetName, packetTone, PADDING, parameterOf, PARAMS_MALFORMED, PARAMS_REASONS,
   REASON_END, REASON_LONG_TYPE, REASON_TYPE, typeName,
 } from "./names.js";
@@ -199,10 +199,26 @@ class DatagramReading extends Reading {
     const isVersion = refusal.reason === PACKET_UNSUPPORTED_VERSION;
     return {
       place: this.walkRest().fault?.begin ?? this.rest, reason: PACKET_REASONS[refusal.reason],
-      version: isVersion ? refusal.version : null, code: null,
-      section: isVersion ? "a server may answer with a Version Negotiation packet: RFC 9000, section 6"
-        : "what is left of the datagram is dropped: RFC 9000, section 12.2",
+      version: isVersion ? refusal.version : null, code: null, section: this.sectionOf(refusal.reason),
     };
+  }
+
+  // What a receiver does after this, by the RFC.
+  sectionOf(reason) {
+    if (reason === PACKET_UNSUPPORTED_VERSION) {
+      return "a server may answer with a Version Negotiation packet: RFC 9000, section 6";
+    }
+    const header = new DataView(this.bytes.slice(this.rest, this.rest + 5).buffer);
+    if (reason === PACKET_FIXED_BIT && header.byteLength === 5 && header.getUint8(0) >= 0x80) {
+      const version = header.getUint32(1);
+      if (version === 0) {
+        return "RFC 9000, section 17.2.1, leaves this bit unused; quinn-proto 0.11 rejects the packet";
+      }
+      if (!this.choices.versions.includes(version)) {
+        return "RFC 8999, section 5.1, leaves this bit to the version; quinn-proto 0.11 rejects the packet";
+      }
+    }
+    return "what is left of the datagram is dropped: RFC 9000, section 12.2";
   }
 
   // The walk along what isn't a packet, and the field at which it failed.

@@ -1035,7 +1035,9 @@ QUIC_WIRE_API size_t quic_wire_short_read(const uint8_t *packet,
  *
  * Returns:
  *  - |packetlen|, where the packet ends, and the header; the versions are from
- *    |header->header_end| to |header->end|, four bytes each, the highest first
+ *    |header->header_end| on, four bytes each, the highest first, while four
+ *    are left before |header->end|; RFC 8999, section 6, has a packet without
+ *    any, or with a part of one, ignored
  *  - QUIC_WIRE_ERR_KIND if there is no such header: the highest bit of the
  *    first byte is clear, the version isn't 0, or the bytes end within the ids
  *  - QUIC_WIRE_ERR_LENGTH if there are 2^32 bytes or more

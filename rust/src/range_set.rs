@@ -216,7 +216,7 @@ impl<const N: usize> ArrayRangeSet<N> {
         match self.min() {
             Some(min) if min < range.start => {
                 let dropped = self.pop_min();
-                // There is room for it now, since a run was dropped.
+                // This never panics: a run was dropped, so there is room for one.
                 self.insert(range).expect("there is room");
                 dropped
             }

@@ -61,7 +61,7 @@ pub fn write<B: Buffer + ?Sized>(value: u64, out: &mut B) -> Result<usize, Write
     write_in(value, 0, out)
 }
 
-/// Writes a number in 1, 2, 4 or 8 bytes, as for a length that is known last.
+/// Writes a number in 1, 2, 4 or 8 bytes, as for a length that is known last; for a width of 0 in as few as possible.
 ///
 /// ```
 /// use quic_wire::varint;

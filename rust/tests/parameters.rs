@@ -77,9 +77,10 @@ fn what_is_out_of_range_is_named() {
         assert!(list.is_empty());
     }
     let error = |list: &[u8]| TransportParameters::read(Side::Client, list).unwrap_err();
-    assert_eq!(error(&[0x01]).to_string(), "transport parameters are malformed");
+    assert_eq!(error(&[0x01]).to_string(), "malformed transport parameter 0x1 at 0");
+    assert_eq!(error(&[0x01, 1, 0, 0x40]).to_string(), "transport parameters end within an id at 3");
     let illegal = quic_wire::Error::from(error(&[0x0a, 1, 21]));
-    assert_eq!(illegal.to_string(), "a transport parameter has an illegal value");
+    assert_eq!(illegal.to_string(), "illegal value of transport parameter 0xa at 0");
 }
 
 // Entries one after the other.

@@ -120,6 +120,10 @@ CHOICES = [
     ({"mode": "datagram", "versions": "1", "grease": False}, "c31a2a3a4a0000", "unsupported version 1a2a3a4a"),
     ({"mode": "datagram", "versions": "0x1A2A3A4A, 1", "grease": False}, "c31a2a3a4a00000000", "1 packet in 9 bytes"),
     ({"mode": "datagram", "idLength": 1, "grease": False}, "000102", "fixed bit unset"),
+    ({"mode": "datagram", "idLength": 1, "grease": False}, "000102", "RFC 9000, section 12.2"),
+    ({"mode": "datagram", "grease": False}, "8000000000000000000001", "section 17.2.1, leaves this bit unused"),
+    ({"mode": "datagram", "versions": "1", "grease": False}, "801a2a3a4a0000", "RFC 8999, section 5.1"),
+    ({"mode": "datagram", "versions": "1", "grease": False}, "80000000010000", "RFC 9000, section 12.2"),
     ({"mode": "datagram", "idLength": 1, "grease": True}, "000102", "1 packet in 3 bytes"),
     ({"mode": "datagram", "idLength": 4, "grease": True}, "000102", "packet too small"),
     # RFC 9000, section 18.2: values below 2 are invalid.

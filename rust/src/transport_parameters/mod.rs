@@ -81,10 +81,14 @@ impl Error {
 
 impl fmt::Display for Error {
     fn fmt(&self, f: &mut fmt::Formatter<'_>) -> fmt::Result {
-        f.write_str(match self.kind {
-            ErrorKind::IllegalValue => "a transport parameter has an illegal value",
-            ErrorKind::Malformed => "transport parameters are malformed",
-        })
+        let kind = match self.kind {
+            ErrorKind::IllegalValue => "illegal value of",
+            ErrorKind::Malformed => "malformed",
+        };
+        match self.id {
+            Some(id) => write!(f, "{kind} transport parameter {id:#x} at {}", self.offset),
+            None => write!(f, "transport parameters end within an id at {}", self.offset),
+        }
     }
 }
 

@@ -18,8 +18,8 @@
  * beside it says, or to one struct.  What a call writes must not overlap
  * anything else that you pass to it.  Everything else is checked: NULL,
  * lengths, offsets, numbers that can't be encoded, unknown kinds, and any field
- * values.  A pointer to no items may be NULL, except to a packet, a header, a
- * packet number or the payload of an ACK's ranges.
+ * values.  With a length of 0 a pointer may be NULL, except one to a packet, a
+ * header, a packet number or the payload of an ACK's ranges.
  *
  * Results: an error is below 0, and quic_wire_strerror describes it.
  *
@@ -683,9 +683,8 @@ extern const char *quic_wire_lib_text(void);
 
 /** Checks that the linked library fits this header.  Call it once, at the
  * start of the program, as quic_wire_check(QUIC_WIRE_LIB).  Returns 0 if the
- * library has the same major version, and the same or a later minor version
- * with the same number in its name libquic_wire.so.0, which changes with the
- * interface; otherwise QUIC_WIRE_ERR_LIBRARY. */
+ * library has the same major version and interface, the 0 of libquic_wire.so.0,
+ * and no earlier minor version; otherwise QUIC_WIRE_ERR_LIBRARY. */
 QUIC_WIRE_CHECKED extern int quic_wire_check(uint32_t header);
 
 /**
@@ -862,9 +861,9 @@ QUIC_WIRE_API uint64_t quic_wire_error_type(const quic_wire_frame *frame);
 /**
  * Begins at the greatest range of |frame|, an ACK that was read from this
  * payload.  |ranges->left| is then how many ranges it has.  Only the type, the
- * largest number, the delay and the count of ranges are read.  After a call
- * that read the ACK the next calls can't fail; otherwise the call that comes to
- * an invalid range reports it.  Returns 0; QUIC_WIRE_ERR_PLACE if no ACK begins
+ * largest number, the delay and the count of ranges are read.  Ranges of an ACK
+ * that a call has read can't be invalid; for others, the call that reaches an
+ * invalid one reports it.  Returns 0; QUIC_WIRE_ERR_PLACE if no ACK begins
  * at |frame->begin|; QUIC_WIRE_ERR_ARGUMENT for NULL.  |ranges| changes only
  * with 0.
  */
@@ -919,9 +918,9 @@ QUIC_WIRE_API int quic_wire_ack_ranges_fill(quic_wire_range_iter *ranges,
  *    2^62 or more other than |path.data|, data outside |data|, or is a
  *    NEW_CONNECTION_ID that section 19.15 rules out
  *
- * What QUIC_WIRE_READ_DATA_LIMIT and the flags beside it make a reader reject
- * can be written.  |written| may be NULL.  Bytes of |dest| after those written
- * don't change, and none after an error.
+ * Frames that a reader rejects only because of its flags can be written.
+ * |written| may be NULL.  Bytes of |dest| after those written don't change, and
+ * none after an error.
  */
 QUIC_WIRE_API int quic_wire_frame_write(const quic_wire_frame *frame,
                                         const uint8_t *data, size_t datalen,

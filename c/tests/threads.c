@@ -30,7 +30,7 @@ static uint64_t frames_of(const uint8_t *payload, size_t len) {
 
 static uint64_t others_of(const uint8_t *bytes, size_t len) {
   static const uint32_t versions[] = {1};
-  quic_wire_canon canon;
+  quic_wire_canon canon = {0};
   quic_wire_params params;
   quic_wire_header header;
   uint8_t to[1 << 14];

@@ -47,6 +47,13 @@ class Modes(unittest.TestCase):
         found = lines("frames", given="".join(f"{row[0]}\n" for row in rows))
         self.assertEqual(found, [f"{i}: {row[1]}" for i, row in enumerate(rows, 1)])
 
+    # Four bytes that are no link header, then what could be an IPv6 packet with a payload of six bytes.
+    def test_what_looks_like_ip_is_read(self):
+        rest = f"0006{'00' * 40}"
+        stream = f"1: 0..50 STREAM id=0 offset=0 fin=true len=48 data=000061626364{rest}"
+        self.assertEqual(lines("frames", given=f"0900000061626364{rest}"), [stream])
+        self.assertRegex(lines("datagram", given=f"4000000060000000{rest}")[0], r"^1: 0\.\.50 short ")
+
     # RFC 9000, sections 12.4, 16 and 19.3, appendices A.1 and A.3; RFC 9001, A.2.
     def test_other_modes(self):
         rows = [

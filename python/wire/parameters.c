@@ -261,6 +261,22 @@ static parameters_object *by_default(PyTypeObject *type) {
   return o;
 }
 
+/* Raises TypeError for the first name that no parameter has. */
+static void raise_unknown(PyObject *keywords) {
+  PyObject *name, *value;
+  Py_ssize_t at = 0, i;
+  while (PyDict_Next(keywords, &at, &name, &value)) {
+    for (i = 0; i < FIELDS; i++)
+      if (PyUnicode_CompareWithASCIIString(name, table[i].name) == 0)
+        break;
+    if (i == FIELDS) {
+      PyErr_Format(PyExc_TypeError, "no transport parameter is called %U",
+                   name);
+      return;
+    }
+  }
+}
+
 static PyObject *parameters_new(PyTypeObject *type, PyObject *args,
                                 PyObject *keywords) {
   parameters_object *o;
@@ -275,7 +291,7 @@ static PyObject *parameters_new(PyTypeObject *type, PyObject *args,
       Py_CLEAR(o);
   }
   if (o && keywords && PyDict_Size(keywords) != named) {
-    PyErr_SetString(PyExc_TypeError, "no such transport parameter");
+    raise_unknown(keywords);
     Py_CLEAR(o);
   }
   return (PyObject *)o;

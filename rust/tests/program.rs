@@ -275,7 +275,7 @@ fn as_shown(mode: &str, input: &str, answer: &str) -> String {
         let error = text.strip_prefix("error ");
         match (mode, error.map(|error| error.strip_prefix("at ").map_or(error, |at| at.split_once(": ").unwrap().1))) {
             (_, Some(error)) if error.contains(" in column ") => shown.push_str("error not hexadecimal\n"),
-            ("datagram", Some(error)) => shown.push_str(&no_packet(text, error, lines[number - 1])),
+            ("datagram", Some(error)) => shown.push_str(&no_packet(error)),
             (_, Some(error)) => shown.push_str(&format!("error {}\n", reason(error))),
             ("frames", None) => shown.push_str(&frame(text, lines[number - 1])),
             ("datagram", None) if text.contains(" fixed_bit=false ") => shown.push_str("error fixed bit unset\n"),
@@ -314,13 +314,20 @@ fn reason(error: &str) -> &str {
     &error[..end]
 }
 
+// Four bytes that are no link header, then what could be an IPv6 packet with a payload of six bytes.
+#[test]
+fn what_looks_like_ip_is_read() {
+    let rest = format!("0006{}", "00".repeat(40));
+    let stream = format!("1: 0..50 STREAM id=0 offset=0 fin=true len=48 data=000061626364{rest}");
+    assert_eq!(lines(&["frames"], &format!("0900000061626364{rest}\n")), [stream]);
+    assert!(lines(&["datagram"], &format!("4000000060000000{rest}\n"))[0].starts_with("1: 0..50 short "));
+}
+
 // `quic-show` checks the fixed bit of any version, and rejects an id of more than 20 bytes in any.
-fn no_packet(text: &str, error: &str, line: &str) -> String {
+fn no_packet(error: &str) -> String {
     let reason = reason(error);
-    let at: usize = text.strip_prefix("error at ").unwrap().split(':').next().unwrap().parse().unwrap();
-    let first = || u8::from_str_radix(&line[2 * at..2 * at + 2], 16).unwrap();
     let has_long_id = || field(error, "dst").len().max(field(error, "src").len()) > 40;
-    if reason.starts_with("unsupported version") && first() & 0x40 == 0 {
+    if error.contains(" fixed_bit=false") {
         return "error fixed bit unset\n".into();
     }
     if reason.starts_with("unsupported version") && has_long_id() {

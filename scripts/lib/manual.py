@@ -40,12 +40,13 @@ def calls_of(section):
 
 
 def sections_of(header):
-    """The title of each section that has calls, with these."""
+    """The title of each section that has calls, what is said of them all, and the calls."""
     parts = SECTION.split(header)
     for title, section in zip(parts[1::2], parts[2::2]):
         calls = list(calls_of(section))
         if calls:
-            yield unstarred(title).split(".  ")[0].split(", by the |side|")[0].rstrip("."), calls
+            title, _, intro = unstarred(title).partition(".  ")
+            yield title.split(", by the |side|")[0].rstrip("."), intro, calls
 
 
 def first_sentence(text):
@@ -86,7 +87,7 @@ def errors_of(call, calls, known):
 def errors(header, sections):
     """Each error, with the calls that name it."""
     texts = dict(ERROR.findall(header))
-    calls = {call.name: call for _, group in sections for call in group}
+    calls = {call.name: call for _, _, group in sections for call in group}
     named = {name: errors_of(call, calls, texts) for name, call in calls.items()}
     for error, text in texts.items():
         yield f".TP\n.B {error}"
@@ -103,19 +104,23 @@ def page(header, date):
     sections = list(sections_of(header))
     yield f'.TH QUIC_WIRE 3 "{date}" "quic_wire {version}" "Library calls"'
     yield ".SH NAME\nquic_wire \\- the wire layer of QUIC"
-    yield ".SH SYNOPSIS\n.nf\n.B #include <quic_wire.h>\n.fi\n.PP\n.B cc program.c $(pkg\\-config \\-\\-cflags \\-\\-libs quic_wire)"
+    yield ".SH SYNOPSIS\n.nf\n.B #include <quic_wire.h>\n.fi"
+    yield ".PP\n.B cc program.c $(pkg\\-config \\-\\-cflags \\-\\-libs quic_wire)"
+    yield ".PP\nIf PREFIX is none of the system's folders, also \\-Wl,\\-rpath,PREFIX/lib."
     yield ".SH DESCRIPTION"
     yield "\n.PP\n".join(map(marked, paragraphs))
     yield ".SH WHICH CALL DOES WHAT"
-    for title, calls in sections:
+    for title, _, calls in sections:
         yield f".SS {escaped(title)}"
         for call in calls:
             yield f".TP\n.B {call.name}\n{marked(first_sentence(call.text))}"
     yield ".SH ERRORS\nEach error, with the calls whose descriptions name it."
     yield from errors(header, sections)
     yield ".SH CALLS"
-    for title, calls in sections:
+    for title, intro, calls in sections:
         yield f".SS {escaped(title)}"
+        if intro:
+            yield marked(intro)
         for call in calls:
             yield from described(call)
     example = rest.split("\n\n")[1] if rest else ""

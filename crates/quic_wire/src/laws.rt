@@ -87,10 +87,10 @@ pub fn frames_again()
     quic_canon::laws::written_is_least();
 }
 
-/// A header whose ids have at most 20 bytes is read as it was written.
+/// A header whose version, fixed bit and ids (of at most 20 bytes) the options accept is read as it was written.
 pub fn headers_again()
-    // Headers without a packet number, which here end with the last connection id: a Retry of a known version, and a
-    // version negotiation whose fixed bit the options accept. Any bytes may follow.
+    // Headers without a packet number, up to the last connection id: a Retry of a known version, and a version
+    // negotiation whose fixed bit the options accept. Any bytes may follow.
     ensures plain { (options : DecodeOptions) (header : Header) (rest : List ℕ) → IsPlainInRange options header
         → (read : ProtectedHeader) × IsWithoutNumber read header
         × HeaderAt options (length (header_bytes header ++ rest)) (header_bytes header ++ rest) read rest }

@@ -59,8 +59,8 @@ impl Error {
 
     /// The id of the parameter that is rejected; `None` if the list ends within the id.
     ///
-    /// For an entry that is cut off, invalid or a repeat, it is that entry's. If the parameters as a whole are
-    /// rejected, it belongs to the first rule that they break, in the order in which quinn-proto checks them.
+    /// If it is `Malformed`, it is that of the entry where the list stops; if `IllegalValue`, that of the first rule
+    /// that a parameter breaks, in quinn-proto's order.
     ///
     /// ```
     /// use quic_wire::transport_parameters::TransportParameters;
@@ -72,8 +72,7 @@ impl Error {
         self.id
     }
 
-    /// The offset of its entry in the list, in bytes; the last one with its id, if the parameters as a whole are
-    /// rejected.
+    /// The offset of its entry in the list, in bytes; of the last one with its id, if it is `IllegalValue`.
     pub fn offset(&self) -> usize {
         self.offset
     }
@@ -120,7 +119,7 @@ impl ReadOptions {
     /// The reading of quinn-proto.
     pub const QUINN: ReadOptions = ReadOptions { any_width: false, no_repeats: false };
 
-    /// The reading of RFC 9000.
+    /// The reading of RFC 9000, with the parameters of extensions that this crate knows.
     pub const RFC: ReadOptions = ReadOptions { any_width: true, no_repeats: true };
 
     fn flags(self) -> u32 {

@@ -13,7 +13,7 @@ from .. import __version__
 from ..parameters import Side
 from .plain import spelled
 
-USAGE = "usage: quic-wire frames|canon|datagram|params|number|ranges|capture [OPTION..] [FILE..]"
+USAGE = "usage: python -m quic_wire frames|canon|datagram|params|number|ranges|capture [OPTION..] [FILE..]"
 MODES = ("frames", "canon", "datagram", "params", "number", "ranges", "capture")
 USUAL_VERSIONS = (0x00000001, *range(0xFF00001D, 0xFF000023), 0x6B3343CF)
 _VARINT_MAX = (1 << 62) - 1
@@ -199,7 +199,7 @@ def _changes(word: str, other: str) -> int:
 HELP = """\
 Decode QUIC v1 and v2 frames, packets and transport parameters, and print every field.
 
-usage: quic-wire MODE [OPTION..] [FILE..]
+usage: python -m quic_wire MODE [OPTION..] [FILE..]
 
 MODE says what a line is:
   frames      an unprotected packet payload: print its frames

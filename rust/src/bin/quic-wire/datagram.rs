@@ -61,13 +61,13 @@ fn show_packets(
         let cid_len = how.cid_len.unwrap_or_else(|| ids.len_in(rest, before));
         let is_clear = !how.grease && rest.first().is_some_and(|first| first & 0x40 == 0);
         let places = match HeaderPlaces::read(rest, cid_len, &how.versions) {
-            Err(error) if !is_clear || matches!(error, HeaderError::UnsupportedVersion(_)) => {
+            Err(error) if !is_clear || is_negotiation(rest) || matches!(error, HeaderError::UnsupportedVersion(_)) => {
                 let fault = fault::of_header(rest, begin, cid_len, &error);
                 let fixed_bit = is_clear.then_some(("fixed_bit", Flag(false)));
                 let fields = [&reported(&error, rest, begin), fixed_bit.as_slice(), &fault].concat();
                 return output.error(&error.to_string(), Some(begin), &fields);
             }
-            Ok(places) if !is_clear || is_negotiation(&places) => places,
+            Ok(places) if !is_clear || is_negotiation(rest) => places,
             _ => return output.error("fixed bit unset", Some(begin), &fault::of_fixed_bit(rest, begin)),
         };
         let end = begin + places.end();
@@ -88,8 +88,8 @@ fn show_packets(
     }
 }
 
-fn is_negotiation(places: &HeaderPlaces) -> bool {
-    !places.is_short() && places.version() == 0
+fn is_negotiation(packet: &[u8]) -> bool {
+    matches!(packet, [first, 0, 0, 0, 0, ..] if first & 0x80 != 0)
 }
 
 // What an error contains of the header.

@@ -23,9 +23,13 @@ def main():
     if sys.argv[1:] not in [[form] for form in FORMATS]:
         print("usage: inputs.py payload|datagram|params", file=sys.stderr)
         return 2
-    print("\n".join(dict.fromkeys(inputs(sys.argv[1]))))
+    print("\n".join(dict.fromkeys(inputs(sys.argv[1]))), flush=True)
     return 0
 
 
 if __name__ == "__main__":
-    sys.exit(main())
+    try:
+        sys.exit(main())
+    except BrokenPipeError:  # nobody reads on
+        sys.stdout = None
+        sys.exit(1)

@@ -16,10 +16,11 @@ that it didn't answer, which counts as a crash.
 
 -v              prints every test, with what the driver answered
 --only PATTERN  only tests whose ids fit PATTERN, such as 'ack.*'
---as NAME       of a test that leaves a choice, the answer of NAME is the only one allowed, if it has one
+--as NAME       of a choice, only answers whose `by` begins with NAME are allowed, if there are any: `--as RFC` fails what
+                departs from an RFC
 --by-file       the table has a line for each file of tests, not for each group
 
-Status 0: no test failed; 1: one did; 2: a wrong call."""
+Status 0: no test failed; 1: one did; 2: a wrong call, or no driver."""
 import argparse
 import fnmatch
 import json
@@ -226,12 +227,17 @@ def parsed(answer):
     return verdict, code or None, json.loads(rest) if rest.strip() else None
 
 
+def is_by(answer, name):
+    """Whether it is an answer of |name|, the first words of who gives it."""
+    return f"{answer['by']} ".startswith(f"{name} ")
+
+
 def judge(test, answer, name=None):
     """The kind of result, a key of LETTERS, and why."""
     word, _, why = answer.partition(" ")
     if word in ("skip", "crash"):
         return word, why
-    allowed = [one for one in test["answers"] if one["by"] == name] or test["answers"]
+    allowed = [one for one in test["answers"] if is_by(one, name)] or test["answers"]
     try:
         verdict, code, read = parsed(answer)
         found = [unlike(test, one, verdict, code, read) for one in allowed]
@@ -319,16 +325,25 @@ def main():
     if not stacks or not every:
         print(__doc__ if every else f"run.py: no test is called {words.only}", file=sys.stderr)
         return 2
+    if words.name and not any(is_by(answer, words.name) for entry in every for answer in entry.test["answers"]):
+        print(f"run.py: no answer is by {words.name}", file=sys.stderr)
+        return 2
     try:
         counts = run(stacks, every, words.name, words.v)
         counts = list(map(by_file, counts)) if words.by_file else counts
+    except BrokenPipeError:
+        raise
     except (DriverEnded, OSError) as fault:
         print(fault, file=sys.stderr)
         return 2
-    print("\n".join(["", *table([stack for stack, _ in stacks], counts), "", LEGEND]))
+    print("\n".join(["", *table([stack for stack, _ in stacks], counts), "", LEGEND]), flush=True)
     totals = sum((sum(count.values(), Counter()) for count in counts), Counter())
     return 1 if any(totals[kind] for kind in FAILURES) else 0
 
 
 if __name__ == "__main__":
-    sys.exit(main())
+    try:
+        sys.exit(main())
+    except BrokenPipeError:  # nobody reads on
+        sys.stdout = None
+        sys.exit(1)

@@ -32,6 +32,7 @@ const FRAMES = {
 
 export const PADDING = 0x00;
 export const ACK = 0x02;
+export const NEW_CONNECTION_ID = 0x18;
 
 export function frameName(kind) {
   return FRAMES[kind][0];

@@ -130,7 +130,7 @@ export function openedFields(fields, { begin, end, number, kind }, header) {
   return [
     { ...fields[0], value, note: `0x${first.toString(16)}, unprotected` },
     ...fields.slice(1).filter((field) => field.end <= number && field.begin > begin),
-    { name: "Packet Number", begin: number, end: behind, value: `${header.number}`, note: "as it is written" },
+    { name: "Packet Number", begin: number, end: behind, value: `${header.number}`, note: "truncated" },
     { name: "Packet Payload, protected", begin: behind, end, value: count(end - behind, "byte"), opaque: true },
   ];
 }

@@ -124,6 +124,11 @@ class Page {
   }
 
   paste(event) {
+    // An example that stands there is replaced.
+    const box = byId("input");
+    if (EXAMPLES.some(({ text }) => text === box.value)) {
+      box.select();
+    }
     if (this.form.paste(event.clipboardData.getData("text/plain"))) {
       event.preventDefault();
       this.form.forget();

@@ -5,9 +5,9 @@
 import { agrees, frameFields, frameSummary, paddingRun } from "./frame-fields.js";
 import { Words } from "./library.js";
 import {
-  ACK, allowedOf, FRAME_REASONS, frameName, frameTone, MIN_ACK_DELAY, PACKET_FIXED_BIT, PACKET_REASONS,
-  PACKET_UNSUPPORTED_VERSION, packetName, packetTone, PADDING, parameterOf, PARAMS_MALFORMED, PARAMS_REASONS,
-  REASON_END, REASON_LONG_TYPE, REASON_TYPE, typeName,
+  ACK, allowedOf, FRAME_REASONS, frameName, frameTone, MIN_ACK_DELAY, NEW_CONNECTION_ID, PACKET_FIXED_BIT,
+  PACKET_REASONS, PACKET_UNSUPPORTED_VERSION, packetName, packetTone, PADDING, parameterOf, PARAMS_MALFORMED,
+  PARAMS_REASONS, REASON_END, REASON_LONG_TYPE, REASON_MALFORMED, REASON_TYPE, typeName,
 } from "./names.js";
 import { openedFields, packetAgrees, packetFields, packetSummary } from "./packet-fields.js";
 import { nextEntry, parameterFields, parameterSummary } from "./parameter-fields.js";
@@ -134,9 +134,13 @@ class FramesReading extends Reading {
       };
     }
     const isLong = error.reason === REASON_LONG_TYPE;
+    const sections = {
+      [REASON_END]: "20.1", [REASON_MALFORMED]: error.type === NEW_CONNECTION_ID ? "19.15" : "19.3.1",
+    };
     return {
       place: this.walkRest().fault?.begin ?? this.rest, reason: FRAME_REASONS[error.reason], type: error.type,
-      code: isLong ? "PROTOCOL_VIOLATION (0x0a)" : "FRAME_ENCODING_ERROR (0x07)", section: "RFC 9000, section 12.4",
+      code: isLong ? "PROTOCOL_VIOLATION (0x0a)" : "FRAME_ENCODING_ERROR (0x07)",
+      section: `RFC 9000, section ${sections[error.reason] ?? "12.4"}`,
     };
   }
 

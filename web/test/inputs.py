@@ -126,6 +126,10 @@ CHOICES = [
     ({"mode": "datagram", "versions": "1", "grease": False}, "80000000010000", "RFC 9000, section 12.2"),
     ({"mode": "datagram", "idLength": 1, "grease": True}, "000102", "1 packet in 3 bytes"),
     ({"mode": "datagram", "idLength": 4, "grease": True}, "000102", "packet too small"),
+    ({"mode": "frames"}, "0610", "RFC 9000, section 20.1"),
+    ({"mode": "frames"}, "0200000100000000", "RFC 9000, section 19.3.1"),
+    ({"mode": "frames"}, "18010208", "RFC 9000, section 19.15"),
+    ({"mode": "frames"}, "21", "RFC 9000, section 12.4"),
     # RFC 9000, section 18.2: values below 2 are invalid.
     ({"mode": "params", "side": "client"}, "0e0101", "illegal value. Allowed is 2 or more."),
 ]

@@ -128,12 +128,12 @@ def long_texts(browser, address, bound):
 
 
 def pasted(browser, address):
-    """Pasting with keys does the same: first a short text, then one that is too long for the box."""
+    """Pasting with keys does the same: a short text, one in place of the example, one that is too long for the box."""
     copy = """const from = document.createElement("textarea"); from.id = "from"; from.value = arguments[0];
         document.body.append(from); from.focus();"""
-    for size in (1000, 200_000):
+    for size, link in ((1000, "#read=frames&hex="), (1001, ""), (200_000, "#read=frames&hex=")):
         browser.send("navigate", {"url": "about:blank"})
-        browser.go(f"{address}#read=frames&hex=")
+        browser.go(f"{address}{link}")
         browser.run(copy, "01" * size)
         browser.keys("a", held=(CONTROL,))
         browser.keys("c", held=(CONTROL,))

@@ -135,7 +135,7 @@ class FramesReading extends Reading {
     }
     const isLong = error.reason === REASON_LONG_TYPE;
     const sections = {
-      [REASON_END]: "20.1", [REASON_MALFORMED]: error.type === NEW_CONNECTION_ID ? "19.15" : "19.3.1",
+      [REASON_END]: "20.1", [REASON_MALFORMED]: Number(error.type) === NEW_CONNECTION_ID ? "19.15" : "19.3.1",
     };
     return {
       place: this.walkRest().fault?.begin ?? this.rest, reason: FRAME_REASONS[error.reason], type: error.type,

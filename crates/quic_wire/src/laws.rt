@@ -1,6 +1,6 @@
 //! What is proved of the wire layer, in one place (RFC 9000, sections 12, 17, 18 and 19). Each `ensures` is a theorem
-//! about all bytes, in terms of the grammar in `crates/*/specs/`; it follows from the laws of other crates that the
-//! body names. `(x : A) × P` says that there is an x for which P holds. The functions in the module `calls` compute the
+//! about all bytes, in terms of the grammar in `crates/*/specs/`; the body names the laws of other crates that prove
+//! it. `(x : A) × P` says that there is an x for which P holds. The functions in the module `calls` compute the
 //! readings, packets, records and shortest payloads that exist by these laws.
 ghost use Rattle.std.specs.Prelude.{◌≡◌, ◌≢◌, ◌+◌, ◌++◌, ℕ, List, [], Bool, true, false, drop, length, map, None, Option, Ok};
 ghost use Rattle.quic_base.specs.Number.{AreBytes};

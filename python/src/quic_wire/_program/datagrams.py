@@ -65,7 +65,7 @@ def _show_packets(datagram: bytes, begin: int, args: Args, ids: Ids, output: Out
         is_clear = not args.grease and len(rest) > 0 and not rest[0] & _FIXED_BIT
         read = _read(datagram, begin, cid_len, args)
         if isinstance(read, PacketError):
-            _show_error(read, output)
+            _show_error(read, is_clear and _is_negotiation(rest), output)
             return
         if isinstance(read, UnknownVersion):
             _show_unknown_version(read, is_clear, output)
@@ -83,7 +83,8 @@ def _show_packets(datagram: bytes, begin: int, args: Args, ids: Ids, output: Out
 
 
 def _read(datagram: bytes, begin: int, cid_len: int, args: Args) -> Union[Packet, PacketError]:
-    checks = Checks.GREASED_BIT if args.grease else Checks.ANY_VERSION
+    is_any = args.grease or _is_negotiation(datagram[begin:])
+    checks = Checks.GREASED_BIT if is_any else Checks.ANY_VERSION
     try:
         read = read_packet(datagram, cid_len, begin, args.versions, checks=checks)
     except PacketError as error:
@@ -94,8 +95,14 @@ def _read(datagram: bytes, begin: int, cid_len: int, args: Args) -> Union[Packet
     return read
 
 
-def _show_error(error: PacketError, output: Output) -> None:
+def _is_negotiation(packet: bytes) -> bool:
+    return packet[1:5] == bytes(4) and packet[0] >= 0x80
+
+
+def _show_error(error: PacketError, is_clear: bool, output: Output) -> None:
     fields = fields_of(error.packet)[1] if error.packet is not None else []
+    if is_clear:
+        fields.append(("fixed_bit", out.flag(False)))
     fields += [*place_of(error), ("then", out.sentence(_DROPPED)), ("section", out.sentence(error.section))]
     output.error(error.reason, error.offset, fields)
 

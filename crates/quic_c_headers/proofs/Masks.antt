@@ -7,8 +7,7 @@ use Rattle.std.proofs.lemmas.Bool.{cases_eq, cases_lt}
 use Rattle.std.proofs.lemmas.Bool.Decides.{nat_tests}
 use lib.Bits.{xor_assoc, xor_self, xor_zero_r, xor_shr}
 use Rattle.quic_crypto.specs.Keys.{first_unit, number_len}
-use Rattle.quic_c_headers.specs.Protection.{masked_packet}
-use Rattle.quic_c_headers.specs.Protection.{unmasked_first, unmasked_at, unmasked}
+use Rattle.quic_crypto.specs.Masks.{masked_packet, unmasked, unmasked_at, unmasked_first}
 
 xor_twice : (a s : ℕ) → bit_xor (bit_xor a s) s ≡ a
 xor_twice a s = xor_assoc a s s ∙ ap (bit_xor a) (xor_self s) ∙ xor_zero_r a

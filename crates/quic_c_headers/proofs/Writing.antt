@@ -9,6 +9,7 @@ use Rattle.quic_base.proofs.PublicLaws.{length-bytes_of}
 use Rattle.quic_header_encode.proofs.Sizes.{long_length}
 use Rattle.quic_base.specs.ConnectionId.{long_id}
 use Rattle.quic_base.specs.Number.{has_bit, bytes_of}
+use Rattle.quic_base.specs.Varint.{IsWidth}
 use Rattle.quic_crypto.specs.declared.packet_number.PacketNumber.{PacketNumber}
 use Rattle.quic_crypto.specs.declared.packet_number.PacketNumber.TheVariants.{U8}
 use Rattle.quic_crypto.specs.PacketNumbers.{low_part, number_bytes, number_size, window_of, IsInRange}
@@ -18,7 +19,7 @@ use Rattle.quic_header_encode.specs.declared.header.Header.{Header}
 use Rattle.quic_header_encode.specs.declared.header.Header.TheVariants as header
 use Rattle.quic_header_encode.specs.declared.long_type.LongType.TheVariants.{Handshake, ZeroRtt}
 use Rattle.quic_header_encode.specs.Kinds.{bit_value, fields_of, header_text, row, says, Row}
-use Rattle.quic_header_encode.specs.Writing.{token_by, type_bits, IsTyped, IsWidth}
+use Rattle.quic_header_encode.specs.Writing.{token_by, type_bits, IsTyped}
 use Rattle.quic_header_encode.specs.Kinds.{long_front}
 use Rattle.quic_c_headers.specs.declared.words.HeaderFields.{HeaderFields}
 use Rattle.quic_c_headers.specs.Headers.{part_of, described_bytes, CanWriteHeader}

@@ -9,10 +9,10 @@ use Rattle.quic_header_encode.specs.declared.long_type.HeaderKind.{HeaderKind}
 use Rattle.quic_header_encode.specs.declared.long_type.HeaderKind.TheVariants as kind
 use Rattle.quic_header_encode.specs.declared.header.Header.{Header}
 use Rattle.quic_header_encode.specs.declared.header.Header.TheVariants as header
-use Rattle.quic_header_encode.specs.Kinds.{Row, bit_value, fields_of, header_text, row, says}
-use Rattle.quic_header_encode.specs.Kinds.{dst_in, number_in}
+use Rattle.quic_header_encode.specs.Kinds.{Row, bit_value, dst_in, fields_of, header_text, number_in, row, says}
 use Rattle.quic_header_encode.specs.Types.{type_code}
-use Rattle.quic_header_encode.specs.Writing.{IsWidth, IsWritable}
+use Rattle.quic_base.specs.Varint.{IsWidth}
+use Rattle.quic_header_encode.specs.Writing.{IsWritable}
 use Rattle.quic_c_headers.specs.declared.words.HeaderFields.{HeaderFields}
 use Rattle.quic_results.specs.declared.results.Failure.{Failure}
 use Rattle.quic_results.specs.declared.results.Failure.TheVariants as failure
@@ -35,7 +35,8 @@ word_of row = option_map_or type_code row.type (if row.is_long then 5 else 4)
 abbrev pub DescribesFlags : ℕ → Bool → Header → Type 0
 DescribesFlags flags clear (header.Short spin key_phase dst number) =
     (clear ≡ has_bit 0x40 flags) × (spin ≡ has_bit 0x20 flags) × (key_phase ≡ has_bit 0x04 flags)
-DescribesFlags flags clear (header.VersionNegotiate random src dst) = (clear ≡ false) × (random ≡ bit_xor 0x40 (flags % 0x80))
+DescribesFlags flags clear (header.VersionNegotiate random src dst) =
+    (clear ≡ false) × (random ≡ bit_xor 0x40 (flags % 0x80))
 DescribesFlags flags clear _ = clear ≡ has_bit 0x40 flags
 
 -- A number below 2^62, in that many bytes (RFC 9000, section 17.1), if the header has one.
@@ -46,23 +47,23 @@ DescribesNumber number len (Some written) =
 
 -- The fields, two ids and a token describe the header, with the fixed bit clear or set. Fields that its kind doesn't
 -- have are ignored.
-pub record DescribesHeader (words : HeaderFields) (dst src token : List ℕ) (clear : Bool) (header : Header) : Type 0 where
-  pub kind : words.kind ≡ word_of (fields_of header).row
-  pub flags : DescribesFlags words.flags clear header
+pub record DescribesHeader (words : HeaderFields) (dst src token : List ℕ) (clear : Bool) (head : Header) : Type 0 where
+  pub kind : words.kind ≡ word_of (fields_of head).row
+  pub flags : DescribesFlags words.flags clear head
   -- a version other than 0, since version 0 means a version negotiation (RFC 9000, section 17.2.1)
-  pub version : IsTrue (is_some (fields_of header).row.type)
-      → (words.version ≡ (fields_of header).version) × (0 < words.version)
-  pub number : DescribesNumber words.number words.number_len (number_in header)
-  pub len : IsTrue (fields_of header).row.has_len → IsWidth words.length_len
-  pub dst_is : dst ≡ dst_in header
-  pub src_is : IsTrue (fields_of header).row.is_long → (src ≡ (fields_of header).src) × (length src ≤ 20)
-  pub token_is : IsTrue (fields_of header).row.has_token → token ≡ (fields_of header).token
+  pub version : IsTrue (is_some (fields_of head).row.type)
+      → (words.version ≡ (fields_of head).version) × (0 < words.version)
+  pub number : DescribesNumber words.number words.number_len (number_in head)
+  pub len : IsTrue (fields_of head).row.has_len → IsWidth words.length_len
+  pub dst_is : dst ≡ dst_in head
+  pub src_is : IsTrue (fields_of head).row.is_long → (src ≡ (fields_of head).src) × (length src ≤ 20)
+  pub token_is : IsTrue (fields_of head).row.has_token → token ≡ (fields_of head).token
 
 -- They describe a header that can be written: the receiver's id has at most 20 bytes.
-pub record CanWriteHeader (words : HeaderFields) (dst src token : List ℕ) (clear : Bool) (header : Header) : Type 0 where
-  pub described : DescribesHeader words dst src token clear header
+pub record CanWriteHeader (words : HeaderFields) (dst src token : List ℕ) (clear : Bool) (head : Header) : Type 0 where
+  pub described : DescribesHeader words dst src token clear head
   pub dst_few : length dst ≤ 20
-  pub writable : IsWritable header
+  pub writable : IsWritable head
 
 -- the bytes that are written: the header's, with that many zeros as its length, and with its fixed bit cleared if
 -- `clear` says so
@@ -139,7 +140,8 @@ pub record IsShaped (words : HeaderFields) (dst src token : List ℕ) : Type 0 w
 -- the bits of the first byte other than the type and the number's size, by the flags
 abbrev pub first_word : HeaderKind → ℕ → ℕ
 first_word kind.Short flags =
-    0x40 - bit_value (has_bit 0x40 flags) 0x40 + bit_value (has_bit 0x20 flags) 0x20 + bit_value (has_bit 0x04 flags) 0x04
+    0x40 - bit_value (has_bit 0x40 flags) 0x40 + bit_value (has_bit 0x20 flags) 0x20
+    + bit_value (has_bit 0x04 flags) 0x04
 first_word kind.VersionNegotiate flags = bit_or 0x80 (bit_xor 0x40 (flags % 0x80))
 first_word _ flags = 0xc0 - bit_value (has_bit 0x40 flags) 0x40
 

@@ -1,4 +1,3 @@
 pub mod Headers
-pub mod Numbers
 pub mod Reading
 pub mod Protection

@@ -1,9 +1,8 @@
 //! Varints and packet numbers.
 ghost use Rattle.std.specs.Prelude.{◌≡◌, ◌+◌, ◌-◌, ◌*◌, ◌%◌, ◌^◌, ◌<◌, ◌≤◌, ◌⊎◌, ◌↔◌, ◌++◌, List, ℕ, length, take, drop, pos};
 ghost use Rattle.quic_base.specs.Codec.{NoFront, Takes};
-ghost use Rattle.quic_base.specs.Varint.{Encodes, size};
-ghost use Rattle.quic_crypto.specs.PacketNumbers.{Expands, SizeFor, low_part};
-ghost use Rattle.quic_c_headers.specs.Numbers.{encoding_in, CanExpand, CanEncode, IsNumberLen, IsWidth};
+ghost use Rattle.quic_base.specs.Varint.{encoding_in, size, CanEncode, Encodes, IsWidth};
+ghost use Rattle.quic_crypto.specs.PacketNumbers.{low_part, CanExpand, Expands, IsNumberLen, SizeFor};
 ghost use Rattle.quic_base.specs.Number.{IsNumber, bytes_of};
 ghost use Rattle.quic_results.specs.Results.{failed};
 

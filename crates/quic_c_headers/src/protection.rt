@@ -1,10 +1,10 @@
 //! Applies and removes header protection, with masks that the caller makes (RFC 9001, section 5.4).
 ghost use Rattle.std.specs.Prelude.{◌≡◌, ◌⊎◌, ◌↔◌, ◌<◌, ◌≤◌, ◌+◌, ◌^◌, ◌++◌, ℕ, pos, length, take, drop, slice_index, slice_set, IsTrue};
 ghost use Rattle.quic_crypto.specs.Keys.{number_len};
+ghost use Rattle.quic_crypto.specs.Masks.{masked_packet, unmasked, unmasked_at, unmasked_first, HasNumber};
 ghost use Rattle.quic_crypto.specs.PacketNumbers.{number_size};
 ghost use Rattle.quic_header_encode.specs.Writing.{with_len, TakesLen};
-ghost use Rattle.quic_c_headers.specs.Protection.{masked_packet};
-ghost use Rattle.quic_c_headers.specs.Protection.{unmasked_first, unmasked_at, unmasked, GivesNumber, HasNumber, StandsAt};
+ghost use Rattle.quic_c_headers.specs.Protection.{GivesNumber, StandsAt};
 ghost use Rattle.quic_results.specs.Results.{failed};
 
 use quic_crypto::packet_number::PacketNumber;

@@ -1,10 +1,11 @@
 //! Writes headers into the caller's bytes.
 ghost use Rattle.std.specs.Prelude.{◌≡◌, ◌≢◌, ◌+◌, ◌-◌, ◌*◌, ◌/◌, ◌%◌, ◌^◌, ◌<◌, ◌≤◌, ◌⊎◌, ◌↔◌, ◌++◌, ℕ, [], IsTrue, length, take, drop, replicate};
 ghost use Rattle.quic_base.specs.Number.{bytes_of};
+ghost use Rattle.quic_base.specs.Varint.{IsWidth};
 ghost use Rattle.quic_crypto.specs.PacketNumbers.{IsInRange};
 ghost use Rattle.quic_header_encode.specs.declared.long_type.HeaderKind.TheVariants as kind;
 ghost use Rattle.quic_header_encode.specs.Kinds.{row};
-ghost use Rattle.quic_header_encode.specs.Writing.{token_by, type_bits, IsTyped, IsWidth};
+ghost use Rattle.quic_header_encode.specs.Writing.{token_by, type_bits, IsTyped};
 ghost use Rattle.quic_header_encode.specs.Kinds.{long_front};
 ghost use Rattle.quic_c_headers.specs.Headers.{part_of};
 ghost use Rattle.quic_c_headers.specs.Headers.{first_word, short_size, word_of, worded_bytes, AreParts, HasShortRoom, IsNumbered, IsShaped, StoresShort};

@@ -1,7 +1,8 @@
 //! Datagrams that are cut, and packets whose length is filled in: what callers learn from contracts and from the laws
 //! of headers, for every lawful parser of ids and all lawful keys.
 ghost use Rattle.std.specs.Prelude.{◌≡◌, ◌+◌, ◌-◌, ◌∷◌, [], ◌++◌, ◌≤◌, ℕ, true, IsTrue, IfSome, IsOk, OnOk, Contains, length, option_map, take, vec_capacity};
-ghost use Rattle.quic_header_encode.specs.Writing.{HasRoom, IsWritable, has_length, header_size, header_with, encoding_in, sealed_packet, size_in};
+ghost use Rattle.quic_base.specs.Varint.{encoding_in};
+ghost use Rattle.quic_header_encode.specs.Writing.{HasRoom, IsWritable, has_length, header_size, header_with, sealed_packet, size_in};
 ghost use Rattle.quic_header_decode.specs.declared.protected.ProtectedHeader.{ProtectedHeader};
 ghost use Rattle.quic_header_decode.specs.Grammar.{Cut};
 ghost use Rattle.quic_header_decode.specs.Reading.{read_by};

@@ -1,6 +1,6 @@
 -- Payloads that mean the same: equal frames in the same order. ACKs are compared by their delays, their ECN counts and
 -- the numbers in them.
-use Rattle.std.specs.Prelude.{◌≡◌, ◌≢◌, ℕ, List, [], ◌∷◌, drop, map, Bool, true, false, if◌then◌else◌}
+use Rattle.std.specs.Prelude.{◌≡◌, ◌≢◌, ℕ, List, [], drop, map, Bool, true, false, if◌then◌else◌}
 use Rattle.std.specs.List.{AllZip}
 use Rattle.quic_frame_fields.specs.Field.{Value, Ranges}
 use Rattle.quic_frame_fields.specs.Table.{Name, Ack}

@@ -135,8 +135,7 @@ pub record Stops (field : Field) (before : List Value) (bytes : List ℕ) (reaso
       → ⊥
   pub why : IsReason field before bytes reason
 
--- The bytes encode fields of these kinds, one after the other. Before are the values of the fields in front of them,
--- after the same values and theirs.
+-- The bytes encode fields of these kinds. Before has the values of the fields in front of them, after also theirs.
 abbrev pub AreFields : List Field → List Value → List Value → List ℕ → Type 0
 AreFields [] before after bytes = (after ≡ before) × (bytes ≡ [])
 AreFields (field ∷ fields) before after bytes =

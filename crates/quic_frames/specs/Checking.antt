@@ -1,6 +1,5 @@
 -- How far an iterator with rules has read its payload, and what it returns next.
-use Rattle.std.specs.Prelude.{◌≡◌, ◌↔◌, ◌⊎◌, ◌≤◌, ℕ, List, [], length, Option, Some, None, Result, Ok, Err, IsErr, IfErr, IfOk, codes, Bool, true, false}
-use Rattle.quic_base.specs.One.{ExactlyOne}
+use Rattle.std.specs.Prelude.{◌≡◌, ◌⊎◌, ℕ, List, Option, Some, None, Result, Ok, Err, true, false}
 use Rattle.quic_errors.specs.declared.invalid_frame.InvalidFrame.{InvalidFrame}
 use Rattle.quic_frame_fields.specs.Reading.{Invalid}
 use Rattle.quic_frames.specs.declared.frame.Frame.{Frame}

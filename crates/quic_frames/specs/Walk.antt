@@ -1,5 +1,5 @@
 -- How far an iterator has read its payload, and what it returns next.
-use Rattle.std.specs.Prelude.{◌≡◌, ⊤, ◌↔◌, ℕ, ◌-◌, ◌<◌, ◌≤◌, List, [], ◌∷◌, ◌++◌, ◌⊎◌, length, map, drop, slice_range, Option, Some, None, Result, Ok, Err, IsErr, IfErr, IfOk, codes, Bool, true, false, if◌then◌else◌}
+use Rattle.std.specs.Prelude.{◌≡◌, ⊤, ◌↔◌, ℕ, ◌-◌, ◌<◌, ◌≤◌, List, [], ◌∷◌, ◌⊎◌, length, drop, slice_range, Option, Some, None, Result, Ok, Err, IsErr, IfErr, IfOk, codes, Bool, true, false, if◌then◌else◌}
 use Rattle.quic_base.specs.Number.{AreBytes}
 use Rattle.quic_base.specs.One.{ExactlyOne}
 use Rattle.quic_frames.specs.declared.frame.Frame.{Frame}
@@ -11,7 +11,7 @@ use Rattle.quic_frame_fields.specs.AckPlace.{BlocksStand}
 use Rattle.quic_frame_fields.specs.Field.{Value, Number, Bytes, Ranges}
 use Rattle.quic_frame_fields.specs.Table.{is_open}
 use Rattle.quic_frame_fields.specs.declared.frame.fault.Fault.{Fault}
-use Rattle.quic_frame_fields.specs.Payload.{TypedFrame, IsFrame, AreFrames, IsNoFrame, IsBroken, Reading, IsReadingAfter, IsReadingOf, item_count}
+use Rattle.quic_frame_fields.specs.Payload.{TypedFrame, IsFrame, IsNoFrame, Reading, IsReadingAfter, IsReadingOf, item_count}
 use Rattle.quic_frame_fields.specs.Reading.{Item, Whole, Broken, Invalid, invalid, items_of}
 use Rattle.quic_frames.specs.Meaning.{meaning_of}
 use Rattle.quic_frames.specs.InRange.{HasNoTypeZero}

@@ -1,5 +1,4 @@
--- Headers before and after their protection is removed (RFC 9000, section 17), and why it can't be (RFC 9001, section
--- 5.4).
+-- Headers before and after their protection is removed (RFC 9000, section 17), and why it can't be.
 use Rattle.std.specs.Prelude.{◌≡◌, ℕ, ◌+◌, ◌≤◌, ◌⊎◌, Bool, true, false, List, length, slice_index, slice_range, is_some, codes, Option, Some, None}
 use Rattle.quic_base.specs.Number.{has_bit}
 use Rattle.quic_crypto.specs.Keys.{number_len}

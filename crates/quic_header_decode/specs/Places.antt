@@ -98,9 +98,9 @@ IsSeen _ datagram_len = Unit {0}
 
 -- where a packet ends in that many bytes
 abbrev pub ends_at : HeaderPlaces → ℕ → Option ℕ
-ends_at x datagram_len =
-    if (row x.kind).has_len then (if nat_lt datagram_len (x.header_end + x.len) then None else Some (x.header_end + x.len))
-    else Some datagram_len
+ends_at x size =
+    if (row x.kind).has_len then (if nat_lt size (x.header_end + x.len) then None else Some (x.header_end + x.len))
+    else Some size
 
 -- ---- which bytes these are
 

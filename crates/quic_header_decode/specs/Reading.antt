@@ -13,8 +13,7 @@ use Rattle.quic_base.specs.Number.{has_bit, num}
 use Rattle.quic_base.specs.Reading.{◌>>=◌, number_at}
 use Rattle.bytes.specs.Filled.{Filled}
 
--- how headers are read: the parser of short headers' ids, the versions that are known, and whether the fixed bit may be
--- clear
+-- how headers are read: the parser of short headers' ids, the known versions, and whether the fixed bit may be clear
 pub record DecodeOptions : Type 0 where
   pub parsed : List ℕ → Result (List ℕ × ℕ) Refusal
   pub versions : List ℕ
@@ -145,16 +144,12 @@ IsRest None bytes = bytes ≡ []
 IsRest (Some rest) bytes = (rest.items ≡ bytes) × (0 < length bytes)
 
 -- where an Initial packet's token begins and ends
-abbrev pub token_start : ProtectedHeader → ℕ
-token_start (protected.Initial h) = h.token_pos.start
-token_start _ = 0
-
-abbrev pub token_end : ProtectedHeader → ℕ
-token_end (protected.Initial h) = h.token_pos.end
-token_end _ = 0
+abbrev pub token_ends : ProtectedHeader → ℕ × ℕ
+token_ends (protected.Initial h) = (h.token_pos.start, h.token_pos.end)
+token_ends _ = (0, 0)
 
 -- a header that ends at this offset has its first byte, and its token is within it
 pub record IsPlaced (h : ProtectedHeader) (at : ℕ) : Type 0 where
   pub after_first : 0 < at
-  pub token_order : token_start h ≤ token_end h
-  pub token_within : token_end h ≤ at
+  pub token_order : (token_ends h).0 ≤ (token_ends h).1
+  pub token_within : (token_ends h).1 ≤ at

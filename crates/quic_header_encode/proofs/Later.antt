@@ -1,7 +1,7 @@
 -- A length that is filled in later equals one that is written at once.
 use Rattle.std.proofs.Common.{◌≡◌, ℕ, ◌+◌, ◌-◌, List, [], ◌++◌, length, take, drop, replicate, IsTrue, refl, sym, ap, ◌∙◌, append_assoc, arith, rules}
 use Rattle.std.proofs.lemmas.List.{length-append, length-replicate, take_at, drop_at}
-use Rattle.quic_base.specs.Varint.{shortest_varint}
+use Rattle.quic_base.specs.Varint.{encoding_in, shortest_varint}
 use Rattle.quic_crypto.specs.declared.packet_number.PacketNumber.{PacketNumber}
 use Rattle.quic_crypto.specs.PacketNumbers.{number_bytes, number_size}
 use Rattle.quic_header_encode.proofs.Writings.{number_length}
@@ -9,7 +9,7 @@ use Rattle.quic_header_encode.specs.declared.header.Header.{Header}
 use Rattle.quic_header_encode.specs.declared.header.Header.TheVariants as header
 use Rattle.quic_header_encode.specs.Kinds.{fields_of, first_in}
 use Rattle.quic_header_encode.specs.Kinds.{long_front}
-use Rattle.quic_header_encode.specs.Writing.{begun_by, encoding_in, with_len}
+use Rattle.quic_header_encode.specs.Writing.{begun_by, with_len}
 use Rattle.quic_header_encode.specs.Writing.{has_length, header_bytes, header_size, header_with, size_in, with_length}
 
 -- n elements of a list are overwritten

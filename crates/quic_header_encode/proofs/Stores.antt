@@ -5,8 +5,8 @@ use Rattle.std.proofs.lemmas.Bool.Decides.{nat_tests}
 use Rattle.std.proofs.lemmas.List.{append-nil, append_assoc, length-append, length-take-le, drop-drop, take-append-drop, take-append-le, take-take}
 use Rattle.std.specs.Int.{byte_at}
 use Rattle.quic_base.specs.Number.{bytes_of}
-use Rattle.quic_base.specs.Varint.{shortest_varint, size}
-use Rattle.quic_header_encode.specs.Writing.{encoding_in, with_len}
+use Rattle.quic_base.specs.Varint.{encoding_in, shortest_varint, size}
+use Rattle.quic_header_encode.specs.Writing.{with_len}
 
 -- a number below 64 is encoded by itself
 pub short_small : (n : ℕ) → n < 64 → shortest_varint n ≡ n ∷ []

@@ -117,8 +117,7 @@ abbrev pub phase_in : Header → Bool
 phase_in (header.Short spin key_phase dst number) = key_phase
 phase_in _ = false
 
--- the reserved bits of a first byte are zero: 0x18 in short headers, 0x0c in the others (RFC 9000, sections 17.2 and
--- 17.3.1)
+-- a first byte's reserved bits are zero: 0x18 in short headers, 0x0c in others (RFC 9000, sections 17.2 and 17.3.1)
 abbrev pub reserved_zero : Header → ℕ → Bool
 reserved_zero h first = nat_eq (first / (if (fields_of h).row.is_long then 4 else 8) % 4) 0
 

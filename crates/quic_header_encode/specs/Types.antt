@@ -37,8 +37,7 @@ place_of ty (k ∷ ks) = if nat_eq (type_code k) (type_code ty) then 0 else 1 + 
 abbrev pub type_number : ℕ → LongHeaderType → ℕ
 type_number version ty = place_of ty (types_of version)
 
--- the first byte of a type in a version: bits 0x80 and 0x40 are set, bits 0x30 hold its number, and the lowest four are
--- clear
+-- the first byte of a type in a version: bits 0x80 and 0x40 are set, bits 0x30 hold its number, the others are clear
 abbrev pub first_byte : ℕ → LongHeaderType → ℕ
 first_byte version ty = 0xc0 + 16 * type_number version ty
 

@@ -1,7 +1,7 @@
 -- The bytes of headers, and a packet that is finished after its payload was appended to its header (RFC 9000, section
 -- 17; RFC 9001, sections 5.3 and 5.4). Headers are appended, or written over bytes. Then the fixed bit may be clear
 -- (RFC 9287), and the length is as many zeros as the caller chooses.
-use Rattle.std.specs.Prelude.{◌≡◌, IsTrue, IsOk, OnOk, OnErr, Result, Vec, vec_len, vec_capacity, ◌≤◌, take, drop, ℕ, ◌+◌, ◌-◌, ◌<◌, ◌^◌, Bool, true, false, Option, Some, None, List, [], ◌∷◌, ◌++◌, length, ◌*◌, ◌⊎◌, replicate, ◌==◌, is_some, if◌then◌else◌}
+use Rattle.std.specs.Prelude.{◌≡◌, IsTrue, IsOk, OnOk, OnErr, Result, Vec, vec_len, vec_capacity, ◌≤◌, take, drop, ℕ, ◌+◌, ◌-◌, ◌<◌, ◌^◌, Bool, true, false, Option, Some, None, List, [], ◌∷◌, ◌++◌, length, ◌*◌, ◌⊎◌, replicate, is_some, if◌then◌else◌}
 use Rattle.std.specs.declared.alloc.Global.{Global}
 use Rattle.quic_base.specs.declared.coding.NoRoom.{NoRoom}
 use Rattle.std.specs.Option.{option_map, option_map_or}
@@ -9,8 +9,8 @@ use Rattle.quic_base.specs.Number.{bytes_of}
 use Rattle.quic_crypto.specs.Keys.{payload_in}
 use Rattle.quic_crypto.specs.PacketNumbers.{IsInRange, number_size, number_bytes}
 use Rattle.quic_header_encode.specs.declared.header.Header.{Header}
-use Rattle.quic_header_encode.specs.Kinds.{fields_of, header_text, number_in, Fields, first_in, row, says, version_in}
-use Rattle.quic_base.specs.Varint.{shortest_varint, size}
+use Rattle.quic_header_encode.specs.Kinds.{fields_of, header_text, number_in, row, says, Fields}
+use Rattle.quic_base.specs.Varint.{encoding_in, shortest_varint, size, IsWidth}
 use Rattle.quic_header_encode.specs.declared.store.HeaderRef.{HeaderRef}
 use Rattle.quic_header_encode.specs.declared.store.Padded.{Padded}
 use Rattle.quic_header_encode.specs.declared.long_type.HeaderKind.{HeaderKind}
@@ -19,16 +19,6 @@ use Rattle.quic_header_encode.specs.declared.long_type.LongHeaderType.{LongHeade
 use Rattle.quic_header_encode.specs.declared.long_type.LongHeaderType.TheVariants as kind
 use Rattle.quic_header_encode.specs.declared.long_type.LongType.TheVariants.{Handshake, ZeroRtt}
 use Rattle.quic_header_encode.specs.Types.{type_number}
-
--- the widths of numbers (RFC 9000, section 16)
-abbrev pub IsWidth : ℕ → Type 0
-IsWidth n = (n ≡ 1) ⊎ (n ≡ 2) ⊎ (n ≡ 4) ⊎ (n ≡ 8)
-
--- a number encoded in a width, which is in the two highest bits
-abbrev pub encoding_in : ℕ → ℕ → List ℕ
-encoding_in width n =
-    if width == 1 then n ∷ [] else if width == 2 then bytes_of 2 (2 ^ 14 + n)
-    else if width == 4 then bytes_of 4 (2 * 2 ^ 30 + n) else bytes_of 8 (3 * 2 ^ 62 + n)
 
 -- two bytes of length, which are filled in later
 abbrev pub no_length : List ℕ
@@ -45,8 +35,7 @@ header_bytes h = header_with no_length h
 abbrev pub header_size : Header → ℕ
 header_size h = length (header_bytes h)
 
--- The header can be written: its token's length has an encoding, and its packet number fits in as many bytes as it
--- says.
+-- The header can be written: its token's length has an encoding, and its number fits in as many bytes as it says.
 abbrev pub IsWritable : Header → Type 0
 IsWritable h = (length (fields_of h).token < 2 ^ 62) × IsInRange (fields_of h).number
 
@@ -103,13 +92,10 @@ pub record HasRoom (pn_len : ℕ) (write_len : Bool) (header_len sample_len size
 abbrev pub type_bits : HeaderKind → ℕ → ℕ
 type_bits kind version = option_map_or (λ ty. 16 * type_number version ty) (row kind).type 0
 
--- its fields, and its first byte
 abbrev pub fields_by : {I : Type 0} → (I → List ℕ) → HeaderRef I → Fields
 fields_by id fields =
-    says (row fields.kind) fields.first fields.version (id fields.dst_cid) (id fields.src_cid) fields.token.now fields.number.now
-
-abbrev pub first_byte_of : {I : Type 0} → (I → List ℕ) → HeaderRef I → ℕ
-first_byte_of id fields = first_in (fields_by id fields)
+    says (row fields.kind) fields.first fields.version (id fields.dst_cid) (id fields.src_cid) fields.token.now
+    fields.number.now
 
 -- bytes with another first one
 abbrev pub begun_by : ℕ → List ℕ → List ℕ
@@ -122,10 +108,10 @@ stored_bytes id fields = header_text (replicate fields.length_len 0) (fields_by 
 abbrev pub stored_len : {I : Type 0} → (I → List ℕ) → HeaderRef I → ℕ
 stored_len id fields = length (stored_bytes id fields)
 
--- the bits that a first byte has besides those of its type and its number's length: in a version negotiation, all eight
+-- a first byte without its type and its number's length is at most 0xc0; that of a version negotiation is complete
 abbrev pub HasLow : HeaderKind → ℕ → Type 0
 HasLow kinds.VersionNegotiate first = Unit {0}
-HasLow _ first = first ≤ 192
+HasLow _ first = first ≤ 0xc0
 
 -- Such a header can be written.
 pub record IsStorable {I : Type 0} (id : I → List ℕ) (fields : HeaderRef I) : Type 0 where
@@ -153,10 +139,6 @@ kind_of kind.Initial = kinds.Initial
 kind_of (kind.Standard ZeroRtt) = kinds.ZeroRtt
 kind_of (kind.Standard Handshake) = kinds.Handshake
 kind_of kind.Retry = kinds.Retry
-
--- the version that a header says
-abbrev pub version_field : {I : Type 0} → (I → List ℕ) → HeaderRef I → ℕ
-version_field id fields = version_in (fields_by id fields)
 
 -- a token after its length; zeros for the length, and a number; each if the header has it
 abbrev pub token_by : HeaderKind → List ℕ → List ℕ
@@ -194,7 +176,7 @@ padded_room id = 20
 
 -- a packet with its length set, in that many bytes before its number: it counts the bytes from the number on
 abbrev pub with_len : ℕ → ℕ → List ℕ → List ℕ
-with_len width place bytes = take (place - width) bytes ++ (encoding_in width (length bytes - place) ++ drop place bytes)
+with_len width at bytes = take (at - width) bytes ++ (encoding_in width (length bytes - at) ++ drop at bytes)
 
 -- A packet of that many bytes has a length of this width before an offset, and the count of the bytes from there on
 -- fits in it.

@@ -1,6 +1,7 @@
 //! Laws of written headers, which no single call states. The function does nothing at run time.
 ghost use Rattle.std.specs.Prelude.{◌≡◌, ◌+◌, ◌-◌, ◌++◌, List, ℕ, IsTrue, length, replicate};
-ghost use Rattle.quic_header_encode.specs.Writing.{begun_by, encoding_in, with_len};
+ghost use Rattle.quic_base.specs.Varint.{encoding_in};
+ghost use Rattle.quic_header_encode.specs.Writing.{begun_by, with_len};
 ghost use Rattle.quic_header_encode.specs.Writing.{has_length, header_bytes, header_size, header_with, size_in, with_length};
 
 use crate::header::Header;

@@ -2,10 +2,10 @@
 //! arrays whose ends the next field overwrites.
 ghost use Rattle.std.specs.Prelude.{◌≡◌, ◌+◌, ◌*◌, ◌^◌, ◌<◌, ◌≤◌, ◌⊎◌, ◌∷◌, ◌++◌, List, ℕ, length, take, drop, replicate, true, ◌↔◌, IsTrue};
 ghost use Rattle.quic_base.specs.ConnectionId.{long_id};
-ghost use Rattle.quic_base.specs.Varint.{shortest_varint, size};
+ghost use Rattle.quic_base.specs.Varint.{shortest_varint, size, IsWidth};
 ghost use Rattle.quic_crypto.specs.PacketNumbers.{IsInRange};
-ghost use Rattle.quic_header_encode.specs.Kinds.{long_front};
-ghost use Rattle.quic_header_encode.specs.Writing.{end_bytes, first_byte_of, stored_bytes, stored_len, token_by, version_field, with_len, HasStoreRoom, HasLow, IsExact, IsStorable, IsLong, IsShortToken, IsWidth, TakesLen};
+ghost use Rattle.quic_header_encode.specs.Kinds.{first_in, long_front, version_in};
+ghost use Rattle.quic_header_encode.specs.Writing.{end_bytes, fields_by, stored_bytes, stored_len, token_by, with_len, HasStoreRoom, HasLow, IsExact, IsStorable, IsLong, IsShortToken, TakesLen};
 
 use crate::fields::{store_bytes, store_ends, store_id, store_number};
 use crate::long_type::HeaderKind;
@@ -256,7 +256,7 @@ impl<I: StoredId> HeaderRef<'_, I> {
     fn long_first(&self) -> u8
         requires long { IsLong self.now.kind }
         requires low { HasLow self.now.kind self.now.first }
-        ensures { result ≡ first_byte_of I.id self.now }
+        ensures { result ≡ first_in (fields_by I.id self.now) }
     {
         match self.kind {
             HeaderKind::VersionNegotiate => self.first,
@@ -269,7 +269,7 @@ impl<I: StoredId> HeaderRef<'_, I> {
     #[inline(always)]
     fn field_version(&self) -> u32
         requires { IsLong self.now.kind }
-        ensures { result ≡ version_field I.id self.now }
+        ensures { result ≡ version_in (fields_by I.id self.now) }
     {
         match self.kind {
             HeaderKind::VersionNegotiate => 0,

@@ -1,5 +1,5 @@
 -- Sealing packets (RFC 9000, section 12; RFC 9001, sections 5.3 and 5.4).
-use Rattle.std.specs.Prelude.{map, ◌≡◌, ℕ, ◌+◌, ◌-◌, ◌%◌, ◌<◌, ◌≤◌, ◌^◌, IsTrue, List, ◌++◌, length, MatchOption}
+use Rattle.std.specs.Prelude.{map, ◌≡◌, ℕ, ◌+◌, ◌%◌, ◌<◌, ◌≤◌, ◌^◌, IsTrue, List, ◌++◌, length, MatchOption}
 use Rattle.quic_base.specs.Number.{AreBytes, bytes_of}
 use Rattle.quic_crypto.specs.PacketNumbers.{low_part, window_of}
 use Rattle.quic_frames.specs.declared.frame.Frame.{Frame}

@@ -2,10 +2,9 @@
 use Rattle.std.proofs.Common.{◌≡◌, ℕ, ◌+◌, ◌*◌, ◌<◌, ◌≤◌, ◌^◌, ◌⊎◌, List, ◌++◌, length, take, drop, sym, ap, subst, ◌∙◌, inl, inr, arith}
 use Rattle.std.proofs.lemmas.List.{take-append-drop}
 use Rattle.std.proofs.lemmas.Bool.Decides.{nat_tests}
-use Rattle.quic_base.specs.Varint.{Encodes, size}
+use Rattle.quic_base.specs.Varint.{encoding_in, size, CanEncode, Encodes, IsWidth}
 use Rattle.quic_base.proofs.PublicLaws as law
 use Rattle.quic_header_encode.proofs.Stores.{short_small}
-use Rattle.quic_c_headers.specs.Numbers.{encoding_in, CanEncode, IsWidth}
 use Rattle.quic_c_headers.proofs.numbers.quic_wire_varint_write_.Goals as goal
 use Rattle.quic_c_headers.proofs.numbers.quic_wire_varint_write_.Goals.{then-width-eq0, else-width-eq0}
 

@@ -1,7 +1,6 @@
 -- What was masked is unmasked again.
 use Rattle.std.proofs.Common.{◌≡◌, List, ℕ, length, ap, ◌∙◌, inr, rules}
-use Rattle.quic_c_headers.specs.Protection.{masked_packet}
-use Rattle.quic_c_headers.specs.Protection.{unmasked, HasNumber}
+use Rattle.quic_crypto.specs.Masks.{masked_packet, unmasked, HasNumber}
 use Rattle.quic_c_headers.proofs.Masks.{masked_back}
 use Rattle.quic_c_headers.proofs.protection.quic_wire_protect_.Goals as goal
 

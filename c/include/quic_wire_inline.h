@@ -4,12 +4,12 @@
  * their pointers, and call it with their arguments.  Some make no call and are
  * one expression each: those that return a part of what was read,
  * quic_wire_padding_count, quic_wire_sample and quic_wire_header_len.
- * quic_wire_frame_len makes
- * the call that writes, without room.  quic_wire_header_write chooses one of
- * two proved calls with the same meaning.  c/tests/abuse/ compares all of these
- * with the proved calls.  quic_wire.h includes this file if QUIC_WIRE_INLINE is
- * defined; the library's own quic_wire.c includes it to make symbols of the
- * functions.
+ * quic_wire_varint_read makes none for a number of one byte.
+ * quic_wire_frame_len makes the call that writes, without room.
+ * quic_wire_header_write chooses one of two proved calls with the same meaning.
+ * c/tests/abuse/ compares all of these with the proved calls.  quic_wire.h
+ * includes this file if QUIC_WIRE_INLINE is defined; the library's own
+ * quic_wire.c includes it to make symbols of the functions.
  */
 #ifndef QUIC_WIRE_INLINE_H
 #define QUIC_WIRE_INLINE_H
@@ -446,7 +446,13 @@ QUIC_WIRE_API size_t quic_wire_varint_len(uint64_t value) {
 
 QUIC_WIRE_API size_t quic_wire_varint_read(const uint8_t *bytes, size_t len,
                                            uint64_t *value) {
-  return bytes && value ? quic_wire_varint_read_(bytes, len, value) : 0;
+  if (!bytes || !value)
+    return 0;
+  if (len && bytes[0] < 64) { /* one byte, whose two highest bits are 0 */
+    *value = bytes[0];
+    return 1;
+  }
+  return quic_wire_varint_read_(bytes, len, value);
 }
 
 QUIC_WIRE_API size_t quic_wire_varint_write(uint64_t value, uint32_t width,

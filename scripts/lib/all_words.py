@@ -80,20 +80,38 @@ def word(value):
 
 
 class Function:
-    """A function whose body returns one expression, by its arguments."""
+    """A function by its arguments: the expression that its body returns, and what it returns and stores before that,
+    each with the path that leads there."""
 
     def __init__(self, parsed):
         self.name = parsed.decl.name
         self.arguments = {}
         self.seen = []
+        self.early = []
         for each in parsed.decl.type.args.params:
             if isinstance(each.type, c_ast.PtrDecl):
                 self.arguments[each.name] = Pointer(z3.Bool(f"{each.name} is NULL"))
             else:
                 width = WIDTHS[each.type.type.names[0]]
                 self.arguments[each.name] = Word(z3.BitVec(each.name, width), False)
-        (returned,) = [it for it in parsed.body.block_items if isinstance(it, c_ast.Return)]
-        self.value = self.of(returned.expr, z3.BoolVal(True))
+        *earlier, last = [it for it in parsed.body.block_items if isinstance(it, (c_ast.If, c_ast.Return))]
+        self.path = z3.BoolVal(True)
+        for each in earlier:
+            self.leave(each)
+        self.value = self.of(last.expr, self.path)
+
+    def leave(self, node):
+        """A condition under which the function stores what it was given a pointer for, and returns."""
+        held = truth(self.of(node.cond, self.path))
+        path = z3.And(self.path, held)
+        *stores, returned = node.iftrue.block_items if isinstance(node.iftrue, c_ast.Compound) else [node.iftrue]
+        stored = {}
+        for each in stores:
+            name = each.lvalue.expr.name
+            prove(f"{self.name}: |{name}| isn't NULL", z3.Implies(path, truth(self.arguments[name])))
+            stored[name] = word(self.of(each.rvalue, path)).to(64, False)
+        self.early.append((path, self.of(returned.expr, path), stored))
+        self.path = z3.And(self.path, z3.Not(held))
 
     def member(self, node, path):
         """A member of a struct that is read if the path leads to it; its pointer isn't NULL there."""
@@ -119,6 +137,13 @@ class Function:
     def of_Constant(self, node, path):
         text = node.value.rstrip("uUlL")
         return Word(z3.BitVecVal(int(text, 0), 64 if "l" in node.value.lower() else 32), "u" not in node.value.lower())
+
+    def of_FuncCall(self, node, path):
+        """A call of the proved library, whose pointers must not be NULL."""
+        for each in node.args.exprs:
+            value = self.of(each, path)
+            if isinstance(value, Pointer):
+                prove(f"{self.name}: |{each.name}| isn't NULL for a call", z3.Implies(path, truth(value)))
 
     def of_StructRef(self, node, path):
         return self.member(node, path)
@@ -315,6 +340,20 @@ def header_lens(functions):
     prove("how long a header is", wide(f.value.bits) == z3.If(given(f, "fields"), wanted, z3.BitVecVal(0, WIDE)), small)
 
 
+def short_numbers(functions):
+    """A number of one byte: its two highest bits are 0, and the others are the number (RFC 9000, section 16)."""
+    f = functions["quic_wire_varint_read"]
+    bytes_within(f, "len")
+    first = z3.Function("byte", z3.BitVecSort(64), z3.BitVecSort(8))(z3.BitVecVal(0, 64))
+    is_given = given(f, "bytes", "value")
+    there = z3.And(is_given, f.arguments["len"].bits != 0, z3.Extract(7, 6, first) == 0)
+    (nothing, none, _), (path, many, stored) = f.early
+    prove("no number is read from or to NULL", z3.And(nothing == z3.Not(is_given), none.bits == 0))
+    prove("a number of one byte: where it is", path == there)
+    prove("its length and its value", z3.And(many.bits == 1, wide(stored["value"].bits) == wide(first) & 0x3F), path)
+    prove("others are read by the library", f.path == z3.And(is_given, z3.Not(there)))
+
+
 # ---- rust/src/range_set/ends.rs
 
 
@@ -364,7 +403,7 @@ def ends_of_sets():
 TREE = parsed_header()
 CONSTANTS = constants_of(TREE)
 FIELDS = fields_of(TREE)
-WITHOUT_A_CALL = ("padding_count", "reset_token", "path_data", "sample", "dcid", "scid", "header_len")
+WITHOUT_A_CALL = ("padding_count", "reset_token", "path_data", "sample", "dcid", "scid", "header_len", "varint_read")
 
 
 def main():
@@ -373,6 +412,7 @@ def main():
     places(functions)
     paddings(functions)
     header_lens(functions)
+    short_numbers(functions)
     ends_of_sets()
 
 

@@ -5,12 +5,17 @@
 #define QUIC_WIRE_INLINE
 #include "quic_wire.h"
 
-int ossl_quic_wire_skip_frame_header(PACKET *pkt, uint64_t *type)
+static ossl_inline int read_number(PACKET *pkt, uint64_t *number)
 {
     size_t len = quic_wire_varint_read(PACKET_data(pkt), PACKET_remaining(pkt),
-        type);
+        number);
 
     return len > 0 && PACKET_forward(pkt, len);
+}
+
+int ossl_quic_wire_skip_frame_header(PACKET *pkt, uint64_t *type)
+{
+    return read_number(pkt, type);
 }
 
 int ossl_quic_wire_peek_frame_header(PACKET *pkt, uint64_t *type,
@@ -40,30 +45,33 @@ static ossl_inline int skip_frame(PACKET *pkt, int64_t len,
 }
 
 /*
- * Reads a frame of |kind| or |other| at the front of |pkt|, with the fastest
- * call for kinds except STREAM, ACK and NEW_CONNECTION_ID.  It passes no flags,
- * which cost more: a frame of another kind is rejected in any case.
+ * Reads a frame of |type| or |other| that consists of |count| numbers, each by
+ * a call of its own, since a call for the whole frame takes twice as long.
+ */
+static ossl_inline int decode_numbers(PACKET *pkt, uint64_t type,
+    uint64_t other, uint64_t *numbers, size_t count)
+{
+    uint64_t read;
+    size_t i;
+    int ok = read_number(pkt, &read) && (read == type || read == other);
+
+    for (i = 0; ok && i < count; ++i)
+        ok = read_number(pkt, &numbers[i]);
+
+    return PACKET_forward(pkt, ok ? 0 : PACKET_remaining(pkt)) && ok;
+}
+
+/*
+ * Reads a frame of |kind| or |other| at the front of |pkt|.  It passes no
+ * flags, which cost more: a frame of another kind is rejected in any case.
  */
 static ossl_inline int decode_frame(PACKET *pkt, quic_wire_frame_kind kind,
     quic_wire_frame_kind other, quic_wire_frame *frame)
 {
-    quic_wire_frame_iter frames;
-    size_t count;
-    int ret = quic_wire_frames_first(&frames, PACKET_data(pkt),
-        PACKET_remaining(pkt), 0, frame, 1, &count);
-    int64_t len = ret == QUIC_WIRE_ITEM ? (int64_t)frame->end : ret;
-
-    return skip_frame(pkt, len, frame, kind, other);
-}
-
-/* The same for a STREAM or NEW_CONNECTION_ID frame. */
-static ossl_inline int decode_frame_of(PACKET *pkt, quic_wire_frame_kind kind,
-    quic_wire_frame *frame)
-{
     int64_t len = quic_wire_frame_read(PACKET_data(pkt),
         PACKET_remaining(pkt), 0, frame, NULL, 0);
 
-    return skip_frame(pkt, len, frame, kind, kind);
+    return skip_frame(pkt, len, frame, kind, other);
 }
 
 /* Reads a STREAM or CRYPTO frame up to its data, which needn't be there. */
@@ -79,30 +87,19 @@ static ossl_inline int decode_frame_header(PACKET *pkt,
 int ossl_quic_wire_peek_frame_ack_num_ranges(const PACKET *orig_pkt,
     uint64_t *total_ranges)
 {
-    const unsigned char *p = PACKET_data(orig_pkt);
-    size_t remaining = PACKET_remaining(orig_pkt), i, len;
-    uint64_t number = 0;
-
-    /* The count is the fourth number, after type, largest and delay. */
-    for (i = 0; i < 4; ++i) {
-        len = quic_wire_varint_read(p, remaining, &number);
-        if (len == 0
-            || (i == 0
-                && (number & ~(uint64_t)1)
-                    != OSSL_QUIC_FRAME_TYPE_ACK_WITHOUT_ECN))
-            return 0;
-        p += len;
-        remaining -= len;
-    }
+    PACKET pkt = *orig_pkt;
+    uint64_t numbers[3]; /* largest, delay, count of further ranges */
 
     /*
      * A range has at least two bytes, so no more room is asked for than the
      * ranges of a packet can need.
      */
-    if (number > remaining / 2)
+    if (!decode_numbers(&pkt, OSSL_QUIC_FRAME_TYPE_ACK_WITHOUT_ECN,
+            OSSL_QUIC_FRAME_TYPE_ACK_WITH_ECN, numbers, OSSL_NELEM(numbers))
+        || numbers[2] > PACKET_remaining(&pkt) / 2)
         return 0;
 
-    *total_ranges = number + 1;
+    *total_ranges = numbers[2] + 1;
     return 1;
 }
 
@@ -187,29 +184,29 @@ int ossl_quic_wire_decode_frame_ack(PACKET *pkt,
 int ossl_quic_wire_decode_frame_reset_stream(PACKET *pkt,
     OSSL_QUIC_FRAME_RESET_STREAM *f)
 {
-    quic_wire_frame frame;
+    uint64_t numbers[3];
 
-    if (!decode_frame(pkt, QUIC_WIRE_FRAME_RESET_STREAM,
-            QUIC_WIRE_FRAME_RESET_STREAM, &frame))
+    if (!decode_numbers(pkt, QUIC_WIRE_FRAME_RESET_STREAM,
+            QUIC_WIRE_FRAME_RESET_STREAM, numbers, OSSL_NELEM(numbers)))
         return 0;
 
-    f->stream_id = frame.reset_stream.stream_id;
-    f->app_error_code = frame.reset_stream.error_code;
-    f->final_size = frame.reset_stream.final_size;
+    f->stream_id = numbers[0];
+    f->app_error_code = numbers[1];
+    f->final_size = numbers[2];
     return 1;
 }
 
 int ossl_quic_wire_decode_frame_stop_sending(PACKET *pkt,
     OSSL_QUIC_FRAME_STOP_SENDING *f)
 {
-    quic_wire_frame frame;
+    uint64_t numbers[2];
 
-    if (!decode_frame(pkt, QUIC_WIRE_FRAME_STOP_SENDING,
-            QUIC_WIRE_FRAME_STOP_SENDING, &frame))
+    if (!decode_numbers(pkt, QUIC_WIRE_FRAME_STOP_SENDING,
+            QUIC_WIRE_FRAME_STOP_SENDING, numbers, OSSL_NELEM(numbers)))
         return 0;
 
-    f->stream_id = frame.stop_sending.stream_id;
-    f->app_error_code = frame.stop_sending.error_code;
+    f->stream_id = numbers[0];
+    f->app_error_code = numbers[1];
     return 1;
 }
 
@@ -261,7 +258,8 @@ int ossl_quic_wire_decode_frame_stream(PACKET *pkt,
     quic_wire_frame frame;
 
     if (!(nodata ? decode_frame_header(pkt, QUIC_WIRE_FRAME_STREAM, &frame)
-                 : decode_frame_of(pkt, QUIC_WIRE_FRAME_STREAM, &frame)))
+                 : decode_frame(pkt, QUIC_WIRE_FRAME_STREAM,
+                       QUIC_WIRE_FRAME_STREAM, &frame)))
         return 0;
 
     f->has_explicit_len = (frame.type & OSSL_QUIC_FRAME_FLAG_STREAM_LEN) != 0;
@@ -274,63 +272,61 @@ int ossl_quic_wire_decode_frame_stream(PACKET *pkt,
     return data_fit(f->offset, f->len);
 }
 
-/* Reads a frame of |kind| or |other|, MAX_DATA to STREAMS_BLOCKED. */
-static int decode_limit(PACKET *pkt, quic_wire_frame_kind kind,
-    quic_wire_frame_kind other, uint64_t *stream_id, uint64_t *limit)
+static ossl_inline int decode_stream_limit(PACKET *pkt, uint64_t type,
+    uint64_t *stream_id, uint64_t *limit)
 {
-    quic_wire_frame frame;
+    uint64_t numbers[2];
 
-    if (!decode_frame(pkt, kind, other, &frame))
+    if (!decode_numbers(pkt, type, type, numbers, OSSL_NELEM(numbers)))
         return 0;
 
-    if (stream_id != NULL)
-        *stream_id = frame.limit.stream_id;
-    *limit = frame.limit.limit;
+    *stream_id = numbers[0];
+    *limit = numbers[1];
     return 1;
 }
 
 int ossl_quic_wire_decode_frame_max_data(PACKET *pkt,
     uint64_t *max_data)
 {
-    return decode_limit(pkt, QUIC_WIRE_FRAME_MAX_DATA, QUIC_WIRE_FRAME_MAX_DATA,
-        NULL, max_data);
+    return decode_numbers(pkt, QUIC_WIRE_FRAME_MAX_DATA,
+        QUIC_WIRE_FRAME_MAX_DATA, max_data, 1);
 }
 
 int ossl_quic_wire_decode_frame_max_stream_data(PACKET *pkt,
     uint64_t *stream_id,
     uint64_t *max_stream_data)
 {
-    return decode_limit(pkt, QUIC_WIRE_FRAME_MAX_STREAM_DATA,
-        QUIC_WIRE_FRAME_MAX_STREAM_DATA, stream_id, max_stream_data);
+    return decode_stream_limit(pkt, QUIC_WIRE_FRAME_MAX_STREAM_DATA, stream_id,
+        max_stream_data);
 }
 
 int ossl_quic_wire_decode_frame_max_streams(PACKET *pkt,
     uint64_t *max_streams)
 {
-    return decode_limit(pkt, QUIC_WIRE_FRAME_MAX_STREAMS_BIDI,
-        QUIC_WIRE_FRAME_MAX_STREAMS_UNI, NULL, max_streams);
+    return decode_numbers(pkt, QUIC_WIRE_FRAME_MAX_STREAMS_BIDI,
+        QUIC_WIRE_FRAME_MAX_STREAMS_UNI, max_streams, 1);
 }
 
 int ossl_quic_wire_decode_frame_data_blocked(PACKET *pkt,
     uint64_t *max_data)
 {
-    return decode_limit(pkt, QUIC_WIRE_FRAME_DATA_BLOCKED,
-        QUIC_WIRE_FRAME_DATA_BLOCKED, NULL, max_data);
+    return decode_numbers(pkt, QUIC_WIRE_FRAME_DATA_BLOCKED,
+        QUIC_WIRE_FRAME_DATA_BLOCKED, max_data, 1);
 }
 
 int ossl_quic_wire_decode_frame_stream_data_blocked(PACKET *pkt,
     uint64_t *stream_id,
     uint64_t *max_stream_data)
 {
-    return decode_limit(pkt, QUIC_WIRE_FRAME_STREAM_DATA_BLOCKED,
-        QUIC_WIRE_FRAME_STREAM_DATA_BLOCKED, stream_id, max_stream_data);
+    return decode_stream_limit(pkt, QUIC_WIRE_FRAME_STREAM_DATA_BLOCKED,
+        stream_id, max_stream_data);
 }
 
 int ossl_quic_wire_decode_frame_streams_blocked(PACKET *pkt,
     uint64_t *max_streams)
 {
-    return decode_limit(pkt, QUIC_WIRE_FRAME_STREAMS_BLOCKED_BIDI,
-        QUIC_WIRE_FRAME_STREAMS_BLOCKED_UNI, NULL, max_streams);
+    return decode_numbers(pkt, QUIC_WIRE_FRAME_STREAMS_BLOCKED_BIDI,
+        QUIC_WIRE_FRAME_STREAMS_BLOCKED_UNI, max_streams, 1);
 }
 
 int ossl_quic_wire_decode_frame_new_conn_id(PACKET *pkt,
@@ -339,7 +335,8 @@ int ossl_quic_wire_decode_frame_new_conn_id(PACKET *pkt,
     const unsigned char *id = PACKET_data(pkt);
     quic_wire_frame frame;
 
-    if (!decode_frame_of(pkt, QUIC_WIRE_FRAME_NEW_CONNECTION_ID, &frame))
+    if (!decode_frame(pkt, QUIC_WIRE_FRAME_NEW_CONNECTION_ID,
+            QUIC_WIRE_FRAME_NEW_CONNECTION_ID, &frame))
         return 0;
 
     id += frame.data;
@@ -357,14 +354,8 @@ int ossl_quic_wire_decode_frame_new_conn_id(PACKET *pkt,
 int ossl_quic_wire_decode_frame_retire_conn_id(PACKET *pkt,
     uint64_t *seq_num)
 {
-    quic_wire_frame frame;
-
-    if (!decode_frame(pkt, QUIC_WIRE_FRAME_RETIRE_CONNECTION_ID,
-            QUIC_WIRE_FRAME_RETIRE_CONNECTION_ID, &frame))
-        return 0;
-
-    *seq_num = frame.retire_connection_id.sequence;
-    return 1;
+    return decode_numbers(pkt, QUIC_WIRE_FRAME_RETIRE_CONNECTION_ID,
+        QUIC_WIRE_FRAME_RETIRE_CONNECTION_ID, seq_num, 1);
 }
 
 int ossl_quic_wire_decode_frame_path_challenge(PACKET *pkt,
@@ -424,20 +415,14 @@ size_t ossl_quic_wire_decode_padding(PACKET *pkt)
     return frame.end;
 }
 
-/* Reads a frame that has no fields, only its type. */
-static int decode_type(PACKET *pkt, quic_wire_frame_kind kind)
-{
-    uint64_t type;
-
-    return ossl_quic_wire_skip_frame_header(pkt, &type) && type == kind;
-}
-
 int ossl_quic_wire_decode_frame_ping(PACKET *pkt)
 {
-    return decode_type(pkt, QUIC_WIRE_FRAME_PING);
+    return decode_numbers(pkt, QUIC_WIRE_FRAME_PING, QUIC_WIRE_FRAME_PING,
+        NULL, 0);
 }
 
 int ossl_quic_wire_decode_frame_handshake_done(PACKET *pkt)
 {
-    return decode_type(pkt, QUIC_WIRE_FRAME_HANDSHAKE_DONE);
+    return decode_numbers(pkt, QUIC_WIRE_FRAME_HANDSHAKE_DONE,
+        QUIC_WIRE_FRAME_HANDSHAKE_DONE, NULL, 0);
 }

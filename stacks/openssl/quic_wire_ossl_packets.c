@@ -6,6 +6,12 @@
 #define QUIC_WIRE_INLINE
 #include "quic_wire.h"
 
+#if defined(__GNUC__)
+#define QUIC_WIRE_NOINLINE __attribute__((__noinline__))
+#else
+#define QUIC_WIRE_NOINLINE
+#endif
+
 /* OpenSSL's types of packets for the library's kinds, and the reverse. */
 static const unsigned char pkt_types[] = {
     [QUIC_WIRE_PACKET_INITIAL] = QUIC_PKT_TYPE_INITIAL,
@@ -77,8 +83,15 @@ static ossl_inline int set_pn(QUIC_PKT_HDR *hdr, const unsigned char *pn,
     if (hdr->len < pn_len)
         return 0;
 
-    if (!partial)
-        memcpy(hdr->pn, pn, pn_len);
+    if (!partial) {
+        hdr->pn[0] = pn[0];
+        if (pn_len > 1)
+            hdr->pn[1] = pn[1];
+        if (pn_len > 2)
+            hdr->pn[2] = pn[2];
+        if (pn_len > 3)
+            hdr->pn[3] = pn[3];
+    }
     hdr->data = pn + pn_len;
     hdr->len -= pn_len;
     return 1;
@@ -88,9 +101,10 @@ static ossl_inline int set_pn(QUIC_PKT_HDR *hdr, const unsigned char *pn,
 static ossl_inline size_t decode_short_hdr(const unsigned char *p, size_t len,
     size_t conn_id_len, int partial, QUIC_PKT_HDR *hdr)
 {
+    unsigned char first = p[0];
     size_t pn;
 
-    if ((p[0] & QUIC_WIRE_BIT_FIXED) == 0 || conn_id_len > QUIC_MAX_CONN_ID_LEN
+    if ((first & QUIC_WIRE_BIT_FIXED) == 0 || conn_id_len > QUIC_MAX_CONN_ID_LEN
         || len < QUIC_MIN_VALID_PKT_LEN_CRYPTO)
         return 0;
 
@@ -98,20 +112,20 @@ static ossl_inline size_t decode_short_hdr(const unsigned char *p, size_t len,
     if (pn == 0)
         return 0;
 
+    set_conn_id(&hdr->dst_conn_id, p + 1, conn_id_len);
     hdr->type = QUIC_PKT_TYPE_1RTT;
     hdr->fixed = 1;
     hdr->partial = partial;
     hdr->unused = 0;
-    hdr->spin_bit = (p[0] & QUIC_WIRE_BIT_SPIN) != 0;
-    hdr->key_phase = !partial && (p[0] & QUIC_WIRE_BIT_KEY_PHASE) != 0;
-    hdr->reserved = partial ? 0 : (p[0] & QUIC_WIRE_BITS_RESERVED) >> 3;
+    hdr->spin_bit = (first & QUIC_WIRE_BIT_SPIN) != 0;
+    hdr->key_phase = !partial && (first & QUIC_WIRE_BIT_KEY_PHASE) != 0;
+    hdr->reserved = partial ? 0 : (first & QUIC_WIRE_BITS_RESERVED) >> 3;
     hdr->version = 0;
-    set_conn_id(&hdr->dst_conn_id, p + 1, conn_id_len);
     hdr->src_conn_id.id_len = 0;
     hdr->token = NULL;
     hdr->token_len = 0;
     hdr->len = len - pn;
-    return set_pn(hdr, p + pn, p[0], partial) ? pn : 0;
+    return set_pn(hdr, p + pn, first, partial) ? pn : 0;
 }
 
 /*
@@ -203,6 +217,28 @@ static size_t decode_long_pn(const unsigned char *p, size_t len, int partial,
     return h->header_end + pn_len;
 }
 
+/*
+ * Reads a packet with a long header, of which there are |len| bytes; returns
+ * how many of them are read, or 0.  |pn| gets where its number begins, or 0.
+ * It isn't inlined, since most packets have short headers.
+ */
+static QUIC_WIRE_NOINLINE size_t decode_long(const unsigned char *p, size_t len,
+    int partial, int nodata, QUIC_PKT_HDR *hdr, size_t *pn,
+    uint64_t *fail_cause)
+{
+    quic_wire_header h;
+
+    *pn = 0;
+    if (!decode_long_hdr(p, len, nodata, hdr, &h, fail_cause))
+        return 0;
+
+    if (!ossl_quic_pkt_type_has_pn(hdr->type))
+        return len;
+
+    *pn = h.header_end;
+    return decode_long_pn(p, len, partial, nodata, hdr, &h);
+}
+
 int ossl_quic_wire_decode_pkt_hdr(PACKET *pkt,
     size_t short_conn_id_len,
     int partial,
@@ -212,8 +248,7 @@ int ossl_quic_wire_decode_pkt_hdr(PACKET *pkt,
     uint64_t *fail_cause)
 {
     unsigned char *p = (unsigned char *)PACKET_data(pkt);
-    size_t len = PACKET_remaining(pkt), end = len, pn = 0;
-    quic_wire_header h;
+    size_t len = PACKET_remaining(pkt), end = len, pn;
 
     if (fail_cause != NULL)
         *fail_cause = QUIC_PKT_HDR_DECODE_DECODE_ERR;
@@ -233,15 +268,9 @@ int ossl_quic_wire_decode_pkt_hdr(PACKET *pkt,
         if (pn == 0)
             return 0;
     } else {
-        if (!decode_long_hdr(p, len, nodata, hdr, &h, fail_cause))
+        end = decode_long(p, len, partial, nodata, hdr, &pn, fail_cause);
+        if (end == 0)
             return 0;
-
-        if (ossl_quic_pkt_type_has_pn(hdr->type)) {
-            pn = h.header_end;
-            end = decode_long_pn(p, len, partial, nodata, hdr, &h);
-            if (end == 0)
-                return 0;
-        }
     }
 
     if (!PACKET_forward(pkt, end))
@@ -259,26 +288,12 @@ int ossl_quic_wire_decode_pkt_hdr(PACKET *pkt,
     return 1;
 }
 
-int ossl_quic_wire_get_pkt_hdr_dst_conn_id(const unsigned char *buf,
-    size_t buf_len,
-    size_t short_conn_id_len,
-    QUIC_CONN_ID *dst_conn_id)
+/* The receiver's ID of a packet with a long header. */
+static QUIC_WIRE_NOINLINE int get_long_dst(const unsigned char *buf,
+    size_t buf_len, QUIC_CONN_ID *dst_conn_id)
 {
     quic_wire_header h;
     int64_t end;
-
-    if (buf_len < QUIC_MIN_VALID_PKT_LEN
-        || short_conn_id_len > QUIC_MAX_CONN_ID_LEN)
-        return 0;
-
-    if ((buf[0] & QUIC_WIRE_BIT_LONG) == 0) {
-        if ((buf[0] & QUIC_WIRE_BIT_FIXED) == 0
-            || buf_len < QUIC_MIN_VALID_PKT_LEN_CRYPTO + short_conn_id_len)
-            return 0;
-
-        set_conn_id(dst_conn_id, buf + 1, short_conn_id_len);
-        return 1;
-    }
 
     /* From a version that isn't among those given, only connection IDs are
      * read. */
@@ -294,6 +309,27 @@ int ossl_quic_wire_get_pkt_hdr_dst_conn_id(const unsigned char *buf,
 
     set_conn_id(dst_conn_id, quic_wire_dcid(buf, &h), h.dcidlen);
     return 1;
+}
+
+int ossl_quic_wire_get_pkt_hdr_dst_conn_id(const unsigned char *buf,
+    size_t buf_len,
+    size_t short_conn_id_len,
+    QUIC_CONN_ID *dst_conn_id)
+{
+    if (buf_len < QUIC_MIN_VALID_PKT_LEN
+        || short_conn_id_len > QUIC_MAX_CONN_ID_LEN)
+        return 0;
+
+    if ((buf[0] & QUIC_WIRE_BIT_LONG) == 0) {
+        if ((buf[0] & QUIC_WIRE_BIT_FIXED) == 0
+            || buf_len < QUIC_MIN_VALID_PKT_LEN_CRYPTO + short_conn_id_len)
+            return 0;
+
+        set_conn_id(dst_conn_id, buf + 1, short_conn_id_len);
+        return 1;
+    }
+
+    return get_long_dst(buf, buf_len, dst_conn_id);
 }
 
 /* ---- Writing headers */

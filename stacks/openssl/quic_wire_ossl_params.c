@@ -102,16 +102,14 @@ int ossl_quic_wire_decode_transport_param_cid(PACKET *pkt,
 int ossl_quic_wire_decode_transport_param_preferred_addr(PACKET *pkt,
     QUIC_PREFERRED_ADDR *p)
 {
-    const unsigned char *list = PACKET_data(pkt), *body;
+    const unsigned char *body;
     quic_wire_params params;
     uint64_t id;
     size_t len = 0;
 
-    /* The entry is read as a list that a server sent. */
     body = ossl_quic_wire_decode_transport_param_bytes(pkt, &id, &len);
     if (body == NULL || id != QUIC_TPARAM_PREFERRED_ADDR
-        || quic_wire_params_read(QUIC_WIRE_SIDE_CLIENT, 0, list,
-               (size_t)(body - list) + len, &params, sizeof(params), NULL)
+        || quic_wire_preferred_address_read(body, len, &params, sizeof(params))
             != QUIC_WIRE_OK)
         return 0;
 

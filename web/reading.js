@@ -6,8 +6,8 @@ import { agrees, frameFields, frameSummary, paddingRun } from "./frame-fields.js
 import { Words } from "./library.js";
 import {
   ACK, allowedOf, FRAME_REASONS, frameName, frameTone, MIN_ACK_DELAY, NEW_CONNECTION_ID, PACKET_FIXED_BIT,
-  PACKET_REASONS, PACKET_UNSUPPORTED_VERSION, packetName, packetTone, PADDING, parameterOf, PARAMS_MALFORMED,
-  PARAMS_REASONS, REASON_END, REASON_LONG_TYPE, REASON_MALFORMED, REASON_TYPE, typeName,
+  PACKET_REASONS, PACKET_UNSUPPORTED_VERSION, packetName, packetTone, PADDING, parameterOf, PARAMS_ILLEGAL,
+  PARAMS_MALFORMED, PARAMS_REASONS, REASON_END, REASON_LONG_TYPE, REASON_MALFORMED, REASON_TYPE, typeName,
 } from "./names.js";
 import { openedFields, packetAgrees, packetFields, packetSummary } from "./packet-fields.js";
 import { nextEntry, parameterFields, parameterSummary } from "./parameter-fields.js";
@@ -124,6 +124,11 @@ class FramesReading extends Reading {
 
   kindAt(index) {
     return this.kinds[index];
+  }
+
+  // Whether an item is more than one PADDING frame.
+  get hasRun() {
+    return this.kinds.some((kind, index) => kind === PADDING && this.end(index) - this.begin(index) > 1);
   }
 
   describe(error) {
@@ -306,10 +311,12 @@ class ParamsReading extends Reading {
     this.reason = reason;
     const { walk, id } = parameterFields(this.bytes, begin);
     const fault = this.faultOf(walk);
+    // A server rejects an entry of the client's for its id if only servers send it.
+    const isServers = reason === PARAMS_ILLEGAL && this.choices.side === "server" && fault === walk.fields[0];
     return {
-      place: fault?.begin ?? begin, reason: PARAMS_REASONS[reason],
+      place: fault?.begin ?? begin, reason: PARAMS_REASONS[reason] + (isServers ? ": only servers send it" : ""),
       allowed: fault?.name === "Value" && fault.number !== undefined ? allowedOf(id) : "",
-      code: "TRANSPORT_PARAMETER_ERROR (0x08)", section: "RFC 9000, section 7.4",
+      code: "TRANSPORT_PARAMETER_ERROR (0x08)", section: `RFC 9000, section ${isServers ? "18.2" : "7.4"}`,
     };
   }
 

@@ -52,7 +52,8 @@ export function showStatus(box, reading, found, at, go) {
   }
   const bytes = count(reading.bytes.length, "byte");
   const from = reading.bytes.length > 0 ? `, read as ${form}` : "";
-  const items = count(Math.min(reading.bad, reading.whole), reading.unit);
+  const run = reading.hasRun ? " (a run of PADDING is one)" : "";
+  const items = count(Math.min(reading.bad, reading.whole), reading.unit) + run;
   if (!reading.error) {
     box.replaceChildren(`${items} in ${bytes}${from}.${which}`);
     return;

@@ -137,9 +137,7 @@
 #define QUIC_WIRE_API extern
 #endif
 
-/* Compilers warn if you ignore the result of quic_wire_check, or of a call that
- * reads packets or parameters, reads or writes packet numbers, or changes
- * header protection. */
+/* Compilers warn if you ignore the result of a call that can fail. */
 #if defined(__GNUC__)
 #define QUIC_WIRE_CHECKED __attribute__((warn_unused_result))
 #else
@@ -702,9 +700,9 @@ QUIC_WIRE_API uint32_t quic_wire_close_code(int result);
 /** Begins to read a |payload| of |payloadlen| bytes.  |flags| are
  * QUIC_WIRE_READ_... Returns 0, QUIC_WIRE_ERR_PAYLOAD_EMPTY, or
  * QUIC_WIRE_ERR_ARGUMENT for NULL.  |frames| changes only with 0. */
-QUIC_WIRE_API int quic_wire_frames_init(quic_wire_frame_iter *frames,
-                                        const uint8_t *payload,
-                                        size_t payloadlen, uint32_t flags);
+QUIC_WIRE_CHECKED QUIC_WIRE_API int
+quic_wire_frames_init(quic_wire_frame_iter *frames, const uint8_t *payload,
+                      size_t payloadlen, uint32_t flags);
 
 /**
  * Reads the next frame.  |payload| is the one that |frames| began with.
@@ -720,10 +718,9 @@ QUIC_WIRE_API int quic_wire_frames_init(quic_wire_frame_iter *frames,
  *
  * |frame| changes only with QUIC_WIRE_ITEM and QUIC_WIRE_ERR_FRAME_...
  */
-QUIC_WIRE_API int quic_wire_frames_next(quic_wire_frame_iter *frames,
-                                        const uint8_t *payload,
-                                        size_t payloadlen,
-                                        quic_wire_frame *frame);
+QUIC_WIRE_CHECKED QUIC_WIRE_API int
+quic_wire_frames_next(quic_wire_frame_iter *frames, const uint8_t *payload,
+                      size_t payloadlen, quic_wire_frame *frame);
 
 /**
  * Reads the next frames with one call, as many as the |room| entries of |out|
@@ -745,10 +742,10 @@ QUIC_WIRE_API int quic_wire_frames_next(quic_wire_frame_iter *frames,
  * only with QUIC_WIRE_ITEM.  Once |frames->offset| is |payloadlen|, no frame
  * is left, and you need no call to learn that.
  */
-QUIC_WIRE_API int quic_wire_frames_fill(quic_wire_frame_iter *frames,
-                                        const uint8_t *payload,
-                                        size_t payloadlen, quic_wire_frame *out,
-                                        size_t room, size_t *count);
+QUIC_WIRE_CHECKED QUIC_WIRE_API int
+quic_wire_frames_fill(quic_wire_frame_iter *frames, const uint8_t *payload,
+                      size_t payloadlen, quic_wire_frame *out, size_t room,
+                      size_t *count);
 
 /**
  * Begins to read a |payload| and reads its first frames, as many as the |room|
@@ -767,11 +764,10 @@ QUIC_WIRE_API int quic_wire_frames_fill(quic_wire_frame_iter *frames,
  * |*count| changes only with QUIC_WIRE_ITEM.  Nothing else changes, except
  * with QUIC_WIRE_ITEM and QUIC_WIRE_ERR_FRAME_...
  */
-QUIC_WIRE_API int quic_wire_frames_first(quic_wire_frame_iter *frames,
-                                         const uint8_t *payload,
-                                         size_t payloadlen, uint32_t flags,
-                                         quic_wire_frame *out, size_t room,
-                                         size_t *count);
+QUIC_WIRE_CHECKED QUIC_WIRE_API int
+quic_wire_frames_first(quic_wire_frame_iter *frames, const uint8_t *payload,
+                       size_t payloadlen, uint32_t flags, quic_wire_frame *out,
+                       size_t room, size_t *count);
 
 /**
  * Reads the frame at the front of |payload|, the rest of a payload, without an
@@ -791,10 +787,9 @@ QUIC_WIRE_API int quic_wire_frames_first(quic_wire_frame_iter *frames,
  *    with its type in |frame| (QUIC_WIRE_NO_TYPE if the bytes end within that)
  *  - QUIC_WIRE_ERR_ARGUMENT for NULL
  */
-QUIC_WIRE_API int64_t quic_wire_frame_read(const uint8_t *payload,
-                                           size_t payloadlen, uint32_t flags,
-                                           quic_wire_frame *frame,
-                                           quic_wire_gap *gaps, size_t room);
+QUIC_WIRE_CHECKED QUIC_WIRE_API int64_t
+quic_wire_frame_read(const uint8_t *payload, size_t payloadlen, uint32_t flags,
+                     quic_wire_frame *frame, quic_wire_gap *gaps, size_t room);
 
 /**
  * Reads the header of a STREAM, CRYPTO or DATAGRAM at the front of |bytes|: the
@@ -817,9 +812,8 @@ QUIC_WIRE_API int64_t quic_wire_frame_read(const uint8_t *payload,
  *
  * |frame| changes only if a header was read.
  */
-QUIC_WIRE_API int64_t quic_wire_frame_header_read(const uint8_t *bytes,
-                                                  size_t len, uint32_t flags,
-                                                  quic_wire_frame *frame);
+QUIC_WIRE_CHECKED QUIC_WIRE_API int64_t quic_wire_frame_header_read(
+    const uint8_t *bytes, size_t len, uint32_t flags, quic_wire_frame *frame);
 
 /** How many PADDING frames an entry of quic_wire_frames_fill has that was read
  * from this payload: one whose type may have up to 8 bytes, and one for each
@@ -867,10 +861,9 @@ QUIC_WIRE_API uint64_t quic_wire_error_type(const quic_wire_frame *frame);
  * at |frame->begin|; QUIC_WIRE_ERR_ARGUMENT for NULL.  |ranges| changes only
  * with 0.
  */
-QUIC_WIRE_API int quic_wire_ack_ranges_init(quic_wire_range_iter *ranges,
-                                            const uint8_t *payload,
-                                            size_t payloadlen,
-                                            const quic_wire_frame *frame);
+QUIC_WIRE_CHECKED QUIC_WIRE_API int
+quic_wire_ack_ranges_init(quic_wire_range_iter *ranges, const uint8_t *payload,
+                          size_t payloadlen, const quic_wire_frame *frame);
 
 /**
  * Reads the next range, the greatest first.  Returns QUIC_WIRE_ITEM and the
@@ -878,10 +871,9 @@ QUIC_WIRE_API int quic_wire_ack_ranges_init(quic_wire_range_iter *ranges,
  * |ranges->offset| are no range of an ACK; QUIC_WIRE_ERR_ARGUMENT for NULL.
  * Nothing changes except with QUIC_WIRE_ITEM.
  */
-QUIC_WIRE_API int quic_wire_ack_ranges_next(quic_wire_range_iter *ranges,
-                                            const uint8_t *payload,
-                                            size_t payloadlen,
-                                            quic_wire_range *range);
+QUIC_WIRE_CHECKED QUIC_WIRE_API int
+quic_wire_ack_ranges_next(quic_wire_range_iter *ranges, const uint8_t *payload,
+                          size_t payloadlen, quic_wire_range *range);
 
 /**
  * Reads the next ranges, the greatest first, as many as the |room| entries of
@@ -892,11 +884,10 @@ QUIC_WIRE_API int quic_wire_ack_ranges_next(quic_wire_range_iter *ranges,
  * Ranges before an invalid one are given first.  Entries after those that were
  * filled don't change, and nothing changes except with QUIC_WIRE_ITEM.
  */
-QUIC_WIRE_API int quic_wire_ack_ranges_fill(quic_wire_range_iter *ranges,
-                                            const uint8_t *payload,
-                                            size_t payloadlen,
-                                            quic_wire_range *out, size_t room,
-                                            size_t *count);
+QUIC_WIRE_CHECKED QUIC_WIRE_API int
+quic_wire_ack_ranges_fill(quic_wire_range_iter *ranges, const uint8_t *payload,
+                          size_t payloadlen, quic_wire_range *out, size_t room,
+                          size_t *count);
 
 /* ---- Writing frames */
 
@@ -922,10 +913,10 @@ QUIC_WIRE_API int quic_wire_ack_ranges_fill(quic_wire_range_iter *ranges,
  * |written| may be NULL.  Bytes of |dest| after those written don't change, and
  * none after an error.
  */
-QUIC_WIRE_API int quic_wire_frame_write(const quic_wire_frame *frame,
-                                        const uint8_t *data, size_t datalen,
-                                        int last, uint8_t *dest, size_t destlen,
-                                        size_t *written);
+QUIC_WIRE_CHECKED QUIC_WIRE_API int
+quic_wire_frame_write(const quic_wire_frame *frame, const uint8_t *data,
+                      size_t datalen, int last, uint8_t *dest, size_t destlen,
+                      size_t *written);
 
 /**
  * Writes |frame|, a STREAM, CRYPTO or DATAGRAM, up to its data, which has
@@ -934,9 +925,9 @@ QUIC_WIRE_API int quic_wire_frame_write(const quic_wire_frame *frame,
  * are ignored.  The results, |dest| and |written| are as for
  * quic_wire_frame_write; QUIC_WIRE_ERR_ARGUMENT also for other kinds.
  */
-QUIC_WIRE_API int quic_wire_frame_header_write(const quic_wire_frame *frame,
-                                               int last, uint8_t *dest,
-                                               size_t destlen, size_t *written);
+QUIC_WIRE_CHECKED QUIC_WIRE_API int
+quic_wire_frame_header_write(const quic_wire_frame *frame, int last,
+                             uint8_t *dest, size_t destlen, size_t *written);
 
 /**
  * Writes an ACK in its shortest form at the front of |dest|.  |ack| is as
@@ -955,16 +946,16 @@ QUIC_WIRE_API int quic_wire_frame_header_write(const quic_wire_frame *frame,
  *
  * Bytes of |dest| change only if something was written, and only those.
  */
-QUIC_WIRE_API int quic_wire_ack_gaps_write(const quic_wire_frame *ack,
-                                           const quic_wire_gap *gaps,
-                                           size_t ngaps, uint8_t *dest,
-                                           size_t destlen, size_t *written);
+QUIC_WIRE_CHECKED QUIC_WIRE_API int
+quic_wire_ack_gaps_write(const quic_wire_frame *ack, const quic_wire_gap *gaps,
+                         size_t ngaps, uint8_t *dest, size_t destlen,
+                         size_t *written);
 
 /** How many bytes quic_wire_frame_write writes for these arguments.  Returns 0
  * and |*len|, or QUIC_WIRE_ERR_ARGUMENT if that does. */
-QUIC_WIRE_API int quic_wire_frame_len(const quic_wire_frame *frame,
-                                      const uint8_t *data, size_t datalen,
-                                      int last, size_t *len);
+QUIC_WIRE_CHECKED QUIC_WIRE_API int
+quic_wire_frame_len(const quic_wire_frame *frame, const uint8_t *data,
+                    size_t datalen, int last, size_t *len);
 
 /* ---- Shortest payloads */
 
@@ -985,9 +976,9 @@ QUIC_WIRE_API int quic_wire_frame_len(const quic_wire_frame *frame,
  * Bytes of |dest| after those written don't change, and none after an error.
  * |out| changes only in the fields that are named here.
  */
-QUIC_WIRE_API int quic_wire_canonical(const uint8_t *payload, size_t payloadlen,
-                                      uint8_t *dest, size_t destlen,
-                                      quic_wire_canon *out);
+QUIC_WIRE_CHECKED QUIC_WIRE_API int
+quic_wire_canonical(const uint8_t *payload, size_t payloadlen, uint8_t *dest,
+                    size_t destlen, quic_wire_canon *out);
 
 /* ---- Reading packet headers */
 
@@ -1125,7 +1116,8 @@ QUIC_WIRE_CHECKED QUIC_WIRE_API int quic_wire_protect(uint8_t *packet,
  * |largest_acked| (RFC 9000, section 17.1).  If nothing was acknowledged, pass
  * 0: the result is that of appendix A.2.  Returns 1 to 4; QUIC_WIRE_ERR_NUMBER
  * if |largest_acked| is above |number|, or 2^31 or more below it. */
-QUIC_WIRE_API int quic_wire_number_len(uint64_t number, uint64_t largest_acked);
+QUIC_WIRE_CHECKED QUIC_WIRE_API int
+quic_wire_number_len(uint64_t number, uint64_t largest_acked);
 
 /**
  * The whole packet number whose low |numberlen| bytes are |written|, from the
@@ -1220,7 +1212,7 @@ QUIC_WIRE_API size_t quic_wire_header_len(const quic_wire_header_fields *fields,
  * version negotiation, whose seven low bits are free (section 17.2.1), |flags|
  * invert these bits of 0xc0.
  */
-QUIC_WIRE_API int64_t quic_wire_header_write(
+QUIC_WIRE_CHECKED QUIC_WIRE_API int64_t quic_wire_header_write(
     const quic_wire_header_fields *fields, const uint8_t *dcid, size_t dcidlen,
     const uint8_t *scid, size_t scidlen, const uint8_t *token, size_t tokenlen,
     uint8_t *dest, size_t destlen);
@@ -1244,7 +1236,7 @@ QUIC_WIRE_API int64_t quic_wire_header_write(
  * |*written| changes only with the first two.  Bytes of |dest| after those
  * written don't change, and none after an error.
  */
-QUIC_WIRE_API int
+QUIC_WIRE_CHECKED QUIC_WIRE_API int
 quic_wire_negotiation_write(uint8_t flags, const uint8_t *dcid, size_t dcidlen,
                             const uint8_t *scid, size_t scidlen,
                             const uint32_t *versions, size_t nversions,
@@ -1257,8 +1249,10 @@ quic_wire_negotiation_write(uint8_t flags, const uint8_t *dcid, size_t dcidlen,
  * isn't 1, 2, 4 or 8, doesn't fit before |place|, or can't hold the length;
  * QUIC_WIRE_ERR_ARGUMENT for NULL.  Nothing changes after an error.
  */
-QUIC_WIRE_API int quic_wire_set_len(uint8_t *packet, size_t packetlen,
-                                    size_t place, uint32_t lengthlen);
+QUIC_WIRE_CHECKED QUIC_WIRE_API int quic_wire_set_len(uint8_t *packet,
+                                                      size_t packetlen,
+                                                      size_t place,
+                                                      uint32_t lengthlen);
 
 /* ---- Reading and writing transport parameters.  |side| is the side that
  * calls. */
@@ -1297,8 +1291,8 @@ quic_wire_params_read(uint32_t side, uint32_t flags, const uint8_t *list,
 /** Gives each parameter its default, as quic_wire_params_read does for an empty
  * list (RFC 9000, section 18.2).  Returns 0; QUIC_WIRE_ERR_LENGTH for another
  * |size|; QUIC_WIRE_ERR_ARGUMENT for NULL.  Nothing changes after an error. */
-QUIC_WIRE_API int quic_wire_params_default(quic_wire_params *params,
-                                           size_t size);
+QUIC_WIRE_CHECKED QUIC_WIRE_API int
+quic_wire_params_default(quic_wire_params *params, size_t size);
 
 /**
  * Writes the shortest list of these parameters, as the |side| sends it: the
@@ -1317,10 +1311,10 @@ QUIC_WIRE_API int quic_wire_params_default(quic_wire_params *params,
  *
  * |dest| changes only with 0, and then only in the bytes that were written.
  */
-QUIC_WIRE_API int quic_wire_params_write(uint32_t side,
-                                         const quic_wire_params *params,
-                                         size_t size, uint8_t *dest,
-                                         size_t destlen, size_t *written);
+QUIC_WIRE_CHECKED QUIC_WIRE_API int
+quic_wire_params_write(uint32_t side, const quic_wire_params *params,
+                       size_t size, uint8_t *dest, size_t destlen,
+                       size_t *written);
 
 /**
  * The same with further entries, in an order of your choice.  |further| is a
@@ -1357,7 +1351,7 @@ QUIC_WIRE_API int quic_wire_params_write(uint32_t side,
  * |params|.  Returns what quic_wire_params_write does; QUIC_WIRE_ERR_PARAM
  * also if |further| or |order| isn't as described.
  */
-QUIC_WIRE_API int quic_wire_params_write_with(
+QUIC_WIRE_CHECKED QUIC_WIRE_API int quic_wire_params_write_with(
     uint32_t side, const quic_wire_params *params, size_t size,
     const uint8_t *further, size_t furtherlen, const uint8_t *order,
     size_t orderlen, uint8_t *dest, size_t destlen, size_t *written);
@@ -1392,9 +1386,9 @@ QUIC_WIRE_CHECKED QUIC_WIRE_API int64_t quic_wire_param_read(
  *
  * |dest| changes only with 0, and then only in the bytes that were written.
  */
-QUIC_WIRE_API int quic_wire_param_write(uint64_t id, const uint8_t *value,
-                                        size_t valuelen, uint8_t *dest,
-                                        size_t destlen, size_t *written);
+QUIC_WIRE_CHECKED QUIC_WIRE_API int
+quic_wire_param_write(uint64_t id, const uint8_t *value, size_t valuelen,
+                      uint8_t *dest, size_t destlen, size_t *written);
 
 /**
  * Reads the entry at the front of a |list| as quic_wire_param_read does, if its
@@ -1410,16 +1404,16 @@ quic_wire_param_read_number(const uint8_t *list, size_t listlen,
 /** Writes an entry up to its value of |valuelen| bytes, which you put after it.
  * Returns what quic_wire_param_write does, with the length of what precedes the
  * value. */
-QUIC_WIRE_API int quic_wire_param_header_write(uint64_t id, size_t valuelen,
-                                               uint8_t *dest, size_t destlen,
-                                               size_t *written);
+QUIC_WIRE_CHECKED QUIC_WIRE_API int
+quic_wire_param_header_write(uint64_t id, size_t valuelen, uint8_t *dest,
+                             size_t destlen, size_t *written);
 
 /** Writes an entry whose value is an integer in its shortest encoding.
  * Returns what quic_wire_param_write does; QUIC_WIRE_ERR_NUMBER also if |value|
  * is 2^62 or more. */
-QUIC_WIRE_API int quic_wire_param_write_number(uint64_t id, uint64_t value,
-                                               uint8_t *dest, size_t destlen,
-                                               size_t *written);
+QUIC_WIRE_CHECKED QUIC_WIRE_API int
+quic_wire_param_write_number(uint64_t id, uint64_t value, uint8_t *dest,
+                             size_t destlen, size_t *written);
 
 /**
  * Reads the |value| of a preferred_address, all of its |valuelen| bytes, as a
@@ -1441,9 +1435,10 @@ quic_wire_preferred_address_read(const uint8_t *value, size_t valuelen,
 /** Writes the value of the preferred_address in |params|.  Returns what
  * quic_wire_params_write does for a server; QUIC_WIRE_ERR_PARAM also if there
  * is no such address. */
-QUIC_WIRE_API int quic_wire_preferred_address_write(
-    const quic_wire_params *params, size_t size, uint8_t *dest, size_t destlen,
-    size_t *written);
+QUIC_WIRE_CHECKED QUIC_WIRE_API int
+quic_wire_preferred_address_write(const quic_wire_params *params, size_t size,
+                                  uint8_t *dest, size_t destlen,
+                                  size_t *written);
 
 /** Whether quic_wire_params has a field for the parameter with this id: 1 or 0.
  */
@@ -1468,22 +1463,23 @@ QUIC_WIRE_API int quic_wire_param_is_known(uint64_t id);
  * Entries after the set don't change, and nothing changes except with
  * QUIC_WIRE_CHANGED.
  */
-QUIC_WIRE_API int quic_wire_set_insert(quic_wire_range *runs, size_t room,
-                                       size_t *count, uint64_t start,
-                                       uint64_t end);
+QUIC_WIRE_CHECKED QUIC_WIRE_API int
+quic_wire_set_insert(quic_wire_range *runs, size_t room, size_t *count,
+                     uint64_t start, uint64_t end);
 
 /** Removes the numbers from |start| to below |end|.  Returns what
  * quic_wire_set_insert does: 0 if none of them was in the set, and
  * QUIC_WIRE_ERR_NOBUF if a run would be split in two and no entry is left. */
-QUIC_WIRE_API int quic_wire_set_remove(quic_wire_range *runs, size_t room,
-                                       size_t *count, uint64_t start,
-                                       uint64_t end);
+QUIC_WIRE_CHECKED QUIC_WIRE_API int
+quic_wire_set_remove(quic_wire_range *runs, size_t room, size_t *count,
+                     uint64_t start, uint64_t end);
 
 /** Whether |number| is in the set of the |count| runs: 1 if it is, 0 if it
  * isn't, QUIC_WIRE_ERR_RANGES if they aren't such runs, and
  * QUIC_WIRE_ERR_ARGUMENT for NULL. */
-QUIC_WIRE_API int quic_wire_set_contains(const quic_wire_range *runs,
-                                         size_t count, uint64_t number);
+QUIC_WIRE_CHECKED QUIC_WIRE_API int
+quic_wire_set_contains(const quic_wire_range *runs, size_t count,
+                       uint64_t number);
 
 /**
  * Writes an ACK of the set of the |count| runs in its shortest form at the
@@ -1503,10 +1499,10 @@ QUIC_WIRE_API int quic_wire_set_contains(const quic_wire_range *runs,
  * |written| may be NULL.  Bytes of |dest| after those written don't change, and
  * none after an error.
  */
-QUIC_WIRE_API int quic_wire_ack_write(uint64_t delay,
-                                      const quic_wire_range *runs, size_t count,
-                                      const uint64_t *counts, uint8_t *dest,
-                                      size_t destlen, size_t *written);
+QUIC_WIRE_CHECKED QUIC_WIRE_API int
+quic_wire_ack_write(uint64_t delay, const quic_wire_range *runs, size_t count,
+                    const uint64_t *counts, uint8_t *dest, size_t destlen,
+                    size_t *written);
 
 /* ---- Texts */
 

@@ -459,9 +459,9 @@ static void params_mixed(uint32_t side, const quic_wire_params *params,
          less == n);
   }
   order[any() % all] = (uint8_t)any();
-  quic_wire_params_write_with(side ^ 1, params, sizeof *params, list,
-                              any() % (len + 1), order, any() % all, out,
-                              any() % sizeof out, &n);
+  WANT(quic_wire_params_write_with(side ^ 1, params, sizeof *params, list,
+                                   any() % (len + 1), order, any() % all, out,
+                                   any() % sizeof out, &n) <= QUIC_WIRE_OK);
 }
 
 /* Any bytes as a list, and any field values as parameters. */
@@ -491,6 +491,6 @@ void params_any(const uint8_t *list, size_t len) {
   }
   for (k = 0; k < sizeof got; k++)
     ((uint8_t *)&got)[k] = (uint8_t)(any() % 3 ? 0 : any());
-  quic_wire_params_write(side ^ 1, &got, sizeof got, dest, any() % sizeof dest,
-                         &n);
+  WANT(quic_wire_params_write(side ^ 1, &got, sizeof got, dest,
+                              any() % sizeof dest, &n) <= QUIC_WIRE_OK);
 }

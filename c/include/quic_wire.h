@@ -60,7 +60,8 @@
  *     len -= header.end;
  *   }
  *
- * Seal a packet.  |room| includes the 16 bytes of the cipher's tag:
+ * Seal a packet, or return 0.  |room| includes the 16 bytes of the cipher's
+ * tag:
  *
  *   quic_wire_header_fields fields = {0};
  *   fields.kind = QUIC_WIRE_PACKET_HANDSHAKE;
@@ -74,11 +75,14 @@
  *   frame.datalen = datalen;
  *   int64_t begin = quic_wire_header_write(&fields, dcid, dcidlen, scid,
  *                                          scidlen, NULL, 0, packet, room);
- *   size_t place = (size_t)begin - fields.numberlen; // of the packet number
- *   quic_wire_frame_write(&frame, data, datalen, 1, packet + begin,
- *                         room - 16 - (size_t)begin, &payloadlen);
+ *   if (begin < 0 || room - (size_t)begin < 16 ||
+ *       quic_wire_frame_write(&frame, data, datalen, 1, packet + begin,
+ *                             room - 16 - (size_t)begin, &payloadlen) < 0)
+ *     return 0;
  *   size_t end = (size_t)begin + payloadlen + 16;
- *   quic_wire_set_len(packet, end, place, fields.lengthlen);
+ *   size_t place = (size_t)begin - fields.numberlen; // of the packet number
+ *   if (quic_wire_set_len(packet, end, place, fields.lengthlen) < 0)
+ *     return 0;
  *   seal_payload(number, packet, (size_t)begin, packet + begin, payloadlen);
  *   make_mask(mask, quic_wire_sample(packet, end, place, 16));
  *   int sealed = quic_wire_protect(packet, end, place, mask); // above 0

@@ -24,10 +24,13 @@ int ossl_quic_wire_peek_frame_header(PACKET *pkt, uint64_t *type,
     size_t len = quic_wire_varint_read(PACKET_data(pkt), PACKET_remaining(pkt),
         type);
 
-    if (len > 0 && was_minimal != NULL)
+    if (len == 0)
+        return 0;
+
+    if (was_minimal != NULL)
         *was_minimal = len == 1 || len == quic_wire_varint_len(*type);
 
-    return len > 0;
+    return 1;
 }
 
 /*

@@ -18,10 +18,12 @@
  * beside it says, or to one struct.  What a call writes must not overlap
  * anything else that you pass to it.  Everything else is checked: NULL,
  * lengths, offsets, numbers that can't be encoded, unknown kinds, and any field
- * values.  With a length of 0 a pointer may be NULL, except one to a packet, a
- * header, a packet number or the payload of an ACK's ranges.
+ * values.  A pointer may be NULL if its length is 0, but never one to a packet,
+ * a header or a packet number, or to a payload of which you read an ACK's
+ * ranges.
  *
- * Results: an error is below 0, and quic_wire_strerror describes it.
+ * Results: an error is below 0 and fits in an int, and quic_wire_strerror
+ * describes it.
  *
  * Read the frames of a payload:
  *
@@ -275,13 +277,15 @@ typedef enum quic_wire_code {
                                                   negotiated (12.4) */
 #define QUIC_WIRE_READ_TOKENS 0x200u /* an empty token in NEW_TOKEN (19.7) */
 
-/* Packets: when the fixed bit may be clear, and what else is an error. */
-#define QUIC_WIRE_READ_GREASED_BIT 0x010u /* in every packet (RFC 9287) */
-#define QUIC_WIRE_READ_ANY_VERSION 0x020u /* in version negotiations (17.2.1),
-                                             and in versions that aren't given
-                                             (RFC 8999) */
+/* Packets: two bits let the fixed bit be clear, and one makes an error. */
+#define QUIC_WIRE_READ_GREASED_BIT 0x010u /* it may be clear in every packet
+                                             (RFC 9287) */
+#define QUIC_WIRE_READ_ANY_VERSION 0x020u /* it may be clear in version
+                                             negotiations (17.2.1), and in
+                                             packets of versions that aren't
+                                             given (RFC 8999) */
 #define QUIC_WIRE_READ_WHOLE_RETRY 0x040u /* a Retry without a token or a tag of
-                                             16 bytes (17.2.5) */
+                                             16 bytes is an error (17.2.5) */
 
 /* Lists of transport parameters. */
 #define QUIC_WIRE_READ_ANY_WIDTH 0x080u /* integers may be in any encoding
@@ -517,7 +521,8 @@ typedef struct quic_wire_header {
   uint32_t version;
   uint32_t header_end; /* where the packet number begins, or where the header
                           ends if there is none */
-  uint32_t end;      /* where the packet ends, or the bytes if it is cut off */
+  uint32_t end;      /* where the packet ends; if it is cut off, where the
+                        bytes end */
   uint32_t token, tokenlen; /* the token of an Initial packet, or of a Retry
                                that has at least the 16 bytes of its tag, which
                                follow the token and end the packet */
@@ -709,7 +714,8 @@ quic_wire_frames_init(quic_wire_frame_iter *frames, const uint8_t *payload,
                       size_t payloadlen, uint32_t flags);
 
 /**
- * Reads the next frame.  |payload| is the one that |frames| began with.
+ * Reads the next frame, each PADDING by itself.  |payload| is the one that
+ * |frames| began with.
  *
  * Returns:
  *  - QUIC_WIRE_ITEM, and the frame
@@ -819,9 +825,9 @@ quic_wire_frame_read(const uint8_t *payload, size_t payloadlen, uint32_t flags,
 QUIC_WIRE_CHECKED QUIC_WIRE_API int64_t quic_wire_frame_header_read(
     const uint8_t *bytes, size_t len, uint32_t flags, quic_wire_frame *frame);
 
-/** How many PADDING frames an entry of quic_wire_frames_fill has that was read
- * from this payload: one whose type may have up to 8 bytes, and one for each
- * byte after it. 0 for other kinds, and if an offset is outside the payload. */
+/** How many consecutive PADDING frames |frame| is, which was read from this
+ * payload: quic_wire_frames_next returns each by itself, other calls return
+ * them as one.  0 for other kinds, and if an offset is outside the payload. */
 QUIC_WIRE_API size_t quic_wire_padding_count(const uint8_t *payload,
                                              size_t payloadlen,
                                              const quic_wire_frame *frame);
@@ -849,21 +855,21 @@ QUIC_WIRE_API uint32_t quic_wire_frame_rules(uint32_t kind);
 
 /** After QUIC_WIRE_ERR_FRAME_...: the type of the invalid frame, below 2^62.
  * If the bytes end within that type, it is the type of the frame before, as in
- * quinn-proto, or QUIC_WIRE_NO_TYPE if there is none.  A CONNECTION_CLOSE names
- * 0 instead of QUIC_WIRE_NO_TYPE.  |frame->kind| is then no kind, 0xffff, and
- * |frame->type| is 0. */
+ * quinn-proto, or QUIC_WIRE_NO_TYPE if there is none; write that as 0 into a
+ * CONNECTION_CLOSE.  |frame->kind| is then no kind, 0xffff, and |frame->type|
+ * is 0. */
 QUIC_WIRE_API uint64_t quic_wire_error_type(const quic_wire_frame *frame);
 
 /* ---- Reading the ranges of an ACK */
 
 /**
  * Begins at the greatest range of |frame|, an ACK that was read from this
- * payload.  |ranges->left| is then how many ranges it has.  Only the type, the
- * largest number, the delay and the count of ranges are read.  Ranges of an ACK
- * that a call has read can't be invalid; for others, the call that reaches an
- * invalid one reports it.  Returns 0; QUIC_WIRE_ERR_PLACE if no ACK begins
- * at |frame->begin|; QUIC_WIRE_ERR_ARGUMENT for NULL.  |ranges| changes only
- * with 0.
+ * payload.  |ranges->left| is then how many ranges it has.  No range is read
+ * yet, only what comes before them.  If one of the calls above read the whole
+ * ACK, its ranges are valid; otherwise the call that reaches an invalid range
+ * reports it.  Returns 0; QUIC_WIRE_ERR_PLACE if no ACK begins at
+ * |frame->begin|; QUIC_WIRE_ERR_ARGUMENT for NULL.  |ranges| changes only with
+ * 0.
  */
 QUIC_WIRE_CHECKED QUIC_WIRE_API int
 quic_wire_ack_ranges_init(quic_wire_range_iter *ranges, const uint8_t *payload,
@@ -1054,8 +1060,8 @@ QUIC_WIRE_API const uint8_t *quic_wire_dcid_read(const uint8_t *packet,
                                                  size_t cidlen,
                                                  size_t *dcidlen);
 
-/** Where the receiver's id, or the sender's of a long header, begins in a packet
- * with this header; NULL for NULL. */
+/** Where the receiver's id, or the sender's of a long header, begins in a
+ * packet with this header; NULL for NULL. */
 QUIC_WIRE_API const uint8_t *quic_wire_dcid(const uint8_t *packet,
                                             const quic_wire_header *header);
 QUIC_WIRE_API const uint8_t *quic_wire_scid(const uint8_t *packet,
@@ -1074,7 +1080,8 @@ QUIC_WIRE_API const uint8_t *quic_wire_sample(const uint8_t *packet,
  * Removes the header protection of a packet whose number begins at |place|,
  * with a mask of five bytes (RFC 9001, section 5.4.1).  |*number| is the whole
  * packet number, from the one that is |expected| next, as
- * quic_wire_number_expand returns it; with 0 it is the truncated one.
+ * quic_wire_number_expand returns it; if |expected| is 0, it is the truncated
+ * number.
  *
  * Returns:
  *  - how many bytes the number has, 1 to 4; the payload begins after them, and
@@ -1127,9 +1134,9 @@ quic_wire_number_len(uint64_t number, uint64_t largest_acked);
  * The whole packet number whose low |numberlen| bytes are |written|, from the
  * one that is |expected| next (RFC 9000, appendix A.3).  UINT64_MAX if
  * |numberlen| isn't 1 to 4, |written| has more bytes, or |expected| is 2^62 or
- * more.  If |expected| is at most 2^(8 * numberlen - 1) below 2^62, the result
- * may be 2^62 or more, which no packet number is; appendix A.3 then has the
- * number that is less by 2^(8 * numberlen).
+ * more.  If 2^62 - |expected| is at most 2^(8 * numberlen - 1), the result may
+ * be 2^62 or more, which no packet number is; appendix A.3 then has the number
+ * that is less by 2^(8 * numberlen).
  */
 QUIC_WIRE_API uint64_t quic_wire_number_expand(uint64_t written,
                                                uint32_t numberlen,
@@ -1324,10 +1331,10 @@ quic_wire_params_write(uint32_t side, const quic_wire_params *params,
  * The same with further entries, in an order of your choice.  |further| is a
  * list of at most 235 entries, below 2^40 bytes, that quic_wire_params has no
  * fields for, none of them twice, as quic_wire_param_write writes them.  The
- * parameters of quic_wire_params have the numbers of this list, whether they
- * are written or not; the further entries have numbers from
- * QUIC_WIRE_PARAM_ROWS on.  |order| has each of these numbers once.  If
- * |orderlen| is 0, the entries are written in the order of their numbers.
+ * parameters of quic_wire_params have the numbers below, whether they are
+ * written or not; the further entries have numbers from QUIC_WIRE_PARAM_ROWS
+ * on.  |order| has each of these numbers once.  If |orderlen| is 0, the entries
+ * are written in the order of their numbers.
  *
  *  - 0 max_idle_timeout
  *  - 1 max_udp_payload_size

@@ -16,9 +16,9 @@ pub struct HeaderChecks {
 impl HeaderChecks {
     /// Those of quinn-proto: the fixed bit must be set in each packet.
     pub const QUINN: HeaderChecks = HeaderChecks { grease_quic_bit: false, any_version: false, whole_retry: false };
-    /// All that RFC 9000 requires of the bytes of a protected header, if no extension was negotiated. You reject a
-    /// version negotiation without whole versions, a Retry whose tag is invalid, an Initial with a token from a server,
-    /// datagrams that are too small, and [reserved bits](super::Opened::reserved_bits_valid) that aren't 0.
+    /// What RFC 9000 requires of a protected header, if no extension was negotiated. It is up to you to reject a version
+    /// negotiation whose versions are cut off or missing, a Retry whose tag is invalid, an Initial with a token from a
+    /// server, datagrams that are too small, and [reserved bits](super::Opened::reserved_bits_valid) that aren't 0.
     pub const RFC: HeaderChecks = HeaderChecks { grease_quic_bit: false, any_version: true, whole_retry: true };
 
     // The library's flags.

@@ -18,7 +18,7 @@ use core::ops::Range;
 #[derive(Clone, Copy, PartialEq, Eq, Hash)]
 pub struct HeaderPlaces(sys::Header);
 
-/// Why no header was read, or only that of a packet that is cut off.
+/// Why a header wasn't read, or that its packet is cut off.
 ///
 /// ```
 /// use quic_wire::packet::{HeaderPlaces, HeaderError};
@@ -156,8 +156,8 @@ impl HeaderPlaces {
     ///
     /// # Errors
     ///
-    /// If no header can be read, or its packet is cut off or has another version. The error has the fields that were
-    /// read.
+    /// If no header can be read, or its packet is cut off or has another version; of these two the error has the fields
+    /// that were read.
     ///
     /// # Panics
     ///

@@ -17,6 +17,7 @@
 //!
 //! // And opened.
 //! for packet in PacketsMut::new(&mut datagram, 0, &[1], false) {
+//!     // A stack goes on with the next packet if this one can't be opened; here `?` ends the loop.
 //!     let packet = packet?.open_with(16, mask, 7)?;
 //!     assert_eq!((packet.number(), packet.dst_cid()), (7, &[1, 2][..]));
 //!     assert!(packet.reserved_bits_valid());

@@ -19,8 +19,8 @@ pub struct PacketNumber {
 }
 
 impl PacketNumber {
-    /// The number in as few bytes as a receiver needs that has acknowledged `largest_acked` (RFC 9000, appendix A.2),
-    /// as `quinn-proto` chooses them. `None` if the number is 2^62 or more, or if `largest_acked` is above it, or 2^31
+    /// The number in the fewest bytes from which a receiver can recover it if it has acknowledged `largest_acked` (RFC
+    /// 9000, appendix A.2), as `quinn-proto` chooses them. `None` if the number is 2^62 or more, or if `largest_acked` is above it, or 2^31
     /// or more below it.
     ///
     /// ```

@@ -40,9 +40,11 @@ quic_wire_ng_unprotect(ngtcp2_pkt_hd *hd, uint8_t *header, const uint8_t *pkt,
   if (hp_mask(mask, hp, hp_ctx, sample) != 0) {
     return NGTCP2_ERR_CALLBACK_FAILURE;
   }
-  len = quic_wire_unprotect_copy(pkt, pktlen, place, mask,
-                                 quic_wire_ng_expected(largest), header,
-                                 place + 4, &number);
+  /* The sample is after these bytes.  quic_wire_unprotect_copy does both, and
+   * takes longer. */
+  memcpy(header, pkt, place + 4);
+  len = quic_wire_unprotect(header, place + 4, place, mask,
+                            quic_wire_ng_expected(largest), &number);
   if (len < 0) {
     return NGTCP2_ERR_PROTO;
   }

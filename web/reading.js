@@ -101,7 +101,7 @@ class Reading {
   broken(name, summary, walk, fault, end = this.bytes.length) {
     const fields = walk.fields.slice();
     if (walk.place < end) {
-      const value = `${end - walk.place} bytes`;
+      const value = count(end - walk.place, "byte");
       fields.push({ name: "not read", begin: walk.place, end, value, opaque: true });
     }
     if (fault) {

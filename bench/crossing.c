@@ -123,10 +123,13 @@ static u64 on_calls(const char *name, size_t len) {
         gaps[k] = (quic_wire_gap){1, 3};
     source[0] = QUIC_WIRE_BIT_FIXED;
     source_len = 1200;
+    int result = QUIC_WIRE_OK;
     if (!strcmp(name, "ack-read"))
-        quic_wire_ack_gaps_write(&ack, gaps, gaps_len, source, sizeof source, &source_len);
+        result = quic_wire_ack_gaps_write(&ack, gaps, gaps_len, source, sizeof source, &source_len);
     if (!strcmp(name, "stream-read"))
-        quic_wire_frame_write(&stream, dest, stream.datalen, 0, source, sizeof source, &source_len);
+        result = quic_wire_frame_write(&stream, dest, stream.datalen, 0, source, sizeof source, &source_len);
+    if (result < 0)
+        exit(2);
     for (u64 turn = 0; turn < 1000; turn++) {
         sum += call(turn);
         counted++;

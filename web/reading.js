@@ -314,7 +314,7 @@ class ParamsReading extends Reading {
     // A server rejects an entry of the client's for its id if only servers send it.
     const isServers = reason === PARAMS_ILLEGAL && this.choices.side === "server" && fault === walk.fields[0];
     return {
-      place: fault?.begin ?? begin, reason: PARAMS_REASONS[reason] + (isServers ? ": only servers send it" : ""),
+      place: fault?.begin ?? begin, reason: PARAMS_REASONS[reason], note: isServers ? "Only servers send it." : "",
       allowed: fault?.name === "Value" && fault.number !== undefined ? allowedOf(id) : "",
       code: "TRANSPORT_PARAMETER_ERROR (0x08)", section: `RFC 9000, section ${isServers ? "18.2" : "7.4"}`,
     };

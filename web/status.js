@@ -4,11 +4,11 @@ import { typeName } from "./names.js";
 import { element } from "./rows.js";
 import { count } from "./walk.js";
 
-function errorText({ place, reason, type, version, allowed, code, section }) {
+function errorText({ place, reason, type, version, allowed, note, code, section }) {
   const what = (type ?? null) === null ? "" : ` in ${typeName(type)}`;
   const which = (version ?? null) === null ? "" : ` ${version.toString(16)}`;
   const text = [element("strong", "", `Error at byte ${place}: ${reason}${which}${what}.`)];
-  text.push(allowed ? ` Allowed is ${allowed}.` : "");
+  text.push(allowed ? ` Allowed is ${allowed}.` : note ? ` ${note}` : "");
   text.push(code ? ` ${code}, ${section}. ` : ` ${section[0].toUpperCase()}${section.slice(1)}. `);
   return text;
 }

@@ -132,7 +132,7 @@ CHOICES = [
     ({"mode": "frames"}, "21", "RFC 9000, section 12.4"),
     # RFC 9000, section 18.2: values below 2 are invalid.
     ({"mode": "params", "side": "client"}, "0e0101", "illegal value. Allowed is 2 or more."),
-    ({"mode": "params", "side": "server"}, "1000", "illegal value: only servers send it."),
+    ({"mode": "params", "side": "server"}, "1000", "illegal value. Only servers send it."),
     ({"mode": "params", "side": "server"}, "1000", "RFC 9000, section 18.2."),
     ({"mode": "frames"}, "000001", "2 frames (a run of PADDING is one) in 3 bytes"),
 ]

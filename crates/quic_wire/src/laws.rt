@@ -35,8 +35,8 @@ use quic_params::transport_parameters::{ReadOptions, TransportParameters};
 
 /// Every payload, also the empty one, has one reading: its frames; or its frames up to an error, with the frame type
 /// that is reported, if any, and the reason. If `strict` is true, a frame type that isn't in its shortest encoding is
-/// an error. Empty tokens, data past 2^62 - 1 and more than 2^60 streams aren't errors here; by the rules of
-/// `quic_frames::laws::checked_readings` they are.
+/// an error. Empty tokens, data past 2^62 - 1 and more than 2^60 streams aren't errors here; the rules of
+/// `quic_frames::laws::checked_readings` can make them errors.
 pub fn every_payload()
     ensures { (strict : Bool) (bytes : List ℕ) → AreBytes bytes → ExactlyOne (IsReadingOf strict bytes) }
 {

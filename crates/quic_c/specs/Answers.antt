@@ -30,7 +30,8 @@ pub record GivesInvalid (rules : Rules) (old : CFrameIter) (payload : List ℕ) 
   pub words : out ≡ invalid_words old.offset (type_word reported.type)
 
 -- What a call for the next frame returns and leaves, by rules: 1 with the frame; 0 if none is left; the reason why a
--- frame isn't given, with its type; that the place is outside of the payload. Nothing changes with 0 and outside.
+-- frame isn't given, with its type; that the place is outside of the payload. Nothing changes with 0 and outside, and
+-- the flags, by which the next call reads, never change.
 pub record AnswersNext (rules : Rules) (old : CFrameIter) (payload : List ℕ) (before : CFrame) (result : ℤ)
     (new : CFrameIter) (after : CFrame) : Type 0 where
   pub returns : (result ≡ pos 1) ⊎ (result ≡ pos 0) ⊎ (result ≡ failed failure.Place)
@@ -39,3 +40,4 @@ pub record AnswersNext (rules : Rules) (old : CFrameIter) (payload : List ℕ) (
   pub end : result ≡ pos 0 → IsSpent (state_of old payload)
   pub outside : (result ≡ failed failure.Place) ↔ (length payload < old.offset)
   pub same : (result ≡ pos 1) ⊎ GivesInvalid rules old payload result new after ⊎ ((new ≡ old) × (after ≡ before))
+  pub flags : new.flags ≡ old.flags

@@ -56,8 +56,8 @@ pub record ReportsInvalid (rules : Rules) (old : CFrameIter) (payload : List ℕ
 
 -- What a call for the next frames returns and leaves, by rules: 1 with how many entries were filled, at least one; 0 if
 -- no frame is left; the reason why a frame isn't given, with its type in the first entry; that there is no entry, and
--- the place is in the payload; that it is outside. Nothing changes with the last three except that entry, and the count
--- changes only with 1.
+-- the place is in the payload; that it is outside. Nothing changes with the last three except that entry, the count
+-- changes only with 1, and the flags, by which the next call reads, never change.
 pub record AnswersFill (rules : Rules) (old : CFrameIter) (payload : List ℕ) (before : List CFrame) (count_before : ℕ)
     (result : ℤ) (new : CFrameIter) (after : List CFrame) (count : ℕ) : Type 0 where
   pub returns : (result ≡ pos 1) ⊎ (result ≡ pos 0) ⊎ (result ≡ failed failure.NoRoom) ⊎ (result ≡ failed failure.Place)
@@ -70,6 +70,7 @@ pub record AnswersFill (rules : Rules) (old : CFrameIter) (payload : List ℕ) (
   pub same : (result ≡ pos 1) ⊎ ReportsInvalid rules old payload before result new after
       ⊎ ((new ≡ old) × (after ≡ before))
   pub counted : (result ≡ pos 1) ⊎ (count ≡ count_before)
+  pub flags : new.flags ≡ old.flags
 
 -- What a call returns and leaves that begins at the front of a payload with these flags, and fills entries with its
 -- first frames: 1 with how many were filled, at least one; that the payload is empty; that there is no entry; the

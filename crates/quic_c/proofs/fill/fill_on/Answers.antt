@@ -48,4 +48,5 @@ returns-in-Err g c =
       );
       same = inr (inl reports);
       counted = inr refl;
+      flags = refl;
     }

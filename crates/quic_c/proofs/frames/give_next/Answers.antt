@@ -5,6 +5,7 @@ use Rattle.quic_frames.specs.IterState.{IterState}
 use Rattle.quic_frames.specs.Checking.{IsRefusedFrame}
 use Rattle.quic_frames.specs.Walk.{invalid_of, Advances, Finds, LacksFrame, IsSpent}
 use Rattle.quic_c.specs.Answers.{GivesInvalid}
+use Rattle.quic_c.specs.declared.words.CFrameIter.{CFrameIter}
 use Rattle.quic_c.specs.Filling.{further}
 use Rattle.quic_c.specs.Shown.{type_in, state_of}
 use Rattle.quic_c.proofs.Types.{behind_frame, gives_frame, is_refused, keeps}
@@ -17,6 +18,7 @@ returns-in-None g c = record {
   end = λ _. subst IsSpent (sym c.requires.state) c.in-None.ensures.steps.0;
   outside = grind (arith, common_steps);
   same = inr (inr (refl, refl));
+  flags = refl;
 }
 
 pub returns-in-Some-Err : goal.returns-in-Some-Err
@@ -47,6 +49,7 @@ returns-in-Some-Err g c =
         λ beyond. absurd (omega (arith, beyond, c.requires.within)),
       );
       same = inr (inl gives);
+      flags = ap (λ (f : CFrameIter). f.flags) gives.over;
     }
 
 pub returns-else-is_broken : goal.returns-else-is_broken
@@ -70,6 +73,7 @@ returns-else-is_broken g c =
       end = search rules;
       outside = grind (arith, common_steps);
       same = inl refl;
+      flags = refl;
     }
 
 pub returns-then-is_broken : goal.returns-then-is_broken
@@ -97,4 +101,5 @@ returns-then-is_broken g c =
         λ beyond. absurd (omega (arith, beyond, c.requires.within)),
       );
       same = inr (inl gives);
+      flags = ap (λ (f : CFrameIter). f.flags) gives.over;
     }

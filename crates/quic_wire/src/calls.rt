@@ -1,5 +1,5 @@
 //! Functions that return what the laws speak of, or report that memory ran out. Each is proved from public contracts.
-ghost use Rattle.std.specs.Prelude.{◌↔◌, false, ◌≡◌, ◌≢◌, ◌++◌, ◌+◌, ◌≤◌, ℕ, List, [], length, map, codes, IfErr, IfOk, IsErrOf, IsTrue, MatchBool, MatchResult, OnErr, OnOk, vec_capacity, vec_len};
+ghost use Rattle.std.specs.Prelude.{◌↔◌, false, ◌≡◌, ◌≢◌, ◌++◌, ◌+◌, ◌<◌, ◌≤◌, ℕ, List, [], length, map, codes, IfErr, IfOk, IfSome, IsErrOf, IsTrue, MatchBool, MatchResult, OnErr, OnOk, vec_capacity, vec_len};
 ghost use Rattle.quic_base.specs.Number.{AreBytes};
 ghost use Rattle.quic_base.specs.One.{ReturnsOne};
 ghost use Rattle.quic_canon.specs.Least.{IsLeast};
@@ -8,13 +8,14 @@ ghost use Rattle.quic_frame_fields.specs.Payload.{Complete, IsReadingOf, Reading
 ghost use Rattle.quic_frames.specs.InRange.{AreTyped, CanFollow};
 ghost use Rattle.quic_frames.specs.Meaning.{meaning_of};
 ghost use Rattle.quic_frames.specs.Written.{IsPayload};
+ghost use Rattle.quic_header_decode.specs.Datagram.{CutsFirst, IsUncut};
 ghost use Rattle.quic_header_decode.specs.Grammar.{CutAnswer};
 ghost use Rattle.quic_header_decode.specs.Headers.{IsWithoutNumber};
-ghost use Rattle.quic_header_decode.specs.Reading.{read_by};
+ghost use Rattle.quic_header_decode.specs.Reading.{left_of, read_by};
 ghost use Rattle.quic_header_decode.specs.Refusal.{GivesRead};
 ghost use Rattle.quic_header_encode.specs.Kinds.{space_in};
 ghost use Rattle.quic_header_encode.specs.Writing.{header_bytes};
-ghost use Rattle.quic_packets.specs.Opening.{AreExpected, BeginsSealed, Opens, ReturnsSealed, packet_of};
+ghost use Rattle.quic_packets.specs.Opening.{AreExpected, BeginsSealed, Opens, PacketAnswer, ReturnsSealed, packet_of};
 ghost use Rattle.quic_packets.specs.Pairs.{IsLawful};
 ghost use Rattle.quic_packets.specs.Sealing.{IsAppended, PacketContents};
 ghost use Rattle.quic_params.specs.Meaning.{IsReadAnswer};
@@ -39,7 +40,7 @@ use quic_packets::packet::{
     PartialDecode, SpaceKeys, open_packet,
 };
 use quic_packets::pairs::OpeningKeys;
-use quic_params::transport_parameters::{Error, TransportParameters};
+use quic_params::transport_parameters::{Error, ReadOptions, TransportParameters};
 use std::alloc::Global;
 use thiserror::Error as ThisError;
 
@@ -91,6 +92,11 @@ pub fn cut_first<P: ConnectionIdParser>(
     ensures one { ReturnsOne (CutAnswer (read_by (P.parsed options.now.parser.now) options.now.versions.now
         options.now.grease) datagram.items)
         (GivesRead (λ x. (x.0.head, x.0.header_end, length x.0.bytes)) result) }
+    ensures cut { IfOk result (λ x. CutsFirst (read_by (P.parsed options.now.parser.now) options.now.versions.now
+        options.now.grease) datagram.items x.0 (left_of x.1)) }
+    ensures rest { IfOk result (λ x. IfSome x.1 (λ rest. 0 < length rest.items)) }
+    ensures refused { IfErr result (λ e. IsUncut (read_by (P.parsed options.now.parser.now) options.now.versions.now
+        options.now.grease) (P.takes_memory options.now.parser.now) datagram.items e) }
 {
     every_datagram();
     are_bytes(datagram.as_slice());
@@ -107,12 +113,29 @@ pub fn read_parameters(side: Side, list: &[u8]) -> Result<TransportParameters, E
     TransportParameters::read(side, &mut rest)
 }
 
+/// Reads a list of transport parameters with `TransportParameters::read_with`. With `ReadOptions::RFC` there is no error
+/// exactly if RFC 9000 allows the list (`rfc::rfc_lists`). It doesn't allocate.
+pub fn read_parameters_with(
+    side: Side,
+    options: ReadOptions,
+    list: &[u8],
+) -> Result<TransportParameters, Error>
+    ensures one { ReturnsOne (IsReadAnswer options side list.now) (λ answer. result ≡ answer) }
+{
+    every_list();
+    are_bytes(list);
+    let mut rest = list;
+    TransportParameters::read_with(side, options, &mut rest)
+}
+
 /// Appends the shortest payload with the meaning of `payload`, with `canonical`.
 pub fn shorten(payload: &[u8], out: &mut Vec<u8>) -> Result<(), CanonError>
     ensures one { OnOk result (ReturnsOne (λ least. IsLeast least payload.now)
         (λ least. out.new.items ≡ out.old.items ++ least)) }
     ensures refused { IfErr result (λ e. IsRefused payload.now e) }
     ensures kept { OnErr result (out.new.items ≡ out.old.items) }
+    ensures capacity { OnErr result (vec_capacity out.new ≡ vec_capacity out.old) }
+    ensures unread { IfErr result (λ e. (e ≢ CanonError.OutOfMemory) → out.new ≡ out.old) }
     // With room for the payload's length it doesn't fail for lack of memory.
     ensures room { vec_len out.old + length payload.now ≤ vec_capacity out.old
         → IfErr result (λ e. IsWrong payload.now e) }
@@ -223,8 +246,8 @@ pub fn cut_plain<P: ConnectionIdParser>(
     }
 }
 
-/// Opens a packet with `open_packet`: one that was sealed with these keys is opened to what was sealed, unless memory
-/// runs out.
+/// Opens the first packet of a datagram with `open_packet`: one that was sealed with these keys is opened to what was
+/// sealed, unless memory runs out.
 pub fn open_sealed<C: ConnectionIdParser, H: HeaderKey, P: PacketKey>(
     datagram: BytesMut,
     options: &DecodeOptions<'_, C>,
@@ -232,6 +255,8 @@ pub fn open_sealed<C: ConnectionIdParser, H: HeaderKey, P: PacketKey>(
     expected: &Expected,
 ) -> Result<(Opened, Option<BytesMut>), OpenError>
     requires { AreExpected expected.now }
+    ensures answer { PacketAnswer (⟦<SpaceKeys<H, P> as OpeningKeys<C>>⟧.opening keys.now options.now.parser.now
+        options.now.versions.now options.now.grease expected.now) datagram.items result }
     ensures sealed { let opening = ⟦<SpaceKeys<H, P> as OpeningKeys<C>>⟧.opening keys.now options.now.parser.now
         options.now.versions.now options.now.grease expected.now in
         (contents : PacketContents) (rest : List ℕ) → BeginsSealed opening datagram.items contents rest

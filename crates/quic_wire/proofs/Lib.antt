@@ -4,4 +4,5 @@ mod Numbered
 mod Opened
 mod Shortest
 mod Walks
+mod WholeNumbers
 mod Written

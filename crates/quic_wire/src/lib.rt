@@ -4,6 +4,7 @@
 
 pub mod calls;
 pub mod laws;
+pub mod meanings;
 
 pub use quic_base::{coding, ids, varint};
 pub use quic_canon::canonical;

@@ -12,6 +12,7 @@ mod flags;
 mod frames;
 mod front;
 mod headers_read;
+pub mod laws;
 mod rules;
 mod show;
 mod words;

@@ -3,6 +3,7 @@
 #![tactic(auto)]
 
 mod headers;
+pub mod laws;
 mod negotiation;
 mod numbers;
 mod protection;

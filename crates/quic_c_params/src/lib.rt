@@ -5,6 +5,7 @@
 mod address;
 mod entries;
 mod further;
+pub mod laws;
 mod lists;
 mod read;
 mod show;

@@ -3,9 +3,9 @@ use bytes::BytesMut;
 use quic_checks::Checks;
 use quic_wire::calls::{
     PayloadError, cut_first, cut_plain, frames_read_back, is_lost, parameters_read_back,
-    read_parameters, read_payload, shorten, write_payload,
+    read_checked, read_parameters, read_payload, shorten, write_payload,
 };
-use quic_wire::frame::Frame;
+use quic_wire::frame::{Frame, Rules};
 use quic_wire::ids::Side;
 use quic_wire::packet::{DecodeOptions, FixedLengthConnectionIdParser};
 use quic_wire::transport_parameters::{ReservedTransportParameter, TransportParameters};
@@ -32,6 +32,21 @@ fn payloads_are_read(rt: HostRuntime) -> Result<(), Fail> {
     match read_payload(rt.alloc(), b"".as_slice()) {
         Err(PayloadError::Empty) => checks.holds(true),
         _ => checks.holds(false),
+    }
+    checks.verdict()
+}
+
+#[test]
+fn payloads_are_read_by_rules(rt: HostRuntime) -> Result<(), Fail> {
+    let mut checks = Checks::new(rt.alloc());
+    let payload = b"\x01\x07\x00\x01".as_slice();
+    let Ok((frames, error)) = read_checked(rt.alloc(), payload, Rules::RFC) else {
+        return Err("an empty token".into());
+    };
+    checks.same(frames.len(), 1);
+    match error {
+        Some(invalid) => checks.same(invalid.reason, "malformed"),
+        None => checks.holds(false),
     }
     checks.verdict()
 }

@@ -1,4 +1,8 @@
 mod Again
+mod Allowed
+mod AllowedLists
+mod AllowedPackets
+mod CheckedWalks
 mod Cuts
 mod Numbered
 mod Opened

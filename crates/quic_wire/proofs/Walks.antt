@@ -26,7 +26,7 @@ pub record HasCome (payload : List ℕ) (frames : List Frame) (state : IterState
 pub nothing_yet : (payload : List ℕ) (state : IterState) → state ≡ first_of false payload → HasCome payload [] state
 nothing_yet payload state e = record { found = []; same = refl; read = has_read_none false payload state e }
 
-meant_after : (frames : List Frame) (found : List TypedFrame) (frame : Frame) (one : TypedFrame)
+pub meant_after : (frames : List Frame) (found : List TypedFrame) (frame : Frame) (one : TypedFrame)
     → map meaning_of frames ≡ map frame_in found → one.frame ≡ meaning_of frame
     → map meaning_of (frames ++ frame ∷ []) ≡ map frame_in (found ++ one ∷ [])
 meant_after [] [] frame one same says = cc

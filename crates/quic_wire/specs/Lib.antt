@@ -9,6 +9,7 @@ pub use Rattle.quic_frames.specs.InRange
 pub use Rattle.quic_frames.specs.IterState
 pub use Rattle.quic_frames.specs.Walk
 pub use Rattle.quic_frames.specs.Meaning as FrameMeaning
+pub use Rattle.quic_frames.specs.Rules
 pub use Rattle.quic_frames.specs.Written
 pub use Rattle.quic_header_encode.specs.Writing as HeaderWriting
 pub use Rattle.quic_header_decode.specs.Datagram
@@ -28,3 +29,4 @@ pub use Rattle.quic_canon.specs.Least
 pub use Rattle.quic_canon.specs.Same
 pub mod Plain
 pub mod Reading
+pub mod Rfc

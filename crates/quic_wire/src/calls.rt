@@ -7,6 +7,7 @@ ghost use Rattle.quic_canon.specs.Refusal.{IsRefused, IsWrong};
 ghost use Rattle.quic_frame_fields.specs.Payload.{Complete, IsReadingOf, Reading, TypedFrame};
 ghost use Rattle.quic_frames.specs.InRange.{AreTyped, CanFollow};
 ghost use Rattle.quic_frames.specs.Meaning.{meaning_of};
+ghost use Rattle.quic_frames.specs.Rules.{IsCheckedOf};
 ghost use Rattle.quic_frames.specs.Written.{IsPayload};
 ghost use Rattle.quic_header_decode.specs.Datagram.{CutsFirst, IsUncut};
 ghost use Rattle.quic_header_decode.specs.Grammar.{CutAnswer};
@@ -22,7 +23,7 @@ ghost use Rattle.quic_params.specs.Meaning.{IsReadAnswer};
 ghost use Rattle.quic_params.specs.Options.{as_quinn};
 ghost use Rattle.quic_params.specs.Range.{IsRecordInRange, plain};
 ghost use Rattle.quic_wire.specs.Plain.{IsPlainInRange};
-ghost use Rattle.quic_wire.specs.Reading.{IsReturnedAs, MayGoOn};
+ghost use Rattle.quic_wire.specs.Reading.{IsReturnedAs, IsReturnedUnder, MayGoOn};
 
 use crate::laws::{
     every_datagram, every_list, every_payload, frames_again, headers_again, lasting, one_shortest,
@@ -32,8 +33,8 @@ use bytes::BytesMut;
 use quic_base::coding::{NoRoom, are_bytes};
 use quic_base::ids::Side;
 use quic_canon::canonical::{CanonError, canonical};
-use quic_frames::frame::{Frame, InvalidFrame, Iter};
-use quic_frames::laws::{least_encoding, read_back};
+use quic_frames::frame::{Frame, InvalidFrame, Iter, Rules};
+use quic_frames::laws::{least_encoding, one_reading, read_back};
 use quic_packets::crypto::{HeaderKey, PacketKey};
 use quic_packets::packet::{
     ConnectionIdParser, DecodeOptions, Expected, Header, OpenError, Opened, PacketDecodeError,
@@ -79,6 +80,36 @@ pub fn read_payload<'a>(
                 }
             }
             Err(invalid) => return Ok((frames, Some(invalid))),
+        }
+    }
+    Ok((frames, None))
+}
+
+/// Reads a payload with `Iter::with_rules`: its frames, and the error after them if there is one. With `Rules::RFC` there
+/// is none exactly if RFC 9000 allows the payload (`rfc::rfc_payloads`).
+pub fn read_checked<'a>(
+    alloc: Global,
+    payload: &'a [u8],
+    rules: Rules,
+) -> Result<(Vec<Frame<'a>>, Option<InvalidFrame>), PayloadError>
+    ensures one { IfOk result (λ x. ReturnsOne (IsCheckedOf rules payload.now) (IsReturnedUnder x.0.items x.1)) }
+    ensures empty { IsErrOf result PayloadError.Empty ↔ (payload.now ≡ []) }
+{
+    one_reading();
+    lasting();
+    are_bytes(payload);
+    let mut frames = Vec::new(alloc);
+    let Ok(items) = Iter::with_rules(payload, rules) else {
+        return Err(PayloadError::Empty);
+    };
+    for item in items {
+        match item {
+            Ok(frame) => {
+                if frames.push(frame).is_err() {
+                    return Err(PayloadError::OutOfMemory);
+                }
+            }
+            Err(refused) => return Ok((frames, Some(refused))),
         }
     }
     Ok((frames, None))

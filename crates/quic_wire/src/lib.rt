@@ -5,6 +5,7 @@
 pub mod calls;
 pub mod laws;
 pub mod meanings;
+pub mod rfc;
 
 pub use quic_base::{coding, ids, varint};
 pub use quic_canon::canonical;

@@ -1,11 +1,15 @@
 //! Identifiers of sides, streams, connections and packet number spaces, and the limits on them
 //! (RFC 9000, sections 2.1, 5.1, 10.3, 12.3, 13.4 and 14).
-ghost use Rattle.std.specs.Prelude.{◌≡◌, ◌<◌, ◌^◌, ◌/◌, ◌%◌, ◌↔◌, List, ℕ, [], ◌∷◌, Some, drop, length, IsTrue, MatchOption};
+ghost use Rattle.std.specs.Prelude.{◌≡◌, ◌<◌, ◌^◌, ◌/◌, ◌%◌, ◌↔◌, List, ℕ, [], ◌∷◌, Some, drop, take, length, nat_eq, IsTrue, MatchOption};
 ghost use Rattle.std.specs.Array.Iter.{array_into_iter_items};
+ghost use Rattle.std.specs.Cmp.{partial_equiv_from_equiv};
+ghost use Rattle.std.specs.Cmp.Lexicographic.{nat_list_eq_equiv, pointwise};
+ghost use Rattle.std.specs.Int.{from_be_bytes, w64};
+ghost use Rattle.quic_base.specs.Number.{AreBytes};
 ghost use Rattle.quic_base.specs.Ids.{side_number, dir_number, stream_number, other_side, dir_text, initiator_of, dir_of, stream_text, ecn_bits};
 ghost use Rattle.quic_base.specs.Varint.{Encodes, shortest_varint};
 
-use crate::coding::{self, Codec, NoRoom};
+use crate::coding::{self, Codec, NoRoom, are_bytes};
 use crate::varint::VarInt;
 use bytes::{Buf, BufMut};
 use std::marker::Model;
@@ -273,6 +277,10 @@ const _: () = prove!(
     EcnCodepoint::Ect0 as u8 == 2 && EcnCodepoint::Ect1 as u8 == 1 && EcnCodepoint::Ce as u8 == 3
 );
 
+const _: () = prove!(Side::Client as u8 == 0 && Side::Server as u8 == 1);
+
+const _: () = prove!(Dir::Bi as u8 == 0 && Dir::Uni as u8 == 1);
+
 const _: () = prove!(
     SpaceId::Initial as u8 == 0 && SpaceId::Handshake as u8 == 1 && SpaceId::Data as u8 == 2
 );
@@ -299,7 +307,7 @@ impl EcnCodepoint {
 }
 
 /// A stateless reset token (RFC 9000, section 10.3). Contracts see it as its sixteen bytes.
-#[derive(Clone, Copy, Debug, PartialEq, Eq, Hash)]
+#[derive(Clone, Copy, Debug, Hash)]
 pub struct ResetToken([u8; RESET_TOKEN_SIZE]);
 
 impl Model for ResetToken {
@@ -318,6 +326,41 @@ impl ResetToken {
     {
         &self.0
     }
+
+    // Its first eight bytes and its last eight, each as a number.
+    #[inline(always)]
+    fn halves(&self) -> (u64, u64)
+        ensures first { result.0 ≡ from_be_bytes w64 (take 8 self.now) }
+        ensures last { result.1 ≡ from_be_bytes w64 (drop 8 self.now) }
+        ensures width { length self.now ≡ RESET_TOKEN_SIZE }
+        ensures bytes { AreBytes self.now }
+    {
+        let ResetToken(bytes) = self;
+        are_bytes(bytes);
+        let (Some(first), Some(last)) = (bytes.first_chunk::<8>(), bytes.last_chunk::<8>()) else {
+            unreachable!()
+        };
+        (u64::from_be_bytes(*first), u64::from_be_bytes(*last))
+    }
+}
+
+/// Two tokens are equal exactly when their bytes are. The comparison runs the same instructions for all tokens, so that
+/// its time doesn't tell how many bytes are right (RFC 9000, section 10.3.1). That is counted by a test, not proved.
+impl PartialEq for ResetToken {
+    ghost eq = { pointwise nat_eq };
+
+    ghost laws = { partial_equiv_from_equiv nat_list_eq_equiv };
+
+    #[inline(always)]
+    fn eq(&self, other: &ResetToken) -> bool {
+        let (first, last) = self.halves();
+        let (other_first, other_last) = other.halves();
+        (first == other_first) & (last == other_last)
+    }
+}
+
+impl Eq for ResetToken {
+    ghost laws = { nat_list_eq_equiv };
 }
 
 impl From<[u8; RESET_TOKEN_SIZE]> for ResetToken {

@@ -1,14 +1,14 @@
 -- Steps of an iterator under rules.
-use Rattle.std.proofs.Common.{◌≡◌, ℕ, List, Bool, true, Option, Some, None, refl, sym, ap, subst, ◌∙◌, inr}
-use Rattle.quic_frame_fields.specs.Reading.{Invalid}
+use Rattle.std.proofs.Common.{◌≡◌, ℕ, List, Bool, true, Option, Some, None, refl, sym, ap, subst, ◌∙◌, inl, inr}
+use Rattle.quic_frame_fields.specs.Reading.{Invalid, invalid}
 use Rattle.quic_frames.specs.declared.frame.Frame.{Frame}
 use Rattle.quic_frames.specs.declared.frame.rules.Rules.{Rules}
 use Rattle.quic_frames.specs.declared.frame.rules.Breach.{Breach}
 use Rattle.quic_frames.specs.IterState.{IterState}
 use Rattle.quic_frames.specs.Meaning.{meaning_of}
-use Rattle.quic_frames.specs.Rules.{Keeps, breach_of, breach_text, invalid_by}
-use Rattle.quic_frames.specs.Checking.{CheckedState, BreaksRule, FindsKept, IsRefusedFrame}
-use Rattle.quic_frames.specs.Walk.{Finds}
+use Rattle.quic_frames.specs.Rules.{Keeps, breach_of, breach_text, fault_by, invalid_by}
+use Rattle.quic_frames.specs.Checking.{CheckedState, BreaksRule, FindsKept, IsRefusedFrame, LacksBy}
+use Rattle.quic_frames.specs.Walk.{Finds, LacksFrame}
 
 -- a frame of which a test found no breach
 pub kept_found : (rules : Rules) (here new : IterState) (frame : Frame) (test : Option Breach) → Finds here frame new
@@ -61,4 +61,14 @@ breach_step old rules here next end frame test breach offset last reported view 
   ap (with_rules rules) (ends ∙ ap (λ (s : IterState). ended_at s offset last) f.comes
       ∙ ap (λ (n : ℕ). ended_at here n last) at ∙ ap (λ (l : Option ℕ). ended_at here here.offset l) after)
       ∙ ap over view,
+)
+
+pub lacks_step : (old : CheckedState) (rules : Rules) (here end : IterState) (plain reported : Invalid)
+    (lacks : LacksFrame here plain) → with_rules rules here ≡ old → end ≡ record here { is_broken = true }
+    → reported ≡ invalid lacks.type (fault_by rules lacks.type lacks.reason)
+    → IsRefusedFrame old.rules old.place reported × (with_rules rules end ≡ over old)
+lacks_step old rules here end plain reported lacks view ends says = (
+  inl (subst (λ (s : CheckedState). LacksBy s.rules s.place reported) view
+      (record { plain = plain; lacks = lacks; says = says })),
+  ap (with_rules rules) ends ∙ ap over view,
 )

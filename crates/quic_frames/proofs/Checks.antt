@@ -9,9 +9,10 @@ use Rattle.quic_frame_fields.specs.Field.{Value, Number, Bytes}
 use Rattle.quic_frame_fields.specs.Table.{Name, Crypto, NewToken, Stream, MaxStreams, StreamsBlocked}
 use Rattle.quic_frame_fields.specs.Payload.{TypedFrame, Reading, Complete, FailsAfter, IsReadingAfter, item_count}
 use Rattle.quic_frame_fields.specs.Reading.{Invalid, invalid}
+use Rattle.quic_frame_fields.specs.declared.frame.fault.Fault.TheVariants.{InvalidFrameId, LongType, Malformed, UnexpectedEnd}
 use Rattle.quic_frames.specs.declared.frame.rules.Rules.{Rules}
 use Rattle.quic_frames.specs.declared.frame.rules.Breach.{Breach}
-use Rattle.quic_frames.specs.Rules.{Checked, Keeps, StopsAtBreach, IsCheckedReading, IsCheckedAfter, breach_by, breach_of, invalid_by, unchecked, checked_count, only_types}
+use Rattle.quic_frames.specs.Rules.{Checked, Keeps, StopsAtBreach, IsCheckedReading, IsCheckedAfter, breach_by, breach_of, invalid_by, reported_by, unchecked, checked_count, only_types}
 use Rattle.quic_frames.proofs.Readings.{one_reading, few_items}
 
 -- ---- the first frame that breaks a rule
@@ -128,12 +129,12 @@ checked_once rules reading a b (inl s) (inr t) =
     absurd (not_among rules b.frames t.broken t.others t.breach (subst (All (Keeps rules)) t.parts s.0) t.breaks)
 checked_once rules reading a b (inr s) (inl t) =
     absurd (not_among rules a.frames s.broken s.others s.breach (subst (All (Keeps rules)) s.parts t.0) s.breaks)
-checked_once rules reading a b (inr s) (inr t) = stops_once rules (unchecked reading).frames a b s t
+checked_once rules reading a b (inr s) (inr t) = stops_once rules (reported_by rules reading).frames a b s t
 
 has_checked : (rules : Rules) (reading : Reading) → (checked : Checked) × IsCheckedReading rules reading checked
 has_checked rules reading =
-    elim (first_breach rules (unchecked reading).frames) [
-      | inl all ↦ (unchecked reading, inl (all, refl))
+    elim (first_breach rules (reported_by rules reading).frames) [
+      | inl all ↦ (reported_by rules reading, inl (all, refl))
       | inr f ↦ (
         record { frames = f.before; error = Some (invalid_by f.broken f.breach) },
         inr (record {
@@ -163,23 +164,23 @@ one_checked rules before bytes fits =
 
 -- ---- how many items it has
 
-count_is : (reading : Reading) → checked_count (unchecked reading) ≡ item_count reading
-count_is (Complete found) = omega arith
-count_is (FailsAfter found type reason) = refl
+count_is : (rules : Rules) (reading : Reading) → checked_count (reported_by rules reading) ≡ item_count reading
+count_is rules (Complete found) = omega arith
+count_is rules (FailsAfter found type reason) = refl
 
-frames_few : (reading : Reading) → length (unchecked reading).frames ≤ item_count reading
-frames_few (Complete found) = omega arith
-frames_few (FailsAfter found type reason) = omega arith
+frames_few : (rules : Rules) (reading : Reading) → length (reported_by rules reading).frames ≤ item_count reading
+frames_few rules (Complete found) = omega arith
+frames_few rules (FailsAfter found type reason) = omega arith
 
 fewer : (rules : Rules) (reading : Reading) (checked : Checked) → IsCheckedReading rules reading checked
     → checked_count checked ≤ item_count reading
-fewer rules reading checked (inl s) = omega (arith, ap checked_count s.1, count_is reading)
+fewer rules reading checked (inl s) = omega (arith, ap checked_count s.1, count_is rules reading)
 fewer rules reading checked (inr s) =
-    let sizes : length (unchecked reading).frames ≡ length checked.frames + length (s.broken ∷ s.others) =
+    let sizes : length (reported_by rules reading).frames ≡ length checked.frames + length (s.broken ∷ s.others) =
     ap length s.parts ∙ length-append checked.frames (s.broken ∷ s.others) in
     let one : checked_count checked ≡ length checked.frames + 1 =
     ap (λ (e : Option Invalid). checked_count (record { frames = checked.frames; error = e })) s.reported in
-    omega (arith, sizes, one, frames_few reading)
+    omega (arith, sizes, one, frames_few rules reading)
 
 pub few_checked : (rules : Rules) (bytes : List ℕ) (checked : Checked) → AreBytes bytes
     → IsCheckedAfter rules None bytes checked → checked_count checked ≤ length bytes
@@ -202,8 +203,22 @@ all_keep short_types (found ∷ frames) =
     All-cons (Keeps (only_types short_types)) found frames (keeps_by short_types found.frame.name found.frame.values)
     (all_keep short_types frames)
 
+as_unchecked : (short_types : Bool) (reading : Reading) → unchecked reading ≡ reported_by (only_types short_types) reading
+as_unchecked short_types (Complete found) = refl
+as_unchecked short_types (FailsAfter found None UnexpectedEnd) = refl
+as_unchecked short_types (FailsAfter found None InvalidFrameId) = refl
+as_unchecked short_types (FailsAfter found None Malformed) = refl
+as_unchecked short_types (FailsAfter found None LongType) = refl
+as_unchecked short_types (FailsAfter found (Some t) UnexpectedEnd) = refl
+as_unchecked short_types (FailsAfter found (Some t) InvalidFrameId) = refl
+as_unchecked short_types (FailsAfter found (Some t) Malformed) = refl
+as_unchecked short_types (FailsAfter found (Some t) LongType) = refl
+
 pub unchecked_is : (short_types : Bool) (before : Option ℕ) (bytes : List ℕ) (reading : Reading)
     → IsReadingAfter short_types before bytes reading
     → IsCheckedAfter (only_types short_types) before bytes (unchecked reading)
-unchecked_is short_types before bytes reading is =
-    (reading, is, inl (all_keep short_types (unchecked reading).frames, refl))
+unchecked_is short_types before bytes reading is = (
+  reading,
+  is,
+  inl (all_keep short_types (reported_by (only_types short_types) reading).frames, as_unchecked short_types reading),
+)

@@ -1,10 +1,11 @@
 -- What RFC 9000 requires a receiver to check in frames besides their encoding, and a payload's reading under such
 -- rules.
-use Rattle.std.specs.Prelude.{◌≡◌, ◌⊎◌, ℕ, ◌+◌, ◌-◌, ◌^◌, List, [], ◌∷◌, ◌++◌, length, All, Option, Some, None, Bool, false, nat_lt, ◌&&◌, ◌==◌, codes, if◌then◌else◌}
+use Rattle.std.specs.Prelude.{◌≡◌, ◌⊎◌, ℕ, ◌+◌, ◌-◌, ◌^◌, List, [], ◌∷◌, ◌++◌, length, All, Option, Some, None, Bool, false, nat_lt, ◌&&◌, ◌||◌, ◌==◌, codes, if◌then◌else◌}
 use Rattle.quic_frames.specs.declared.frame.rules.Rules.{Rules}
 use Rattle.quic_frames.specs.declared.frame.rules.Breach.{Breach}
 use Rattle.quic_frames.specs.declared.frame.rules.Breach.TheVariants as breaches
-use Rattle.quic_frame_fields.specs.declared.frame.fault.Fault.TheVariants.{InvalidFrameId, Malformed}
+use Rattle.quic_frame_fields.specs.declared.frame.fault.Fault.{Fault}
+use Rattle.quic_frame_fields.specs.declared.frame.fault.Fault.TheVariants.{InvalidFrameId, LongType, Malformed}
 use Rattle.quic_frame_fields.specs.Field.{Value, Number, Bytes}
 use Rattle.quic_frame_fields.specs.Table.{Name, Crypto, NewToken, Stream, MaxStreams, StreamsBlocked, AckFrequency, ImmediateAck}
 use Rattle.quic_frame_fields.specs.Payload.{Meaning, TypedFrame, Reading, Complete, FailsAfter, IsReadingAfter}
@@ -54,6 +55,21 @@ invalid_by found breach = record { type = Some found.type; reason = breach_text 
 abbrev pub Keeps : Rules → TypedFrame → Type 0
 Keeps rules found = breach_of rules found.frame ≡ None
 
+-- the types of the ACK frequency extension: IMMEDIATE_ACK and ACK_FREQUENCY
+abbrev pub is_of_ack_frequency : ℕ → Bool
+is_of_ack_frequency t = (t == 0x1f) || (t == 0xaf)
+
+-- The reported type is unknown because its extension wasn't negotiated (section 12.4).
+abbrev pub is_unknown_by : Rules → Option ℕ → Bool
+is_unknown_by rules (Some t) = rules.no_ack_frequency && is_of_ack_frequency t
+is_unknown_by rules None = false
+
+-- Why no frame is read, under rules: a type that isn't negotiated is unknown, whatever its fields are. Whether a type is
+-- in its shortest encoding is checked before.
+abbrev pub fault_by : Rules → Option ℕ → Fault → Fault
+fault_by rules type LongType = LongType
+fault_by rules type reason = if is_unknown_by rules type then InvalidFrameId else reason
+
 -- What a payload is read as under rules: frames, and an error after them, if there is one.
 pub record Checked : Type 0 where
   pub frames : List TypedFrame
@@ -63,6 +79,12 @@ pub record Checked : Type 0 where
 abbrev pub unchecked : Reading → Checked
 unchecked (Complete found) = record { frames = found; error = None }
 unchecked (FailsAfter found type reason) = record { frames = found; error = Some (invalid type reason) }
+
+-- the same, with the reason under rules
+abbrev pub reported_by : Rules → Reading → Checked
+reported_by rules (Complete found) = record { frames = found; error = None }
+reported_by rules (FailsAfter found type reason) =
+    record { frames = found; error = Some (invalid type (fault_by rules type reason)) }
 
 -- The first of the frames that breaks a rule is reported, after those before it.
 pub record StopsAtBreach (rules : Rules) (frames : List TypedFrame) (checked : Checked) : Type 0 where
@@ -74,11 +96,11 @@ pub record StopsAtBreach (rules : Rules) (frames : List TypedFrame) (checked : C
   pub breaks : breach_of rules broken.frame ≡ Some breach
   pub reported : checked.error ≡ Some (invalid_by broken breach)
 
--- What a reading becomes under rules: itself if no frame breaks a rule; else it ends at the first that does.
+-- What a reading becomes under rules if no frame breaks one; else it ends at the first that does.
 abbrev pub IsCheckedReading : Rules → Reading → Checked → Type 0
 IsCheckedReading rules reading checked =
-    (All (Keeps rules) (unchecked reading).frames × (checked ≡ unchecked reading))
-    ⊎ StopsAtBreach rules (unchecked reading).frames checked
+    (All (Keeps rules) (reported_by rules reading).frames × (checked ≡ reported_by rules reading))
+    ⊎ StopsAtBreach rules (reported_by rules reading).frames checked
 
 -- This is the reading of the bytes under rules, after a frame of the given type.
 abbrev pub IsCheckedAfter : Rules → Option ℕ → List ℕ → Checked → Type 0

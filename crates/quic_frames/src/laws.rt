@@ -1,5 +1,5 @@
 //! Laws of payloads, which no single call states. The functions do nothing at run time.
-ghost use Rattle.std.specs.Prelude.{◌≡◌, ◌≢◌, ◌<◌, ◌≤◌, ◌^◌, ◌+◌, ◌++◌, ℕ, List, [], ◌∷◌, None, Some, Option, Bool, Err, true, false, if◌then◌else◌, map, length};
+ghost use Rattle.std.specs.Prelude.{◌≡◌, ◌≢◌, ◌<◌, ◌≤◌, ◌^◌, ◌+◌, ◌++◌, ℕ, List, [], ◌∷◌, All, None, Some, Option, Bool, Err, true, false, if◌then◌else◌, map, length};
 ghost use Rattle.std.specs.declared.ops.Range.{Range};
 ghost use Rattle.quic_base.specs.Number.{AreBytes};
 ghost use Rattle.quic_base.specs.One.{ExactlyOne};
@@ -14,7 +14,7 @@ ghost use Rattle.quic_frames.specs.Meaning.{meaning_of};
 ghost use Rattle.quic_frame_fields.specs.Payload.{Meaning, TypedFrame, IsFrame, AreFrames, AreClosed, IsBroken, Reading, Complete, IsReadingAfter, IsReadingOf, followed_by, last_type};
 ghost use Rattle.quic_frame_fields.specs.Reading.{Broken, invalid, items_of, reason_text};
 ghost use Rattle.quic_errors.specs.Codes.{long_type_reason};
-ghost use Rattle.quic_frames.specs.Rules.{IsCheckedAfter, only_types, unchecked};
+ghost use Rattle.quic_frames.specs.Rules.{IsCheckedAfter, breach_of, only_types, unchecked};
 ghost use Rattle.quic_frames.specs.declared.frame.rules.Rules.{Rules};
 ghost use Rattle.quic_frames.specs.Placed.{Placed, ArePlaced, IsPlacedBroken, found_in, whole};
 ghost use Rattle.quic_frame_fields.specs.Shortest.{shortest_frame, stream_header};
@@ -165,4 +165,11 @@ pub fn checked_readings()
     ensures plain { (short_types : Bool) (before : Option ℕ) (bytes : List ℕ) (reading : Reading)
         → IsReadingAfter short_types before bytes reading
         → IsCheckedAfter (only_types short_types) before bytes (unchecked reading) }
-{}
+    // What is written for frames that break no rule is read by the same rules as these frames, without an error.
+    ensures written { (rules : Rules) (before : Option ℕ) (fs : List Frame) → AreTyped fs → CanFollow fs
+        → All (λ f. breach_of rules (meaning_of f) ≡ None) fs
+        → IsCheckedAfter rules before (shortest_frames (map meaning_of fs))
+        (record { frames = all_written (map meaning_of fs); error = None }) }
+{
+    read_back();
+}

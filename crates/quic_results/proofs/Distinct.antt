@@ -23,6 +23,9 @@ back (negsuc n) =
     else if n == 22 then Err failure.FrameMalformed
     else if n == 23 then Err failure.FrameLongType
     else if n == 24 then Err failure.FrameLimit
+    else if n == 25 then Err failure.FramePacket
+    else if n == 26 then Err failure.FrameSender
+    else if n == 27 then Err failure.FrameStream
     else if n == 39 then Err failure.PacketEnd
     else if n == 40 then Err failure.PacketFixedBit
     else if n == 41 then Err failure.PacketSmall
@@ -50,6 +53,9 @@ again (Err failure.FrameType) = refl
 again (Err failure.FrameMalformed) = refl
 again (Err failure.FrameLongType) = refl
 again (Err failure.FrameLimit) = refl
+again (Err failure.FramePacket) = refl
+again (Err failure.FrameSender) = refl
+again (Err failure.FrameStream) = refl
 again (Err failure.PacketEnd) = refl
 again (Err failure.PacketFixedBit) = refl
 again (Err failure.PacketSmall) = refl

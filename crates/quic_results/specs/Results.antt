@@ -20,6 +20,9 @@ number_of failure.FrameType = 22
 number_of failure.FrameMalformed = 23
 number_of failure.FrameLongType = 24
 number_of failure.FrameLimit = 25
+number_of failure.FramePacket = 26
+number_of failure.FrameSender = 27
+number_of failure.FrameStream = 28
 number_of failure.PacketEnd = 40
 number_of failure.PacketFixedBit = 41
 number_of failure.PacketSmall = 42
@@ -49,9 +52,10 @@ frame_failure reason = if pointwise nat_eq reason (codes "unexpected end") then 
     else failure.FrameMalformed
 
 -- the code of the CONNECTION_CLOSE that a failure leads to (RFC 9000, section 20.1): an INTERNAL_ERROR for the caller's
--- arguments, a PROTOCOL_VIOLATION for an empty payload and a type in a longer encoding (section 12.4), a
--- FRAME_ENCODING_ERROR for other frames, a TRANSPORT_PARAMETER_ERROR (section 7.4), and NO_ERROR for packets, which are
--- dropped (section 5.2)
+-- arguments; a PROTOCOL_VIOLATION for an empty payload, a type in a longer encoding, and a frame in the wrong packet or
+-- from the wrong side (sections 12.4, 19.7 and 19.20); a STREAM_STATE_ERROR for a frame on a stream on which that side may
+-- not send it (sections 19.4 to 19.13); a FRAME_ENCODING_ERROR for other frames; a TRANSPORT_PARAMETER_ERROR (section
+-- 7.4); and NO_ERROR for packets, which are dropped (section 5.2)
 abbrev pub code_of : Failure → ℕ
 code_of failure.Argument = 0x01
 code_of failure.Place = 0x01
@@ -67,6 +71,9 @@ code_of failure.FrameType = 0x07
 code_of failure.FrameMalformed = 0x07
 code_of failure.FrameLongType = 0x0a
 code_of failure.FrameLimit = 0x07
+code_of failure.FramePacket = 0x0a
+code_of failure.FrameSender = 0x0a
+code_of failure.FrameStream = 0x05
 code_of failure.ParametersMalformed = 0x08
 code_of failure.ParametersIllegal = 0x08
 code_of _ = 0x00

@@ -33,6 +33,12 @@ pub enum Failure {
     FrameLongType,
     /// Data ends past 2^62 - 1, or there are more than 2^60 streams (RFC 9000, sections 19.6, 19.8, 19.11 and 19.14).
     FrameLimit,
+    /// Packets of this type may not carry the frame (RFC 9000, section 12.4).
+    FramePacket,
+    /// This side may not send the frame (RFC 9000, sections 19.7 and 19.20).
+    FrameSender,
+    /// This side may not send the frame on its stream (RFC 9000, sections 19.4, 19.5, 19.8, 19.10 and 19.13).
+    FrameStream,
     /// The bytes end within a packet's header.
     PacketEnd,
     /// The fixed bit of a packet is clear (RFC 9000, section 17.2).
@@ -76,6 +82,9 @@ impl Failure {
             Failure::FrameMalformed => -23,
             Failure::FrameLongType => -24,
             Failure::FrameLimit => -25,
+            Failure::FramePacket => -26,
+            Failure::FrameSender => -27,
+            Failure::FrameStream => -28,
             Failure::PacketEnd => -40,
             Failure::PacketFixedBit => -41,
             Failure::PacketSmall => -42,
@@ -91,8 +100,8 @@ impl Failure {
 }
 
 /// The code with which an endpoint closes the connection after the failure with this number (RFC 9000, section 20.1):
-/// `FRAME_ENCODING_ERROR`, `PROTOCOL_VIOLATION` or `TRANSPORT_PARAMETER_ERROR` if its peer broke a rule;
-/// `INTERNAL_ERROR` if the caller passed impossible arguments; and `NO_ERROR`, 0, if nothing is closed, because a
+/// `FRAME_ENCODING_ERROR`, `PROTOCOL_VIOLATION`, `STREAM_STATE_ERROR` or `TRANSPORT_PARAMETER_ERROR` if its peer broke
+/// a rule; `INTERNAL_ERROR` if the caller passed impossible arguments; and `NO_ERROR`, 0, if nothing is closed, because a
 /// packet that can't be read is dropped, and other numbers aren't failures.
 pub fn close_code(number: i32) -> u32
     ensures failure { (f : Failure) → number ≡ failed f → result ≡ code_of f }
@@ -101,7 +110,8 @@ pub fn close_code(number: i32) -> u32
     match number {
         -1 | -2 | -3 | -5 | -6 | -7 | -8 | -9 => 0x01,
         -21 | -22 | -23 | -25 => 0x07,
-        -20 | -24 => 0x0a,
+        -20 | -24 | -26 | -27 => 0x0a,
+        -28 => 0x05,
         -60 | -61 => 0x08,
         _ => 0x00,
     }

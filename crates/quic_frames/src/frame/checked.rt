@@ -1,13 +1,13 @@
 //! The frames of a payload, read with rules.
-ghost use Rattle.std.specs.Prelude.{◌≡◌, ◌≤◌, ◌↔◌, [], IfErr, IfOk, IsErr, codes, length};
+ghost use Rattle.std.specs.Prelude.{◌≡◌, ◌<◌, ◌≤◌, ◌↔◌, [], IfErr, IfOk, IfSome, IsErr, IsNone, codes, length};
 ghost use Rattle.quic_base.specs.One.{ExactlyOne};
 ghost use Rattle.quic_errors.specs.Codes.{IsError, protocol_violation};
 ghost use Rattle.quic_frame_fields.specs.Payload.{Reading, IsReadingOf};
-ghost use Rattle.quic_frames.specs.Checking.{checked_first, IsCheckedLeft};
+ghost use Rattle.quic_frames.specs.Checking.{checked_at, checked_first, IsCheckedLeft};
 ghost use Rattle.quic_frames.specs.Rules.{Checked as CheckedReading, IsCheckedOf, checked_count, no_rules, unchecked};
 
 use super::rules::Rules;
-use super::{Frame, InvalidFrame, Iter};
+use super::{Frame, FrameType, InvalidFrame, Iter};
 use crate::transport_error::Error;
 use std::marker::Model;
 
@@ -53,6 +53,22 @@ impl<'a> Iter<'a> {
 }
 
 impl<'a> Checked<'a> {
+    /// An iterator like that of `Iter::with_rules`, from a later offset on, as `Iter::resume` has it: `offset` is the
+    /// end of a whole frame, in bytes, and `last` its type. `None` exactly when the offset is past the payload's end.
+    /// Bytes before it aren't read. It doesn't allocate.
+    pub fn resume(
+        payload: &'a [u8],
+        offset: usize,
+        last: Option<FrameType>,
+        rules: Rules,
+    ) -> Option<Self>
+        ensures past { IsNone result ↔ (length payload.now < offset) }
+        ensures state { IfSome result (λ it. it ≡ checked_at rules payload.now offset last) }
+    {
+        let iter = Iter::resume(payload, offset, last, rules.short_types)?;
+        Some(Checked { rules, iter })
+    }
+
     /// The end of the last whole frame in the payload that broke no rule, in bytes.
     pub fn offset(&self) -> usize
         ensures value { result ≡ self.now.place.offset }
@@ -79,7 +95,7 @@ impl<'a> Iterator for Checked<'a> {
         let (offset, last) = (self.iter.offset(), self.iter.last_type());
         match self.iter.next() {
             None => None,
-            Some(Err(invalid)) => Some(Err(invalid)),
+            Some(Err(invalid)) => Some(Err(self.rules.reported(&invalid))),
             Some(Ok(frame)) => match self.rules.breach(&frame) {
                 None => Some(Ok(frame)),
                 Some(breach) => {

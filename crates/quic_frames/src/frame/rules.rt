@@ -1,9 +1,14 @@
 //! What RFC 9000 requires a receiver to check in frames besides their encoding.
-ghost use Rattle.std.specs.Prelude.{◌≡◌, length};
-ghost use Rattle.quic_frames.specs.Rules.{breach_of, breach_text, broken_if, ends_past, is_past_streams, no_rules};
+ghost use Rattle.std.specs.Prelude.{◌≡◌, ◌↔◌, ℕ, Option, None, IsTrue, length};
+ghost use Rattle.quic_frame_fields.specs.Reading.{invalid};
+ghost use Rattle.quic_frame_fields.specs.declared.frame.fault.Fault.{Fault as Reason};
+ghost use Rattle.quic_frames.specs.InRange.{InRange};
 ghost use Rattle.quic_frames.specs.Meaning.{meaning_of};
+ghost use Rattle.quic_frames.specs.Rules.{breach_of, breach_text, broken_if, ends_past, fault_by, is_past_streams, is_unknown_by, no_rules};
+ghost use Rattle.quic_frames.specs.Walk.{invalid_of};
 
-use super::Frame;
+use super::{Frame, FrameType, InvalidFrame};
+use quic_frame_fields::frame::fault::Fault;
 
 /// What is checked in a payload's frames besides their encoding. `Rules::default()` checks nothing more, as quinn-proto
 /// does. `Rules::RFC` checks all that RFC 9000 requires of a receiver.
@@ -101,6 +106,44 @@ impl Rules {
             Frame::ImmediateAck => broken_if(self.no_ack_frequency, Breach::Extension),
             _ => None,
         }
+    }
+
+    // Whether a type is unknown because its extension wasn't negotiated.
+    fn is_unknown(self, ty: Option<FrameType>) -> bool
+        ensures { result ≡ is_unknown_by self ty }
+    {
+        let Some(ty) = ty else {
+            return false;
+        };
+        let is_of_extension = ty == FrameType::IMMEDIATE_ACK || ty == FrameType::ACK_FREQUENCY;
+        self.no_ack_frequency && is_of_extension
+    }
+
+    /// What is reported for bytes that aren't a frame. `plain` is what `Iter` reports for them. A type whose extension
+    /// wasn't negotiated is an `invalid frame ID`, whatever its fields are (RFC 9000, section 12.4).
+    pub fn reported(self, plain: &InvalidFrame) -> InvalidFrame
+        ensures { (type : Option ℕ) (reason : Reason) → invalid_of plain.now ≡ invalid type reason
+            → invalid_of result ≡ invalid type (fault_by self type reason) }
+    {
+        let is_unknown = self.is_unknown(plain.ty) && plain.reason != Fault::LongType.reason();
+        InvalidFrame {
+            ty: plain.ty,
+            reason: if is_unknown {
+                Fault::InvalidFrameId.reason()
+            } else {
+                plain.reason
+            },
+        }
+    }
+}
+
+impl Frame<'_> {
+    /// Whether the frame is in range and breaks none of the rules: what is written for it is then read by the same
+    /// rules as the same frame (`laws::checked_readings`). It doesn't allocate.
+    pub fn in_range_by(&self, rules: Rules) -> bool
+        ensures { IsTrue result ↔ (InRange self.now × (breach_of rules (meaning_of self.now) ≡ None)) }
+    {
+        self.in_range() && rules.breach(self).is_none()
     }
 }
 

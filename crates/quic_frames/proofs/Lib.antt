@@ -13,6 +13,7 @@ mod Places
 mod Padding
 pub mod Turns
 pub mod Checking
+pub mod CheckedTurns
 mod SizeBounds
 mod LeastFields
 mod LeastFrames

@@ -80,6 +80,10 @@ pub record Finds (old : IterState) (frame : Frame) (new : IterState) : Type 0 wh
 abbrev pub invalid_of : InvalidFrame → Invalid
 invalid_of i = record { type = i.ty; reason = i.reason.now }
 
+abbrev pub reported_of : Option InvalidFrame → Option Invalid
+reported_of None = None
+reported_of (Some i) = Some (invalid_of i)
+
 -- No frame begins the rest, for this reason.
 pub record LacksFrame (state : IterState) (reported : Invalid) : Type 0 where
   pub goes_on : state.is_broken ≡ false

@@ -16,7 +16,7 @@ mod reading;
 mod rules;
 mod size_bound;
 
-pub use checked::Checked;
+pub use checked::{Checked, first_error};
 pub use iter::Iter;
 pub use quic_errors::frame_type::FrameType;
 pub use quic_errors::invalid_frame::InvalidFrame;

@@ -2,13 +2,13 @@
 use Rattle.std.specs.Prelude.{◌≡◌, ⊤, List, map, Option, Some, None}
 use Rattle.quic_errors.specs.declared.invalid_frame.InvalidFrame.{InvalidFrame}
 use Rattle.quic_frame_fields.specs.Payload.{Reading, Complete, FailsAfter}
-use Rattle.quic_frame_fields.specs.Reading.{Invalid, invalid}
+use Rattle.quic_frame_fields.specs.Reading.{invalid}
 use Rattle.quic_frame_fields.specs.declared.frame.fault.Fault.TheVariants.{UnexpectedEnd}
 use Rattle.quic_frames.specs.declared.frame.Frame.{Frame}
 use Rattle.quic_frames.specs.Least.{frame_in}
 use Rattle.quic_frames.specs.Meaning.{meaning_of}
 use Rattle.quic_frames.specs.Rules.{Checked}
-use Rattle.quic_frames.specs.Walk.{invalid_of}
+use Rattle.quic_frames.specs.Walk.{invalid_of, reported_of}
 
 -- These frames were returned, and this error after them, or none.
 abbrev pub IsReturnedAs : List Frame → Option InvalidFrame → Reading → Type 0
@@ -21,10 +21,6 @@ IsReturnedAs frames error reading = ⊥
 abbrev pub MayGoOn : Reading → Type 0
 MayGoOn (Complete found) = ⊤
 MayGoOn (FailsAfter found type reason) = reason ≡ UnexpectedEnd
-
-abbrev pub reported_of : Option InvalidFrame → Option Invalid
-reported_of None = None
-reported_of (Some e) = Some (invalid_of e)
 
 -- the same under rules
 pub record IsReturnedUnder (frames : List Frame) (error : Option InvalidFrame) (checked : Checked) : Type 0 where

@@ -1,14 +1,17 @@
 //! The frames of a payload, read with rules.
 ghost use Rattle.std.specs.Prelude.{◌≡◌, ◌<◌, ◌≤◌, ◌↔◌, [], IfErr, IfOk, IfSome, IsErr, IsNone, codes, length};
-ghost use Rattle.quic_base.specs.One.{ExactlyOne};
+ghost use Rattle.quic_base.specs.One.{ExactlyOne, ReturnsOne};
 ghost use Rattle.quic_errors.specs.Codes.{IsError, protocol_violation};
 ghost use Rattle.quic_frame_fields.specs.Payload.{Reading, IsReadingOf};
 ghost use Rattle.quic_frames.specs.Checking.{checked_at, checked_first, IsCheckedLeft};
 ghost use Rattle.quic_frames.specs.Rules.{Checked as CheckedReading, IsCheckedOf, checked_count, no_rules, unchecked};
+ghost use Rattle.quic_frames.specs.Walk.{reported_of};
 
 use super::rules::Rules;
 use super::{Frame, FrameType, InvalidFrame, Iter};
+use crate::laws::{checked_readings, lasting, one_reading};
 use crate::transport_error::Error;
+use quic_base::coding::are_bytes;
 use std::marker::Model;
 
 /// Reads a payload frame by frame, and checks each frame against rules. Contracts see the rules and the iterator's
@@ -109,4 +112,25 @@ impl<'a> Iterator for Checked<'a> {
             },
         }
     }
+}
+
+/// Reads a whole payload by rules, and returns the error of its reading, if it has one. The empty payload has none, though
+/// `Iter::with_rules` rejects it. It doesn't allocate.
+pub fn first_error(payload: &[u8], rules: Rules) -> Option<InvalidFrame>
+    ensures { ReturnsOne (IsCheckedOf rules payload.now) (λ checked. reported_of result ≡ checked.error) }
+{
+    checked_readings();
+    lasting();
+    one_reading();
+    are_bytes(payload);
+    let Some(items) = Checked::resume(payload, 0, None, rules) else {
+        unreachable!()
+    };
+    for item in items {
+        match item {
+            Ok(_frame) => {}
+            Err(invalid) => return Some(invalid),
+        }
+    }
+    None
 }

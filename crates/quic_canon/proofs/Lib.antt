@@ -10,3 +10,4 @@ mod RewriteWalk
 mod Fronts
 mod Clients
 mod WrittenFrames
+mod ByRules

@@ -1,9 +1,11 @@
 -- What is reported if there is no canonical payload.
-use Rattle.std.specs.Prelude.{◌≡◌, ◌≢◌, ℕ, List, [], ◌++◌, ◌⊎◌, Option, None, false}
+use Rattle.std.specs.Prelude.{◌≡◌, ◌≢◌, ℕ, List, [], ◌++◌, ◌⊎◌, Option, None, Some, false}
 use Rattle.quic_frame_fields.specs.declared.frame.fault.Fault.{Fault}
 use Rattle.quic_frame_fields.specs.Payload.{TypedFrame, AreFrames, IsBroken}
 use Rattle.quic_frame_fields.specs.Reading.{invalid}
+use Rattle.quic_frames.specs.Rules.{Checked, IsCheckedOf}
 use Rattle.quic_frames.specs.Walk.{invalid_of}
+use Rattle.quic_frames.specs.declared.frame.rules.Rules.{Rules}
 use Rattle.quic_canon.specs.declared.canonical.CanonError.{CanonError}
 use Rattle.quic_canon.specs.declared.canonical.CanonError.TheVariants.{Empty, Invalid, OutOfMemory}
 use Rattle.quic_canon.specs.Least.{IsLeast, HasMeaning}
@@ -29,3 +31,16 @@ pub record AppendsLeast (old new payload : List ℕ) : Type 0 where
   pub least : List ℕ
   pub is_least : IsLeast least payload
   pub appended : new ≡ old ++ least
+
+-- The payload has frames, and no error under the rules.
+pub record IsAccepted (rules : Rules) (payload : List ℕ) : Type 0 where
+  pub some : payload ≢ []
+  pub frames : List TypedFrame
+  pub reads : IsCheckedOf rules payload (record { frames = frames; error = None })
+
+-- The same as `IsRefused`, of a payload that is read by rules.
+abbrev pub IsRefusedBy : Rules → List ℕ → CanonError → Type 0
+IsRefusedBy rules payload Empty = payload ≡ []
+IsRefusedBy rules payload (Invalid i) =
+    (payload ≢ []) × (checked : Checked) × IsCheckedOf rules payload checked × (checked.error ≡ Some (invalid_of i))
+IsRefusedBy rules payload OutOfMemory = IsAccepted rules payload

@@ -8,10 +8,11 @@ ghost use Rattle.quic_frame_fields.specs.Shortest.{shortest_frame};
 ghost use Rattle.quic_canon.specs.Bytes.{GivesLeast};
 ghost use Rattle.quic_canon.specs.Front.{IsFront};
 ghost use Rattle.quic_canon.specs.Least.{IsLeast};
-ghost use Rattle.quic_canon.specs.Refusal.{IsRefused, IsWrong, AppendsLeast};
+ghost use Rattle.quic_canon.specs.Refusal.{IsAccepted, IsRefused, IsRefusedBy, IsWrong, AppendsLeast};
 
 use crate::laws::one_least;
-use quic_frames::frame::{Frame, InvalidFrame, Iter};
+use quic_base::coding::are_bytes;
+use quic_frames::frame::{Frame, InvalidFrame, Iter, Rules, first_error};
 use quic_frames::laws::{least_encoding, one_reading, read_back};
 use std::alloc::{AllocError, Global};
 use thiserror::Error;
@@ -172,6 +173,30 @@ pub fn canonical(payload: &[u8], out: &mut Vec<u8>) -> Result<(), CanonError>
     }
     write_least(payload, stays, out);
     Ok(())
+}
+
+/// Appends what `canonical` does, if the payload has no error under the rules (`Iter::with_rules`); what is appended then
+/// has none either (`laws::least_by_rules`). The payload is read twice. An error is reported as that iterator does, and
+/// `out` doesn't change.
+pub fn canonical_with(payload: &[u8], rules: Rules, out: &mut Vec<u8>) -> Result<(), CanonError>
+    ensures ok { OnOk result (AppendsLeast out.old.items out.new.items payload.now) }
+    ensures accepted { OnOk result (IsAccepted rules payload.now) }
+    ensures err { IfErr result (λ e. IsRefusedBy rules payload.now e) }
+    ensures kept { OnErr result (out.new.items ≡ out.old.items) }
+    ensures capacity { OnErr result (vec_capacity out.new ≡ vec_capacity out.old) }
+    ensures unread { IfErr result (λ e. (e ≢ CanonError.OutOfMemory) → out.new ≡ out.old) }
+    ensures room { vec_len out.old + length payload.now ≤ vec_capacity out.old
+        → IfErr result (λ e. e ≢ CanonError.OutOfMemory) }
+{
+    one_reading();
+    are_bytes(payload);
+    if payload.is_empty() {
+        return Err(CanonError::Empty);
+    }
+    match first_error(payload, rules) {
+        Some(invalid) => Err(CanonError::Invalid(invalid)),
+        None => canonical(payload, out),
+    }
 }
 
 /// The shortest payload with the same meaning as a payload.

@@ -3,7 +3,9 @@ ghost use Rattle.std.specs.Prelude.{◌≡◌, ◌≢◌, ◌<◌, ◌↔◌, �
 ghost use Rattle.quic_base.specs.Number.{AreBytes};
 ghost use Rattle.quic_frame_fields.specs.Field.{AreApart};
 ghost use Rattle.quic_frames.specs.Least.{frame_in, shortest_frames};
+ghost use Rattle.quic_frames.specs.Rules.{IsCheckedOf};
 ghost use Rattle.quic_frames.specs.Written.{IsShortestOf};
+ghost use Rattle.quic_frames.specs.declared.frame.rules.Rules.{Rules};
 ghost use Rattle.quic_frame_fields.specs.Payload.{Meaning, TypedFrame, AreFrames, IsBroken};
 ghost use Rattle.quic_frame_fields.specs.Sets.{is_in};
 ghost use Rattle.quic_frame_fields.specs.declared.frame.fault.Fault.{Fault};
@@ -51,4 +53,15 @@ pub fn written_is_least()
 {
     one_least();
     least_encoding();
+}
+
+/// The shortest payload with the meaning of one that has no error under some rules has none either, and the same frames.
+pub fn least_by_rules()
+    ensures { (rules : Rules) (frames : List TypedFrame) (payload least : List ℕ)
+        → IsCheckedOf rules payload (record { frames = frames; error = None }) → IsLeast least payload
+        → (found : List TypedFrame) × IsCheckedOf rules least (record { frames = found; error = None })
+        × (map frame_in found ≡ map frame_in frames) }
+{
+    one_reading();
+    one_least();
 }

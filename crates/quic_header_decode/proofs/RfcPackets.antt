@@ -11,7 +11,7 @@ use Rattle.quic_base.specs.ConnectionId.{long_id}
 use Rattle.quic_header_encode.specs.Types.{long_type}
 use Rattle.quic_header_decode.specs.declared.protected.ProtectedHeader.{ProtectedHeader}
 use Rattle.quic_header_decode.specs.declared.protected.ProtectedHeader.TheVariants as protected
-use Rattle.quic_header_decode.specs.Grammar.{AreHeaderFields, Bytes, Cut, CutAnswer, HeaderField, HeaderValue, IsHeader, IsKnownVersion, Number, ShortId, Supported, Uncut, is_long, header_row_of, typed_row}
+use Rattle.quic_header_decode.specs.Grammar.{AreHeaderFields, Bytes, Cut, CutAnswer, DestinationId, HeaderAt, HeaderField, HeaderValue, IsHeader, IsHeaderField, IsKnownVersion, Length, Number, ShortId, SourceId, Supported, Token, TokenLength, Uncut, Version, is_long, header_row_of, typed_row}
 use Rattle.quic_header_decode.specs.Places.{IsUnknownVersion}
 use Rattle.quic_header_decode.specs.Reading.{DecodeOptions, TakesWithin, cut_at, wide_at}
 use Rattle.quic_header_decode.specs.Refusal.{Refusal, Unsupported, Invalid, NoMemory}
@@ -30,7 +30,7 @@ Answer = Result Packet RfcRefusal
 
 -- ---- what a header says about its version
 
-same_first : {a b : ℕ} {xs ys : List ℕ} → a ∷ xs ≡ b ∷ ys → (a ≡ b) × (xs ≡ ys)
+pub same_first : {a b : ℕ} {xs ys : List ℕ} → a ∷ xs ≡ b ∷ ys → (a ≡ b) × (xs ≡ ys)
 same_first e = (cc, cc)
 
 -- values grow
@@ -103,9 +103,76 @@ has_version options first text rest values long fields =
     behind options first x.0 text x.1 x.2 x.3 rest values (ids_enough text x.0 x.1 x.2 x.3 x.4) same (nat_eq x.0 0) refl
     (subst (λ (n : ℕ). AreHeaderFields options (row_behind_ids first n) (id_values x.0 x.1 x.2) values x.3 rest) same x.5)
 
+-- ---- the fields don't depend on the fixed bit
+
+field_same : (options : DecodeOptions) (a b : Bool) (field : HeaderField) (before values : List HeaderValue)
+    (bytes rest : List ℕ) → IsHeaderField (with_grease a options) field before values bytes rest
+    → IsHeaderField (with_grease b options) field before values bytes rest
+field_same options a b Version before values bytes rest is = is
+field_same options a b DestinationId before values bytes rest is = is
+field_same options a b SourceId before values bytes rest is = is
+field_same options a b (Supported version) before values bytes rest is = is
+field_same options a b TokenLength before values bytes rest is = is
+field_same options a b Token before values bytes rest is = is
+field_same options a b Length before values bytes rest is = is
+field_same options a b ShortId before values bytes rest is = is
+
+fields_same : (options : DecodeOptions) (a b : Bool) (fields : List HeaderField) (before after : List HeaderValue)
+    (bytes rest : List ℕ) → AreHeaderFields (with_grease a options) fields before after bytes rest
+    → AreHeaderFields (with_grease b options) fields before after bytes rest
+fields_same options a b [] before after bytes rest are = are
+fields_same options a b (field ∷ fields) before after bytes rest are = (
+  are.0,
+  are.1,
+  (are.2.0, are.2.1, field_same options a b field before are.0 are.2.0 are.1 are.2.2),
+  fields_same options a b fields (before ++ are.0) after are.1 rest are.3,
+)
+
+first_of : (first : ℕ) (text bytes : List ℕ) → bytes ≡ first ∷ text → slice_index bytes 0 ≡ first
+first_of first text bytes e = ap (λ (l : List ℕ). slice_index l 0) e
+
+-- ---- with the fixed bit checked, and without
+
+pub relaxed : (options : DecodeOptions) (datagram : List ℕ) (h : ProtectedHeader) (p q : ℕ)
+    → Cut (with_grease false options) datagram h p q
+    → Cut (with_grease true options) datagram h p q × (has_bit 0x40 (slice_index datagram 0) ≡ true)
+relaxed options datagram h p q cut =
+    let at = cut.1 in
+    let row = header_row_of at.0 (num (take 4 at.1)) in (
+      (
+        cut.0,
+        (at.0, at.1, at.2, at.3, refl, fields_same options false true row [] at.2 at.1 cut.0 at.5, at.6),
+        cut.2,
+        cut.3,
+        cut.4,
+      ),
+      ap (has_bit 0x40) (first_of at.0 at.1 datagram at.3) ∙ at.4,
+    )
+
+pub checked : (options : DecodeOptions) (datagram : List ℕ) (h : ProtectedHeader) (p q : ℕ)
+    → Cut (with_grease true options) datagram h p q → has_bit 0x40 (slice_index datagram 0) ≡ true
+    → Cut (with_grease false options) datagram h p q
+checked options datagram h p q cut fixed =
+    let at = cut.1 in
+    let row = header_row_of at.0 (num (take 4 at.1)) in (
+      cut.0,
+      (
+        at.0,
+        at.1,
+        at.2,
+        at.3,
+        sym (ap (has_bit 0x40) (first_of at.0 at.1 datagram at.3)) ∙ fixed,
+        fields_same options true false row [] at.2 at.1 cut.0 at.5,
+        at.6,
+      ),
+      cut.2,
+      cut.3,
+      cut.4,
+    )
+
 -- ---- unknown versions
 
-unknown_is : (options : DecodeOptions) (datagram text dst src : List ℕ) (first number : ℕ)
+pub unknown_is : (options : DecodeOptions) (datagram text dst src : List ℕ) (first number : ℕ)
     → IsUnknownVersion options datagram number dst src → datagram ≡ first ∷ text
     → (is_long first ≡ true) × (num (take 4 text) ≡ number) × ¬ (IsKnownVersion options number)
 unknown_is options datagram text dst src first number (rest, (f, word, split, long, is), some, none) begins =
@@ -118,7 +185,7 @@ unknown_is options datagram text dst src first number (rest, (f, word, split, lo
     )
 
 -- their fixed bit may be clear
-unknown_present : (options : DecodeOptions) (datagram dst src : List ℕ) (number : ℕ)
+pub unknown_present : (options : DecodeOptions) (datagram dst src : List ℕ) (number : ℕ)
     → IsUnknownVersion options datagram number dst src → ¬ (LacksFixedBit options datagram)
 unknown_present options datagram dst src number unknown lacks =
     let u = unknown_is options datagram lacks.text dst src lacks.first number unknown lacks.begins in
@@ -127,17 +194,22 @@ unknown_present options datagram dst src number unknown lacks =
       | inr known ↦ u.2 (subst (IsKnownVersion options) u.1 known.1)
     ]
 
--- no packet is cut
-unknown_uncut : (options : DecodeOptions) (datagram dst src : List ℕ) (number : ℕ) (h : ProtectedHeader) (p q : ℕ)
-    → IsUnknownVersion options datagram number dst src → ¬ (Cut (with_grease true options) datagram h p q)
-unknown_uncut options datagram dst src number h p q unknown cut =
-    let at = cut.1 in
+-- no header is read
+pub unknown_unread : (options : DecodeOptions) (datagram dst src : List ℕ) (number whole : ℕ) (h : ProtectedHeader)
+    (rest : List ℕ) → IsUnknownVersion options datagram number dst src
+    → ¬ (HeaderAt (with_grease true options) whole datagram h rest)
+unknown_unread options datagram dst src number whole h rest unknown at =
     let u = unknown_is options datagram at.1 dst src at.0 number unknown at.3 in
-    let v = has_version (with_grease true options) at.0 at.1 cut.0 at.2 u.0 at.5 in
+    let v = has_version (with_grease true options) at.0 at.1 rest at.2 u.0 at.5 in
     let same : v.number ≡ number = sym v.is ∙ u.1 in
     u.2 (unknown.2, subst (Contains options.versions) same (v.known (λ zero. unknown.2 (sym same ∙ zero))))
 
-unknown_once : (options : DecodeOptions) (datagram dst src d s : List ℕ) (number n : ℕ)
+pub unknown_uncut : (options : DecodeOptions) (datagram dst src : List ℕ) (number : ℕ) (h : ProtectedHeader) (p q : ℕ)
+    → IsUnknownVersion options datagram number dst src → ¬ (Cut (with_grease true options) datagram h p q)
+unknown_uncut options datagram dst src number h p q unknown cut =
+    unknown_unread options datagram dst src number (length datagram) h cut.0 unknown cut.1
+
+pub unknown_once : (options : DecodeOptions) (datagram dst src d s : List ℕ) (number n : ℕ)
     → IsUnknownVersion options datagram number dst src → IsUnknownVersion options datagram n d s
     → (s ≡ src) × (d ≡ dst) × (n ≡ number)
 unknown_once options datagram dst src d s number n
@@ -257,7 +329,7 @@ zero_version datagram_len first number values more dst src (protected.Long ty d 
 zero_version datagram_len first number values more dst src (protected.Initial x) are is n = absurd n
 
 -- an allowed packet has its fixed bit
-packet_present : (options : DecodeOptions) (datagram : List ℕ) (h : ProtectedHeader) (p q : ℕ)
+pub packet_present : (options : DecodeOptions) (datagram : List ℕ) (h : ProtectedHeader) (p q : ℕ)
     → IsRfcPacket options datagram h p q → ¬ (LacksFixedBit options datagram)
 packet_present options datagram h p q is lacks =
     let at = is.cut.1 in
@@ -276,7 +348,7 @@ packet_present options datagram h p q is lacks =
     ]
 
 -- a packet that is cut is a version negotiation, or has its fixed bit
-cut_fixed : (options : DecodeOptions) (datagram : List ℕ) (h : ProtectedHeader) (p q : ℕ)
+pub cut_fixed : (options : DecodeOptions) (datagram : List ℕ) (h : ProtectedHeader) (p q : ℕ)
     → ¬ (LacksFixedBit options datagram) → Cut (with_grease true options) datagram h p q
     → IsNegotiation h ⊎ (has_bit 0x40 (slice_index datagram 0) ≡ true)
 cut_fixed options datagram h p q present cut =
@@ -315,7 +387,7 @@ cut_fixed options datagram h p q present cut =
       ]
     ]
 
-is_complete : (h : ProtectedHeader) (p q : ℕ) → IsComplete h p q ⊎ ¬ (IsComplete h p q)
+pub is_complete : (h : ProtectedHeader) (p q : ℕ) → IsComplete h p q ⊎ ¬ (IsComplete h p q)
 is_complete (protected.Retry dst src n) p q = elim (cases_lt q (p + 17)) [
   | inl few ↦ inr (λ le. omega arith)
   | inr enough ↦ inl enough
@@ -333,19 +405,19 @@ Found = Result Packet Refusal
 found_same : (a b : Packet) → (let x : Found = Ok a in x) ≡ Ok b → a ≡ b
 found_same a b e = cc
 
-cut_same : (options : DecodeOptions) (datagram : List ℕ) (a b : Packet)
+pub cut_same : (options : DecodeOptions) (datagram : List ℕ) (a b : Packet)
     → Cut (with_grease true options) datagram a.0 a.1 a.2 → Cut (with_grease true options) datagram b.0 b.1 b.2 → a ≡ b
 cut_same options datagram a b cut other =
     found_same a b (sym (cut_again (with_grease true options) datagram a.0 a.1 a.2 cut)
     ∙ cut_again (with_grease true options) datagram b.0 b.1 b.2 other)
 
-cut_or : (options : DecodeOptions) (datagram : List ℕ) (a : Packet) (e : Refusal) → AreBytes datagram
+pub cut_or : (options : DecodeOptions) (datagram : List ℕ) (a : Packet) (e : Refusal) → AreBytes datagram
     → Cut (with_grease true options) datagram a.0 a.1 a.2 → ¬ (Uncut (with_grease true options) datagram e)
 cut_or options datagram a e fits cut other =
     err_ok {A = Packet} e a (sym (uncut_again (with_grease true options) datagram e fits other)
     ∙ cut_again (with_grease true options) datagram a.0 a.1 a.2 cut)
 
-uncut_same : (options : DecodeOptions) (datagram : List ℕ) (a b : Refusal) → AreBytes datagram
+pub uncut_same : (options : DecodeOptions) (datagram : List ℕ) (a b : Refusal) → AreBytes datagram
     → Uncut (with_grease true options) datagram a → Uncut (with_grease true options) datagram b → a ≡ b
 uncut_same options datagram a b fits one other =
     err_same {A = Packet} a b (sym (uncut_again (with_grease true options) datagram a fits one)

@@ -20,7 +20,7 @@ Answer = List PlacedPacket × Option Refusal
 placed : ℕ → ℕ → ProtectedHeader → PlacedPacket
 placed start stop h = record { start = start; stop = stop; header = h }
 
-rest_bytes : (q : ℕ) (bytes : List ℕ) → AreBytes bytes → AreBytes (drop q bytes)
+pub rest_bytes : (q : ℕ) (bytes : List ℕ) → AreBytes bytes → AreBytes (drop q bytes)
 rest_bytes q bytes fits =
     back_bytes (take q bytes) (drop q bytes) (subst AreBytes (sym (take-append-drop q bytes)) fits)
 

@@ -7,6 +7,7 @@ mod FieldLaws
 mod Finishes
 pub mod Headers
 pub mod Made
+pub mod RfcPackets
 pub mod Rows
 mod Scans
 pub mod Steps

@@ -217,13 +217,13 @@ typed_reported kind.Initial whole dst src version bytes s d v e =
     ]
 
 -- the ids of an unknown version after the first byte
-abbrev HasUnknownIds : List ℕ → List ℕ → ℕ → List ℕ → List ℕ → Type 0
+abbrev pub HasUnknownIds : List ℕ → List ℕ → ℕ → List ℕ → List ℕ → Type 0
 HasUnknownIds versions text version dst src =
     (number : List ℕ) × (rest : List ℕ) × (text ≡ number ++ (long_id dst ++ (long_id src ++ rest)))
     × IsNumber 4 version number × (version ≢ 0)
     × (Contains versions version → ⊥)
 
-named : (src s dst d : List ℕ) (version v : ℕ)
+pub named : (src s dst d : List ℕ) (version v : ℕ)
     → (let r : Read = Err (Unsupported s d v) in r) ≡ Err (Unsupported src dst version)
     → (s ≡ src) × (d ≡ dst) × (v ≡ version)
 named src s dst d version v e = (cc, cc, cc)
@@ -237,7 +237,7 @@ unknown_behind versions text src s dst d version v e h =
     (subst (λ (x : List ℕ). HasUnknownIds versions text v x src) names.1
     (subst (λ (x : List ℕ). HasUnknownIds versions text v d x) names.0 h))
 
-wide_unknown : (versions : List ℕ) (whole first : ℕ) (text src dst : List ℕ) (version : ℕ) → AreBytes text
+pub wide_unknown : (versions : List ℕ) (whole first : ℕ) (text src dst : List ℕ) (version : ℕ) → AreBytes text
     → wide_at versions whole first text ≡ Err (Unsupported src dst version)
     → HasUnknownIds versions text version dst src
 unfolding wide_at
@@ -283,7 +283,7 @@ wide_unknown versions whole first text src dst version fits e =
           ]
     ]
 
-unknown_again : (versions : List ℕ) (whole first : ℕ) (text src dst : List ℕ) (version : ℕ)
+pub unknown_again : (versions : List ℕ) (whole first : ℕ) (text src dst : List ℕ) (version : ℕ)
     → HasUnknownIds versions text version dst src
     → wide_at versions whole first text ≡ Err (Unsupported src dst version)
 unfolding wide_at

@@ -5,3 +5,4 @@ pub mod Parsers
 pub mod Places
 pub mod Reading
 pub mod Refusal
+pub mod Rfc

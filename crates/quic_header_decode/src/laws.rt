@@ -1,6 +1,7 @@
 //! Laws of headers and cuts, which no single call states. The functions do nothing at run time.
 ghost use Rattle.std.specs.Prelude.{◌≡◌, ◌+◌, ◌<◌, ◌≤◌, ◌++◌, List, ℕ, Result, Ok, Some, None, Option, length, take, drop, codes, slice_index, ◌^◌, IsTrue, [], ◌∷◌, Contains, Bool};
 ghost use Rattle.quic_base.specs.Number.{AreBytes};
+ghost use Rattle.quic_base.specs.One.{ExactlyOne};
 ghost use Rattle.quic_header_decode.specs.Datagram.{PlacedPacket, ArePackets, packets_in};
 ghost use Rattle.quic_header_decode.specs.Grammar.{is_fixed, HeaderAt, HeaderAnswer, Refused, Cut, CutAnswer, Uncut, IsKnownVersion};
 ghost use Rattle.quic_base.specs.Varint.{Encodes};
@@ -9,6 +10,7 @@ ghost use Rattle.quic_header_encode.specs.Writing.{header_bytes, header_with};
 ghost use Rattle.quic_header_decode.specs.Places.{any_fixed, ends_at, header_in, ReadAnswer};
 ghost use Rattle.quic_header_decode.specs.Reading.{DecodeOptions, TakesWithin, cut_at, header_at, len_in};
 ghost use Rattle.quic_header_decode.specs.Refusal.{Refusal, Invalid, Unsupported};
+ghost use Rattle.quic_header_decode.specs.Rfc.{RfcPacketAnswer, RfcRefusal};
 
 use crate::places::HeaderPlaces;
 use crate::protected::ProtectedHeader;
@@ -49,6 +51,17 @@ pub fn one_row_of_packets()
         → (some ≡ others) × (refusal ≡ other) }
     ensures found { (options : DecodeOptions) (bytes : List ℕ) → AreBytes bytes → TakesWithin options
         → ArePackets options 0 bytes (packets_in options bytes).0 (packets_in options bytes).1 }
+{}
+
+/// By RFC 9000 a datagram begins with one packet, or with none for one reason. At most one of these holds whatever the
+/// parser of ids does.
+pub fn rfc_packets()
+    ensures one { (options : DecodeOptions) (datagram : List ℕ) → AreBytes datagram → TakesWithin options
+        → ExactlyOne (RfcPacketAnswer options datagram) }
+    ensures only { (options : DecodeOptions) (datagram : List ℕ) (one other : Result (ProtectedHeader × ℕ × ℕ)
+        RfcRefusal)
+        → AreBytes datagram → RfcPacketAnswer options datagram one → RfcPacketAnswer options datagram other
+        → one ≡ other }
 {}
 
 /// Where a packet ends, and what doesn't depend on the bytes after it.

@@ -10,4 +10,4 @@ mod RewriteWalk
 mod Fronts
 mod Clients
 mod WrittenFrames
-mod ByRules
+pub mod ByRules

@@ -11,9 +11,10 @@ use Rattle.quic_frame_fields.specs.Table.{Name, Crypto, NewToken, Stream, MaxStr
 use Rattle.quic_frame_fields.specs.Payload.{Meaning, TypedFrame, AreFrames, Reading, Complete, FailsAfter, IsReadingOf}
 use Rattle.quic_frame_fields.specs.Reading.{Invalid, invalid}
 use Rattle.quic_frames.specs.Least.{frame_in}
-use Rattle.quic_frames.specs.Rules.{Checked, IsCheckedOf, Keeps, StopsAtBreach, breach_by, broken_if, invalid_by, unchecked}
+use Rattle.quic_frames.specs.Rules.{IsCheckedOf, Keeps, breach_by, broken_if}
 use Rattle.quic_frames.specs.declared.frame.rules.Breach.{Breach}
 use Rattle.quic_frames.specs.declared.frame.rules.Breach.TheVariants as breaches
+use Rattle.quic_canon.proofs.ByRules.{is_kept}
 use Rattle.quic_wire.specs.Rfc.{AreAllowed, IsAllowed, IsRfcPayload, rfc_rules, without_error}
 
 -- ---- one frame
@@ -41,7 +42,7 @@ unbroken_if : (is_broken : Bool) (breach : Breach) → is_broken ≡ false → b
 unbroken_if false breach e = refl
 unbroken_if true breach e = absurd cc
 
-keeps : (negotiated : Bool) (name : Name) (values : List Value) → AreAllowed negotiated name values
+pub keeps : (negotiated : Bool) (name : Name) (values : List Value) → AreAllowed negotiated name values
     → breach_by (rfc_rules negotiated) name values ≡ None
 keeps negotiated Crypto (Number offset ∷ Bytes sent ∷ []) allowed =
     unbroken_if (nat_lt (2 ^ 62 - 1) (offset + length sent)) breaches.Limit (within (offset + length sent) allowed)
@@ -60,7 +61,7 @@ keeps true ImmediateAck values allowed = refl
 keeps false ImmediateAck values allowed = absurd cc
 keeps negotiated name values allowed = refl
 
-is_allowed : (negotiated : Bool) (name : Name) (values : List Value)
+pub is_allowed : (negotiated : Bool) (name : Name) (values : List Value)
     → breach_by (rfc_rules negotiated) name values ≡ None → AreAllowed negotiated name values
 is_allowed negotiated Crypto (Number offset ∷ Bytes sent ∷ []) kept =
     is_within (offset + length sent) (unbroken (nat_lt (2 ^ 62 - 1) (offset + length sent)) breaches.Limit kept)
@@ -80,7 +81,7 @@ is_allowed negotiated name values kept = tt
 
 -- ---- all frames
 
-all_keep : (negotiated : Bool) (frames : List TypedFrame) → All (IsAllowed negotiated) (map frame_in frames)
+pub all_keep : (negotiated : Bool) (frames : List TypedFrame) → All (IsAllowed negotiated) (map frame_in frames)
     → All (Keeps (rfc_rules negotiated)) frames
 all_keep negotiated [] all = All-nil (Keeps (rfc_rules negotiated))
 all_keep negotiated (found ∷ frames) all =
@@ -89,7 +90,7 @@ all_keep negotiated (found ∷ frames) all =
     (All-head (IsAllowed negotiated) found.frame (map frame_in frames) all))
     (all_keep negotiated frames (All-tail (IsAllowed negotiated) found.frame (map frame_in frames) all))
 
-all_allowed : (negotiated : Bool) (frames : List TypedFrame) → All (Keeps (rfc_rules negotiated)) frames
+pub all_allowed : (negotiated : Bool) (frames : List TypedFrame) → All (Keeps (rfc_rules negotiated)) frames
     → All (IsAllowed negotiated) (map frame_in frames)
 all_allowed negotiated [] all = All-nil (IsAllowed negotiated)
 all_allowed negotiated (found ∷ frames) all =
@@ -105,30 +106,11 @@ pub reads_allowed : (negotiated : Bool) (frames : List TypedFrame) (payload : Li
 reads_allowed negotiated frames payload is =
     (Complete frames, is.encoded, inl (all_keep negotiated frames is.allowed, refl))
 
-no_error : (i : Invalid) → None ≡ Some i → ⊥
-no_error i e = cc
-
-of_reading : (negotiated : Bool) (frames : List TypedFrame) (payload : List ℕ) (reading : Reading)
-    → payload ≢ [] → IsReadingOf true payload reading
-    → ((All (Keeps (rfc_rules negotiated)) (unchecked reading).frames × (without_error frames ≡ unchecked reading))
-    ⊎ StopsAtBreach (rfc_rules negotiated) (unchecked reading).frames (without_error frames))
-    → IsRfcPayload negotiated frames payload
-of_reading negotiated frames payload (Complete found) some reads (inl whole) =
-    let same : frames ≡ found = ap (λ (c : Checked). c.frames) whole.1 in
-    record {
-      some = some;
-      encoded = subst (λ (l : List TypedFrame). AreFrames true l payload) (sym same) reads;
-      allowed = subst (λ (l : List TypedFrame). All (IsAllowed negotiated) (map frame_in l)) (sym same)
-          (all_allowed negotiated found whole.0);
-    }
-of_reading negotiated frames payload (FailsAfter found type reason) some reads (inl whole) =
-    absurd (no_error (invalid type reason) (ap (λ (c : Checked). c.error) whole.1))
-of_reading negotiated frames payload reading some reads (inr stops) =
-    absurd (no_error (invalid_by stops.broken stops.breach) stops.reported)
-
 pub is_allowed_payload : (negotiated : Bool) (frames : List TypedFrame) (payload : List ℕ) → payload ≢ []
     → IsCheckedOf (rfc_rules negotiated) payload (without_error frames) → IsRfcPayload negotiated frames payload
-is_allowed_payload negotiated frames payload some is = of_reading negotiated frames payload is.0 some is.1 is.2
+is_allowed_payload negotiated frames payload some is =
+    let k = is_kept (rfc_rules negotiated) frames payload is in
+    record { some = some; encoded = k.encoded; allowed = all_allowed negotiated frames k.kept }
 
 -- ---- what is written
 
@@ -145,30 +127,3 @@ written_allowed negotiated frames payload read least all = (
   },
   read.2,
 )
-
-pub least_allowed : (negotiated : Bool) (frames : List TypedFrame) (payload least : List ℕ)
-    → ((some others : List TypedFrame) (bytes : List ℕ) → AreFrames false some bytes → AreFrames false others bytes
-    → some ≡ others)
-    → ((found : List TypedFrame) (bytes : List ℕ) → AreFrames true found bytes → AreFrames false found bytes)
-    → ((found others : List TypedFrame) (bytes other : List ℕ) → AreFrames false found bytes
-    → AreFrames false others other → AllZip IsSameFrame (map frame_in found) (map frame_in others)
-    → map frame_in found ≡ map frame_in others)
-    → ((found : List TypedFrame) × AreFrames true found least × AreFrames false found least)
-    → IsRfcPayload negotiated frames payload → IsLeast least payload
-    → (found : List TypedFrame) × IsRfcPayload negotiated found least × (map frame_in found ≡ map frame_in frames)
-least_allowed negotiated frames payload least one relaxed values read is l =
-    let s = l.same in
-    let here : read.0 ≡ s.frames = one read.0 s.frames least read.2 s.encoded in
-    let there : s.others ≡ frames =
-    one s.others frames payload s.other_encoded (relaxed frames payload is.encoded) in
-    let same : map frame_in read.0 ≡ map frame_in frames =
-    ap (map frame_in) here ∙ values s.frames s.others least payload s.encoded s.other_encoded s.same
-    ∙ ap (map frame_in) there in (
-      read.0,
-      record {
-        some = s.some;
-        encoded = read.1;
-        allowed = subst (λ (l : List Meaning). All (IsAllowed negotiated) l) (sym same) is.allowed;
-      },
-      same,
-    )

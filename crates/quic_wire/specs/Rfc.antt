@@ -1,12 +1,15 @@
 -- What RFC 9000 allows by the bytes alone: payloads, lists of transport parameters, and the first packet of a datagram.
-use Rattle.std.specs.Prelude.{◌≡◌, ◌≢◌, ⊤, ℕ, ◌+◌, ◌<◌, ◌≤◌, ◌^◌, ◌⊎◌, List, [], ◌∷◌, All, length, map, slice_index, IsTrue, Bool, true, not, None}
+use Rattle.std.specs.Prelude.{◌≡◌, ◌≢◌, ⊤, ℕ, ◌+◌, ◌<◌, ◌≤◌, ◌^◌, ◌⊎◌, List, [], ◌∷◌, ◌++◌, All, length, map, slice_index, IsTrue, Bool, true, false, not, Option, None, Some, codes}
 use Rattle.quic_base.specs.Number.{has_bit}
 use Rattle.quic_base.specs.declared.ids.Side.{Side}
-use Rattle.quic_frame_fields.specs.Field.{Value, Number, Bytes}
-use Rattle.quic_frame_fields.specs.Payload.{Meaning, TypedFrame, AreFrames}
-use Rattle.quic_frame_fields.specs.Table.{Name, Crypto, NewToken, Stream, MaxStreams, StreamsBlocked, AckFrequency, ImmediateAck}
+use Rattle.quic_frame_fields.specs.Field.{Value, Number, Bytes, NoNumber, StopsWithin}
+use Rattle.quic_frame_fields.specs.Payload.{Meaning, TypedFrame, AreClosed, AreFrames, BeginsWithType, HasLongType, IsFrame, last_type}
+use Rattle.quic_frame_fields.specs.Reading.{Invalid, invalid, reason_text}
+use Rattle.quic_frame_fields.specs.Table.{Name, Row, Crypto, NewToken, Stream, MaxStreams, StreamsBlocked, AckFrequency, ImmediateAck, row_of}
+use Rattle.quic_frame_fields.specs.declared.frame.fault.Fault.{Fault}
+use Rattle.quic_frame_fields.specs.declared.frame.fault.Fault.TheVariants.{InvalidFrameId, LongType, Malformed, UnexpectedEnd}
 use Rattle.quic_frames.specs.Least.{frame_in}
-use Rattle.quic_frames.specs.Rules.{Checked}
+use Rattle.quic_frames.specs.Rules.{Checked, is_of_ack_frequency}
 use Rattle.quic_frames.specs.declared.frame.rules.Rules.{Rules}
 use Rattle.quic_header_decode.specs.Grammar.{Cut}
 use Rattle.quic_header_decode.specs.Reading.{DecodeOptions}
@@ -15,12 +18,14 @@ use Rattle.quic_header_decode.specs.declared.protected.ProtectedHeader.TheVarian
 use Rattle.quic_params.specs.declared.parameter.TransportParameterId.{TransportParameterId}
 use Rattle.quic_params.specs.declared.record.TransportParameters.{TransportParameters}
 use Rattle.quic_params.specs.declared.value.Value.{Value as ParameterValue}
-use Rattle.quic_params.specs.Entry.{AreEntries, Entry, Given, IsGiven, IsKnownParameter}
+use Rattle.quic_params.specs.declared.error.Error.{Error}
+use Rattle.quic_params.specs.declared.error.Error.TheVariants as refused
+use Rattle.quic_params.specs.Entry.{AreEntries, Entry, Given, IsCutEntry, IsEntry, IsGiven, IsKnownParameter}
 use Rattle.quic_params.specs.Meaning.{IsValid}
 use Rattle.quic_params.specs.Options.{in_any_width}
 use Rattle.quic_params.specs.Record.{IsRecord}
-use Rattle.quic_params.specs.Table.{row_of}
-use Rattle.quic_params.specs.Value.{IsEncoded}
+use Rattle.quic_params.specs.Table.{row_of as row_of_parameter}
+use Rattle.quic_params.specs.Value.{IsEncoded, IsNoValue}
 
 -- ---- frames and payloads
 
@@ -62,6 +67,55 @@ pub record IsRfcPayload (negotiated : Bool) (frames : List TypedFrame) (payload 
 abbrev pub without_error : List TypedFrame → Checked
 without_error frames = record { frames = frames; error = None }
 
+-- these frames, and then this error
+abbrev pub with_error : List TypedFrame → Invalid → Checked
+with_error frames reported = record { frames = frames; error = Some reported }
+
+-- ---- the first thing in a payload that isn't allowed
+
+-- a type without a row, or of the ACK frequency extension, if that wasn't negotiated (section 12.4)
+abbrev pub IsUnknown : Bool → ℕ → Type 0
+IsUnknown negotiated t = (row_of t ≡ None) ⊎ ((negotiated ≡ false) × (is_of_ack_frequency t ≡ true))
+
+-- a row of this type, and its extension, if it belongs to one, was negotiated
+abbrev pub IsKnown : Bool → ℕ → Row → Type 0
+IsKnown negotiated t r = (row_of t ≡ Some r) × ((negotiated ≡ true) ⊎ (is_of_ack_frequency t ≡ false))
+
+-- what is reported of a frame that isn't allowed: its type is unknown, its token is empty, or a limit is exceeded
+abbrev pub reason_for : Name → List ℕ
+reason_for AckFrequency = reason_text InvalidFrameId
+reason_for ImmediateAck = reason_text InvalidFrameId
+reason_for NewToken = reason_text Malformed
+reason_for name = codes "limit exceeded"
+
+-- What begins here isn't an allowed frame, and this is reported, with the type. The text leaves open which of several
+-- reasons is reported: here the type's, before a field's, before what the fields say; and if no type can be read, the
+-- type before is reported.
+pub data IsRfcFault (negotiated : Bool) (before : Option ℕ) (bytes : List ℕ) : Invalid → Type 0 where
+  cut_type : bytes ≢ [] → NoNumber bytes → IsRfcFault negotiated before bytes (invalid before UnexpectedEnd)
+  -- not in its shortest encoding (section 12.4)
+  long_type : (t : ℕ) → HasLongType true bytes t → IsRfcFault negotiated before bytes (invalid (Some t) LongType)
+  unknown_type : (t : ℕ) → BeginsWithType true bytes t (λ fields. IsUnknown negotiated t)
+      → IsRfcFault negotiated before bytes (invalid (Some t) InvalidFrameId)
+  -- a field of its row can't be read
+  field : (t : ℕ) (r : Row) (reason : Fault) → IsKnown negotiated t r
+      → BeginsWithType true bytes t (λ fields. StopsWithin r.fields [] fields reason)
+      → IsRfcFault negotiated before bytes (invalid (Some t) reason)
+  not_allowed : (found : TypedFrame) (front back : List ℕ) → bytes ≡ front ++ back → IsFrame true found front
+      → ¬ (IsAllowed negotiated found.frame)
+      → IsRfcFault negotiated before bytes (record { type = Some found.type; reason = reason_for found.frame.name })
+
+-- The payload is allowed frames, which aren't open, and then something that isn't an allowed frame.
+pub record IsRfcError (negotiated : Bool) (frames : List TypedFrame) (payload : List ℕ) (reported : Invalid) : Type 0
+  where
+    pub front : List ℕ
+    pub back : List ℕ
+    pub parts : payload ≡ front ++ back
+    pub encoded : AreFrames true frames front
+    pub closed : AreClosed frames
+    pub allowed : All (IsAllowed negotiated) (map frame_in frames)
+    pub fault : IsRfcFault negotiated (last_type None frames) back reported
+
 -- ---- lists of transport parameters
 
 -- One more entry of a list, whose last entry comes first: its parameter is unknown, and ignored (section 7.4.2); or it
@@ -70,7 +124,7 @@ abbrev pub Adds : List Given → Entry → List Given → Type 0
 Adds before entry after =
     (((id : TransportParameterId) → ¬ (IsKnownParameter id entry.number)) × (after ≡ before))
     ⊎ ((id : TransportParameterId) × (value : ParameterValue) × IsKnownParameter id entry.number × ¬ (IsGiven id before)
-    × IsEncoded (in_any_width (row_of id).kind) value entry.bytes
+    × IsEncoded (in_any_width (row_of_parameter id).kind) value entry.bytes
     × (after ≡ record { id = id; value = value } ∷ before))
 
 abbrev pub AddUp : List Entry → List Given → Type 0
@@ -85,6 +139,25 @@ pub record IsRfcList (side : Side) (params : TransportParameters) (list : List �
   pub adds_up : AddUp entries given
   pub is_record : IsRecord given params
   pub valid : IsValid side params
+
+-- Why the entries end here, after these values: an entry is cut off; or its parameter was given before (section 7.4);
+-- or its bytes are no value of it.
+abbrev pub StopsAdding : List Given → List ℕ → Error → Type 0
+StopsAdding before remaining error =
+    (IsCutEntry remaining × (error ≡ refused.Malformed))
+    ⊎ ((entry : Entry) × (id : TransportParameterId) × (front back : List ℕ) × (remaining ≡ front ++ back)
+    × IsEntry entry.number entry.bytes front × IsKnownParameter id entry.number
+    × ((IsGiven id before × (error ≡ refused.Malformed))
+    ⊎ (¬ (IsGiven id before) × IsNoValue (in_any_width (row_of_parameter id).kind) entry.bytes error)))
+
+-- The list is rejected with this error: of its first entry that isn't allowed, or, if all are, of the record, which this
+-- side may not receive.
+abbrev pub IsRfcListError : Side → List ℕ → Error → Type 0
+IsRfcListError side list error =
+    ((entries : List Entry) × (given : List Given) × (front back : List ℕ) × (list ≡ front ++ back)
+    × AreEntries entries front × AddUp entries given × (back ≢ []) × StopsAdding given back error)
+    ⊎ ((entries : List Entry) × (given : List Given) × (params : TransportParameters) × AreEntries entries list
+    × AddUp entries given × IsRecord given params × ¬ (IsValid side params) × (error ≡ refused.IllegalValue))
 
 -- ---- the first packet of a datagram
 

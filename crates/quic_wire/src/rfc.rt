@@ -1,10 +1,11 @@
 //! What is proved of the readers' mode that RFC 9000 asks for (`Rules::RFC`, `ReadOptions::RFC`): it finds what
 //! `specs/Rfc.antt` allows, and nothing else.
-ghost use Rattle.std.specs.Prelude.{◌≡◌, ◌≢◌, ◌↔◌, ◌⊎◌, ℕ, List, [], All, Bool, true, false, map, Ok};
+ghost use Rattle.std.specs.Prelude.{◌≡◌, ◌≢◌, ◌↔◌, ◌⊎◌, ℕ, List, [], All, Bool, true, false, map, Ok, Err};
 ghost use Rattle.quic_base.specs.Number.{AreBytes};
 ghost use Rattle.quic_base.specs.One.{ExactlyOne};
 ghost use Rattle.quic_canon.specs.Least.{IsLeast};
 ghost use Rattle.quic_frame_fields.specs.Payload.{Meaning, TypedFrame};
+ghost use Rattle.quic_frame_fields.specs.Reading.{Invalid};
 ghost use Rattle.quic_frames.specs.Least.{frame_in};
 ghost use Rattle.quic_frames.specs.Rules.{IsCheckedOf};
 ghost use Rattle.quic_frames.specs.Written.{IsShortestOf};
@@ -14,12 +15,12 @@ ghost use Rattle.quic_header_decode.specs.declared.protected.ProtectedHeader.{Pr
 ghost use Rattle.quic_params.specs.Meaning.{IsReadAnswer};
 ghost use Rattle.quic_params.specs.Range.{IsRecordInRange, IsTypedRecord, plain};
 ghost use Rattle.quic_params.specs.Writing.{written};
-ghost use Rattle.quic_wire.specs.Rfc.{IsAllowed, IsComplete, IsNegotiation, IsRfcList, IsRfcPacket, IsRfcPayload, rfc_rules, with_grease, without_error};
+ghost use Rattle.quic_wire.specs.Rfc.{IsAllowed, IsComplete, IsNegotiation, IsRfcError, IsRfcList, IsRfcListError, IsRfcPacket, IsRfcPayload, rfc_rules, with_error, with_grease, without_error};
 
 use crate::laws::{every_list, frames_again, parameters_again};
 use quic_base::ids::Side;
 use quic_frames::frame::Rules;
-use quic_params::transport_parameters::{ReadOptions, TransportParameters};
+use quic_params::transport_parameters::{Error, ReadOptions, TransportParameters};
 
 /// By RFC 9000's rules, with the ACK frequency extension or without it, every payload has one reading, and it has no
 /// error exactly if the payload is allowed.
@@ -28,6 +29,10 @@ pub fn rfc_payloads()
         → ExactlyOne (IsCheckedOf (rfc_rules negotiated) payload) }
     ensures allowed { (negotiated : Bool) (frames : List TypedFrame) (payload : List ℕ) → payload ≢ []
         → (IsCheckedOf (rfc_rules negotiated) payload (without_error frames) ↔ IsRfcPayload negotiated frames payload) }
+    // Its error, after frames that are allowed, is that of the first thing that isn't.
+    ensures first { (negotiated : Bool) (frames : List TypedFrame) (payload : List ℕ) (reported : Invalid)
+        → IsCheckedOf (rfc_rules negotiated) payload (with_error frames reported)
+        → IsRfcError negotiated frames payload reported }
     // The rules of the code are these.
     ensures rules { Rules.RFC ≡ rfc_rules false }
     ensures negotiated { record Rules.RFC { no_ack_frequency = false } ≡ rfc_rules true }
@@ -46,8 +51,7 @@ pub fn rfc_frames_again()
         → (found : List TypedFrame) × IsRfcPayload negotiated found least × (map frame_in found ≡ map frame_in frames) }
 {
     frames_again();
-    quic_frames::laws::one_reading();
-    quic_canon::laws::one_least();
+    quic_canon::laws::least_by_rules();
     quic_canon::laws::written_is_least();
 }
 
@@ -57,6 +61,9 @@ pub fn rfc_lists()
     ensures one { (side : Side) (list : List ℕ) → AreBytes list → ExactlyOne (IsReadAnswer ReadOptions.RFC side list) }
     ensures allowed { (side : Side) (list : List ℕ) (params : TransportParameters)
         → (IsReadAnswer ReadOptions.RFC side list (Ok params) ↔ IsRfcList side params list) }
+    // The error is that of the first thing that isn't allowed.
+    ensures first { (side : Side) (list : List ℕ) (error : Error)
+        → (IsReadAnswer ReadOptions.RFC side list (Err error) ↔ IsRfcListError side list error) }
     // What is written of parameters in range is allowed.
     ensures written { (side : Side) (params : TransportParameters) → IsTypedRecord params → IsRecordInRange side params
         → IsRfcList side (plain params) (written params) }

@@ -1,5 +1,6 @@
-use Rattle.std.specs.Prelude.{false, true}
-use Rattle.quic_wire.proofs.Allowed.{least_allowed, written_allowed}
+use Rattle.std.specs.Prelude.{true}
+use Rattle.quic_wire.specs.Rfc.{rfc_rules}
+use Rattle.quic_wire.proofs.Allowed.{is_allowed_payload, reads_allowed, written_allowed}
 use Rattle.quic_wire.proofs.rfc.rfc_frames_again.Goals as goal
 
 pub returns-clause-written : goal.returns-clause-written
@@ -9,5 +10,6 @@ returns-clause-written c = λ negotiated frames payload some all is.
 
 pub returns-clause-shortest : goal.returns-clause-shortest
 returns-clause-shortest c = λ negotiated frames payload least is l.
-    least_allowed negotiated frames payload least (c.one_reading.ensures.frames false) (c.one_reading.ensures.relaxed true)
-    c.one_least.ensures.values (c.one_least.ensures.strict payload least l) is l
+    let found =
+    c.least_by_rules.ensures (rfc_rules negotiated) frames payload least (reads_allowed negotiated frames payload is) l in
+    (found.0, is_allowed_payload negotiated found.0 least l.same.some found.1, found.2)

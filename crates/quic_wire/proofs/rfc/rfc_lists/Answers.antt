@@ -1,7 +1,7 @@
 use Rattle.quic_params.specs.Options.{as_rfc}
 use Rattle.quic_params.specs.Range.{plain}
 use Rattle.quic_params.specs.Writing.{written}
-use Rattle.quic_wire.proofs.AllowedLists.{list_allowed, list_read}
+use Rattle.quic_wire.proofs.AllowedLists.{error_read, list_allowed, list_error, list_read}
 use Rattle.quic_wire.proofs.rfc.rfc_lists.Goals as goal
 
 pub returns-clause-one : goal.returns-clause-one
@@ -13,3 +13,6 @@ returns-clause-allowed c = λ side list params. (list_allowed side list params, 
 pub returns-clause-written : goal.returns-clause-written
 returns-clause-written c = λ side params typed range.
     list_allowed side (written params) (plain params) (c.parameters_again.ensures.own as_rfc side params typed range)
+
+pub returns-clause-first : goal.returns-clause-first
+returns-clause-first c = λ side list error. (list_error side list error, error_read side list error)

@@ -1,6 +1,6 @@
 -- The loops of callers that walk over a payload.
 use Rattle.std.proofs.Common.{◌≡◌, ◌≢◌, ℕ, ◌+◌, ◌-◌, ◌<◌, ◌≤◌, List, [], ◌∷◌, ◌++◌, length, take, drop, set, Bool, None, Some, Option, refl, sym, ap, subst, ◌∙◌, inl, inr, arith}
-use Rattle.std.specs.Prelude.{◌⊎◌, All, ℤ, pos}
+use Rattle.std.specs.Prelude.{◌⊎◌, ℤ, pos}
 use Rattle.std.proofs.lemmas.List.{append-nil, length-append, length-drop, length-take-le, take_all, take_at, drop_all, drop_at, drop-drop, take-set, take_more_set, drop-set-lt, drop-set}
 use Rattle.std.proofs.Math.ListN.{length-set}
 use Rattle.std.proofs.Math.Seq.{take-add}
@@ -15,7 +15,6 @@ use Rattle.quic_frames.specs.IterState.{IterState}
 use Rattle.quic_frames.specs.Checking.{IsRefusedFrame}
 use Rattle.quic_frames.specs.Rules.{Checked, IsCheckedOf}
 use Rattle.quic_frames.specs.Walk.{rest_of, first_of, IsSpent}
-use Rattle.quic_frames.specs.declared.frame.rules.Rules.{Rules}
 use Rattle.quic_c.specs.declared.words.CFrame.{CFrame}
 use Rattle.quic_c.specs.declared.words.CFrameIter.{CFrameIter}
 use Rattle.quic_c.specs.Answers.{AnswersNext, GivesFrameWords, GivesInvalid}

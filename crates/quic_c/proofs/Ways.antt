@@ -7,11 +7,11 @@ use Rattle.quic_base.specs.Number.{AreBytes}
 use Rattle.quic_base.specs.One.{ExactlyOne}
 use Rattle.quic_base.proofs.PublicLaws.{back_bytes}
 use Rattle.quic_frame_fields.specs.Payload.{Meaning, TypedFrame, AreClosed, Reading, Complete, FailsAfter, IsReadingAfter, IsReadingOf, followed_by, last_type}
-use Rattle.quic_frame_fields.specs.Reading.{Invalid, invalid}
+use Rattle.quic_frame_fields.specs.Reading.{Invalid}
 use Rattle.quic_frames.specs.Checking.{IsRefusedFrame}
 use Rattle.quic_frames.specs.IterState.{IterState}
 use Rattle.quic_frames.specs.Padding.{behind}
-use Rattle.quic_frames.specs.Rules.{Checked, IsCheckedAfter, IsCheckedOf, IsCheckedReading, Keeps, invalid_by, unchecked}
+use Rattle.quic_frames.specs.Rules.{Checked, IsCheckedAfter, IsCheckedOf, IsCheckedReading, Keeps, reported_by}
 use Rattle.quic_frames.specs.Walk.{rest_of, first_of, Finds, IsSpent, Stands}
 use Rattle.quic_frames.specs.declared.frame.Frame.{Frame}
 use Rattle.quic_frames.specs.declared.frame.Frame.TheVariants as frames
@@ -51,10 +51,10 @@ all_append rules (first ∷ found) others kept also =
 abbrev pub after_frames : List TypedFrame → Checked → Checked
 after_frames found checked = record { frames = found ++ checked.frames; error = checked.error }
 
-unchecked_followed : (found : List TypedFrame) (rest : Reading)
-    → unchecked (followed_by found rest) ≡ after_frames found (unchecked rest)
-unchecked_followed found (Complete others) = refl
-unchecked_followed found (FailsAfter others type reason) = refl
+reported_followed : (rules : Rules) (found : List TypedFrame) (rest : Reading)
+    → reported_by rules (followed_by found rest) ≡ after_frames found (reported_by rules rest)
+reported_followed rules found (Complete others) = refl
+reported_followed rules found (FailsAfter others type reason) = refl
 
 none_or_some : (bytes : List ℕ) → (bytes ≡ []) ⊎ (bytes ≢ [])
 none_or_some [] = inl refl
@@ -63,7 +63,7 @@ none_or_some (byte ∷ bytes) = inr (λ e. cc)
 record ReadsWhole (rules : Rules) (payload : List ℕ) (found : List TypedFrame) (rest : Reading) : Type 0 where
   reading : Reading
   is : IsReadingOf rules.short_types payload reading
-  parts : unchecked reading ≡ after_frames found (unchecked rest)
+  parts : reported_by rules reading ≡ after_frames found (reported_by rules rest)
 
 reads_whole : (rules : Rules) (payload : List ℕ) (found : List TypedFrame) (state : IterState) (rest : Reading)
     → Lasts → Reads → HasRead rules.short_types payload found state
@@ -75,12 +75,12 @@ reads_whole rules payload found state rest lasts reads h is = elim (none_or_some
       let nothing = subst (λ (l : List ℕ). IsReadingAfter rules.short_types state.last l rest) none is in
       let one = reads rules.short_types state.last [] (λ k. omega arith) in
       let same : rest ≡ Complete [] = one.only rest nothing ∙ sym (one.only (Complete []) refl) in
-      let all : after_frames found (unchecked (Complete [])) ≡ unchecked (Complete found) =
-      ap (λ (l : List TypedFrame). unchecked (Complete l)) (append-nil found) in
+      let all : after_frames found (reported_by rules (Complete [])) ≡ reported_by rules (Complete found) =
+      ap (λ (l : List TypedFrame). reported_by rules (Complete l)) (append-nil found) in
       record {
         reading = Complete found;
         is = subst (λ (l : List ℕ). IsReadingOf rules.short_types l (Complete found)) whole h.encoded;
-        parts = sym (ap (λ (r : Reading). after_frames found (unchecked r)) same ∙ all);
+        parts = sym (ap (λ (r : Reading). after_frames found (reported_by rules r)) same ∙ all);
       }
   | inr some ↦
       let behind = subst (λ (t : Option ℕ). IsReadingAfter rules.short_types t (rest_of state) rest) h.last is in
@@ -88,7 +88,7 @@ reads_whole rules payload found state rest lasts reads h is = elim (none_or_some
         reading = followed_by found rest;
         is = subst (λ (l : List ℕ). IsReadingOf rules.short_types l (followed_by found rest)) (sym h.parts)
             (lasts rules.short_types found h.front (rest_of state) rest h.encoded (h.closed some) behind);
-        parts = unchecked_followed found rest;
+        parts = reported_followed rules found rest;
       }
 ]
 
@@ -101,7 +101,7 @@ by_rest rules payload found reading rest w kept (inl s) = (
   w.is,
   inl (
     subst (λ (c : Checked). All (Keeps rules) c.frames) (sym w.parts)
-        (all_append rules found (unchecked reading).frames kept s.0),
+        (all_append rules found (reported_by rules reading).frames kept s.0),
     ap (after_frames found) s.1 ∙ sym w.parts,
   ),
 )
@@ -139,8 +139,8 @@ pub checked_error : (rules : Rules) (payload : List ℕ) (found : List TypedFram
     → IsRefusedFrame rules state reported
     → IsCheckedOf rules payload (record { frames = found; error = Some reported })
 checked_error rules payload found state reported lasts reads fits h kept (inl l) = (
-  FailsAfter found l.type l.reason,
-  has_read_error rules.short_types payload found state reported h l,
+  FailsAfter found l.lacks.type l.lacks.reason,
+  has_read_error rules.short_types payload found state l.plain h l.lacks,
   inl (kept, ap (λ (i : Invalid). record { frames = found; error = Some i }) l.says),
 )
 checked_error rules payload found state reported lasts reads fits h kept (inr b) =
@@ -153,10 +153,10 @@ checked_error rules payload found state reported lasts reads fits h kept (inr b)
       w.is,
       inr (record {
         broken = f.found;
-        others = (unchecked after.it).frames;
+        others = (reported_by rules after.it).frames;
         breach = b.breach;
         parts = ap (λ (c : Checked). c.frames) w.parts
-            ∙ append_assoc found (f.found ∷ []) (unchecked after.it).frames;
+            ∙ append_assoc found (f.found ∷ []) (reported_by rules after.it).frames;
         kept = kept;
         breaks = b.breaks;
         reported = ap (λ (i : Invalid). Some i) b.says;

@@ -16,5 +16,7 @@ mod HeaderOnce
 mod HeaderBack
 mod HeaderTypes
 mod HeaderSteps
+mod Ways
+mod Walking
 mod ReadingOn
 mod Types

@@ -4,7 +4,8 @@ use Rattle.std.specs.Prelude.{◌⊎◌, ◌==◌, ◌&&◌, nat_lt}
 use Rattle.std.specs.Map.{lookup}
 use Rattle.std.proofs.lemmas.Bool.Decides.{nat_tests}
 use Rattle.quic_frame_fields.specs.Payload.{TypedFrame}
-use Rattle.quic_frame_fields.specs.Reading.{Invalid}
+use Rattle.quic_frame_fields.specs.Reading.{Invalid, invalid}
+use Rattle.quic_frame_fields.specs.declared.frame.fault.Fault.{Fault}
 use Rattle.quic_frame_fields.specs.Table.{Row, rows, row_of}
 use Rattle.quic_frames.specs.declared.frame.Frame.{Frame}
 use Rattle.quic_frames.specs.IterState.{IterState}
@@ -13,9 +14,9 @@ use Rattle.quic_frames.specs.declared.frame.rules.Rules.{Rules}
 use Rattle.quic_frames.specs.declared.frame.rules.Breach.{Breach}
 use Rattle.quic_frames.specs.Checking.{IsRefusedFrame}
 use Rattle.quic_frames.specs.Meaning.{meaning_of}
-use Rattle.quic_frames.specs.Rules.{Keeps, breach_of, breach_text}
+use Rattle.quic_frames.specs.Rules.{Keeps, breach_of, breach_text, fault_by}
 use Rattle.quic_frames.proofs.Checking.{breach_found}
-use Rattle.quic_frames.specs.Walk.{first_of, Finds}
+use Rattle.quic_frames.specs.Walk.{first_of, Finds, LacksFrame}
 use Rattle.quic_c.specs.declared.words.CFrame.{CFrame}
 use Rattle.quic_c.specs.declared.words.CFrameIter.{CFrameIter}
 use Rattle.quic_c.specs.declared.words.CGap.{CGap}
@@ -118,6 +119,13 @@ pub is_refused : (rules : Rules) (here next : IterState) (frame : Frame) (test :
 is_refused rules here next frame test last reported finds tests some is says =
     let by_type : Option ℕ → Invalid = λ t. record { type = t; reason = breach_text some.0 } in
     inr (breach_found rules here next frame test some.0 reported finds tests some.1 (says some.0 some.1 ∙ ap by_type is))
+
+-- bytes that aren't a frame, and what is reported of them
+pub is_lacking : (rules : Rules) (here : IterState) (plain reported : Invalid) → LacksFrame here plain
+    → ((type : Option ℕ) (reason : Fault) → plain ≡ invalid type reason → reported ≡ invalid type (fault_by rules type reason))
+    → IsRefusedFrame rules here reported
+is_lacking rules here plain reported l says =
+    inl (record { plain = plain; lacks = l; says = says l.type l.reason l.says })
 
 pub reads_front : (rules : Rules) (payload : List ℕ) (before : List CGap) (stop : ℕ) (words : CFrame)
     (after : List CGap) (frame : Frame) (next rest : IterState) (type : ℕ)

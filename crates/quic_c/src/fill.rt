@@ -6,7 +6,7 @@ ghost use Rattle.quic_frames.specs.Checking.{IsRefusedFrame};
 ghost use Rattle.quic_frames.specs.Rules.{no_rules};
 ghost use Rattle.quic_c.specs.Filling.{AnswersFill, AnswersFirst, Fills, further};
 
-use crate::flags::{breach_by, broken, is_broken, no_rules, rules_in};
+use crate::flags::{breach_by, broken, is_broken, no_rules, reported_by, rules_in};
 use crate::frames::{show_invalid, type_in, type_read, type_word};
 use crate::show::{parts_of, show_parts};
 use crate::words::{CFrame, CFrameIter};
@@ -43,9 +43,9 @@ fn fill<const COPY: usize, const CHECKED: bool>(
     while count < out.len() {
         let frame = match iter.next() {
             Some(Ok(frame)) => frame,
-            Some(Err(invalid)) => {
+            Some(Err(plain)) => {
                 if count == 0 {
-                    return Err(invalid);
+                    return Err(reported_by::<CHECKED>(rules, &plain));
                 }
                 break;
             }

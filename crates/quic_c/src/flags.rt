@@ -1,7 +1,9 @@
 //! The rules that flags name, and what is reported of a frame that breaks one.
-ghost use Rattle.std.specs.Prelude.{◌≡◌, IfSome, None, Some, false, true};
+ghost use Rattle.std.specs.Prelude.{◌≡◌, ℕ, IfSome, Option, None, Some, false, true};
+ghost use Rattle.quic_frame_fields.specs.Reading.{invalid};
+ghost use Rattle.quic_frame_fields.specs.declared.frame.fault.Fault.{Fault};
 ghost use Rattle.quic_frames.specs.Meaning.{meaning_of};
-ghost use Rattle.quic_frames.specs.Rules.{breach_of, breach_text, no_rules};
+ghost use Rattle.quic_frames.specs.Rules.{breach_of, breach_text, fault_by, no_rules};
 ghost use Rattle.quic_frames.specs.declared.frame.rules.Breach.{Breach};
 ghost use Rattle.quic_frames.specs.Walk.{invalid_of};
 ghost use Rattle.quic_c.specs.Shown.{rules_in};
@@ -54,6 +56,23 @@ pub(crate) fn is_broken(breach: Option<Breach>) -> bool
     match breach {
         Some(_) => true,
         None => false,
+    }
+}
+
+// What is reported for bytes that aren't a frame. Where frames aren't checked, that is what was found.
+#[inline(always)]
+pub(crate) fn reported_by<const CHECKED: bool>(rules: Rules, plain: &InvalidFrame) -> InvalidFrame
+    requires { CHECKED ≡ false → rules ≡ no_rules }
+    ensures { (type : Option ℕ) (reason : Fault) → invalid_of plain.now ≡ invalid type reason
+        → invalid_of result ≡ invalid type (fault_by rules type reason) }
+{
+    if CHECKED {
+        rules.reported(plain)
+    } else {
+        InvalidFrame {
+            ty: plain.ty,
+            reason: plain.reason,
+        }
     }
 }
 

@@ -8,7 +8,7 @@ ghost use Rattle.quic_c.specs.Shown.{state_of, at_front, has_flag, rules_in, typ
 ghost use Rattle.quic_c.specs.Answers.{AnswersNext};
 ghost use Rattle.quic_results.specs.Results.{failed, frame_failure};
 
-use crate::flags::{breach_by, broken, is_broken, no_rules, rules_in};
+use crate::flags::{breach_by, broken, is_broken, no_rules, reported_by, rules_in};
 use crate::show::show;
 use crate::words::{CFrame, CFrameIter};
 use quic_frames::frame::{FrameType, InvalidFrame, Iter, Rules};
@@ -127,7 +127,10 @@ fn give_next<const COPY: usize, const CHECKED: bool>(
             frames.last_type = ty;
             1
         }
-        Some(Err(invalid)) => refuse(begin, &invalid, frames, out),
+        Some(Err(plain)) => {
+            let invalid = reported_by::<CHECKED>(rules, &plain);
+            refuse(begin, &invalid, frames, out)
+        }
     }
 }
 

@@ -8,7 +8,7 @@ ghost use Rattle.quic_c.specs.Shown.{frame_kind_of, frame_words, invalid_words, 
 ghost use Rattle.quic_c.specs.Front.{AnswersRead, FillsGaps, ShowsAck, ShowsFront, moved_by, reported_behind};
 ghost use Rattle.quic_results.specs.Results.{failed, frame_failure};
 
-use crate::flags::{breach_by, broken, is_broken, no_rules, rules_in};
+use crate::flags::{breach_by, broken, is_broken, no_rules, reported_by, rules_in};
 use crate::frames::{show_invalid, type_read};
 use crate::show::{parts_of, show, split_blocks, with_first};
 use crate::words::{CFrame, CGap};
@@ -144,7 +144,7 @@ fn read_front<const COPY: usize, const CHECKED: bool>(
             *out = show_front(end, ty as u16, &frame, gaps);
             end as i64
         }
-        Some(Err(invalid)) => refuse(&invalid, out),
+        Some(Err(plain)) => refuse(&reported_by::<CHECKED>(rules, &plain), out),
     }
 }
 

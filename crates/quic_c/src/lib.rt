@@ -15,6 +15,7 @@ mod headers_read;
 pub mod laws;
 mod rules;
 mod show;
+pub mod walks;
 mod words;
 mod write;
 

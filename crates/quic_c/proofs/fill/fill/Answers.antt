@@ -1,13 +1,13 @@
 use Rattle.std.proofs.Common.{◌≡◌, ℕ, ◌∙◌, inl, inr, Some, refl, subst, ap, arith}
 use Rattle.quic_frames.specs.Checking.{IsRefusedFrame}
-use Rattle.quic_frames.specs.Rules.{breach_text}
-use Rattle.quic_frame_fields.specs.Reading.{Invalid}
+use Rattle.quic_frames.specs.Rules.{breach_text, fault_by}
+use Rattle.quic_frame_fields.specs.Reading.{Invalid, invalid}
 use Rattle.quic_frames.specs.Walk.{invalid_of, Finds, Advances}
 use Rattle.quic_frames.proofs.Checking.{breach_found}
 use Rattle.quic_c.specs.Shown.{frame_kind_of, frame_words}
 use Rattle.quic_c.proofs.Shown.{place_is}
 use Rattle.quic_c.proofs.Filling.{filling_ends, filling_goes_on, none_filled}
-use Rattle.quic_c.proofs.Types.{is_refused, keeps}
+use Rattle.quic_c.proofs.Types.{is_lacking, is_refused, keeps}
 use Rattle.quic_c.proofs.fill.fill.Goals as goal
 use Rattle.quic_c.proofs.fill.fill.Goals.{then-parts-eq0, else-parts-eq0, else-loop-count-test, then-loop-count-test+in-Some-Err+else-count-eq0, then-loop-count-test+in-None, then-loop-count-test+in-Some-Ok+then-is_broken+else-count-eq0-2}
 
@@ -55,7 +55,11 @@ returns-clause-filled g c =
       | then-loop-count-test+in-Some-Err+else-count-eq0 w ↦
           let steps =
           subst (λ f. Advances here.iter (Some f) w.next.new.self) w.in-Some-Err.field-0-is w.in-Some-Err.ensures.steps in
-          ends (inr (inr (invalid_of w.in-Some-Err.invalid, inl steps.lacks)))
+          let lacks = steps.lacks in
+          let reported : Invalid = invalid lacks.type (fault_by c.args.rules lacks.type lacks.reason) in
+          let refused : IsRefusedFrame c.args.rules here.iter reported =
+          inl (record { plain = invalid_of w.in-Some-Err.plain; lacks = lacks; says = refl }) in
+          ends (inr (inr (reported, refused)))
       | then-loop-count-test+in-None w ↦ ends (inr (inl w.in-None.ensures.steps.0))
       | then-loop-count-test+in-Some-Ok+then-is_broken+else-count-eq0-2 w ↦
           let frame = w.in-Some-Ok.frame in
@@ -68,6 +72,19 @@ returns-clause-filled g c =
           w.breach_by-breach.ensures some.1 refl) in
           ends (inr (inr (reported, refused)))
     ]
+
+pub returns-then-count-eq0-clause-invalid : goal.returns-then-count-eq0-clause-invalid
+returns-then-count-eq0-clause-invalid g c =
+    let here = c.loop-count in
+    let steps =
+    subst (λ f. Advances here.iter (Some f) c.next.new.self) c.in-Some-Err.field-0-is c.in-Some-Err.ensures.steps in
+    let none =
+    none_filled c.args.rules c.args.iter.now c.args.out.now here.iter here.out here.count here.end here.invariant.0
+    c.if-count-eq0.true in
+    let refused =
+    is_lacking c.args.rules here.iter (invalid_of c.in-Some-Err.plain) (invalid_of c.reported_by.result) steps.lacks
+    c.reported_by.ensures in
+    (subst (λ w. IsRefusedFrame c.args.rules w (invalid_of c.reported_by.result)) none.0 refused, none.1)
 
 pub returns-then-count-eq0-2-clause-invalid : goal.returns-then-count-eq0-2-clause-invalid
 returns-then-count-eq0-2-clause-invalid g c =

@@ -8,7 +8,7 @@ use Rattle.quic_c.specs.Answers.{GivesInvalid}
 use Rattle.quic_c.specs.declared.words.CFrameIter.{CFrameIter}
 use Rattle.quic_c.specs.Filling.{further}
 use Rattle.quic_c.specs.Shown.{type_in, state_of}
-use Rattle.quic_c.proofs.Types.{behind_frame, gives_frame, is_refused, keeps}
+use Rattle.quic_c.proofs.Types.{behind_frame, gives_frame, is_lacking, is_refused, keeps}
 use Rattle.quic_c.proofs.frames.give_next.Goals as goal
 
 pub returns-in-None : goal.returns-in-None
@@ -23,11 +23,14 @@ returns-in-None g c = record {
 
 pub returns-in-Some-Err : goal.returns-in-Some-Err
 returns-in-Some-Err g c =
-    let reported = invalid_of c.in-Some-Err.invalid in
+    let plain = invalid_of c.in-Some-Err.plain in
+    let reported = invalid_of c.reported_by-invalid.result in
     let s =
     subst (λ f. Advances c.args.iter.now (Some f) c.next.new.self) c.in-Some-Err.field-0-is c.in-Some-Err.ensures.steps in
-    let here : LacksFrame (state_of c.args.frames.now c.args.iter.now.payload) reported =
-    subst (λ (w : IterState). LacksFrame w reported) (sym c.requires.state) s.lacks in
+    let here : LacksFrame (state_of c.args.frames.now c.args.iter.now.payload) plain =
+    subst (λ (w : IterState). LacksFrame w plain) (sym c.requires.state) s.lacks in
+    let first = is_lacking c.args.rules (state_of c.args.frames.now c.args.iter.now.payload) plain reported here
+    c.reported_by-invalid.ensures in
     let result = to_z w32 (of_z w32 c.refuse-in-Some-Err.result) in
     let count : result ≡ c.refuse-in-Some-Err.result = search rules in
     let reason = count ∙ c.refuse-in-Some-Err.ensures.reason in
@@ -35,7 +38,7 @@ returns-in-Some-Err g c =
     c.refuse-in-Some-Err.new.out =
     record {
       reported = reported;
-      first = inl here;
+      first = first;
       reason = reason;
       over = c.refuse-in-Some-Err.ensures.over;
       words = c.refuse-in-Some-Err.ensures.words;

@@ -3,7 +3,7 @@ use Rattle.quic_results.proofs.FrameFailures.{not_empty}
 use Rattle.quic_frames.proofs.Turns.{spent_is_empty}
 use Rattle.quic_frames.specs.Walk.{invalid_of, first_of, Advances, Finds, LacksFrame, IsSpent}
 use Rattle.quic_c.specs.Front.{ReportsNone}
-use Rattle.quic_c.proofs.Types.{is_refused, keeps, reads_front}
+use Rattle.quic_c.proofs.Types.{is_lacking, is_refused, keeps, reads_front}
 use Rattle.quic_c.proofs.front.read_front.Goals as goal
 
 pub returns-in-None : goal.returns-in-None
@@ -15,16 +15,19 @@ returns-in-None g c =
 
 pub returns-in-Some-Err : goal.returns-in-Some-Err
 returns-in-Some-Err g c =
-    let reported = invalid_of c.in-Some-Err.invalid in
+    let plain = invalid_of c.in-Some-Err.plain in
+    let reported = invalid_of c.reported_by.result in
     let s =
     subst (λ f. Advances c.in-Some.iter (Some f) c.next.new.self) c.in-Some-Err.field-0-is c.in-Some-Err.ensures.steps in
-    let first : LacksFrame (first_of c.args.rules.short_types c.args.payload.now) reported =
-    subst (λ w. LacksFrame w reported) c.in-Some.ensures.state s.lacks in
+    let here : LacksFrame (first_of c.args.rules.short_types c.args.payload.now) plain =
+    subst (λ w. LacksFrame w plain) c.in-Some.ensures.state s.lacks in
+    let first = is_lacking c.args.rules (first_of c.args.rules.short_types c.args.payload.now) plain reported here
+    c.reported_by.ensures in
     let result = to_z w64 (of_z w64 c.refuse-in-Some-Err.result) in
     let count : result ≡ c.refuse-in-Some-Err.result = search rules in
     let reason = count ∙ c.refuse-in-Some-Err.ensures.reason in
     let reports : ReportsNone c.args.rules c.args.payload.now result c.refuse-in-Some-Err.new.out =
-    record { reported = reported; first = inl first; reason = reason; is = c.refuse-in-Some-Err.ensures.words } in
+    record { reported = reported; first = first; reason = reason; is = c.refuse-in-Some-Err.ensures.words } in
     let some : c.args.payload.now ≡ [] → ⊥ = search rules in
     record {
       returns = inr (inl reports);

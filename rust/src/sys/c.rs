@@ -5,7 +5,7 @@ use super::words::{Canon, Frame, FrameIter, Header, HeaderFields, Param, Params,
 
 extern "C" {
     /// An archive of another version lacks this symbol, so that it can't be linked.
-    pub static quic_wire_abi_9: u8;
+    pub static quic_wire_abi_10: u8;
 
     pub fn quic_wire_frames_fill_(
         frames: *mut FrameIter,

@@ -89,7 +89,7 @@ struct Linked(#[allow(dead_code)] *const u8);
 unsafe impl Sync for Linked {}
 
 #[used]
-static LINKED: Linked = Linked(&raw const c::quic_wire_abi_9);
+static LINKED: Linked = Linked(&raw const c::quic_wire_abi_10);
 
 // The result of a writer: the bytes at the front of its room, or its error and how many it needs.
 fn wrote(answer: i32, written: usize) -> Result<Filled, (i32, usize)> {

@@ -108,10 +108,9 @@ def check_permitted(kind, context):
 
 def check_stream(kind, frame, context):
     """Only the side that opened a unidirectional stream sends data on it, and only the other limits and stops them."""
-    if "side" not in context or not frame.get("stream_id", 0) & 2:
+    if "side" not in context or "stream_id" not in frame or not frame["stream_id"] & 2:
         return
-    sender = 1 if context["side"] == "client" else 0
-    is_own = frame["stream_id"] & 1 == sender
+    is_own = bool(frame["stream_id"] & 1) == (context["side"] == "client")  # the sender's
     if is_own == (kind in BY_READERS):
         raise Rejected("STREAM_STATE_ERROR")
 

@@ -25,9 +25,9 @@
  * Results: an error is below 0 and fits in an int, and quic_wire_strerror
  * describes it.
  *
- * Read the frames of a payload.  |kind| is its packet's, header.kind below, and
- * |sender| the side that sent it:
+ * Read the frames of a payload:
  *
+ *   // kind is that of the packet, below header.kind; sender is the other side
  *   quic_wire_frame_iter frames;
  *   quic_wire_frame frame;
  *   int answer =
@@ -226,7 +226,8 @@ typedef enum quic_wire_result {
                                       QUIC_WIRE_READ_DATA_LIMIT,
                                       QUIC_WIRE_READ_STREAM_LIMIT */
 
-  /* A frame isn't permitted: quic_wire_frame_permitted. */
+  /* A frame isn't permitted.  Only quic_wire_type_permitted and
+   * quic_wire_frame_permitted return these. */
   QUIC_WIRE_ERR_FRAME_PACKET = -26, /* its packet may not carry it (12.4,
                                        table 3) */
   QUIC_WIRE_ERR_FRAME_SENDER = -27, /* that side may not send it (19.7,
@@ -919,17 +920,17 @@ QUIC_WIRE_CHECKED QUIC_WIRE_API int quic_wire_type_permitted(uint64_t type,
 
 /**
  * Whether a |packet| from |sender| may carry this |frame|, of which the kind
- * and the stream count.  The other arguments are those of
+ * and the stream's id count.  The other arguments are those of
  * quic_wire_type_permitted.
  *
- * Returns:
- *  - what quic_wire_type_permitted does for the type |frame->kind|
- *  - QUIC_WIRE_ERR_FRAME_STREAM instead of 0 if the stream is unidirectional
- *    (section 2.1) and the wrong way round: of a RESET_STREAM, STREAM or
- *    STREAM_DATA_BLOCKED if |sender| didn't open it (sections 19.4, 19.8 and
- *    19.13); of a STOP_SENDING or MAX_STREAM_DATA if |sender| opened it
+ * Returns what quic_wire_type_permitted does for |frame->kind|;
+ * QUIC_WIRE_ERR_ARGUMENT for NULL; and instead of 0
+ * QUIC_WIRE_ERR_FRAME_STREAM if the stream is unidirectional (section 2.1) and
+ *
+ *  - |sender| can't send on it, of a RESET_STREAM, STREAM or
+ *    STREAM_DATA_BLOCKED (sections 19.4, 19.8 and 19.13)
+ *  - |sender| can't receive on it, of a STOP_SENDING or MAX_STREAM_DATA
  *    (sections 19.5 and 19.10)
- *  - QUIC_WIRE_ERR_ARGUMENT for NULL
  *
  * Whether the stream exists, and how many there may be, you check.
  */
@@ -1048,7 +1049,8 @@ quic_wire_ack_gaps_write(const quic_wire_frame *ack, const quic_wire_gap *gaps,
                          size_t *written);
 
 /** How many bytes quic_wire_frame_write writes for these arguments.  Returns 0
- * and |*len|, or the error if that has another than QUIC_WIRE_ERR_NOBUF. */
+ * and |*len|, or QUIC_WIRE_ERR_ARGUMENT, QUIC_WIRE_ERR_FRAME_LIMIT,
+ * QUIC_WIRE_ERR_FRAME_MALFORMED or QUIC_WIRE_ERR_FRAME_TYPE if that does. */
 QUIC_WIRE_CHECKED QUIC_WIRE_API int
 quic_wire_frame_len(const quic_wire_frame *frame, const uint8_t *data,
                     size_t datalen, uint32_t flags, size_t *len);
@@ -1076,9 +1078,9 @@ QUIC_WIRE_CHECKED QUIC_WIRE_API int
 quic_wire_canonical(const uint8_t *payload, size_t payloadlen, uint8_t *dest,
                     size_t destlen, quic_wire_canon *out);
 
-/** The same, but |payload| is also rejected if a frame breaks a rule of
- * |flags|, QUIC_WIRE_READ_..., as by quic_wire_frames_next with these flags.
- * What is written breaks none of them. */
+/** The same by rules: |payload| is also rejected if a frame breaks one of
+ * |flags|, QUIC_WIRE_READ_..., as quic_wire_frames_next rejects it, and what is
+ * written breaks none.  Returns what quic_wire_canonical does. */
 QUIC_WIRE_CHECKED QUIC_WIRE_API int
 quic_wire_canonical_with(const uint8_t *payload, size_t payloadlen,
                          uint32_t flags, uint8_t *dest, size_t destlen,

@@ -1,12 +1,11 @@
 //! What only C has of rules: which packets may carry a frame, who may send it and on which streams; what is written, and
 //! put into its shortest form, by rules; and the comparison of reset tokens.
+use super::std::string::ToString;
+use super::std::vec;
 use super::{rounds, Random, INVALID};
 use crate::frame::{FrameType, Iter, Rules};
 use crate::sys::words::Canon;
 use crate::sys::{c, Frame, NO_ROOM, OK, PAYLOAD_EMPTY};
-use std::format;
-use std::string::ToString;
-use std::vec;
 
 const KIND: i32 = -3;
 const UNKNOWN: i32 = -22;
@@ -174,7 +173,7 @@ fn the_shortest_payload_breaks_no_rule() {
         if answer == OK {
             assert_eq!(out[..canon.len], plain[..whole.len]);
             let mut read = Iter::with_rules(&out[..canon.len], Rules::of(flags)).unwrap();
-            assert!(read.all(|frame| frame.is_ok()), "{}", format!("{flags:x}"));
+            assert!(read.all(|frame| frame.is_ok()), "{flags:x}");
         }
     });
 }

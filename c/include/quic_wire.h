@@ -325,7 +325,8 @@ typedef enum quic_wire_code {
  * QUIC_WIRE_READ_DATA_LIMIT, QUIC_WIRE_READ_STREAM_LIMIT,
  * QUIC_WIRE_READ_NO_ACK_FREQUENCY and QUIC_WIRE_READ_TOKENS.  With one of them
  * a frame that a reader with this flag rejects isn't written, and the result is
- * the reader's.  Other bits are ignored. */
+ * the reader's.  Other bits are ignored.  QUIC_WIRE_READ_RFC is no such value:
+ * it has the bit of QUIC_WIRE_WRITE_LAST. */
 #define QUIC_WIRE_WRITE_LAST 0x001u /* the frame is the last one of its payload,
                                        so STREAM and DATAGRAM need no length */
 
@@ -991,9 +992,9 @@ quic_wire_ack_ranges_fill(quic_wire_range_iter *ranges, const uint8_t *payload,
  * |dest|.  |flags| are QUIC_WIRE_WRITE_LAST and QUIC_WIRE_WRITE_RFC, or single
  * rules.  The frame's data is |frame->datalen| bytes at |frame->data| of
  * |data|, an array of |datalen| bytes; in a NEW_CONNECTION_ID the token follows
- * them.  If |frame->datalen| is 0, as for each kind without
- * data, |data| and that offset are ignored, so a PING is written as it was
- * read, with any |data| or NULL.  The frame's type, begin and end are ignored.
+ * them.  If |frame->datalen| is 0, as for each kind without data, |data| and
+ * that offset are ignored, so a PING is written as it was read, with any |data|
+ * or NULL.  The frame's type, begin and end are ignored.
  *
  * Returns:
  *  - 0, and in |*written| how many bytes were written

@@ -18,9 +18,10 @@
 uint32_t quic_wire_close_code_(int32_t);
 uint32_t quic_wire_frame_rules_(uint32_t);
 int32_t quic_wire_type_permitted_(uint64_t, uint32_t, uint32_t, uint32_t);
-int32_t quic_wire_frame_permitted_(const quic_wire_frame *, uint32_t, uint32_t,
+int32_t quic_wire_frame_permitted_(uint64_t, uint64_t, uint32_t, uint32_t,
                                    uint32_t);
-uint32_t quic_wire_reset_token_equal_(const uint8_t *, const uint8_t *);
+uint32_t quic_wire_reset_token_equal_(const uint8_t *, size_t, const uint8_t *,
+                                      size_t);
 int32_t quic_wire_frames_init_(quic_wire_frame_iter *, const uint8_t *, size_t,
                                uint32_t);
 int32_t quic_wire_frames_next_(quic_wire_frame_iter *, const uint8_t *, size_t,
@@ -130,7 +131,9 @@ QUIC_WIRE_API int quic_wire_type_permitted(uint64_t type, uint32_t packet,
 QUIC_WIRE_API int quic_wire_frame_permitted(const quic_wire_frame *frame,
                                             uint32_t packet, uint32_t sender,
                                             uint32_t flags) {
-  return frame ? quic_wire_frame_permitted_(frame, packet, sender, flags)
+  /* The first number of each frame with a stream is the stream's id. */
+  return frame ? quic_wire_frame_permitted_(frame->kind, frame->numbers[0],
+                                            packet, sender, flags)
                : QUIC_WIRE_ERR_ARGUMENT;
 }
 
@@ -238,7 +241,7 @@ quic_wire_reset_token(const uint8_t *payload, size_t payloadlen,
 
 QUIC_WIRE_API int quic_wire_reset_token_equal(const uint8_t *a,
                                               const uint8_t *b) {
-  return a && b ? (int)quic_wire_reset_token_equal_(a, b) : 0;
+  return a && b ? (int)quic_wire_reset_token_equal_(a, 16, b, 16) : 0;
 }
 
 QUIC_WIRE_API const uint8_t *quic_wire_path_data(const uint8_t *payload,

@@ -175,8 +175,8 @@ extern "C" {
     pub fn quic_wire_number_write_(number: u64, number_len: u32, out: *mut u8, out_len: usize) -> i32;
     pub fn quic_wire_varint_len_(value: u64) -> usize;
     pub fn quic_wire_type_permitted_(ty: u64, packet: u32, sender: u32, flags: u32) -> i32;
-    pub fn quic_wire_frame_permitted_(frame: *const Frame, packet: u32, sender: u32, flags: u32) -> i32;
-    pub fn quic_wire_reset_token_equal_(a: *const u8, b: *const u8) -> u32;
+    pub fn quic_wire_frame_permitted_(ty: u64, stream: u64, packet: u32, sender: u32, flags: u32) -> i32;
+    pub fn quic_wire_reset_token_equal_(token: *const u8, len: usize, other: *const u8, other_len: usize) -> u32;
     pub fn quic_wire_canonical_with_(
         payload: *const u8,
         len: usize,

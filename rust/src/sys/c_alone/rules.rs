@@ -42,13 +42,13 @@ fn of_type(ty: u64, packet: u32, sender: u32, flags: u32) -> i32 {
     }
 }
 
-// Sections 19.4, 19.5, 19.8, 19.10 and 19.13: the kinds whose sender must have opened a unidirectional stream, and those
+// Sections 19.4, 19.5, 19.8, 19.10 and 19.13: the types whose sender must have opened a unidirectional stream, and those
 // whose sender must not.
-fn is_of_its_stream(kind: u16, id: u64, sender: u32) -> bool {
+fn is_of_its_stream(ty: u64, id: u64, sender: u32) -> bool {
     let is_own = id & 1 == u64::from(sender);
-    match kind {
+    match ty {
         _ if id & 2 == 0 => true,
-        0x04 | 0x08 | 0x15 => is_own,
+        0x04 | 0x08..=0x0f | 0x15 => is_own,
         0x05 | 0x11 => !is_own,
         _ => true,
     }
@@ -69,24 +69,14 @@ fn a_packet_carries_what_it_may() {
         let answer = unsafe { c::quic_wire_type_permitted_(ty, packet, sender, flags) };
         assert_eq!(answer, of_type(ty, packet, sender, flags), "of {ty:x} in {packet} from {sender}, {flags:x}");
 
-        let mut frame = random.frame();
-        // A kind, not another type of it.
-        frame.kind = [random.below(0x32) as u16, 0xaf][random.below(2)];
-        frame.kind = match frame.kind {
-            0x03 => 0x02,
-            0x08..=0x0f => 0x08,
-            0x31 => 0x30,
-            kind => kind,
-        };
-        let before = frame;
-        // SAFETY: `frame` is borrowed. Any values in it are valid. The library accesses no other memory and keeps no
-        // pointer.
-        let answer = unsafe { c::quic_wire_frame_permitted_(&frame, packet, sender, flags) };
-        let wanted = match of_type(frame.kind.into(), packet, sender, flags) {
-            OK if !is_of_its_stream(frame.kind, frame.numbers[0], sender) => STREAM,
+        let stream = [random.below(8) as u64, random.number()][random.below(2)];
+        // SAFETY: as above.
+        let answer = unsafe { c::quic_wire_frame_permitted_(ty, stream, packet, sender, flags) };
+        let wanted = match of_type(ty, packet, sender, flags) {
+            OK if !is_of_its_stream(ty, stream, sender) => STREAM,
             answer => answer,
         };
-        assert_eq!((answer, frame), (wanted, before), "in {packet} from {sender}, {flags:x}");
+        assert_eq!(answer, wanted, "of {ty:x} on {stream} in {packet} from {sender}, {flags:x}");
     });
 }
 
@@ -180,13 +170,19 @@ fn the_shortest_payload_breaks_no_rule() {
 
 #[test]
 fn tokens_are_equal_if_all_bytes_are() {
-    // SAFETY: each pointer is that of 16 bytes, of which any are valid. The library accesses no other memory and keeps
-    // no pointer.
-    let equal = |a: &[u8; 16], b: &[u8; 16]| unsafe { c::quic_wire_reset_token_equal_(a.as_ptr(), b.as_ptr()) };
+    // SAFETY: `a` and `b` each pass their own pointer and length. The library accesses no other memory and keeps no
+    // pointer.
+    let call =
+        |a: &[u8], b: &[u8]| unsafe { c::quic_wire_reset_token_equal_(a.as_ptr(), a.len(), b.as_ptr(), b.len()) };
+    let equal = |a: &[u8; 16], b: &[u8; 16]| call(a, b);
     rounds(|random| {
         let a = u128::from(random.next()) << 64 | u128::from(random.next());
         let other = a ^ 1 << random.below(128) ^ 1 << random.below(128);
         assert_eq!(equal(&a.to_be_bytes(), &a.to_be_bytes()), 1);
         assert_eq!(equal(&a.to_be_bytes(), &other.to_be_bytes()), u32::from(a == other));
+        // Other lengths are none of tokens.
+        let (bytes, len, other_len) = ([0; 18], random.below(19), random.below(19));
+        let is_token = len == 16 && other_len == 16;
+        assert_eq!(call(&bytes[..len], &bytes[..other_len]), u32::from(is_token));
     });
 }

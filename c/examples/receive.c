@@ -1,7 +1,7 @@
 /* The receive path of a stack. Datagrams, lines of hexadecimal such as send.c
  * prints, are routed by their id, answered with a version negotiation if their
- * version is unknown, opened, and read with the checks of RFC 9000.  To build
- * and run it:
+ * version is unknown, opened, and read with the checks of RFC 9000; the sender
+ * is a client.  To build and run it:
  *
  *   cc -o send send.c -IPREFIX/include PREFIX/lib/libquic_wire.a
  *   cc -o receive receive.c -IPREFIX/include PREFIX/lib/libquic_wire.a
@@ -39,7 +39,8 @@ static void close_with(uint64_t code, uint64_t type) {
   frame.kind = QUIC_WIRE_FRAME_CONNECTION_CLOSE;
   frame.close.error_code = code;
   frame.close.frame_type = type == QUIC_WIRE_NO_TYPE ? 0 : type;
-  answer = quic_wire_frame_write(&frame, NULL, 0, 0, bytes, sizeof bytes, &n);
+  answer = quic_wire_frame_write(&frame, NULL, 0, QUIC_WIRE_WRITE_RFC, bytes,
+                                 sizeof bytes, &n);
   check(answer == QUIC_WIRE_OK, quic_wire_strerror(answer));
   print_hex("  close ", bytes, n);
 }
@@ -54,12 +55,14 @@ static void read_payload(uint8_t packet, const uint8_t *payload, size_t len) {
   while (answer >= 0 &&
          (answer = quic_wire_frames_fill(&frames, payload, len, &frame, 1,
                                          &count)) == QUIC_WIRE_ITEM) {
-    const uint32_t rules = quic_wire_frame_rules(frame.kind);
-    if (!(rules & QUIC_WIRE_RULE_IN(packet))) {
-      close_with(QUIC_WIRE_CODE_PROTOCOL_VIOLATION, frame.type);
+    answer = quic_wire_frame_permitted(&frame, packet, QUIC_WIRE_SIDE_CLIENT,
+                                       QUIC_WIRE_READ_RFC);
+    if (answer < 0) {
+      close_with(quic_wire_close_code(answer), frame.type);
       return;
     }
-    is_owed |= !(rules & QUIC_WIRE_RULE_NOT_ELICITING);
+    is_owed |=
+        !(quic_wire_frame_rules(frame.kind) & QUIC_WIRE_RULE_NOT_ELICITING);
     handle(&frame, payload, len);
   }
   if (answer < 0)

@@ -16,11 +16,11 @@ static void add(int answer, size_t n) {
 }
 
 static void add_frame(const quic_wire_frame *frame, const void *data,
-                      size_t datalen, int last) {
+                      size_t datalen, uint32_t last) {
   size_t n = 0;
   const int answer = quic_wire_frame_write(
-      frame, (const uint8_t *)data, datalen, last, payload + len,
-      sizeof payload - len, &n);
+      frame, (const uint8_t *)data, datalen, last | QUIC_WIRE_WRITE_RFC,
+      payload + len, sizeof payload - len, &n);
   add(answer, n);
 }
 
@@ -65,7 +65,7 @@ static void add_stream(void) {
   frame.stream.stream_id = 4;
   frame.stream.offset = 9;
   frame.datalen = 5;
-  add_frame(&frame, "hello", 5, 1);
+  add_frame(&frame, "hello", 5, QUIC_WIRE_WRITE_LAST);
 }
 
 /* Seals the payload in a packet, and begins the next payload.  Returns where

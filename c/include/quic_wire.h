@@ -27,19 +27,24 @@
  *
  * Read the frames of a payload:
  *
+ *   // kind is that of the packet, below header.kind; sender is the other side
  *   quic_wire_frame_iter frames;
  *   quic_wire_frame frame;
  *   int answer =
  *       quic_wire_frames_init(&frames, payload, len, QUIC_WIRE_READ_RFC);
  *   while (answer >= 0 &&
  *          (answer = quic_wire_frames_next(&frames, payload, len, &frame)) ==
- *              QUIC_WIRE_ITEM)
- *     if (frame.kind == QUIC_WIRE_FRAME_STREAM)
+ *              QUIC_WIRE_ITEM) {
+ *     answer =
+ *         quic_wire_frame_permitted(&frame, kind, sender, QUIC_WIRE_READ_RFC);
+ *     if (answer == 0 && frame.kind == QUIC_WIRE_FRAME_STREAM)
  *       deliver(frame.stream.stream_id, frame.stream.offset,
  *               payload + frame.data, frame.datalen);
- *   // 0: all frames were read.  Below 0: quic_wire_close_code(answer) is the
- *   // code to close with, and frames.offset the end of the last valid frame
- *   // (not set if the payload is empty).
+ *   }
+ *   // 0: all frames were read, and may be there.  Below 0:
+ *   // quic_wire_close_code(answer) is the code to close with, and
+ *   // frames.offset the end of the last frame that was read (not set if the
+ *   // payload is empty).
  *
  * Open the packets of a datagram.  make_mask and open_payload are your cipher;
  * |expected| is the packet number that you expect next, below 2^62:
@@ -78,8 +83,10 @@
  *   int64_t begin = quic_wire_header_write(&fields, dcid, dcidlen, scid,
  *                                          scidlen, NULL, 0, packet, room);
  *   if (begin < 0 || room - (size_t)begin < 16 ||
- *       quic_wire_frame_write(&frame, data, datalen, 1, packet + begin,
- *                             room - 16 - (size_t)begin, &payloadlen) < 0)
+ *       quic_wire_frame_write(&frame, data, datalen,
+ *                             QUIC_WIRE_WRITE_LAST | QUIC_WIRE_WRITE_RFC,
+ *                             packet + begin, room - 16 - (size_t)begin,
+ *                             &payloadlen) < 0)
  *     return 0;
  *   size_t end = (size_t)begin + payloadlen + 16;
  *   size_t place = (size_t)begin - fields.numberlen; // of the packet number
@@ -99,6 +106,7 @@
  *
  *   Results
  *   Flags of readers
+ *   Flags of writers
  *   Frames (RFC 9000, section 19)
  *   Packets (RFC 9000, section 17)
  *   Transport parameters (RFC 9000, section 18)
@@ -218,6 +226,15 @@ typedef enum quic_wire_result {
                                       QUIC_WIRE_READ_DATA_LIMIT,
                                       QUIC_WIRE_READ_STREAM_LIMIT */
 
+  /* A frame isn't permitted.  Only quic_wire_type_permitted and
+   * quic_wire_frame_permitted return these. */
+  QUIC_WIRE_ERR_FRAME_PACKET = -26, /* its packet may not carry it (12.4,
+                                       table 3) */
+  QUIC_WIRE_ERR_FRAME_SENDER = -27, /* that side may not send it (19.7,
+                                       19.20) */
+  QUIC_WIRE_ERR_FRAME_STREAM = -28, /* that side may not send it on this stream
+                                       (19.4, 19.5, 19.8, 19.10, 19.13) */
+
   /* A packet is dropped (section 5.2). */
   QUIC_WIRE_ERR_PACKET_END = -40,       /* the bytes end within the header */
   QUIC_WIRE_ERR_PACKET_FIXED_BIT = -41, /* the fixed bit is clear */
@@ -274,7 +291,9 @@ typedef enum quic_wire_code {
                                               (19.11, 19.14) */
 #define QUIC_WIRE_READ_NO_ACK_FREQUENCY 0x008u /* ACK_FREQUENCY, IMMEDIATE_ACK:
                                                   their extension wasn't
-                                                  negotiated (12.4) */
+                                                  negotiated, so their types
+                                                  are unknown, whatever follows
+                                                  them (12.4) */
 #define QUIC_WIRE_READ_TOKENS 0x200u /* an empty token in NEW_TOKEN (19.7) */
 
 /* Packets: two bits let the fixed bit be clear, and one makes an error. */
@@ -294,10 +313,27 @@ typedef enum quic_wire_code {
                                             (7.4) */
 
 /** Each flag except QUIC_WIRE_READ_GREASED_BIT: what RFC 9000 requires of the
- * bytes alone, if no extension was negotiated.  You check in which packets
- * (quic_wire_frame_rules) and from which side a frame may come, and that you
- * offered to receive DATAGRAM. */
+ * bytes alone, if no extension was negotiated.  In which packets, from which
+ * side and on which streams a frame may come, quic_wire_frame_permitted checks.
+ * You check that you offered to receive DATAGRAM. */
 #define QUIC_WIRE_READ_RFC 0x3efu
+
+/* ---- Flags of writers */
+
+/** What quic_wire_frame_write, quic_wire_frame_header_write and
+ * quic_wire_frame_len are given.  Rules have the flags of readers:
+ * QUIC_WIRE_READ_DATA_LIMIT, QUIC_WIRE_READ_STREAM_LIMIT,
+ * QUIC_WIRE_READ_NO_ACK_FREQUENCY and QUIC_WIRE_READ_TOKENS.  With one of them
+ * a frame that a reader with this flag rejects isn't written, and the result is
+ * the reader's.  Other bits are ignored.  QUIC_WIRE_READ_RFC is no such value:
+ * it has the bit of QUIC_WIRE_WRITE_LAST. */
+#define QUIC_WIRE_WRITE_LAST 0x001u /* the frame is the last one of its payload,
+                                       so STREAM and DATAGRAM need no length */
+
+/** All four rules: what is written can be read with QUIC_WIRE_READ_RFC.  Remove
+ * QUIC_WIRE_READ_NO_ACK_FREQUENCY from both if the ACK frequency extension was
+ * negotiated. */
+#define QUIC_WIRE_WRITE_RFC 0x20eu
 
 /* ---- Frames (RFC 9000, section 19) */
 
@@ -338,7 +374,7 @@ typedef enum quic_wire_frame_kind {
 #define QUIC_WIRE_FLAG_MORE 4 /* ACK: of quic_wire_frame_read, which had no
                                  room for all ranges */
 
-/** The rules of RFC 9000, section 12.4, table 3 for a kind of frame, as the
+/** What RFC 9000, section 12.4, table 3 says about a kind of frame, as the
  * bits of quic_wire_frame_rules: the kinds of packets in which it may be, such
  * as QUIC_WIRE_RULE_IN(QUIC_WIRE_PACKET_1RTT), and the table's column Spec. */
 #define QUIC_WIRE_RULE_IN(packet) (1u << (packet))
@@ -410,8 +446,9 @@ typedef struct quic_wire_ack_frequency {
  * quic_wire_frame_write requires that too.  Numbers that were read are below
  * 2^62, except |path.data|.  Where data ends, how many streams a limit allows
  * and whether a token is empty is checked only with the flags for that
- * (QUIC_WIRE_READ_...).  For languages without unions, such as Go with cgo,
- * QUIC_WIRE_PLAIN leaves only |numbers|, in the order of the structs above. */
+ * (QUIC_WIRE_READ_..., QUIC_WIRE_WRITE_RFC).  For languages without unions,
+ * such as Go with cgo, QUIC_WIRE_PLAIN leaves only |numbers|, in the order of
+ * the structs above. */
 typedef struct quic_wire_frame {
   uint16_t kind;  /* QUIC_WIRE_FRAME_PADDING and so on */
   uint16_t type;  /* the type as it is in the payload: 0x08 to 0x0f of a
@@ -552,7 +589,7 @@ typedef struct quic_wire_header_fields {
 
 /* ---- Transport parameters (RFC 9000, section 18) */
 
-/** The side that calls. */
+/** The sides of a connection. */
 typedef enum quic_wire_side {
   QUIC_WIRE_SIDE_CLIENT = 0,
   QUIC_WIRE_SIDE_SERVER = 1
@@ -573,7 +610,7 @@ typedef enum quic_wire_side {
 
 /** Transport parameters.  If a parameter is absent, all its fields are 0, or
  * hold its default if it has one.  Ids are at the front of their bytes,
- * followed by zeros. */
+ * followed by zeros.  Compare reset tokens by quic_wire_reset_token_equal. */
 typedef struct quic_wire_params {
   uint32_t present;  /* QUIC_WIRE_HAS_STATELESS_RESET_TOKEN and so on */
   uint32_t reserved; /* 0 */
@@ -696,11 +733,11 @@ QUIC_WIRE_CHECKED extern int quic_wire_check(uint32_t header);
 
 /**
  * The code with which an endpoint closes the connection after |result|:
- * FRAME_ENCODING_ERROR, PROTOCOL_VIOLATION or TRANSPORT_PARAMETER_ERROR if its
- * peer broke a rule; INTERNAL_ERROR for the caller's mistakes, -1 to -9;
- * NO_ERROR, 0, for all others, after which nothing is closed: results from 0
- * on, QUIC_WIRE_ERR_LIBRARY, and QUIC_WIRE_ERR_PACKET_..., whose packets are
- * dropped.
+ * FRAME_ENCODING_ERROR, PROTOCOL_VIOLATION, STREAM_STATE_ERROR or
+ * TRANSPORT_PARAMETER_ERROR if its peer broke a rule; INTERNAL_ERROR for the
+ * caller's mistakes, -1 to -9; NO_ERROR, 0, for all others, after which nothing
+ * is closed: results from 0 on, QUIC_WIRE_ERR_LIBRARY, and
+ * QUIC_WIRE_ERR_PACKET_..., whose packets are dropped.
  */
 QUIC_WIRE_API uint32_t quic_wire_close_code(int result);
 
@@ -834,10 +871,19 @@ QUIC_WIRE_API size_t quic_wire_padding_count(const uint8_t *payload,
 
 /** The 16 bytes of the stateless reset token of a NEW_CONNECTION_ID that was
  * read from this payload (RFC 9000, section 19.15).  NULL for other kinds, and
- * if an offset is outside the payload. */
+ * if an offset is outside the payload.  Compare it by
+ * quic_wire_reset_token_equal, not by memcmp. */
 QUIC_WIRE_API const uint8_t *
 quic_wire_reset_token(const uint8_t *payload, size_t payloadlen,
                       const quic_wire_frame *frame);
+
+/** Whether two stateless reset tokens, of 16 bytes each, are equal: 1 if they
+ * are, 0 if they aren't, and for NULL.  It runs the same instructions for all
+ * tokens, so its time doesn't reveal which bytes differ, as RFC 9000, section
+ * 10.3.1, requires when the last 16 bytes of a datagram are compared with the
+ * tokens of a peer.  This is tested, not proved. */
+QUIC_WIRE_API int quic_wire_reset_token_equal(const uint8_t *a,
+                                              const uint8_t *b);
 
 /** The eight bytes of a PATH_CHALLENGE or PATH_RESPONSE that was read from this
  * payload (RFC 9000, sections 19.17 and 19.18), which |path.data| holds as a
@@ -848,10 +894,50 @@ QUIC_WIRE_API const uint8_t *quic_wire_path_data(const uint8_t *payload,
 
 /** The rules of RFC 9000 for a |kind| of frame, QUIC_WIRE_RULE_...; 0 if there
  * is no such kind.  DATAGRAM, ACK_FREQUENCY and IMMEDIATE_ACK may be in 0-RTT
- * and 1-RTT packets (RFC 9221, section 5; as in quinn-proto).  A frame in
- * another kind of packet is a PROTOCOL_VIOLATION, which the caller must check.
- */
+ * and 1-RTT packets (RFC 9221, section 5; as in quinn-proto). */
 QUIC_WIRE_API uint32_t quic_wire_frame_rules(uint32_t kind);
+
+/**
+ * Whether a |packet| from |sender| may carry a frame of this |type|, before its
+ * fields are read (RFC 9000, section 12.4).  |packet| is
+ * QUIC_WIRE_PACKET_INITIAL, QUIC_WIRE_PACKET_0RTT, QUIC_WIRE_PACKET_HANDSHAKE
+ * or QUIC_WIRE_PACKET_1RTT, and |sender| is QUIC_WIRE_SIDE_CLIENT or
+ * QUIC_WIRE_SIDE_SERVER.  Of |flags| only QUIC_WIRE_READ_NO_ACK_FREQUENCY
+ * counts.
+ *
+ * Returns:
+ *  - 0 if it may
+ *  - QUIC_WIRE_ERR_KIND if |packet| or |sender| is none of these
+ *  - QUIC_WIRE_ERR_FRAME_TYPE if the type is unknown, as the types of
+ *    ACK_FREQUENCY and IMMEDIATE_ACK are with that flag
+ *  - QUIC_WIRE_ERR_FRAME_PACKET if such a packet may not carry the frame
+ *  - QUIC_WIRE_ERR_FRAME_SENDER if it is a NEW_TOKEN or a HANDSHAKE_DONE from a
+ *    client (sections 19.7 and 19.20)
+ */
+QUIC_WIRE_CHECKED QUIC_WIRE_API int quic_wire_type_permitted(uint64_t type,
+                                                             uint32_t packet,
+                                                             uint32_t sender,
+                                                             uint32_t flags);
+
+/**
+ * Whether a |packet| from |sender| may carry this |frame|, of which the kind
+ * and the stream's id count.  The other arguments are those of
+ * quic_wire_type_permitted.
+ *
+ * Returns what quic_wire_type_permitted does for |frame->kind|;
+ * QUIC_WIRE_ERR_ARGUMENT for NULL; and instead of 0
+ * QUIC_WIRE_ERR_FRAME_STREAM if the stream is unidirectional (section 2.1) and
+ *
+ *  - |sender| can't send on it, of a RESET_STREAM, STREAM or
+ *    STREAM_DATA_BLOCKED (sections 19.4, 19.8 and 19.13)
+ *  - |sender| can't receive on it, of a STOP_SENDING or MAX_STREAM_DATA
+ *    (sections 19.5 and 19.10)
+ *
+ * Whether the stream exists, and how many there may be, you check.
+ */
+QUIC_WIRE_CHECKED QUIC_WIRE_API int
+quic_wire_frame_permitted(const quic_wire_frame *frame, uint32_t packet,
+                          uint32_t sender, uint32_t flags);
 
 /** After QUIC_WIRE_ERR_FRAME_...: the type of the invalid frame, below 2^62.
  * If the bytes end within that type, it is the type of the frame before, as in
@@ -903,12 +989,12 @@ quic_wire_ack_ranges_fill(quic_wire_range_iter *ranges, const uint8_t *payload,
 
 /**
  * Writes |frame|, any kind except ACK, in its shortest form at the front of
- * |dest|.  |last| is not 0 if it is the last frame of its payload; then STREAM
- * and DATAGRAM need no length.  The frame's data is |frame->datalen| bytes at
- * |frame->data| of |data|, an array of |datalen| bytes; in a NEW_CONNECTION_ID
- * the token follows them.  If |frame->datalen| is 0, as for each kind without
- * data, |data| and that offset are ignored, so a PING is written as it was
- * read, with any |data| or NULL.  The frame's type, begin and end are ignored.
+ * |dest|.  |flags| are QUIC_WIRE_WRITE_LAST and QUIC_WIRE_WRITE_RFC, or single
+ * rules.  The frame's data is |frame->datalen| bytes at |frame->data| of
+ * |data|, an array of |datalen| bytes; in a NEW_CONNECTION_ID the token follows
+ * them.  If |frame->datalen| is 0, as for each kind without data, |data| and
+ * that offset are ignored, so a PING is written as it was read, with any |data|
+ * or NULL.  The frame's type, begin and end are ignored.
  *
  * Returns:
  *  - 0, and in |*written| how many bytes were written
@@ -918,25 +1004,27 @@ quic_wire_ack_ranges_fill(quic_wire_range_iter *ranges, const uint8_t *payload,
  *    ACK or of no kind, has a flag or number that its kind lacks, a number of
  *    2^62 or more other than |path.data|, data outside |data|, or is a
  *    NEW_CONNECTION_ID that section 19.15 rules out
+ *  - QUIC_WIRE_ERR_FRAME_LIMIT, QUIC_WIRE_ERR_FRAME_MALFORMED or
+ *    QUIC_WIRE_ERR_FRAME_TYPE if it breaks a rule of |flags|
  *
- * Frames that a reader rejects only because of its flags can be written.
- * |written| may be NULL.  Bytes of |dest| after those written don't change, and
- * none after an error.
+ * Without rules, frames that a reader rejects only because of its flags are
+ * written.  |written| may be NULL, and changes only with the first two.  Bytes
+ * of |dest| after those written don't change, and none after an error.
  */
 QUIC_WIRE_CHECKED QUIC_WIRE_API int
 quic_wire_frame_write(const quic_wire_frame *frame, const uint8_t *data,
-                      size_t datalen, int last, uint8_t *dest, size_t destlen,
-                      size_t *written);
+                      size_t datalen, uint32_t flags, uint8_t *dest,
+                      size_t destlen, size_t *written);
 
 /**
  * Writes |frame|, a STREAM, CRYPTO or DATAGRAM, up to its data, which has
  * |frame->datalen| bytes.  It is the front of what quic_wire_frame_write
  * writes; you put the data after it.  The frame's type, data, begin and end
- * are ignored.  The results, |dest| and |written| are as for
+ * are ignored.  |flags|, the results, |dest| and |written| are as for
  * quic_wire_frame_write; QUIC_WIRE_ERR_ARGUMENT also for other kinds.
  */
 QUIC_WIRE_CHECKED QUIC_WIRE_API int
-quic_wire_frame_header_write(const quic_wire_frame *frame, int last,
+quic_wire_frame_header_write(const quic_wire_frame *frame, uint32_t flags,
                              uint8_t *dest, size_t destlen, size_t *written);
 
 /**
@@ -962,10 +1050,11 @@ quic_wire_ack_gaps_write(const quic_wire_frame *ack, const quic_wire_gap *gaps,
                          size_t *written);
 
 /** How many bytes quic_wire_frame_write writes for these arguments.  Returns 0
- * and |*len|, or QUIC_WIRE_ERR_ARGUMENT if that does. */
+ * and |*len|, or QUIC_WIRE_ERR_ARGUMENT, QUIC_WIRE_ERR_FRAME_LIMIT,
+ * QUIC_WIRE_ERR_FRAME_MALFORMED or QUIC_WIRE_ERR_FRAME_TYPE if that does. */
 QUIC_WIRE_CHECKED QUIC_WIRE_API int
 quic_wire_frame_len(const quic_wire_frame *frame, const uint8_t *data,
-                    size_t datalen, int last, size_t *len);
+                    size_t datalen, uint32_t flags, size_t *len);
 
 /* ---- Shortest payloads */
 
@@ -989,6 +1078,14 @@ quic_wire_frame_len(const quic_wire_frame *frame, const uint8_t *data,
 QUIC_WIRE_CHECKED QUIC_WIRE_API int
 quic_wire_canonical(const uint8_t *payload, size_t payloadlen, uint8_t *dest,
                     size_t destlen, quic_wire_canon *out);
+
+/** The same by rules: |payload| is also rejected if a frame breaks one of
+ * |flags|, QUIC_WIRE_READ_..., as quic_wire_frames_next rejects it, and what is
+ * written breaks none.  Returns what quic_wire_canonical does. */
+QUIC_WIRE_CHECKED QUIC_WIRE_API int
+quic_wire_canonical_with(const uint8_t *payload, size_t payloadlen,
+                         uint32_t flags, uint8_t *dest, size_t destlen,
+                         quic_wire_canon *out);
 
 /* ---- Reading packet headers */
 
@@ -1307,7 +1404,8 @@ quic_wire_params_default(quic_wire_params *params, size_t size);
 
 /**
  * Writes the shortest list of these parameters, as the |side| sends it: the
- * numbers that differ from their defaults, and what else is present.
+ * numbers that differ from their defaults, and what else is present.  It can be
+ * read with any flags, also with QUIC_WIRE_READ_RFC.
  *
  * Returns:
  *  - 0, and in |*written| how many bytes were written

@@ -17,6 +17,11 @@
 /* The functions of the proved library.  Their pointers must not be NULL. */
 uint32_t quic_wire_close_code_(int32_t);
 uint32_t quic_wire_frame_rules_(uint32_t);
+int32_t quic_wire_type_permitted_(uint64_t, uint32_t, uint32_t, uint32_t);
+int32_t quic_wire_frame_permitted_(uint64_t, uint64_t, uint32_t, uint32_t,
+                                   uint32_t);
+uint32_t quic_wire_reset_token_equal_(const uint8_t *, size_t, const uint8_t *,
+                                      size_t);
 int32_t quic_wire_frames_init_(quic_wire_frame_iter *, const uint8_t *, size_t,
                                uint32_t);
 int32_t quic_wire_frames_next_(quic_wire_frame_iter *, const uint8_t *, size_t,
@@ -44,6 +49,8 @@ int32_t quic_wire_ack_gaps_write_(const quic_wire_frame *,
                                   size_t, size_t *);
 int32_t quic_wire_canonical_(const uint8_t *, size_t, uint8_t *, size_t,
                              quic_wire_canon *);
+int32_t quic_wire_canonical_with_(const uint8_t *, size_t, uint32_t, uint8_t *,
+                                  size_t, quic_wire_canon *);
 int64_t quic_wire_header_read_(const uint8_t *, size_t, uint32_t,
                                const uint32_t *, size_t, uint32_t,
                                quic_wire_header *);
@@ -114,6 +121,20 @@ static inline void *quic_wire_nothing_(void) {
 
 QUIC_WIRE_API uint32_t quic_wire_frame_rules(uint32_t kind) {
   return quic_wire_frame_rules_(kind);
+}
+
+QUIC_WIRE_API int quic_wire_type_permitted(uint64_t type, uint32_t packet,
+                                           uint32_t sender, uint32_t flags) {
+  return quic_wire_type_permitted_(type, packet, sender, flags);
+}
+
+QUIC_WIRE_API int quic_wire_frame_permitted(const quic_wire_frame *frame,
+                                            uint32_t packet, uint32_t sender,
+                                            uint32_t flags) {
+  /* The first number of each frame with a stream is the stream's id. */
+  return frame ? quic_wire_frame_permitted_(frame->kind, frame->numbers[0],
+                                            packet, sender, flags)
+               : QUIC_WIRE_ERR_ARGUMENT;
 }
 
 QUIC_WIRE_API uint32_t quic_wire_close_code(int result) {
@@ -218,6 +239,11 @@ quic_wire_reset_token(const uint8_t *payload, size_t payloadlen,
              : NULL;
 }
 
+QUIC_WIRE_API int quic_wire_reset_token_equal(const uint8_t *a,
+                                              const uint8_t *b) {
+  return a && b ? (int)quic_wire_reset_token_equal_(a, 16, b, 16) : 0;
+}
+
 QUIC_WIRE_API const uint8_t *quic_wire_path_data(const uint8_t *payload,
                                                  size_t payloadlen,
                                                  const quic_wire_frame *frame) {
@@ -266,8 +292,8 @@ QUIC_WIRE_API int quic_wire_ack_ranges_fill(quic_wire_range_iter *ranges,
 
 QUIC_WIRE_API int quic_wire_frame_write(const quic_wire_frame *frame,
                                         const uint8_t *data, size_t datalen,
-                                        int last, uint8_t *dest, size_t destlen,
-                                        size_t *written) {
+                                        uint32_t flags, uint8_t *dest,
+                                        size_t destlen, size_t *written) {
   size_t unused;
   if (!frame || (!dest && destlen))
     return QUIC_WIRE_ERR_ARGUMENT;
@@ -279,12 +305,12 @@ QUIC_WIRE_API int quic_wire_frame_write(const quic_wire_frame *frame,
   }
   if (!dest)
     dest = (uint8_t *)quic_wire_nothing_();
-  return quic_wire_frame_write_(frame, data, datalen, last != 0, dest, destlen,
+  return quic_wire_frame_write_(frame, data, datalen, flags, dest, destlen,
                                 written ? written : &unused);
 }
 
 QUIC_WIRE_API int quic_wire_frame_header_write(const quic_wire_frame *frame,
-                                               int last, uint8_t *dest,
+                                               uint32_t flags, uint8_t *dest,
                                                size_t destlen,
                                                size_t *written) {
   size_t unused;
@@ -292,16 +318,16 @@ QUIC_WIRE_API int quic_wire_frame_header_write(const quic_wire_frame *frame,
     return QUIC_WIRE_ERR_ARGUMENT;
   if (!dest)
     dest = (uint8_t *)quic_wire_nothing_();
-  return quic_wire_frame_header_write_(frame, last != 0, dest, destlen,
+  return quic_wire_frame_header_write_(frame, flags, dest, destlen,
                                        written ? written : &unused);
 }
 
 QUIC_WIRE_API int quic_wire_frame_len(const quic_wire_frame *frame,
                                       const uint8_t *data, size_t datalen,
-                                      int last, size_t *len) {
+                                      uint32_t flags, size_t *len) {
   /* Every frame has at least one byte, so none fits without room. */
   int answer =
-      len ? quic_wire_frame_write(frame, data, datalen, last, NULL, 0, len)
+      len ? quic_wire_frame_write(frame, data, datalen, flags, NULL, 0, len)
           : QUIC_WIRE_ERR_ARGUMENT;
   return answer == QUIC_WIRE_ERR_NOBUF ? QUIC_WIRE_OK : answer;
 }
@@ -329,6 +355,20 @@ QUIC_WIRE_API int quic_wire_canonical(const uint8_t *payload, size_t payloadlen,
   if (!dest)
     dest = (uint8_t *)quic_wire_nothing_();
   return quic_wire_canonical_(payload, payloadlen, dest, destlen, out);
+}
+
+QUIC_WIRE_API int quic_wire_canonical_with(const uint8_t *payload,
+                                           size_t payloadlen, uint32_t flags,
+                                           uint8_t *dest, size_t destlen,
+                                           quic_wire_canon *out) {
+  if ((!payload && payloadlen) || (!dest && destlen) || !out)
+    return QUIC_WIRE_ERR_ARGUMENT;
+  if (!payload)
+    payload = (const uint8_t *)quic_wire_nothing_();
+  if (!dest)
+    dest = (uint8_t *)quic_wire_nothing_();
+  return quic_wire_canonical_with_(payload, payloadlen, flags, dest, destlen,
+                                   out);
 }
 
 QUIC_WIRE_API int64_t quic_wire_header_read(const uint8_t *bytes, size_t len,

@@ -35,6 +35,9 @@ const char *quic_wire_strerror(int result) {
   case QUIC_WIRE_ERR_FRAME_MALFORMED: return "malformed";
   case QUIC_WIRE_ERR_FRAME_LONG_TYPE: return "frame type not in shortest form";
   case QUIC_WIRE_ERR_FRAME_LIMIT: return "limit exceeded";
+  case QUIC_WIRE_ERR_FRAME_PACKET: return "not permitted in this packet";
+  case QUIC_WIRE_ERR_FRAME_SENDER: return "not permitted from this side";
+  case QUIC_WIRE_ERR_FRAME_STREAM: return "not permitted on this stream";
   case QUIC_WIRE_ERR_PACKET_END: return "unexpected end of packet";
   case QUIC_WIRE_ERR_PACKET_FIXED_BIT: return "fixed bit unset";
   case QUIC_WIRE_ERR_PACKET_SMALL: return "packet too small";

@@ -25,9 +25,18 @@ static void deliver(uint64_t id, uint64_t offset, const uint8_t *data,
   delivered++;
 }
 
-static void read_payload(const uint8_t *payload, size_t len) {
+static void read_payload(const uint8_t *payload, size_t len, uint32_t kind,
+                         uint32_t sender) {
 #include "example-1.h"
   check(answer == 0 && frames.offset == len, "no frames");
+}
+
+/* A STREAM isn't delivered from a Handshake packet, nor on a stream that the
+ * sender can only read. */
+static void read_what_is_forbidden(const uint8_t *payload, size_t len,
+                                   uint32_t kind, uint32_t sender, int result) {
+#include "example-1.h"
+  check(answer == result && delivered == 1, "another answer");
 }
 
 static void make_mask(uint8_t *mask, const uint8_t *sample) {
@@ -52,7 +61,8 @@ static void open_payload(uint64_t number, const uint8_t *packet,
   check(packet + headerlen == payload && number == 1, "another packet");
   check(payload[len - 16] == 1 && payload[len - 1] == 1, "another tag");
   turn(payload, len - 16);
-  read_payload(payload, len - 16);
+  read_payload(payload, len - 16, QUIC_WIRE_PACKET_HANDSHAKE,
+               QUIC_WIRE_SIDE_CLIENT);
   opened++;
 }
 
@@ -82,13 +92,19 @@ static size_t seal_a_packet(uint8_t *packet, size_t room) {
 
 int main(void) {
   static const uint8_t stream[] = {0x0d, 4, 9, 'h', 'e', 'l', 'l', 'o'};
+  static const uint8_t clients[] = {0x0a, 2, 1, 'a'};
   uint8_t datagram[1200];
   size_t len = seal_a_packet(datagram, 600);
   len += seal_a_packet(datagram + len, 600);
   open_packets(datagram, len);
   check(opened == 2 && delivered == 0, "two packets of one CRYPTO each");
-  read_payload(stream, sizeof stream);
+  read_payload(stream, sizeof stream, QUIC_WIRE_PACKET_1RTT,
+               QUIC_WIRE_SIDE_CLIENT);
   check(delivered == 1, "one STREAM");
+  read_what_is_forbidden(stream, sizeof stream, QUIC_WIRE_PACKET_HANDSHAKE,
+                         QUIC_WIRE_SIDE_CLIENT, QUIC_WIRE_ERR_FRAME_PACKET);
+  read_what_is_forbidden(clients, sizeof clients, QUIC_WIRE_PACKET_1RTT,
+                         QUIC_WIRE_SIDE_SERVER, QUIC_WIRE_ERR_FRAME_STREAM);
   puts("the examples of quic_wire.h: two packets sealed, opened and read");
   return 0;
 }

@@ -1,4 +1,4 @@
-"""What readers check: for each flag what is read without it and rejected with it, or the reverse."""
+"""What readers and writers check: for each flag what is accepted without it and rejected with it, or the reverse."""
 
 import functools
 import operator
@@ -25,6 +25,11 @@ FRAMES = [
     ("TOKENS", "0700", "malformed", "Token Length", 1, FEE, "19.7"),
     ("TOKENS", "074000", "malformed", "Token Length", 1, FEE, "19.7"),
 ]
+# A type that wasn't negotiated is unknown whether its fields are there or not, but rejected for its length first.
+UNKNOWN = [("40af", "40af00000000"), ("40af01", "40af01020304")]
+TOO_LONG = ["800000af", "800000af00000000", "401f"]
+# Bytes with a clear fixed bit, whose ids can't be read: ANY_VERSION or not.
+CUT = [("b6", "Version", 1), ("80000000", "Version", 1), ("80000000ff05aabb", "Destination Connection ID", 6)]
 # What no flag rejects: the greatest of each, and a field that could be shorter.
 ALLOWED = ["06ffffffffffffffff00", "0e00fffffffffffffffe0161", "0c00fffffffffffffffe61", "12d000000000000000",
            "16d000000000000000", "074001aa", "104001"]  # fmt: skip
@@ -78,6 +83,71 @@ class Flags(unittest.TestCase):
                     for flags in (flag, q.Checks.RFC):
                         self.rejected(read, flags, row)
 
+    def test_a_type_that_was_not_negotiated_is_unknown_before_its_fields(self):
+        row = ("invalid frame ID", "Frame Type", 0, FEE, "12.4")
+        for cut, whole in UNKNOWN:
+            for flags in (q.Checks.NO_ACK_FREQUENCY, q.Checks.RFC):
+                for digits in (cut, whole):
+                    for call in (q.read_frames, q.canonical):
+                        self.rejected(lambda checks: call(bytes.fromhex(digits), checks=checks), flags, row)
+            for flags in (q.Checks.QUINN, ~q.Checks.NO_ACK_FREQUENCY):
+                with self.assertRaisesRegex(q.FrameError, "^unexpected end in ACK_FREQUENCY at 0"):
+                    q.read_frames(bytes.fromhex(cut), checks=flags)
+        row = ("frame type not in shortest form", "Frame Type", 0, PV, "12.4")
+        for digits in TOO_LONG:
+            self.rejected(lambda checks: q.read_frames(bytes.fromhex(digits), checks=checks), q.Checks.RFC, row)
+
+    def test_what_breaks_a_rule_is_not_written(self):
+        for name, digits, reason, _, _, code, section in FRAMES:
+            if name == "SHORT_TYPES":
+                continue
+            (frame,) = q.read_frames(bytes.fromhex(digits))
+            flag = q.Checks[name]
+            for last in (False, True):
+                for write in (
+                    lambda checks: frame.encode(last, checks=checks),
+                    lambda checks: q.write_frames([q.Ping(), frame], checks=checks),
+                ):
+                    with self.subTest(digits):
+                        written = write(q.Checks.QUINN)
+                        self.assertEqual(write(~flag), written)
+                        for flags in (flag, q.Checks.RFC):
+                            with self.assertRaises(q.FrameError) as caught:
+                                write(flags)
+                            error = caught.exception
+                            found = (error.reason, error.code, error.section)
+                            self.assertEqual(found, (reason, code, f"RFC 9000, section {section}"))
+                            self.assertEqual((error.offset, error.field, error.frame_type), (None, None, frame.kind))
+        with self.assertRaises(q.FrameError) as caught:
+            q.MaxStreamsUni(1 << 61).encode(checks=q.Checks.RFC)
+        shown = "limit exceeded in MAX_STREAMS_UNI: it is greater than 2^60 (RFC 9000, section 19.11)"
+        self.assertEqual(str(caught.exception), shown)
+
+    def test_the_greatest_of_each_is_written(self):
+        for digits in ALLOWED:
+            (frame,) = q.read_frames(bytes.fromhex(digits))
+            written = q.write_frames([frame], checks=q.Checks.RFC)
+            self.assertEqual(q.read_frames(written, checks=q.Checks.RFC), [frame])
+            # The flag for short types isn't one of writers: no length is left out.
+            self.assertEqual(frame.encode(checks=q.Checks.SHORT_TYPES), frame.encode())
+
+    def test_canonical_with_a_flag(self):
+        for name, digits, *row in FRAMES:
+            flag, payload = q.Checks[name], bytes.fromhex("01" + digits)
+            with self.subTest(name), self.subTest(digits):
+                self.assertEqual(q.canonical(payload, checks=~flag), q.canonical(payload))
+                row[2] += 1
+                for flags in (flag, q.Checks.RFC):
+                    self.rejected(lambda checks: q.canonical(payload, checks=checks), flags, row)
+                with self.assertRaises(q.FrameError) as caught:
+                    q.canonical(payload, checks=flag)
+                self.assertEqual(caught.exception.offset, 1)
+        for digits in ALLOWED:
+            payload = bytes.fromhex(digits)
+            shortest = q.canonical(payload, checks=q.Checks.RFC)
+            self.assertEqual(shortest, q.canonical(payload))
+            self.assertEqual(q.canonical(shortest, checks=q.Checks.RFC), shortest)
+
     def test_frames_up_to_the_limits_are_read(self):
         for digits in ALLOWED:
             with self.subTest(digits):
@@ -121,6 +191,19 @@ class Flags(unittest.TestCase):
                     else:
                         self.rejected(read, q.Checks.RFC, row)
 
+    def test_a_header_that_is_cut_off_has_no_fixed_bit(self):
+        for digits, field, at in CUT:
+            for read in self.readers(bytes.fromhex(digits)):
+                with self.subTest(digits):
+                    self.rejected(read, q.Checks.QUINN, (UNSET, "Fixed Bit", 0, None, "17.2"))
+                    for flags in (q.Checks.ANY_VERSION, q.Checks.GREASED_BIT, q.Checks.RFC, ~q.Checks.QUINN):
+                        with self.assertRaises(q.PacketError) as caught:
+                            read(flags)
+                        error = caught.exception
+                        self.assertIn(error.reason, ("unexpected end of packet", "malformed cid"))
+                        self.assertEqual((error.field, error.field_offset), (field, at))
+                        self.assertEqual(error.section, "RFC 9000, section 12.2")
+
     def parameters(self, digits, checks):
         return q.TransportParameters.read(q.Side.CLIENT, bytes.fromhex(digits), checks=checks)
 
@@ -153,7 +236,7 @@ class Flags(unittest.TestCase):
         self.assertEqual(self.parameters("1b00" * 2, q.Checks.RFC), q.TransportParameters())
 
     def test_a_flag_by_position_is_named(self):
-        for read in (q.read_frames, q.frames):
+        for read in (q.read_frames, q.frames, q.canonical):
             with self.assertRaisesRegex(TypeError, "^one payload is expected; checks is a keyword argument"):
                 read(b"\x01", q.Checks.RFC)
             with self.assertRaisesRegex(TypeError, "^a payload is expected"):
@@ -163,6 +246,8 @@ class Flags(unittest.TestCase):
         for call in (
             lambda **how: q.read_frames(b"\x01", **how),
             lambda **how: q.frames(b"\x01", **how),
+            lambda **how: q.canonical(b"\x01", **how),
+            lambda **how: q.Ping().encode(**how),
             lambda **how: q.read_packets(b"\x40", 0, **how),
             lambda **how: q.read_packet(b"\x40", 0, **how),
             lambda **how: q.TransportParameters.read(q.Side.CLIENT, b"", **how),

@@ -84,6 +84,21 @@ class Written(unittest.TestCase):
         self.assertEqual(list(q.frames(payload, checks=q.Checks.SHORT_TYPES)), merged(frames))
         self.assertEqual(q.canonical(payload), payload)
 
+    @settings(max_examples=400, **PATIENT)
+    @given(st.lists(frame, min_size=1, max_size=6), checks)
+    def test_frames_are_read_by_the_rules_with_which_they_were_written(self, frames, checks):
+        try:
+            payload = q.write_frames(frames, checks=checks)
+        except q.FrameError as error:
+            with self.assertRaises(q.FrameError) as caught:
+                q.read_frames(q.write_frames(frames), checks=checks)
+            read = caught.exception
+            self.assertEqual((read.reason, read.code, read.section), (error.reason, error.code, error.section))
+        else:
+            self.assertEqual(payload, q.write_frames(frames))
+            self.assertEqual(q.read_frames(payload, checks=checks), merged(frames))
+            self.assertEqual(q.canonical(payload, checks=checks), payload)
+
     @settings(max_examples=800, **PATIENT)
     @given(st.binary(max_size=200), checks)
     def test_any_payload_is_read_or_rejected(self, payload, checks):
@@ -94,15 +109,15 @@ class Written(unittest.TestCase):
             self.assertTrue(error.section and error.code)
             if payload:
                 self.assertTrue(error.offset <= error.field_offset <= len(payload))
-            if not checks:
-                with self.assertRaises(q.FrameError):
-                    q.canonical(payload)
+            with self.assertRaises(q.FrameError) as caught:
+                q.canonical(payload, checks=checks)
+            self.assertEqual((caught.exception.offset, caught.exception.reason), (error.offset, error.reason))
         else:
             self.assertEqual((found[0].begin, found[-1].end), (0, len(payload)))
-            short = q.canonical(payload)
+            short = q.canonical(payload, checks=checks)
             self.assertLessEqual(len(short), len(payload))
-            self.assertEqual(q.read_frames(short), merged(found))
-            self.assertEqual(q.write_frames(found), short)
+            self.assertEqual(q.read_frames(short, checks=checks), merged(found))
+            self.assertEqual(q.write_frames(found, checks=checks), short)
 
     @settings(max_examples=800, **PATIENT)
     @given(st.binary(max_size=120), st.integers(0, 20), checks)

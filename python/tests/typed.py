@@ -20,6 +20,21 @@ def stream_bytes(payload: bytes) -> int:
     return total
 
 
+def forbidden(payload: bytes, sender: q.Side) -> Optional[q.Code]:
+    try:
+        for frame in q.read_frames(payload, checks=q.Checks.RFC):
+            q.check_type(frame.type, q.PacketType.ONE_RTT, sender)
+            frame.check_permitted(q.PacketType.ONE_RTT, sender, checks=q.Checks.RFC)
+    except q.FrameError as error:
+        return error.code
+    return None
+
+
+def shorter(payload: bytes) -> bytes:
+    frames = q.read_frames(q.canonical(payload, checks=q.Checks.RFC))
+    return frames[0].encode(checks=q.Checks.RFC) + q.write_frames(frames[1:], checks=q.Checks.RFC)
+
+
 def opened(datagram: bytearray, keys: Keys) -> list[Opened]:
     packets = q.packets(datagram, 8, checks=q.Checks.GREASED_BIT | q.Checks.WHOLE_RETRY)
     return [open_packet(packet, keys) for packet in packets if packet.number_at is not None]

@@ -73,6 +73,21 @@ int wire_to_side(PyObject *value, void *out) {
   return 0;
 }
 
+int wire_to_packet_type(PyObject *value, void *out) {
+  uint64_t number = PACKET_KINDS;
+  const int is_number = PyLong_Check(value);
+  if (is_number && wire_number(value, "packet_type", &number) < 0)
+    PyErr_Clear();
+  if (number <= QUIC_WIRE_PACKET_HANDSHAKE || number == QUIC_WIRE_PACKET_1RTT) {
+    *(uint32_t *)out = (uint32_t)number;
+    return 1;
+  }
+  PyErr_SetString(is_number ? PyExc_ValueError : PyExc_TypeError,
+                  "packet_type must be INITIAL, ZERO_RTT, HANDSHAKE or ONE_RTT "
+                  "of PacketType");
+  return 0;
+}
+
 int wire_to_checks(PyObject *value, void *out) {
   uint64_t number;
   if (wire_number(value, "checks", &number) < 0)

@@ -53,10 +53,6 @@ static int header_at(const reader *how, const uint8_t *bytes, size_t len,
     h->end = (uint32_t)len;
     return QUIC_WIRE_OK;
   }
-  if (end <= QUIC_WIRE_ERR_PACKET_END && len &&
-      !(how->flags & QUIC_WIRE_READ_GREASED_BIT) &&
-      !(bytes[0] & QUIC_WIRE_BIT_FIXED))
-    return QUIC_WIRE_ERR_PACKET_FIXED_BIT;
   return end < 0 ? (int)end : QUIC_WIRE_OK;
 }
 

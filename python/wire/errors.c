@@ -40,6 +40,13 @@ PyObject *wire_frame_error(int result, PyObject *payload, size_t begin,
                                 (Py_ssize_t)begin, type_read(type), before));
 }
 
+PyObject *wire_rule_error(int result, uint64_t type, PyObject *begin) {
+  return raise_by("_rule_error",
+                  Py_BuildValue("(isIKO)", result, quic_wire_strerror(result),
+                                quic_wire_close_code(result),
+                                (unsigned long long)type, begin));
+}
+
 PyObject *wire_packet_error(int result, PyObject *datagram, size_t begin,
                             size_t cid_len, PyObject *before,
                             PyObject *packet) {

@@ -281,7 +281,7 @@ static PyObject *encode_padding(PyObject *self) {
   return out;
 }
 
-static PyObject *encode_other(PyObject *self, int last) {
+static PyObject *encode_other(PyObject *self, uint32_t flags) {
   wire_bytes bytes;
   size_t len = 0;
   int result;
@@ -289,25 +289,30 @@ static PyObject *encode_other(PyObject *self, int last) {
   PyObject *out = NULL;
   if (wire_acquire(OWNER(self), &bytes) < 0)
     return NULL;
-  result = quic_wire_frame_len(FRAME(self), bytes.at, bytes.len, last, &len);
+  result = quic_wire_frame_len(FRAME(self), bytes.at, bytes.len, flags, &len);
   if (result >= 0 && (out = wire_new_bytes(len, &at)))
-    result = quic_wire_frame_write(FRAME(self), bytes.at, bytes.len, last, at,
+    result = quic_wire_frame_write(FRAME(self), bytes.at, bytes.len, flags, at,
                                    len, &len);
   wire_release(&bytes);
   if (result >= 0)
     return out;
   Py_XDECREF(out);
+  if (result < QUIC_WIRE_ERR_PAYLOAD_EMPTY)
+    return wire_rule_error(result, FRAME(self)->kind, Py_None);
   return wire_mistake(result);
 }
 
 PyObject *frame_encode(PyObject *self, PyObject *args, PyObject *keywords) {
-  static char *names[] = {"last", NULL};
+  static char *names[] = {"last", "checks", NULL};
   int last = 0;
-  if (!PyArg_ParseTupleAndKeywords(args, keywords, "|p:encode", names, &last))
+  uint32_t flags = 0;
+  if (!PyArg_ParseTupleAndKeywords(args, keywords, "|p$O&:encode", names, &last,
+                                   wire_to_checks, &flags))
     return NULL;
+  flags = (flags & QUIC_WIRE_WRITE_RFC) | (last ? QUIC_WIRE_WRITE_LAST : 0);
   switch (FRAME(self)->kind) {
   case QUIC_WIRE_FRAME_PADDING: return encode_padding(self);
   case QUIC_WIRE_FRAME_ACK: return encode_ack(self);
-  default: return encode_other(self, last);
+  default: return encode_other(self, flags);
   }
 }

@@ -142,6 +142,27 @@ static PyObject *is_permitted_in(PyObject *self, PyObject *packet_type) {
                          (rules & QUIC_WIRE_RULE_IN(packet)) != 0);
 }
 
+/* By the rules of checks, in a packet of a type from a sender. */
+PyObject *frame_check(PyObject *self, PyObject *args, PyObject *keywords) {
+  static char *names[] = {"packet_type", "sender", "checks", NULL};
+  uint32_t packet, sender, flags = 0;
+  PyObject *begin;
+  int result;
+  if (!PyArg_ParseTupleAndKeywords(
+          args, keywords, "O&O&|$O&:check_permitted", names,
+          wire_to_packet_type, &packet, wire_to_side, &sender, wire_to_checks,
+          &flags))
+    return NULL;
+  result = quic_wire_frame_permitted(FRAME(self), packet, sender, flags);
+  if (result == QUIC_WIRE_OK)
+    return Py_NewRef(Py_None);
+  begin = get_begin(self, NULL);
+  if (begin)
+    wire_rule_error(result, FRAME(self)->type, begin);
+  Py_XDECREF(begin);
+  return NULL;
+}
+
 #define NUMBER(name, slot, doc)                                                \
   { name, frame_get_number, NULL, PyDoc_STR(doc), (void *)(size_t)(slot) }
 #define DATA(name, doc)                                                        \
@@ -197,7 +218,9 @@ static PyGetSetDef new_connection_id_fields[] = {
     NUMBER("retire_prior_to", 1, "Retire Prior To"),
     DATA("connection_id", "the id, 1 to 20 bytes"),
     {"reset_token", frame_get_token, NULL,
-     PyDoc_STR("Stateless Reset Token, 16 bytes"), NULL},
+     PyDoc_STR("Stateless Reset Token, 16 bytes; compare it by "
+               "hmac.compare_digest (RFC 9000, section 10.3.1)"),
+     NULL},
     WIRE_END_OF_FIELDS};
 static PyGetSetDef retire_fields[] = {NUMBER("sequence", 0, "Sequence Number"),
                                       WIRE_END_OF_FIELDS};
@@ -387,8 +410,17 @@ static PyObject *frame_as_dict(PyObject *self, PyObject *unused) {
 
 static PyMethodDef frame_methods[] = {
     {"encode", WIRE_FAST(frame_encode), METH_VARARGS | METH_KEYWORDS,
-     PyDoc_STR("encode($self, /, last=False)\n--\n\nThe frame in its shortest "
-               "form. As the last one of its payload it needs no length.")},
+     PyDoc_STR(
+         "encode($self, /, last=False, *, checks=0)\n--\n\nThe frame in its "
+         "shortest form. As the last one of its payload it needs no length. "
+         "Raises\nFrameError if it breaks a rule of checks.")},
+    {"check_permitted", WIRE_FAST(frame_check), METH_VARARGS | METH_KEYWORDS,
+     PyDoc_STR(
+         "check_permitted($self, /, packet_type, sender, *, checks=0)\n--\n\n"
+         "Raises FrameError if packets of this type may not carry the frame "
+         "(RFC 9000, section\n12.4, table 3), or if that side may not send it "
+         "(sections 19.7, 19.20) or not on\nthis stream (sections 19.4, 19.5, "
+         "19.8, 19.10, 19.13). Of checks only\nNO_ACK_FREQUENCY counts.")},
     {"as_dict", frame_as_dict, METH_NOARGS,
      PyDoc_STR("as_dict($self, /)\n--\n\nThe fields by name, data as bytes.")},
     {"is_permitted_in", is_permitted_in, METH_O,

@@ -194,42 +194,67 @@ static PyObject *read_frames(PyObject *module, PyObject *const *args,
 }
 
 /* Where the last whole frame of a payload ends. */
-static size_t end_of_frames(const wire_bytes *bytes) {
+static size_t end_of_frames(const wire_bytes *bytes, uint32_t flags) {
   quic_wire_frame_iter iter;
   quic_wire_frame batch[BATCH];
   size_t count;
-  int result = start(&iter, bytes, 0);
+  int result = start(&iter, bytes, flags);
   while (result >= 0 &&
          (result = fill(&iter, bytes, batch, BATCH, &count)) == QUIC_WIRE_ITEM)
     ;
   return iter.offset;
 }
 
-static PyObject *canonical(PyObject *module, PyObject *payload) {
-  PyObject *owner = wire_owner(payload), *out;
+static PyObject *canonical(PyObject *module, PyObject *const *args,
+                           Py_ssize_t nargs, PyObject *names) {
+  PyObject *owner, *out;
   quic_wire_canon canon;
   wire_bytes bytes;
   uint8_t *at = NULL;
+  uint32_t flags;
   int result = 0;
   (void)module;
+  if (options(args, nargs, names, &flags) < 0)
+    return NULL;
+  owner = wire_owner(args[0]);
   if (!owner || wire_acquire(owner, &bytes) < 0) {
     Py_XDECREF(owner);
     return NULL;
   }
   out = wire_new_bytes(bytes.len, &at);
   if (out)
-    result = quic_wire_canonical(bytes.at, bytes.len, at, bytes.len, &canon);
+    result = quic_wire_canonical_with(bytes.at, bytes.len, flags, at, bytes.len,
+                                      &canon);
   if (out && result == QUIC_WIRE_OK)
     out = wire_front(out, canon.len);
   else if (out) {
     const int is_empty = result == QUIC_WIRE_ERR_PAYLOAD_EMPTY;
     Py_CLEAR(out);
-    wire_frame_error(result, owner, is_empty ? 0 : end_of_frames(&bytes),
+    wire_frame_error(result, owner, is_empty ? 0 : end_of_frames(&bytes, flags),
                      is_empty ? QUIC_WIRE_NO_TYPE : canon.last_type, Py_None);
   }
   wire_release(&bytes);
   Py_DECREF(owner);
   return out;
+}
+
+static PyObject *check_type(PyObject *module, PyObject *args,
+                            PyObject *keywords) {
+  static char *names[] = {"type", "packet_type", "sender", "checks", NULL};
+  uint32_t packet, sender, flags = 0;
+  PyObject *number;
+  uint64_t type;
+  int result;
+  (void)module;
+  if (!PyArg_ParseTupleAndKeywords(
+          args, keywords, "OO&O&|$O&:check_type", names, &number,
+          wire_to_packet_type, &packet, wire_to_side, &sender, wire_to_checks,
+          &flags) ||
+      wire_number(number, "type", &type) < 0)
+    return NULL;
+  result = quic_wire_type_permitted(type, packet, sender, flags);
+  return result == QUIC_WIRE_OK ? Py_NewRef(Py_None)
+                                : wire_rule_error(result, type, Py_None);
 }
 
 static PyObject *type_name(PyObject *module, PyObject *number) {
@@ -253,9 +278,17 @@ PyMethodDef wire_read_functions[] = {
      PyDoc_STR("read_frames($module, payload, /, *, checks=0)\n--\n\n"
                "The frames of a payload as a list. Raises FrameError, with the "
                "frames before an\ninvalid one in its attribute frames.")},
-    {"canonical", canonical, METH_O,
-     PyDoc_STR("canonical($module, payload, /)\n--\n\nThe one shortest payload "
-               "with the same frames in the same order. Raises FrameError.")},
+    {"canonical", WIRE_FAST(canonical), METH_FASTCALL | METH_KEYWORDS,
+     PyDoc_STR("canonical($module, payload, /, *, checks=0)\n--\n\nThe one "
+               "shortest payload with the same frames in the same order. "
+               "Raises FrameError, also\nif a frame breaks a rule of checks.")},
+    {"check_type", WIRE_FAST(check_type), METH_VARARGS | METH_KEYWORDS,
+     PyDoc_STR("check_type($module, /, type, packet_type, sender, *, "
+               "checks=0)\n--\n\nRaises FrameError if a frame of this type is "
+               "unknown, may not be in packets of\nthis type, or not come from "
+               "that side (RFC 9000, section 12.4), before it is read.\nWith "
+               "NO_ACK_FREQUENCY in checks that extension's types are "
+               "unknown.")},
     {"type_name", type_name, METH_O,
      PyDoc_STR(
          "type_name($module, type, /)\n--\n\nThe name of a frame type, or "

@@ -62,11 +62,12 @@ PyObject *wire_front(PyObject *bytes, size_t len);
 int wire_number(PyObject *value, const char *name, uint64_t *out);
 /* A number below 2^62. */
 int wire_varint(PyObject *value, const char *name, uint64_t *out);
-/* For "O&" of PyArg_ParseTuple: a number below 2^32, a byte, a side, the
- * argument `checks` as flags of readers. */
+/* For "O&" of PyArg_ParseTuple: a number below 2^32, a byte, a side, a type of
+ * packets that have frames, the argument `checks` as flags of readers. */
 int wire_to_uint32(PyObject *value, void *out);
 int wire_to_uint8(PyObject *value, void *out);
 int wire_to_side(PyObject *value, void *out);
+int wire_to_packet_type(PyObject *value, void *out);
 int wire_to_checks(PyObject *value, void *out);
 /* The same, if it is there: the only keyword argument, after the positional
  * ones of a METH_FASTCALL | METH_KEYWORDS function. -1 with an exception. */
@@ -84,6 +85,8 @@ PyObject *wire_range(const quic_wire_range *range);
 PyObject *wire_mistake(int result);
 PyObject *wire_frame_error(int result, PyObject *payload, size_t begin,
                            uint64_t type, PyObject *before);
+/* A frame of this type breaks a rule; |begin| is where it was read, or None. */
+PyObject *wire_rule_error(int result, uint64_t type, PyObject *begin);
 /* |packet| is what was read from a truncated packet, or NULL. */
 PyObject *wire_packet_error(int result, PyObject *datagram, size_t begin,
                             size_t cid_len, PyObject *before, PyObject *packet);
@@ -142,6 +145,7 @@ PyObject *frame_made(wire_state *state, PyObject *owner,
                      const quic_wire_frame *frame);
 PyObject *frame_new(PyTypeObject *type, PyObject *args, PyObject *keywords);
 PyObject *frame_encode(PyObject *self, PyObject *args, PyObject *keywords);
+PyObject *frame_check(PyObject *self, PyObject *args, PyObject *keywords);
 /* The ranges of an ACK that was read, ascending, and how many: free them with
  * PyMem_Free.  NULL with an exception. */
 quic_wire_range *frame_ranges(PyObject *self, size_t *count);

@@ -534,7 +534,10 @@ fn the_ack_frequency_extension_is_left_out_where_it_is_unknown() {
         }
     }
     let error = |payload: &[u8]| Iter::with_rules(payload, Rules::RFC).unwrap().next().unwrap().unwrap_err();
-    assert_eq!(error(&[0x40, 0xaf, 1, 2, 3]).to_string(), "unexpected end in ACK_FREQUENCY");
+    // Such a type is unknown whether its fields are there or not, but rejected first if it is too long.
+    assert_eq!(error(&[0x40, 0xaf]).to_string(), "invalid frame ID in ACK_FREQUENCY");
+    assert_eq!(error(&[0x40, 0xaf, 1, 2, 3]).to_string(), "invalid frame ID in ACK_FREQUENCY");
+    assert_eq!(error(&[0x80, 0, 0, 0xaf]).reason, Reason::LongType);
     assert_eq!(error(&[0x40, 0x1f]).reason, Reason::LongType);
 }
 

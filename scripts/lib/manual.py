@@ -72,23 +72,26 @@ NAMED = re.compile(r"QUIC_WIRE_ERR_[A-Z_]*[A-Z](?:_\.\.\.)?")
 LIKE = re.compile(r"[Rr]eturns what (quic_wire_\w+) does|results,? .*? are as for (quic_wire_\w+)")
 
 
-def errors_of(call, calls, known):
-    """The errors that the description of a call names, or that of the call whose results it has."""
+def errors_of(call, calls, groups):
+    """The errors that the description of a call names, or that of the call whose results it has. `...` is for the first
+    group that has such errors."""
     if not re.match(r"int", call.declaration):
         return set()
     text, found = " ".join(call.text.split()), set()
     for name in NAMED.findall(text):
-        found |= {it for it in known if it.startswith(name[:-3])} if name.endswith("...") else {name}
+        like = [{it for it in group if it.startswith(name[:-3])} for group in groups]
+        found |= next(filter(None, like)) if name.endswith("...") else {name}
     for names in LIKE.findall(text):
-        found |= errors_of(calls[next(filter(None, names))], calls, known)
+        found |= errors_of(calls[next(filter(None, names))], calls, groups)
     return found
 
 
 def errors(header, sections):
     """Each error, with the calls that name it."""
     texts = dict(ERROR.findall(header))
+    groups = [[name for name, _ in ERROR.findall(part)] for part in re.split(r"\n\s*\n", header)]
     calls = {call.name: call for _, _, group in sections for call in group}
-    named = {name: errors_of(call, calls, texts) for name, call in calls.items()}
+    named = {name: errors_of(call, calls, groups) for name, call in calls.items()}
     for error, text in texts.items():
         yield f".TP\n.B {error}"
         if text:

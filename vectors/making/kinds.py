@@ -92,9 +92,11 @@ def case_of(form, row):
 
 
 def has_shortest(form, case, read):
-    """Whether a test has the shortest form of its payload: not if it matters who sent it in which packet, nor for
-    PADDING in longer types, which readers count differently."""
+    """Whether a test has the shortest form of its payload: not if it matters who sent it in which packet or on which
+    stream, nor for PADDING in longer types, which readers count differently."""
     if form != "payload" or not read or "packet" in case.context or case.context.get("side") == "server":
+        return False
+    if "side" in case.context and any(int(frame.get("stream_id", 0)) & 2 for frame in read):
         return False
     return read[0]["type"] != "PADDING" or "count" in read[0]
 

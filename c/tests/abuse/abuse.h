@@ -71,6 +71,12 @@ extern uint32_t any_flags(void);
 /* The result for a validly encoded frame that flags reject; otherwise 0. */
 extern int refused_by(uint32_t flags, const quic_wire_frame *frame);
 
+/* permitted.c: what may be in which packet; and reset tokens. */
+extern void permitted_examples(void);
+extern void permitted_any(void);
+extern void tokens_nulls(void);
+extern void tokens_any(void);
+
 /* fronts.c: frames at the front of what is left. */
 extern void fronts_nulls(void);
 extern void front_rubbish(const uint8_t *payload, size_t len);
@@ -91,6 +97,7 @@ extern void gaps_written(const uint8_t *payload, size_t len,
 /* written.c: frames that are written. */
 extern void written_nulls(void);
 extern void without_data(void);
+extern void written_by_rules(void);
 extern void write_rubbish(const uint8_t *data, size_t len);
 extern void header_rubbish(void);
 

@@ -11,6 +11,15 @@ void canonical_nulls(void) {
        QUIC_WIRE_ERR_PAYLOAD_EMPTY);
   WANT(quic_wire_canonical(&byte, 1, NULL, 0, &canon) == QUIC_WIRE_ERR_NOBUF &&
        canon.len == 1);
+  WANT(quic_wire_canonical_with(NULL, 1, 0, out, 8, &canon) == INVALID);
+  WANT(quic_wire_canonical_with(&byte, 1, 0, NULL, 8, &canon) == INVALID);
+  WANT(quic_wire_canonical_with(&byte, 1, 0, out, 8, NULL) == INVALID);
+  WANT(quic_wire_canonical_with(NULL, 0, 0, NULL, 0, &canon) ==
+       QUIC_WIRE_ERR_PAYLOAD_EMPTY);
+  canon.len = 0;
+  WANT(quic_wire_canonical_with(&byte, 1, UINT32_MAX, NULL, 0, &canon) ==
+           QUIC_WIRE_ERR_NOBUF &&
+       canon.len == 1);
 }
 
 /* The next frame of both payloads is the same, wherever its data is, and the
@@ -43,7 +52,7 @@ static void same_frame(const uint8_t *a, size_t alen, const quic_wire_frame *x,
 /* The bytes of a frame in its shortest form: what quic_wire_frame_write writes
  * for it; for an ACK from a plain model, from its ranges. */
 static size_t shortest_len(const uint8_t *payload, size_t len,
-                           const quic_wire_frame *f, int last) {
+                           const quic_wire_frame *f, uint32_t last) {
   uint8_t out[64];
   size_t n = 0, k, count = 0;
   uint64_t before = 0;
@@ -88,6 +97,40 @@ static void canonical_read(const uint8_t *payload, size_t len,
   free(twice);
 }
 
+/* With flags the shortest form is the same, or the payload is rejected as it is
+ * when its frames are read with them. */
+static void canonical_by_rules(const uint8_t *payload, size_t len,
+                               const uint8_t *shortest, size_t room, int answer,
+                               const quic_wire_canon *canon) {
+  const uint32_t flags = any_flags();
+  quic_wire_canon out = {77, 78};
+  quic_wire_frame_iter frames;
+  quic_wire_frame frame;
+  uint8_t *dest = block(room);
+  int with, read = quic_wire_frames_init(&frames, payload, len, flags);
+  memset(dest, 0xa5, room);
+  with = quic_wire_canonical_with(payload, len, flags, dest, room, &out);
+  while (read >= 0 &&
+         (read = quic_wire_frames_next(&frames, payload, len, &frame)) == 1)
+    ;
+  if (read == 0) {
+    WANT(with == answer && !memcmp(&out, canon, sizeof out));
+    WANT(!memcmp(dest, shortest, room));
+  } else {
+    WANT(with == read && out.len == 77);
+    WANT(out.last_type ==
+         (REFUSED(with) ? quic_wire_error_type(&frame) : 78));
+    WANT(room == 0 || (dest[0] == 0xa5 && !memcmp(dest, dest + 1, room - 1)));
+  }
+  if (with == 0 &&
+      quic_wire_frames_init(&frames, dest, out.len, flags) == 0) {
+    while ((read = quic_wire_frames_next(&frames, dest, out.len, &frame)) == 1)
+      ;
+    WANT(read == 0 && frames.offset == out.len);
+  }
+  free(dest);
+}
+
 /* The shortest form of any bytes has the same frames, each in its shortest
  * length, is its own shortest form, and is rejected when the frames are.
  * Returns whether there is one. */
@@ -117,6 +160,7 @@ int canonical_any(const uint8_t *payload, size_t len) {
     WANT(dest[k] == 0xa5);
   if (answer == 0)
     canonical_read(payload, len, dest, canon.len);
+  canonical_by_rules(payload, len, dest, room, answer, &canon);
   free(dest);
   return answer == 0;
 }

@@ -45,9 +45,12 @@ static void nulls(void) {
   frames_nulls();
   fronts_nulls();
   rules_examples();
+  permitted_examples();
+  tokens_nulls();
   acks_nulls();
   written_nulls();
   without_data();
+  written_by_rules();
   canonical_nulls();
   headers_nulls();
   long_lengths();
@@ -81,6 +84,8 @@ static void rubbish(int rounds) {
     forms += canonical_any(bytes, len);
     longs += short_types_any(bytes, len);
     refused += rules_any(bytes, len);
+    permitted_any();
+    tokens_any();
     number_len_any();
     number_expand_any();
     number_bytes_any();

@@ -133,8 +133,53 @@ static void read_later(const rule_row *row, uint32_t flags) {
   WANT(!memcmp(&frames, &one, sizeof one));
 }
 
+/* A type that wasn't negotiated is unknown, whether its fields are there or
+ * not; one that is too long is rejected for that first. */
+static void extension_examples(void) {
+  static const struct {
+    int result, without; /* with the flag, and without it */
+    int with_short;      /* with both flags */
+    size_t len;
+    uint8_t bytes[6];
+  } types[] = {
+      {QUIC_WIRE_ERR_FRAME_TYPE, QUIC_WIRE_ERR_FRAME_END,
+       QUIC_WIRE_ERR_FRAME_TYPE, 2, {0x40, 0xaf}},
+      {QUIC_WIRE_ERR_FRAME_TYPE, QUIC_WIRE_ERR_FRAME_END,
+       QUIC_WIRE_ERR_FRAME_TYPE, 5, {0x40, 0xaf, 1, 2, 3}},
+      {QUIC_WIRE_ERR_FRAME_TYPE, QUIC_WIRE_ERR_FRAME_END,
+       QUIC_WIRE_ERR_FRAME_LONG_TYPE, 4, {0x80, 0, 0, 0xaf}},
+      {QUIC_WIRE_ERR_FRAME_TYPE, 2, QUIC_WIRE_ERR_FRAME_LONG_TYPE, 2,
+       {0x40, 0x1f}},
+      {QUIC_WIRE_ERR_FRAME_END, QUIC_WIRE_ERR_FRAME_END,
+       QUIC_WIRE_ERR_FRAME_END, 1, {0x40}},
+  };
+  size_t k;
+  for (k = 0; k < sizeof types / sizeof *types; k++) {
+    const uint32_t flags[] = {EXTENSION, 0,
+                              EXTENSION | QUIC_WIRE_READ_SHORT_TYPES};
+    const int64_t want[] = {types[k].result, types[k].without,
+                            types[k].with_short};
+    size_t way;
+    for (way = 0; way < 3; way++) {
+      quic_wire_frame_iter frames = begin(flags[way]);
+      quic_wire_frame frame;
+      uint64_t type = QUIC_WIRE_NO_TYPE;
+      WANT(quic_wire_frame_read(types[k].bytes, types[k].len, flags[way],
+                                &frame, NULL, 0) == want[way]);
+      if (want[way] > 0)
+        continue;
+      if (quic_wire_varint_read(types[k].bytes, types[k].len, &type))
+        WANT(quic_wire_error_type(&frame) == type);
+      WANT(quic_wire_frames_next(&frames, types[k].bytes, types[k].len,
+                                 &frame) == want[way]);
+      WANT(quic_wire_error_type(&frame) == type && frames.ended);
+    }
+  }
+}
+
 void rules_examples(void) {
   size_t k;
+  extension_examples();
   for (k = 0; k < RULE_ROWS; k++) {
     const rule_row *row = &rule_rows[k];
     const uint32_t ways[] = {0, row->flag, QUIC_WIRE_READ_RFC,

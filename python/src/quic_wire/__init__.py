@@ -22,10 +22,10 @@ from ._wire import (
     FrameIterator, Handshake, HandshakeDone, ImmediateAck, Initial, MaxData, MaxStreamData, MaxStreamsBidi,
     MaxStreamsUni, NewConnectionId, NewToken, OneRtt, Packet, Padding, PathChallenge, PathResponse, Ping, RangeSet,
     ResetStream, RetireConnectionId, Retry, StopSending, Stream, StreamDataBlocked, StreamsBlockedBidi,
-    StreamsBlockedUni, UnknownVersion, VersionNegotiation, ZeroRtt, canonical, expand_packet_number, frames,
-    is_known_parameter, packet_number_len, protect, read_frames, read_packet, read_packet_number, read_packets,
-    read_varint, set_length, type_name, unprotect, varint_len, write_header, write_packet_number, write_parameter,
-    write_varint, write_version_negotiation,
+    StreamsBlockedUni, UnknownVersion, VersionNegotiation, ZeroRtt, canonical, check_type, expand_packet_number,
+    frames, is_known_parameter, packet_number_len, protect, read_frames, read_packet, read_packet_number,
+    read_packets, read_varint, set_length, type_name, unprotect, varint_len, write_header, write_packet_number,
+    write_parameter, write_varint, write_version_negotiation,
 )  # fmt: skip
 from ._version import VERSION
 from .checks import Checks
@@ -42,7 +42,7 @@ __all__ = [
     "NewToken", "OneRtt", "Packet", "PacketError", "PacketType", "Padding", "Parameter", "ParameterError",
     "PathChallenge", "PathResponse", "Ping", "PreferredAddress", "RangeSet", "ResetStream", "RetireConnectionId",
     "Retry", "Side", "StopSending", "Stream", "StreamDataBlocked", "StreamsBlockedBidi", "StreamsBlockedUni",
-    "TransportParameters", "UnknownVersion", "Version", "VersionNegotiation", "ZeroRtt", "canonical",
+    "TransportParameters", "UnknownVersion", "Version", "VersionNegotiation", "ZeroRtt", "canonical", "check_type",
     "expand_packet_number", "frames", "is_known_parameter", "packet_number_len", "packets", "parameters", "protect",
     "read_frames", "read_packet", "read_packet_number", "read_packets", "read_varint", "set_length", "type_name",
     "unprotect", "varint_len", "write_frames", "write_header", "write_packet_number", "write_parameter",
@@ -50,8 +50,11 @@ __all__ = [
 ]  # fmt: skip
 
 
-def write_frames(payload: Iterable[Frame]) -> bytes:
-    """A payload of frames, each in its shortest form; the last one without a length that it doesn't need."""
+def write_frames(payload: Iterable[Frame], *, checks: Checks = Checks.QUINN) -> bytes:
+    """A payload of frames, each in its shortest form; the last one without a length that it doesn't need.
+
+    Raises FrameError if a frame breaks a rule of checks: what is written can be read with them.
+    """
     all_frames = list(payload)
     last = len(all_frames) - 1
-    return b"".join(Frame.encode(frame, last=i == last) for i, frame in enumerate(all_frames))
+    return b"".join(Frame.encode(frame, last=i == last, checks=checks) for i, frame in enumerate(all_frames))

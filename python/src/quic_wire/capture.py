@@ -286,8 +286,8 @@ def packets(
     """The QUIC packets of a capture file, pcap or pcapng, in its order.
 
     checks says by which rules packets and frames are read. The fixed bit may be clear in any case, since a capture
-    needn't show whether that was negotiated. Not checked are which packets may carry a frame (`is_permitted_in`), which
-    side may send it, and transport parameters. Raises CaptureError if the file isn't a capture, and OSError.
+    needn't show whether that was negotiated. Not checked are which packets may carry a frame, which side may send it
+    (`check_permitted`), and transport parameters. Raises CaptureError if the file isn't a capture, and OSError.
     """
     flows: dict[frozenset[pcap.Endpoint], _Flow] = {}
     for datagram in pcap.datagrams(file):

@@ -1,4 +1,4 @@
-"""What readers check besides the encoding."""
+"""What readers and writers check besides the encoding."""
 
 from __future__ import annotations
 
@@ -10,19 +10,21 @@ __all__ = ["Checks"]
 
 
 class Checks(enum.IntFlag):
-    """What is checked of frames, packets and transport parameters; the argument `checks` of what reads them.
+    """What is checked of frames, packets and transport parameters; the argument `checks` of what reads and writes them.
 
     QUINN, the default, has no flag: it reads as quinn-proto does. RFC has each flag except GREASED_BIT: it reads as RFC
-    9000 asks of a receiver that has negotiated no extension, except that DATAGRAM frames are read; which packets may
-    carry a frame (`is_permitted_in`) and who may send it are yours to check. Each reader ignores the flags that aren't
-    for it, so one value serves all. Sections are those of RFC 9000 if no other is named.
+    9000 asks of a receiver that has negotiated no extension, except that DATAGRAM frames are read. Which packets may
+    carry a frame, who may send it and on which streams `Frame.check_permitted` checks. What is written with RFC is read
+    with it. Each call ignores the flags that aren't for it, so one value serves all. Sections are those of RFC 9000 if
+    no other is named.
 
-    These flags reject more:
+    These flags reject more; writers check DATA_LIMIT, STREAM_LIMIT, NO_ACK_FREQUENCY and TOKENS:
 
     - SHORT_TYPES: a frame's type must be in its shortest encoding (section 12.4).
     - DATA_LIMIT: data of CRYPTO and STREAM must not end past 2^62 - 1 (sections 19.6 and 19.8).
     - STREAM_LIMIT: MAX_STREAMS and STREAMS_BLOCKED must not allow more than 2^60 streams (sections 19.11 and 19.14).
-    - NO_ACK_FREQUENCY: the frames of the ACK frequency extension are unknown, as it wasn't negotiated (section 12.4).
+    - NO_ACK_FREQUENCY: the types of the ACK frequency extension are unknown, whatever follows them, as it wasn't
+      negotiated (section 12.4).
     - TOKENS: the token of NEW_TOKEN must not be empty (section 19.7).
     - WHOLE_RETRY: a Retry must have a token and an integrity tag (section 17.2.5.2).
     - NO_REPEATS: no known transport parameter may be there twice (section 7.4). Without it grease_quic_bit and

@@ -6,7 +6,10 @@ import enum
 from typing import TYPE_CHECKING, NoReturn, Optional
 
 from . import _faults, _parameter_table
-from ._wire import FRAME_LIMIT, FRAME_LONG_TYPE, FRAME_MALFORMED, FRAME_TYPE, PAYLOAD_EMPTY, type_name
+from ._wire import (
+    FRAME_LIMIT, FRAME_LONG_TYPE, FRAME_MALFORMED, FRAME_PACKET, FRAME_SENDER, FRAME_STREAM, FRAME_TYPE,
+    PAYLOAD_EMPTY, type_name,
+)  # fmt: skip
 from .checks import Checks
 
 if TYPE_CHECKING:
@@ -15,8 +18,13 @@ if TYPE_CHECKING:
 
 _NEW_TOKEN, _NEW_CONNECTION_ID = 0x07, 0x18
 _OF_TYPES = (FRAME_TYPE, FRAME_LONG_TYPE)  # results for a type that was read
+_PERMISSIONS = (FRAME_PACKET, FRAME_SENDER, FRAME_STREAM)
 # For types of frames with a limit, except those of STREAM, the sections that have it.
-_LIMITS = {0x06: "19.6", 0x12: "19.11", 0x13: "19.11", 0x16: "19.14", 0x17: "19.14"}
+_OF_STREAMS = {0x12: "19.11", 0x13: "19.11", 0x16: "19.14", 0x17: "19.14"}
+_LIMITS = _OF_STREAMS | {0x06: "19.6"}
+# The same for who may send a frame, and on which streams.
+_SENDERS = {_NEW_TOKEN: "19.7", 0x1E: "19.20"}
+_STREAMS = {0x04: "19.4", 0x05: "19.5", 0x11: "19.10", 0x15: "19.13"}
 
 
 class Code(enum.IntEnum):
@@ -88,11 +96,11 @@ class Error(ValueError):
 
 
 class FrameError(Error):
-    """A payload has an invalid frame, or is empty.
+    """A payload has an invalid frame, or is empty; or a frame isn't permitted, or isn't written, by a rule.
 
     - frame_type: the type of the invalid frame; None if it couldn't be read.
     - frames: the frames before it; None if they were read one by one.
-    - reason, why, offset, field, field_offset, code, section: as in Error.
+    - reason, why, offset, field, field_offset, code, section: as in Error. offset is None if the frame wasn't read.
     """
 
     code: Code
@@ -100,11 +108,13 @@ class FrameError(Error):
     frames: Optional[list[Frame]] = None
     # The last type that was read: the program prints it, as quinn-proto does.
     _last_type: Optional[int] = None
+    _is_permission = False
 
     def _what(self) -> str:
         if self.frame_type is None:
             return self.reason
-        return f"{self.reason} in {type_name(self.frame_type) or f'<unknown {self.frame_type:#x}>'}"
+        name = type_name(self.frame_type) or f"<unknown {self.frame_type:#x}>"
+        return f"{name} {self.reason}" if self._is_permission else f"{self.reason} in {name}"
 
 
 class PacketError(Error):
@@ -149,13 +159,17 @@ def frame_name(frame_type: int) -> str:
 
 
 def _frame_section(result: int, frame_type: Optional[int]) -> str:
-    if result in (PAYLOAD_EMPTY, *_OF_TYPES):
+    if result in (PAYLOAD_EMPTY, FRAME_PACKET, *_OF_TYPES):
         return "RFC 9000, section 12.4"
-    section = "20.1"
+    section, number = "20.1", frame_type or 0
     if result == FRAME_MALFORMED:
-        section = {_NEW_TOKEN: "19.7", _NEW_CONNECTION_ID: "19.15"}.get(frame_type or 0, "19.3.1")
+        section = {_NEW_TOKEN: "19.7", _NEW_CONNECTION_ID: "19.15"}.get(number, "19.3.1")
     elif result == FRAME_LIMIT:
-        section = _LIMITS.get(frame_type or 0, "19.8")
+        section = _LIMITS.get(number, "19.8")
+    elif result == FRAME_SENDER:
+        section = _SENDERS[number]
+    elif result == FRAME_STREAM:
+        section = _STREAMS.get(number, "19.8")
     return f"RFC 9000, section {section}"
 
 
@@ -173,6 +187,17 @@ def _frame_error(
     is_cut_off = result not in _OF_TYPES and place == _faults.Place(_faults.FRAME_TYPE_FIELD, begin)
     error.frame_type = None if is_cut_off else frame_type
     error._last_type, error.why, error.frames = frame_type, why, before
+    return error
+
+
+def _rule_error(result: int, reason: str, code: int, frame_type: int, begin: Optional[int]) -> FrameError:
+    """For a frame that isn't permitted, or isn't written."""
+    error = FrameError(reason, begin, None, Code(code), _frame_section(result, frame_type))
+    error.frame_type, error._is_permission = frame_type, result in _PERMISSIONS
+    if result == FRAME_MALFORMED:
+        error.why = "the token is empty"
+    elif result == FRAME_LIMIT:
+        error.why = "it is greater than 2^60" if frame_type in _OF_STREAMS else "the data end past 2^62 - 1"
     return error
 
 

@@ -42,7 +42,10 @@ class PreferredAddress:
 
 
 class TransportParameters(_Parameters):
-    """Transport parameters, each named as in the RFC; those that aren't given have their defaults, or are absent."""
+    """Transport parameters, each named as in the RFC; those that aren't given have their defaults, or are absent.
+
+    Compare a stateless_reset_token with received bytes by hmac.compare_digest (RFC 9000, section 10.3.1).
+    """
 
     __slots__ = ()
 

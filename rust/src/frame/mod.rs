@@ -300,7 +300,7 @@ pub struct NewConnectionId<'a> {
     pub retire_prior_to: u64,
     /// The id, of 1 to 20 bytes.
     pub id: &'a [u8],
-    /// The stateless reset token.
+    /// The stateless reset token. `==` doesn't compare tokens in constant time, as RFC 9000, section 10.3.1, requires.
     pub reset_token: &'a [u8; 16],
 }
 

@@ -27,8 +27,8 @@ pub struct Rules {
     pub stream_limit: bool,
     /// The token of NEW_TOKEN may not be empty (section 19.7): [`Reason::Malformed`](super::Reason::Malformed).
     pub tokens: bool,
-    /// The types of ACK_FREQUENCY and IMMEDIATE_ACK are unknown (section 12.4), because their extension wasn't
-    /// negotiated: [`Reason::InvalidFrameId`](super::Reason::InvalidFrameId).
+    /// The types of ACK_FREQUENCY and IMMEDIATE_ACK are unknown, whatever follows them (section 12.4), because their
+    /// extension wasn't negotiated: [`Reason::InvalidFrameId`](super::Reason::InvalidFrameId).
     pub no_ack_frequency: bool,
 }
 

@@ -5,7 +5,7 @@ use super::words::{Canon, Frame, FrameIter, Header, HeaderFields, Param, Params,
 
 extern "C" {
     /// An archive of another version lacks this symbol, so that it can't be linked.
-    pub static quic_wire_abi_9: u8;
+    pub static quic_wire_abi_10: u8;
 
     pub fn quic_wire_frames_fill_(
         frames: *mut FrameIter,
@@ -27,14 +27,14 @@ extern "C" {
         frame: *const Frame,
         data: *const u8,
         len: usize,
-        last: u32,
+        flags: u32,
         out: *mut u8,
         out_len: usize,
         written: *mut usize,
     ) -> i32;
     pub fn quic_wire_frame_header_write_(
         frame: *const Frame,
-        last: u32,
+        flags: u32,
         out: *mut u8,
         out_len: usize,
         written: *mut usize,
@@ -174,6 +174,17 @@ extern "C" {
     pub fn quic_wire_number_read_(bytes: *const u8, len: usize, number_len: u32, written: *mut u64) -> i32;
     pub fn quic_wire_number_write_(number: u64, number_len: u32, out: *mut u8, out_len: usize) -> i32;
     pub fn quic_wire_varint_len_(value: u64) -> usize;
+    pub fn quic_wire_type_permitted_(ty: u64, packet: u32, sender: u32, flags: u32) -> i32;
+    pub fn quic_wire_frame_permitted_(ty: u64, stream: u64, packet: u32, sender: u32, flags: u32) -> i32;
+    pub fn quic_wire_reset_token_equal_(token: *const u8, len: usize, other: *const u8, other_len: usize) -> u32;
+    pub fn quic_wire_canonical_with_(
+        payload: *const u8,
+        len: usize,
+        flags: u32,
+        dest: *mut u8,
+        room: usize,
+        out: *mut Canon,
+    ) -> i32;
     pub fn quic_wire_frames_init_(frames: *mut FrameIter, payload: *const u8, len: usize, flags: u32) -> i32;
     pub fn quic_wire_frames_first_(
         frames: *mut FrameIter,

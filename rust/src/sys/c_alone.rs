@@ -3,6 +3,8 @@
 //! crate.
 extern crate std;
 
+mod rules;
+
 use super::words::Gap;
 use super::{c, Entry, Frame, FrameIter, Param, Params, Range, RangeIter, ITEM, NO_ROOM, OK, PAYLOAD_EMPTY};
 use crate::frame::{Ack, FrameType, Iter, Reason, Rules};

@@ -82,6 +82,9 @@ pub const RULE_FLOW_CONTROLLED: u32 = 0x800;
 pub const READ_ANY_WIDTH: u32 = 0x080;
 pub const READ_NO_REPEATS: u32 = 0x100;
 
+/// A flag of [`frame_write`] and [`frame_header_write`].
+const WRITE_LAST: u32 = 0x001;
+
 // Keeps the version's symbol in everything that links this crate.
 struct Linked(#[allow(dead_code)] *const u8);
 
@@ -89,7 +92,7 @@ struct Linked(#[allow(dead_code)] *const u8);
 unsafe impl Sync for Linked {}
 
 #[used]
-static LINKED: Linked = Linked(&raw const c::quic_wire_abi_9);
+static LINKED: Linked = Linked(&raw const c::quic_wire_abi_10);
 
 // The result of a writer: the bytes at the front of its room, or its error and how many it needs.
 fn wrote(answer: i32, written: usize) -> Result<Filled, (i32, usize)> {
@@ -146,23 +149,23 @@ pub fn ack_ranges_next(ranges: &mut RangeIter, payload: &[u8], out: &mut Range) 
 
 #[inline]
 pub fn frame_write(frame: &Frame, data: &[u8], last: bool, out: &mut Room) -> Result<Filled, (i32, usize)> {
-    let (mut written, last) = (0, u32::from(last));
+    let (mut written, flags) = (0, u32::from(last) * WRITE_LAST);
     let (to, room) = (out.as_mut_ptr().cast::<u8>(), out.len());
     // SAFETY: `data` and `out` each pass their own pointer and length; `out` and `written` are borrowed exclusively.
     // Any values in `frame` are valid: bytes outside `data` are rejected. If it returns 0, the first `written` bytes of
     // `out` are initialised. The library accesses no other memory and keeps no pointer.
-    let answer = unsafe { c::quic_wire_frame_write_(frame, data.as_ptr(), data.len(), last, to, room, &mut written) };
+    let answer = unsafe { c::quic_wire_frame_write_(frame, data.as_ptr(), data.len(), flags, to, room, &mut written) };
     wrote(answer, written)
 }
 
 #[inline]
 pub fn frame_header_write(frame: &Frame, last: bool, out: &mut Room) -> Result<Filled, (i32, usize)> {
-    let (mut written, last) = (0, u32::from(last));
+    let (mut written, flags) = (0, u32::from(last) * WRITE_LAST);
     let (to, room) = (out.as_mut_ptr().cast::<u8>(), out.len());
     // SAFETY: `out` passes its own pointer and length; `out` and `written` are borrowed exclusively. Any values in
     // `frame` are valid: the offset of its data is ignored. If it returns 0, the first `written` bytes of `out` are
     // initialised. The library accesses no other memory and keeps no pointer.
-    let answer = unsafe { c::quic_wire_frame_header_write_(frame, last, to, room, &mut written) };
+    let answer = unsafe { c::quic_wire_frame_header_write_(frame, flags, to, room, &mut written) };
     wrote(answer, written)
 }
 

@@ -201,7 +201,8 @@ pub struct TransportParameters {
     pub max_ack_delay: u64,
     /// At least 2, the default.
     pub active_connection_id_limit: u64,
-    /// The server's stateless reset token.
+    /// The server's stateless reset token. `==` doesn't compare tokens in constant time, as RFC 9000, section 10.3.1,
+    /// requires.
     pub stateless_reset_token: Option<[u8; 16]>,
     /// Whether the peer must not migrate actively.
     pub disable_active_migration: bool,

@@ -155,6 +155,11 @@ static void answer_header_write(const line *in) {
   puts("\"");
 }
 
+/* The rules with which frames are written; whether ACK frequency is known, only the test says. */
+static uint32_t writer_rules(const line *in) {
+  return is_rfc ? payload_flags(in) & QUIC_WIRE_WRITE_RFC : 0;
+}
+
 /* Writes a frame that was read in its shortest form; an ACK by its gaps, and PADDING as often as it was there. */
 static int write_frame(const line *in, const quic_wire_frame *frame,
                        uint8_t *out, size_t room, size_t *len) {
@@ -167,7 +172,8 @@ static int write_frame(const line *in, const quic_wire_frame *frame,
   }
   if (frame->kind != QUIC_WIRE_FRAME_ACK)
     return quic_wire_frame_write(frame, in->bytes, in->len,
-                                 frame->end == in->len, out, room, len);
+                                 writer_rules(in) | (frame->end == in->len ? QUIC_WIRE_WRITE_LAST : 0),
+                                 out, room, len);
   if (quic_wire_frame_read(in->bytes + frame->begin, in->len - frame->begin, 0,
                            &ack, gaps, GAPS) < 0)
     return QUIC_WIRE_ERR_FRAME_MALFORMED;
@@ -196,11 +202,16 @@ static void answer_shortest(const line *in) {
   quic_wire_canon canon;
   uint8_t *out = malloc(2 * in->len + 1);
   size_t len;
+  int answer;
   if (!out)
     exit(3);
   len = write_frames(in, out + in->len);
-  if (quic_wire_canonical(in->bytes, in->len, out, in->len, &canon) != QUIC_WIRE_OK)
-    puts(len ? "valid \"frames that have no shortest payload\"" : "invalid");
+  answer = is_rfc ? quic_wire_canonical_with(in->bytes, in->len, payload_flags(in), out, in->len, &canon)
+                  : quic_wire_canonical(in->bytes, in->len, out, in->len, &canon);
+  if (answer != QUIC_WIRE_OK && len)
+    puts("valid \"frames that have no shortest payload\"");
+  else if (answer != QUIC_WIRE_OK)
+    printf("invalid %s\n", code_name(answer));
   else if (len != canon.len || memcmp(out, out + in->len, len))
     puts("valid \"another payload frame by frame\"");
   else {

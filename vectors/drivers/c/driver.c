@@ -5,6 +5,8 @@
 #include <stdlib.h>
 #include <string.h>
 
+int is_rfc;
+
 const char *item(const line *in, const char *name) {
   const char *at = in->context;
   size_t len = strlen(name);
@@ -27,6 +29,14 @@ size_t unhex(const char *digits, uint8_t *out, size_t room) {
          strchr("-,\n", digits[2 * len]) == NULL)
     out[len++] = (uint8_t)byte;
   return len;
+}
+
+const char *code_name(int result) {
+  switch (quic_wire_close_code(result)) {
+  case QUIC_WIRE_CODE_PROTOCOL_VIOLATION: return "PROTOCOL_VIOLATION";
+  case QUIC_WIRE_CODE_STREAM_STATE_ERROR: return "STREAM_STATE_ERROR";
+  default: return "FRAME_ENCODING_ERROR";
+  }
 }
 
 void print_hex(FILE *out, const uint8_t *bytes, size_t len) {
@@ -62,9 +72,14 @@ static void answer_line(const line *in) {
   fflush(stdout);
 }
 
-int main(void) {
+int main(int argc, char **argv) {
   char *text = NULL;
   size_t room = 0;
+  is_rfc = argc == 2 && !strcmp(argv[1], "--rfc");
+  if (argc > 1 && !is_rfc) {
+    fputs("usage: calls [--rfc]\n", stderr);
+    return 2;
+  }
   while (getline(&text, &room, stdin) > 0) {
     line in = {strtok(text, " "), strtok(NULL, " "), strtok(NULL, "\n"), NULL, 0};
     if (!in.form || !in.context || !in.text) {

@@ -1,5 +1,6 @@
 /* A driver of the test vectors with the library for C: reads lines `FORMAT
- * CONTEXT INPUT`, and answers each. */
+ * CONTEXT INPUT`, and answers each.  With the argument --rfc it reads and writes
+ * by the flags for RFC 9000, and asks what a packet may carry. */
 #ifndef DRIVER_H
 #define DRIVER_H
 
@@ -16,12 +17,21 @@ typedef struct line {
   size_t len;
 } line;
 
+/* Whether the argument is there. */
+extern int is_rfc;
+
+/* The flags with which payloads are read. */
+uint32_t payload_flags(const line *in);
+
 /* What the context has for |name|, up to a comma; NULL for nothing or `-`. */
 const char *item(const line *in, const char *name);
 uint64_t number(const line *in, const char *name, uint64_t absent);
 
 /* The bytes of hexadecimal digits, at most |room| of them.  Returns how many. */
 size_t unhex(const char *digits, uint8_t *out, size_t room);
+
+/* The name of the code to close with after a result. */
+const char *code_name(int result);
 
 void print_hex(FILE *out, const uint8_t *bytes, size_t len);
 

@@ -126,25 +126,66 @@ static void print_frame(FILE *out, const line *in, const quic_wire_frame *frame)
   putc('}', out);
 }
 
+/* Whether types may be longer than necessary, and ACK frequency is known, only the test says. */
+uint32_t payload_flags(const line *in) {
+  const uint32_t by_test = QUIC_WIRE_READ_SHORT_TYPES | QUIC_WIRE_READ_NO_ACK_FREQUENCY;
+  return (is_rfc ? QUIC_WIRE_READ_RFC & ~by_test : 0) |
+         (item(in, "strict") ? QUIC_WIRE_READ_SHORT_TYPES : 0) |
+         (item(in, "without") ? QUIC_WIRE_READ_NO_ACK_FREQUENCY : 0);
+}
+
+static uint32_t packet_of(const line *in) {
+  const char *packet = item(in, "packet");
+  switch (packet ? *packet : '1') {
+  case 'i': return QUIC_WIRE_PACKET_INITIAL;
+  case '0': return QUIC_WIRE_PACKET_0RTT;
+  case 'h': return QUIC_WIRE_PACKET_HANDSHAKE;
+  default: return QUIC_WIRE_PACKET_1RTT;
+  }
+}
+
+/* Whether the packet may carry a frame that was read, or for NULL one of this type.  Its sender isn't the side that
+ * reads; if that may be either side, so may be the sender. */
+static int permitted(const line *in, uint64_t type, const quic_wire_frame *frame) {
+  const char *reader = item(in, "side");
+  uint32_t sender = reader && *reader == 'c' ? QUIC_WIRE_SIDE_SERVER : QUIC_WIRE_SIDE_CLIENT;
+  const uint32_t last = reader ? sender : QUIC_WIRE_SIDE_SERVER;
+  const uint32_t packet = packet_of(in), flags = payload_flags(in);
+  int answer;
+  do
+    answer = frame ? quic_wire_frame_permitted(frame, packet, sender, flags)
+                   : quic_wire_type_permitted(type, packet, sender, flags);
+  while (answer < 0 && sender++ < last);
+  return answer;
+}
+
+/* The next frame, if it may be there: its type is checked before the frame is read, its stream afterwards. */
+static int next_frame(const line *in, quic_wire_frame_iter *frames, quic_wire_frame *frame) {
+  uint64_t type;
+  int answer;
+  if (is_rfc && quic_wire_varint_read(in->bytes + frames->offset, in->len - frames->offset, &type) &&
+      (answer = permitted(in, type, NULL)) < 0)
+    return answer;
+  answer = quic_wire_frames_next(frames, in->bytes, in->len, frame);
+  return is_rfc && answer == QUIC_WIRE_ITEM && permitted(in, 0, frame) < 0 ? permitted(in, 0, frame) : answer;
+}
+
 void answer_payload(const line *in, FILE *items, char **read) {
-  const uint32_t flags = (item(in, "strict") ? QUIC_WIRE_READ_SHORT_TYPES : 0) |
-                         (item(in, "without") ? QUIC_WIRE_READ_NO_ACK_FREQUENCY : 0);
   quic_wire_frame_iter frames;
   quic_wire_frame frame;
-  int answer = quic_wire_frames_init(&frames, in->bytes, in->len, flags);
+  size_t at = 0;
+  int answer = quic_wire_frames_init(&frames, in->bytes, in->len, payload_flags(in));
   if (answer == QUIC_WIRE_ERR_PAYLOAD_EMPTY) {
     puts("invalid PROTOCOL_VIOLATION {\"at\":0,\"before\":[]}");
     return;
   }
-  while ((answer = quic_wire_frames_next(&frames, in->bytes, in->len, &frame)) == QUIC_WIRE_ITEM)
+  while ((answer = next_frame(in, &frames, &frame)) == QUIC_WIRE_ITEM) {
     print_frame(items, in, &frame);
+    at = frames.offset;
+  }
   fflush(items);
   if (answer == QUIC_WIRE_OK)
     printf("valid [%s]\n", *read);
   else
-    printf("invalid %s {\"at\":%zu,\"before\":[%s]}\n",
-           quic_wire_close_code(answer) == QUIC_WIRE_CODE_PROTOCOL_VIOLATION
-               ? "PROTOCOL_VIOLATION"
-               : "FRAME_ENCODING_ERROR",
-           frames.offset, *read);
+    printf("invalid %s {\"at\":%zu,\"before\":[%s]}\n", code_name(answer), at, *read);
 }

@@ -57,8 +57,8 @@ static void print_packet(FILE *out, const uint8_t *packet, size_t begin,
 /* Whether a packet is there, with its header. Only in packets of versions 1 and 2 does the fixed bit have a meaning. */
 static int read_packet(const line *in, size_t begin, quic_wire_header *header) {
   static const uint32_t versions[] = {QUIC_WIRE_VERSION_1, QUIC_WIRE_VERSION_2};
-  const uint32_t flags =
-      QUIC_WIRE_READ_ANY_VERSION | (item(in, "grease") ? QUIC_WIRE_READ_GREASED_BIT : 0);
+  const uint32_t flags = (is_rfc ? QUIC_WIRE_READ_RFC : QUIC_WIRE_READ_ANY_VERSION) |
+                         (item(in, "grease") ? QUIC_WIRE_READ_GREASED_BIT : 0);
   const int64_t end = quic_wire_header_read(in->bytes + begin, in->len - begin,
                                             (uint32_t)number(in, "cid_len", 8), versions,
                                             item(in, "versions") ? 1 : 2, flags, header);
@@ -133,14 +133,19 @@ static void print_params(FILE *out, const quic_wire_params *p) {
     print_number(out, "min_ack_delay", p->min_ack_delay);
 }
 
+static int read_params(const line *in, quic_wire_params *params) {
+  const uint32_t reader = item(in, "from") ? QUIC_WIRE_SIDE_SERVER : QUIC_WIRE_SIDE_CLIENT;
+  return quic_wire_params_read(reader, is_rfc ? QUIC_WIRE_READ_RFC : 0, in->bytes, in->len, params, sizeof *params,
+                               NULL);
+}
+
 /* The list that was read, written by the side that sent it. */
 void answer_params_write(const line *in) {
-  uint32_t reader = item(in, "from") ? QUIC_WIRE_SIDE_SERVER : QUIC_WIRE_SIDE_CLIENT;
   uint32_t sender = item(in, "from") ? QUIC_WIRE_SIDE_CLIENT : QUIC_WIRE_SIDE_SERVER;
   quic_wire_params params;
   uint8_t out[1024];
   size_t len;
-  if (quic_wire_params_read(reader, 0, in->bytes, in->len, &params, sizeof params, NULL) != QUIC_WIRE_OK ||
+  if (read_params(in, &params) != QUIC_WIRE_OK ||
       quic_wire_params_write(sender, &params, sizeof params, out, sizeof out, &len) != QUIC_WIRE_OK) {
     puts("invalid");
     return;
@@ -151,9 +156,8 @@ void answer_params_write(const line *in) {
 }
 
 void answer_params(const line *in) {
-  uint32_t side = item(in, "from") ? QUIC_WIRE_SIDE_SERVER : QUIC_WIRE_SIDE_CLIENT;
   quic_wire_params params;
-  if (quic_wire_params_read(side, 0, in->bytes, in->len, &params, sizeof params, NULL) != QUIC_WIRE_OK) {
+  if (read_params(in, &params) != QUIC_WIRE_OK) {
     puts("invalid TRANSPORT_PARAMETER_ERROR");
     return;
   }

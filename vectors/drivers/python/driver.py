@@ -1,7 +1,9 @@
 #!/usr/bin/env python3
 """A driver for the Python package quic_wire, which must be importable; the tests of ciphers need `cryptography` too.
 
-driver.py"""
+driver.py [--rfc]
+
+With --rfc it reads and writes by Checks.RFC, and asks what a packet may carry."""
 import json
 import sys
 
@@ -12,6 +14,7 @@ try:
 except ImportError:
     ciphers = None
 
+IS_RFC = "--rfc" in sys.argv[1:]
 SIDES = {"": (q.Side.CLIENT, q.Side.SERVER), "client": (q.Side.SERVER, q.Side.CLIENT)}  # reader, sender
 SAMPLE_AFTER, SAMPLE = 4, 16
 RESERVED_LONG, RESERVED_SHORT = 0x0C, 0x18
@@ -20,6 +23,8 @@ PACKETS = {
     q.Initial: "Initial", q.ZeroRtt: "0-RTT", q.Handshake: "Handshake", q.Retry: "Retry", q.OneRtt: "1-RTT",
     q.VersionNegotiation: "Version Negotiation", q.UnknownVersion: "unknown version",
 }  # fmt: skip
+# Who may have sent a payload, by who reads it.
+SENDERS = {"": tuple(q.Side), "client": (q.Side.SERVER,), "server": (q.Side.CLIENT,)}
 KINDS = {"initial": 0, "0rtt": 1, "handshake": 2, "retry": 3, "1rtt": 4}
 # For each class of frames the RFC's names of its fields, in the order of the class.
 CODE = "application_protocol_error_code"
@@ -83,15 +88,58 @@ def frame(read):
     return out
 
 
-def answer_payload(payload, context):
-    checks = q.Checks.SHORT_TYPES if "strict" in context else q.Checks.QUINN
+def payload_checks(context):
+    """Whether types may be longer than necessary, and ACK frequency is known, only the test says."""
+    by_test = q.Checks.SHORT_TYPES | q.Checks.NO_ACK_FREQUENCY
+    checks = q.Checks.RFC & ~by_test if IS_RFC else q.Checks.QUINN
+    if "strict" in context:
+        checks |= q.Checks.SHORT_TYPES
     if "without" in context:
         checks |= q.Checks.NO_ACK_FREQUENCY
+    return checks
+
+
+def check_permitted(check, context):
+    """Raises FrameError if no sender is permitted."""
+    senders = SENDERS[context.get("side", "")]
+    for sender in senders:
+        try:
+            return check(KINDS[context.get("packet", "1rtt")], sender, checks=payload_checks(context))
+        except q.FrameError:
+            if sender == senders[-1]:
+                raise
+
+
+def check_type(payload, at, context):
+    """The type of the next frame, if it can be read."""
     try:
-        return valid([frame(one) for one in q.read_frames(payload, checks=checks)])
+        number, _ = q.read_varint(payload, at)
+    except q.Error:
+        return
+    check_permitted(lambda *words, **checks: q.check_type(number, *words, **checks), context)
+
+
+def permitted_frames(payload, context, found):
+    """Adds the frames that may be there to |found|, up to one that may not be; raises FrameError."""
+    frames = q.frames(payload, checks=payload_checks(context))
+    while frames.offset < len(payload):
+        check_type(payload, frames.offset, context)
+        one = next(frames)
+        check_permitted(one.check_permitted, context)
+        found.append(one)
+
+
+def answer_payload(payload, context):
+    found = []
+    try:
+        if not IS_RFC:
+            return valid([frame(one) for one in q.read_frames(payload, checks=payload_checks(context))])
+        permitted_frames(payload, context, found)
+        return valid([frame(one) for one in found])
     except q.FrameError as error:
-        before = [frame(one) for one in error.frames]
-        return f"invalid {error.code.name} {json.dumps({'at': error.offset, 'before': before})}"
+        read = error.frames or found
+        at = read[-1].end if read else 0
+        return f"invalid {error.code.name} {json.dumps({'at': at, 'before': [frame(one) for one in read]})}"
 
 
 def packet(read):
@@ -117,7 +165,9 @@ def packet(read):
 
 def answer_datagram(datagram, context):
     versions = [q.Version.V1] if "versions" in context else list(q.Version)
-    checks = q.Checks.GREASED_BIT if "grease" in context else q.Checks.ANY_VERSION
+    checks = q.Checks.RFC if IS_RFC else q.Checks.ANY_VERSION
+    if "grease" in context:
+        checks |= q.Checks.GREASED_BIT
     try:
         read = q.read_packets(datagram, int(context.get("cid_len", 8)), versions, checks=checks)
         return valid([packet(one) for one in read])
@@ -146,17 +196,31 @@ def parameters(read):
 def answer_parameters(data, context, is_written):
     reader, sender = SIDES[context.get("from", "")]
     try:
-        read = q.TransportParameters.read(reader, data)
+        read = q.TransportParameters.read(reader, data, checks=q.Checks.RFC if IS_RFC else q.Checks.QUINN)
     except q.ParameterError as error:
         return f"invalid {error.code.name}"
     return valid(read.write(sender).hex() if is_written else parameters(read))
 
 
-def shortest(payload):
-    """The shortest payload, as a whole; written frame by frame it must be the same."""
-    whole = q.canonical(payload).hex()
-    by_frames = q.write_frames(q.read_frames(payload)).hex()
-    return whole if whole == by_frames else f"{whole}, frame by frame {by_frames}"
+def shortest(payload, context):
+    """The shortest payload, as a whole; written frame by frame it must be the same, or rejected too."""
+    checks = payload_checks(context) if IS_RFC else q.Checks.QUINN
+    ways = [
+        lambda: q.canonical(payload, checks=checks).hex(),
+        lambda: q.write_frames(q.read_frames(payload), checks=checks & ~q.Checks.SHORT_TYPES).hex(),
+    ]
+    whole, by_frames = (either(way) for way in ways)
+    if whole != by_frames:
+        return valid(f"{whole}, frame by frame {by_frames}")
+    return whole
+
+
+def either(way):
+    """What a call returns as an answer, or how it rejects its argument."""
+    try:
+        return valid(way())
+    except q.FrameError as error:
+        return f"invalid {error.code.name}"
 
 
 def expected(context):
@@ -239,7 +303,6 @@ def retry_tag(data, context):
 
 
 CALLS = {
-    "shortest": lambda data, context: shortest(data),
     "varint-read": lambda data, context: "{} {}".format(*q.read_varint(data)),
     "varint-write": lambda data, context: q.write_varint(int(data)).hex(),
     "number-expand": lambda data, context: str(
@@ -283,6 +346,8 @@ def answer(line):
         return answer_parameters(data, context, form == "params-write")
     if form == "unprotect":
         return unprotected(data, context)
+    if form == "shortest":
+        return shortest(data, context)
     return answer_call(form, data, context)
 
 

@@ -35,6 +35,7 @@ ACK_FREQUENCY = {0x1F, 0xAF}
 HANDSHAKE_TYPES = {0x00, 0x01, 0x02, 0x03, 0x06, 0x1C}
 NOT_IN_0RTT = {0x02, 0x03, 0x06, 0x07, 0x1B, 0x1E}
 BY_SERVERS = {0x07, 0x1E}
+BY_READERS = {0x05, 0x11}  # of frames with a stream, those that the side sends which reads the stream
 
 
 def read_ack(data, has_ecn):
@@ -105,6 +106,15 @@ def check_permitted(kind, context):
         raise Rejected(PV)
 
 
+def check_stream(kind, frame, context):
+    """Only the side that opened a unidirectional stream sends data on it, and only the other limits and stops them."""
+    if "side" not in context or "stream_id" not in frame or not frame["stream_id"] & 2:
+        return
+    is_own = bool(frame["stream_id"] & 1) == (context["side"] == "client")  # the sender's
+    if is_own == (kind in BY_READERS):
+        raise Rejected("STREAM_STATE_ERROR")
+
+
 def read_frame(data, context):
     begin = data.at
     kind = data.integer()
@@ -123,6 +133,7 @@ def read_frame(data, context):
     else:
         frame = read_fields(data, kind)
     check_values(frame)
+    check_stream(kind, frame, context)
     return frame
 
 

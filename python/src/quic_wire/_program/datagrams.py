@@ -9,7 +9,7 @@ from .. import (
     Checks, Handshake, Initial, OneRtt, Packet, PacketError, Retry, UnknownVersion, VersionNegotiation, ZeroRtt,
     read_packet,
 )  # fmt: skip
-from .._wire import PACKET_CID
+from .._wire import PACKET_CID, PACKET_FIXED_BIT
 from ..errors import _packet_error
 from . import link
 from . import output as out
@@ -88,7 +88,10 @@ def _read(datagram: bytes, begin: int, cid_len: int, args: Args) -> Union[Packet
     try:
         read = read_packet(datagram, cid_len, begin, args.versions, checks=checks)
     except PacketError as error:
-        return error
+        if is_any or all(first & _FIXED_BIT for first in datagram[begin : begin + 1]):
+            return error
+        # Only versions that aren't read may have it clear, if their ids are there.
+        return _packet_error(PACKET_FIXED_BIT, "fixed bit unset", datagram, begin, cid_len, None, None)
     if isinstance(read, VersionNegotiation) and max(len(read.dcid), len(read.scid)) > _MAX_CID_LEN:
         # quinn-proto rejects these ids, as the Rust crate does.
         return _packet_error(PACKET_CID, "malformed cid", datagram, begin, cid_len, None, None)

@@ -1,10 +1,10 @@
 -- Frames and iterators over a payload as C sees them.
-use Rattle.std.specs.Prelude.{ℕ, ◌+◌, ◌-◌, ◌^◌, bit_and, List, [], ◌∷◌, length, nat_lt, Bool, Option, Some, None, not, ◌==◌, if◌then◌else◌}
+use Rattle.std.specs.Prelude.{ℕ, ◌+◌, ◌-◌, ◌^◌, List, [], ◌∷◌, length, nat_lt, Bool, Option, Some, None, not, ◌==◌, if◌then◌else◌}
 use Rattle.quic_base.specs.Ids.{dir_number}
 use Rattle.quic_errors.specs.Types.{type_or_zero}
 use Rattle.quic_frames.specs.declared.frame.Frame.{Frame}
 use Rattle.quic_frames.specs.declared.frame.Frame.TheVariants as frames
-use Rattle.quic_frames.specs.declared.frame.rules.Rules.{Rules}
+pub use Rattle.quic_frames.specs.Flags.{has_flag, rules_in}
 use Rattle.quic_frame_fields.specs.declared.frame.close.Close.TheVariants as closes
 use Rattle.quic_frame_fields.specs.declared.frame.ack.EcnCounts.{EcnCounts}
 use Rattle.quic_frame_fields.specs.Acks.{ranges_acked}
@@ -16,20 +16,6 @@ use Rattle.quic_c.specs.declared.words.CFrame.{CFrame}
 abbrev pub type_word : Option ℕ → ℕ
 type_word None = 2 ^ 64 - 1
 type_word (Some n) = n
-
--- A flag, one bit, is set.
-abbrev pub has_flag : ℕ → ℕ → Bool
-has_flag flag flags = not (bit_and flags flag == 0)
-
--- the rules of flags, whose other bits mean nothing here
-abbrev pub rules_in : ℕ → Rules
-rules_in flags = record {
-  short_types = has_flag 0x001 flags;
-  data_limit = has_flag 0x002 flags;
-  stream_limit = has_flag 0x004 flags;
-  tokens = has_flag 0x200 flags;
-  no_ack_frequency = has_flag 0x008 flags;
-}
 
 -- the words at the front of a payload, with these flags
 abbrev pub at_front : ℕ → CFrameIter

@@ -6,7 +6,7 @@ ghost use Rattle.quic_frames.specs.Checking.{IsRefusedFrame};
 ghost use Rattle.quic_frames.specs.Rules.{no_rules};
 ghost use Rattle.quic_c.specs.Filling.{AnswersFill, AnswersFirst, Fills, further};
 
-use crate::flags::{breach_by, broken, is_broken, no_rules, reported_by, rules_in};
+use crate::flags::{breach_by, broken, is_broken, no_rules, reported_by};
 use crate::frames::{show_invalid, type_in, type_read, type_word};
 use crate::show::{parts_of, show_parts};
 use crate::words::{CFrame, CFrameIter};
@@ -125,7 +125,7 @@ fn fill_checked(
     ensures { AnswersFill (rules_in frames.old.flags) frames.old payload.now out.old count.old result frames.new out.new
         count.new }
 {
-    fill_on::<3, true>(frames, payload, rules_in(frames.flags), out, count)
+    fill_on::<3, true>(frames, payload, Rules::of_flags(frames.flags), out, count)
 }
 
 /// The next frames (RFC 9000, section 19), as many as `out` has room for, by the rules of the iterator's flags; a run
@@ -208,7 +208,7 @@ fn first_checked(
 ) -> i32
     ensures { AnswersFirst flags payload.now frames.old out.old count.old result frames.new out.new count.new }
 {
-    first_by::<2, true>(frames, payload, flags, rules_in(flags), out, count)
+    first_by::<2, true>(frames, payload, flags, Rules::of_flags(flags), out, count)
 }
 
 /// Begins at the front of a payload and reads its first frames (RFC 9000, section 19), as `quic_wire_frames_init_` and

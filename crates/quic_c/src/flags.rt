@@ -10,20 +10,6 @@ ghost use Rattle.quic_c.specs.Shown.{rules_in};
 
 use quic_frames::frame::{Breach, Frame, FrameType, InvalidFrame, Rules};
 
-// The rules that flags name. Their other bits mean nothing for frames.
-#[inline(always)]
-pub(crate) fn rules_in(flags: u32) -> Rules
-    ensures { result ≡ rules_in flags }
-{
-    Rules {
-        short_types: flags & 0x001 != 0,
-        data_limit: flags & 0x002 != 0,
-        stream_limit: flags & 0x004 != 0,
-        no_ack_frequency: flags & 0x008 != 0,
-        tokens: flags & 0x200 != 0,
-    }
-}
-
 // All flags of rules.
 const RULES: u32 = 0x20f;
 

@@ -8,7 +8,7 @@ ghost use Rattle.quic_c.specs.Shown.{state_of, at_front, has_flag, rules_in, typ
 ghost use Rattle.quic_c.specs.Answers.{AnswersNext};
 ghost use Rattle.quic_results.specs.Results.{failed, frame_failure};
 
-use crate::flags::{breach_by, broken, is_broken, no_rules, reported_by, rules_in};
+use crate::flags::{breach_by, broken, is_broken, no_rules, reported_by};
 use crate::show::show;
 use crate::words::{CFrame, CFrameIter};
 use quic_frames::frame::{FrameType, InvalidFrame, Iter, Rules};
@@ -165,7 +165,7 @@ fn next_on<const PADDING: usize, const OTHER: usize, const CHECKED: bool>(
 fn next_checked(frames: &mut CFrameIter, payload: &[u8], out: &mut CFrame) -> i32
     ensures { AnswersNext (rules_in frames.old.flags) frames.old payload.now out.old result frames.new out.new }
 {
-    next_on::<2, 3, true>(frames, payload, rules_in(frames.flags), out)
+    next_on::<2, 3, true>(frames, payload, Rules::of_flags(frames.flags), out)
 }
 
 /// The next frame (RFC 9000, section 19), by the rules of the iterator's flags. It returns 1 with the frame; 0 if none

@@ -8,7 +8,7 @@ ghost use Rattle.quic_c.specs.Shown.{frame_kind_of, frame_words, invalid_words, 
 ghost use Rattle.quic_c.specs.Front.{AnswersRead, FillsGaps, ShowsAck, ShowsFront, moved_by, reported_behind};
 ghost use Rattle.quic_results.specs.Results.{failed, frame_failure};
 
-use crate::flags::{breach_by, broken, is_broken, no_rules, reported_by, rules_in};
+use crate::flags::{breach_by, broken, is_broken, no_rules, reported_by};
 use crate::frames::{show_invalid, type_read};
 use crate::show::{parts_of, show, split_blocks, with_first};
 use crate::words::{CFrame, CGap};
@@ -154,7 +154,7 @@ fn read_front<const COPY: usize, const CHECKED: bool>(
 fn read_checked(payload: &[u8], flags: u32, out: &mut CFrame, gaps: &mut [CGap]) -> i64
     ensures { AnswersRead (rules_in flags) payload.now out.old gaps.old result out.new gaps.new }
 {
-    let rules = rules_in(flags);
+    let rules = Rules::of_flags(flags);
     match payload.first() {
         Some(0x08..=0x0f) => read_front::<3, true>(payload, rules, out, gaps),
         Some(0x02 | 0x03) => read_front::<4, true>(payload, rules, out, gaps),

@@ -9,7 +9,6 @@ ghost use Rattle.quic_c.specs.Headers.{AnswersHeader, BeginsWithHeader, GivesHea
 ghost use Rattle.quic_c.specs.Shown.{rules_in};
 ghost use Rattle.quic_c.specs.declared.words.CFrame.{CFrame};
 
-use crate::flags::rules_in;
 use crate::words::CFrame;
 use quic_base::varint::{split_var, var_size};
 use quic_frames::frame::Rules;
@@ -181,7 +180,7 @@ fn split_header(rules: Rules, bytes: &[u8]) -> Result<CFrame, Failure>
 pub extern "C" fn quic_wire_frame_header_read_(bytes: &[u8], flags: u32, out: &mut CFrame) -> i64
     ensures answers { AnswersHeader (rules_in flags) bytes.now out.old result out.new }
 {
-    match split_header(rules_in(flags), bytes) {
+    match split_header(Rules::of_flags(flags), bytes) {
         Ok(words) => {
             *out = words;
             words.data_offset as i64

@@ -1,3 +1,4 @@
 mod PaddingBytes
 mod LenWalk
 mod StoreWalk
+mod ByRules

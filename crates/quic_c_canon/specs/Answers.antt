@@ -4,6 +4,8 @@ use Rattle.quic_frame_fields.specs.declared.frame.fault.Fault.{Fault}
 use Rattle.quic_frame_fields.specs.Payload.{TypedFrame, AreFrames, IsBroken}
 use Rattle.quic_frame_fields.specs.Reading.{Invalid, invalid}
 use Rattle.quic_frames.specs.Least.{frame_in, shortest_frames}
+use Rattle.quic_frames.specs.Rules.{Checked, IsCheckedOf}
+use Rattle.quic_frames.specs.declared.frame.rules.Rules.{Rules}
 use Rattle.quic_canon.specs.Least.{IsLeast}
 use Rattle.quic_c_canon.specs.declared.words.CCanon.{CCanon}
 use Rattle.quic_results.specs.Results.{failed, frame_failure}
@@ -40,6 +42,15 @@ pub record IsReportedOf (payload : List ℕ) (reported : Invalid) : Type 0 where
 pub record ReportsInvalidPayload (payload : List ℕ) (old : CCanon) (result : ℤ) (new : CCanon) : Type 0 where
   pub reported : Invalid
   pub of_it : IsReportedOf payload reported
+  pub reason : result ≡ failed (frame_failure reported.reason)
+  pub words : new ≡ record old { last_type = type_word reported.type }
+
+-- The payload has an error under these rules, and that is returned, with the type.
+pub record ReportsInvalidBy (rules : Rules) (payload : List ℕ) (old : CCanon) (result : ℤ) (new : CCanon) : Type 0 where
+  pub checked : Checked
+  pub reads : IsCheckedOf rules payload checked
+  pub reported : Invalid
+  pub error : checked.error ≡ Some reported
   pub reason : result ≡ failed (frame_failure reported.reason)
   pub words : new ≡ record old { last_type = type_word reported.type }
 

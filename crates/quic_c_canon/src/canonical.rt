@@ -2,16 +2,19 @@
 ghost use Rattle.std.specs.Prelude.{◌≡◌, ◌≢◌, ◌+◌, ◌<◌, ◌≤◌, ◌⊎◌, ◌↔◌, ◌++◌, [], List, pos, length, map, take, drop, replicate, IfOk, IfErr, IsErr, None, false};
 ghost use Rattle.quic_frame_fields.specs.Payload.{TypedFrame, AreFrames};
 ghost use Rattle.quic_frame_fields.specs.Shortest.{shortest_frame};
+ghost use Rattle.quic_canon.specs.Refusal.{IsAccepted};
+ghost use Rattle.quic_frames.specs.Flags.{rules_in};
 ghost use Rattle.quic_frames.specs.InRange.{CanStand};
 ghost use Rattle.quic_frames.specs.Least.{frame_in, shortest_frames};
 ghost use Rattle.quic_frames.specs.Meaning.{meaning_of};
 ghost use Rattle.quic_frames.specs.Walk.{invalid_of, first_of};
-ghost use Rattle.quic_c_canon.specs.Answers.{type_word, GivesLeastLen, LeastNeedsMore, IsReportedOf, ReportsInvalidPayload, HasLength};
+ghost use Rattle.quic_c_canon.specs.Answers.{type_word, GivesLeastLen, LeastNeedsMore, IsReportedOf, ReportsInvalidBy, ReportsInvalidPayload, HasLength};
 ghost use Rattle.quic_results.specs.Results.{failed};
 
 use crate::words::CCanon;
+use quic_base::coding::are_bytes;
 use quic_canon::laws::one_least;
-use quic_frames::frame::{Frame, FrameType, InvalidFrame, Iter};
+use quic_frames::frame::{Frame, FrameType, InvalidFrame, Iter, Rules, first_error};
 use quic_frames::laws::{least_encoding, one_reading, read_back};
 use quic_results::results::{Failure, frame_failure};
 
@@ -155,13 +158,8 @@ fn write(payload: &[u8], len: usize, dest: &mut [u8])
     }
 }
 
-/// Writes the shortest payload with the same meaning at the front of `dest`: equal frames in the same order, each in
-/// its shortest form; the last frame needs no length (RFC 9000, sections 12.4 and 19). It returns 0 and its length, and
-/// the bytes after it don't change; `NoRoom` and the length if `dest` has less room; `PayloadEmpty` exactly when the
-/// payload is empty; `FrameEnd`, `FrameType` or `FrameMalformed` if it has an invalid frame, and the last type that was
-/// read. `dest` changes only with 0, and `out` only in the fields that are named here. It doesn't allocate.
-#[unsafe(no_mangle)]
-pub extern "C" fn quic_wire_canonical_(payload: &[u8], dest: &mut [u8], out: &mut CCanon) -> i32
+// What both calls do.
+fn canonical(payload: &[u8], dest: &mut [u8], out: &mut CCanon) -> i32
     ensures { (result ≡ pos 0) × GivesLeastLen payload.now dest.old dest.new out.old out.new
         ⊎ (dest.new ≡ dest.old) × ((result ≡ failed Failure.NoRoom) × LeastNeedsMore payload.now dest.old out.old out.new
         ⊎ (result ≡ failed Failure.PayloadEmpty) × (payload.now ≡ []) × (out.new ≡ out.old)
@@ -184,4 +182,52 @@ pub extern "C" fn quic_wire_canonical_(payload: &[u8], dest: &mut [u8], out: &mu
     }
     write(payload, len, dest);
     0
+}
+
+/// Writes the shortest payload with the same meaning at the front of `dest`: equal frames in the same order, each in
+/// its shortest form; the last frame needs no length (RFC 9000, sections 12.4 and 19). It returns 0 and its length, and
+/// the bytes after it don't change; `NoRoom` and the length if `dest` has less room; `PayloadEmpty` exactly when the
+/// payload is empty; `FrameEnd`, `FrameType` or `FrameMalformed` if it has an invalid frame, and the last type that was
+/// read. `dest` changes only with 0, and `out` only in the fields that are named here. It doesn't allocate.
+#[unsafe(no_mangle)]
+pub extern "C" fn quic_wire_canonical_(payload: &[u8], dest: &mut [u8], out: &mut CCanon) -> i32
+    ensures { (result ≡ pos 0) × GivesLeastLen payload.now dest.old dest.new out.old out.new
+        ⊎ (dest.new ≡ dest.old) × ((result ≡ failed Failure.NoRoom) × LeastNeedsMore payload.now dest.old out.old out.new
+        ⊎ (result ≡ failed Failure.PayloadEmpty) × (payload.now ≡ []) × (out.new ≡ out.old)
+        ⊎ ReportsInvalidPayload payload.now out.old result out.new) }
+{
+    canonical(payload, dest, out)
+}
+
+/// Does what `quic_wire_canonical_` does, if the payload has no error under the rules of these flags
+/// (`Rules::of_flags`); what is written has none either (`laws::least_by_rules` of `quic_canon`). It returns
+/// `PayloadEmpty` exactly when the payload is empty, and the reason, with the type, exactly when it has an error under
+/// the rules: also `FrameLongType` and `FrameLimit`. The payload is read twice. It doesn't allocate.
+#[unsafe(no_mangle)]
+pub extern "C" fn quic_wire_canonical_with_(
+    payload: &[u8],
+    flags: u32,
+    dest: &mut [u8],
+    out: &mut CCanon,
+) -> i32
+    ensures { IsAccepted (rules_in flags) payload.now
+        × ((result ≡ pos 0) × GivesLeastLen payload.now dest.old dest.new out.old out.new
+        ⊎ (dest.new ≡ dest.old) × (result ≡ failed Failure.NoRoom)
+        × LeastNeedsMore payload.now dest.old out.old out.new)
+        ⊎ (dest.new ≡ dest.old) × ((result ≡ failed Failure.PayloadEmpty) × (payload.now ≡ []) × (out.new ≡ out.old)
+        ⊎ (payload.now ≢ []) × ReportsInvalidBy (rules_in flags) payload.now out.old result out.new) }
+{
+    one_reading();
+    are_bytes(payload);
+    if payload.is_empty() {
+        return Failure::PayloadEmpty.number();
+    }
+    match first_error(payload, Rules::of_flags(flags)) {
+        Some(invalid) => {
+            out.last_type = type_word(invalid.ty);
+            return frame_failure(invalid.reason).number();
+        }
+        None => {}
+    }
+    canonical(payload, dest, out)
 }

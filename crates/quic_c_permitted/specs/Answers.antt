@@ -1,9 +1,8 @@
 -- What the calls return that say where a frame may be.
-use Rattle.std.specs.Prelude.{◌≡◌, ⊤, ◌⊎◌, ℕ, ℤ, pos, Result, Ok, Err, not, bit_and, ◌==◌}
+use Rattle.std.specs.Prelude.{◌≡◌, ⊤, ◌⊎◌, ℕ, ℤ, pos, Result, Ok, Err}
 use Rattle.quic_base.specs.declared.ids.Side.{Side}
 use Rattle.quic_base.specs.declared.ids.Side.TheVariants.{Client, Server}
-use Rattle.quic_frames.specs.Rules.{no_rules}
-use Rattle.quic_frames.specs.declared.frame.rules.Rules.{Rules}
+use Rattle.quic_frames.specs.Flags.{rules_in}
 use Rattle.quic_permitted.specs.Permitted.{StreamAnswer, TypeAnswer}
 use Rattle.quic_permitted.specs.declared.permitted.Forbidden.{Forbidden}
 use Rattle.quic_permitted.specs.declared.permitted.Forbidden.TheVariants as forbidden
@@ -23,10 +22,6 @@ IsPacket word OneRtt = word ≡ 4
 abbrev pub IsSide : ℕ → Side → Type 0
 IsSide word Client = word ≡ 0
 IsSide word Server = word ≡ 1
-
--- the rules of flags, as far as types may be unknown by them: the bit 0x008
-abbrev pub rules_in : ℕ → Rules
-rules_in flags = record no_rules { no_ack_frequency = not (bit_and flags 0x008 == 0) }
 
 -- what is returned for an outcome
 abbrev pub answered : Result ⊤ Forbidden → ℤ

@@ -1,6 +1,6 @@
 //! Whether a packet may carry a frame, by its type or of a frame that was read.
 ghost use Rattle.std.specs.Prelude.{◌≡◌, ◌⊎◌, IfSome, IsNone, pos};
-ghost use Rattle.quic_c_permitted.specs.Answers.{AnswersFrame, AnswersType, IsPacket, IsSide, answered, rules_in};
+ghost use Rattle.quic_c_permitted.specs.Answers.{AnswersFrame, AnswersType, IsPacket, IsSide, answered};
 
 use quic_base::ids::Side;
 use quic_frames::frame::Rules;
@@ -33,19 +33,6 @@ fn side_in(word: u32) -> Option<Side>
     }
 }
 
-// The rules that flags name, as far as types may be unknown by them.
-fn rules_in(flags: u32) -> Rules
-    ensures { result ≡ rules_in flags }
-{
-    Rules {
-        short_types: false,
-        data_limit: false,
-        stream_limit: false,
-        tokens: false,
-        no_ack_frequency: flags & 0x008 != 0,
-    }
-}
-
 // The number of an outcome.
 fn answered(outcome: Result<(), Forbidden>) -> i32
     ensures { result ≡ answered outcome }
@@ -71,7 +58,7 @@ pub extern "C" fn quic_wire_type_permitted_(ty: u64, packet: u32, sender: u32, f
     let (Some(packet), Some(sender)) = (packet_in(packet), side_in(sender)) else {
         return Failure::Kind.number();
     };
-    answered(permits_type(ty, packet, sender, rules_in(flags)))
+    answered(permits_type(ty, packet, sender, Rules::of_flags(flags)))
 }
 
 /// The same of a frame of the kind `ty` that was read; `stream` is the id of the stream that it names, if it names one.
@@ -90,5 +77,5 @@ pub extern "C" fn quic_wire_frame_permitted_(
     let (Some(packet), Some(sender)) = (packet_in(packet), side_in(sender)) else {
         return Failure::Kind.number();
     };
-    answered(permits_on(ty, stream, packet, sender, rules_in(flags)))
+    answered(permits_on(ty, stream, packet, sender, Rules::of_flags(flags)))
 }

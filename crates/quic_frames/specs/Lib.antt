@@ -24,6 +24,7 @@ pub mod IterState
 pub mod Walk
 pub mod Padding
 pub mod Rules
+pub mod Flags
 pub mod Checking
 pub mod Found
 pub mod Placed

@@ -2,6 +2,7 @@
 ghost use Rattle.std.specs.Prelude.{◌≡◌, ◌↔◌, ℕ, Option, None, IsTrue, length};
 ghost use Rattle.quic_frame_fields.specs.Reading.{invalid};
 ghost use Rattle.quic_frame_fields.specs.declared.frame.fault.Fault.{Fault as Reason};
+ghost use Rattle.quic_frames.specs.Flags.{rules_in};
 ghost use Rattle.quic_frames.specs.InRange.{InRange};
 ghost use Rattle.quic_frames.specs.Meaning.{meaning_of};
 ghost use Rattle.quic_frames.specs.Rules.{breach_of, breach_text, broken_if, ends_past, fault_by, is_past_streams, is_unknown_by, no_rules};
@@ -75,6 +76,21 @@ impl Rules {
         tokens: true,
         no_ack_frequency: true,
     };
+
+    /// The rules that the flags of the libraries for C name: 0x001 for `short_types`, 0x002 for `data_limit`, 0x004 for
+    /// `stream_limit`, 0x008 for `no_ack_frequency`, 0x200 for `tokens`. Other bits mean nothing.
+    #[inline(always)]
+    pub fn of_flags(flags: u32) -> Rules
+        ensures { result ≡ rules_in flags }
+    {
+        Rules {
+            short_types: flags & 0x001 != 0,
+            data_limit: flags & 0x002 != 0,
+            stream_limit: flags & 0x004 != 0,
+            no_ack_frequency: flags & 0x008 != 0,
+            tokens: flags & 0x200 != 0,
+        }
+    }
 
     /// The rule that a frame breaks, if it breaks one. It ignores `short_types`, since a frame doesn't record how its
     /// type was encoded.

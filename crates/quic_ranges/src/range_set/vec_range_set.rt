@@ -164,8 +164,8 @@ impl RangeSet {
     }
 
     /// Inserts a range, and returns the nonempty parts of it that were in the set before. The set is the union from
-    /// this call on, however many parts are read. Returns `NoRoom` if an allocation fails, which never happens for an
-    /// empty or reversed range. The set is unchanged then.
+    /// this call on, however many parts are read. Returns `NoRoom` only if an allocation fails, which needs such a part,
+    /// or a union with more runs than the set. The set is unchanged then.
     pub fn replace(&mut self, x: Range<u64>) -> Result<Replace<'_>, NoRoom>
         ensures* union { sem 𝓛 (Ends self.entry
             (λ after. OnOk result (IsRunsOf (in_union self.old x) after)
@@ -173,6 +173,8 @@ impl RangeSet {
         ensures intersections { IfOk result
             (λ found. IsRunsOf (in_intersection self.old x) (intersections_left found)) }
         ensures void { x.end ≤ x.start → IsOk result }
+        ensures no_more_runs { (rs : List (Range ℕ)) → IsRunsOf (in_intersection self.old x) []
+            → IsRunsOf (in_union self.old x) rs → length rs ≤ length self.old → IsOk result }
     {
         find_intersections(&mut self.replaced, self.runs.as_slice(), &x)?;
         join(&mut self.runs, &x)?;
@@ -399,6 +401,7 @@ fn find_intersections(
     requires { IsMaximalRuns runs.now }
     ensures intersections { OnOk result (found.new.items ≡ intersections runs.now x.now) }
     ensures void { x.now.end ≤ x.now.start → IsOk result }
+    ensures none { intersections runs.now x.now ≡ [] → IsOk result }
 {
     found.clear();
     if x.end <= x.start {

@@ -3,6 +3,7 @@ mod Shown
 pub mod Places
 mod Shapes
 mod Meanings
+mod AnyData
 mod Filling
 mod Fronts
 mod RangeSteps

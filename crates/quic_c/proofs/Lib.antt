@@ -19,5 +19,7 @@ mod HeaderTypes
 mod HeaderSteps
 mod Ways
 mod Walking
+mod AckRanges
+mod RangeWalks
 mod ReadingOn
 mod Types

@@ -107,9 +107,9 @@ fn ends_past(words: &CFrame) -> bool
 /// Writes the shortest encoding of a STREAM, CRYPTO or DATAGRAM, without its data, at the front of `out` (RFC 9000,
 /// sections 19.6 and 19.8; RFC 9221, section 4). If `flags` has 1, it is the last frame of its payload; the other flags
 /// are rules, as for the calls that read. The words have the length of the data; their place isn't read. It returns 0
-/// with how many bytes were written, and bytes after those don't change; `NoRoom` with how many are needed, if `out` has
-/// fewer; `Argument` if the words describe no such frame that can be written; and `FrameLimit` exactly if they describe
-/// one that breaks a rule. `out` changes only with 0, and `written` only with 0 and `NoRoom`.
+/// with how many bytes were written, and bytes after those don't change; `NoRoom` with how many are needed, if `out`
+/// has fewer; `Argument` if the words describe no such frame that can be written; and `FrameLimit` exactly if they
+/// describe one that breaks a rule. `out` changes only with 0, and `written` only with 0 and `NoRoom`.
 #[unsafe(no_mangle)]
 pub extern "C" fn quic_wire_frame_header_write_(
     frame: &CFrame,

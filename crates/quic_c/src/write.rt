@@ -317,12 +317,12 @@ fn described<'a>(words: &CFrame, data: &'a [u8], last: bool) -> Option<Frame<'a>
 
 /// Writes the shortest encoding of the frame that the words describe at the front of `out` (RFC 9000, section 19). If
 /// `flags` has 1, it is the last frame of its payload; the other flags are rules, as for the calls that read. Its data
-/// are read from `data` at the place in the words; for a NEW_CONNECTION_ID they are the id, and the sixteen bytes of its
-/// token follow it. If the words describe no data, or a kind that has none, neither `data` nor that place is read; the
-/// words for where the frame begins and ends never are. It returns 0 with how many bytes were written, and bytes after
-/// those don't change; `NoRoom` with how many are needed, if `out` has fewer; `Argument` if the words describe no frame
-/// that can be written, or an ACK: ACKs are written from sets; and what a reader with the same rules reports, exactly if
-/// the frame breaks one of them. `out` changes only with 0, and `written` only with 0 and `NoRoom`.
+/// are read from `data` at the place in the words; for a NEW_CONNECTION_ID they are the id, and the sixteen bytes of
+/// its token follow it. If the words describe no data, or a kind that has none, neither `data` nor that place is read;
+/// the words for where the frame begins and ends never are. It returns 0 with how many bytes were written, and bytes
+/// after those don't change; `NoRoom` with how many are needed, if `out` has fewer; `Argument` if the words describe no
+/// frame that can be written, or an ACK: ACKs are written from sets; and what a reader with the same rules reports,
+/// exactly if the frame breaks one of them. `out` changes only with 0, and `written` only with 0 and `NoRoom`.
 #[unsafe(no_mangle)]
 pub extern "C" fn quic_wire_frame_write_(
     frame: &CFrame,

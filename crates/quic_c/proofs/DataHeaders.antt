@@ -1,6 +1,6 @@
 -- The header of a frame, followed by its data.
 use Rattle.std.proofs.Common.{◌≡◌, ℕ, ◌<◌, ◌^◌, List, [], ◌∷◌, ◌++◌, length, Bool, true, false, None, Some, refl, sym, ap, subst, ◌∙◌, inl, inr, arith}
-use Rattle.std.specs.Prelude.{◌==◌, ◌||◌, ◌⊎◌, if◌then◌else◌}
+use Rattle.std.specs.Prelude.{◌==◌, ◌&&◌, ◌||◌, ◌⊎◌, if◌then◌else◌}
 use Rattle.quic_base.specs.declared.ids.Dir.TheVariants as dirs
 use Rattle.quic_frame_fields.specs.declared.frame.close.Close.TheVariants as closes
 use Rattle.quic_frame_fields.specs.Numbers.{AreNumeric}
@@ -12,9 +12,11 @@ use Rattle.quic_frames.specs.declared.frame.Frame.TheVariants as frames
 use Rattle.quic_frame_fields.specs.declared.frame.Datagram.{Datagram}
 use Rattle.quic_frames.specs.Meaning.{meaning_of}
 use Rattle.quic_c.specs.declared.words.CFrame.{CFrame}
-use Rattle.quic_c.specs.Shown.{data_of}
+use Rattle.quic_frames.specs.Rules.{breach_of, broken_if}
+use Rattle.quic_frames.specs.declared.frame.rules.Breach.TheVariants as breaches
+use Rattle.quic_c.specs.Shown.{data_of, frame_kind_of, has_flag, rules_in}
 use Rattle.quic_c.specs.Written.{CanWriteFrame}
-use Rattle.quic_c.specs.Headers.{IsHeaded, HasHeader, AreTwo, IsCounted, first_in, second_in, data_header_by, data_header_bytes}
+use Rattle.quic_c.specs.Headers.{IsHeaded, HasHeader, AreTwo, IsCounted, breaks_flags, first_in, second_in, data_header_by, data_header_bytes}
 
 zero_fits : 0 < 2 ^ 62
 zero_fits = omega arith
@@ -136,3 +138,34 @@ header_and words bytes last (frames.Close (closes.Application x)) h can =
 header_and words bytes last (frames.AckFrequency f) h can = absurd (never words.kind 0xaf h can.described.kind refl)
 header_and words bytes last frames.ImmediateAck h can = absurd (never words.kind 0x1f h can.described.kind refl)
 header_and words bytes last frames.HandshakeDone h can = absurd (never words.kind 0x1e h can.described.kind refl)
+
+-- ---- rules
+
+none_if : (b : Bool) → broken_if (b && false) breaches.Limit ≡ None
+none_if true = refl
+none_if false = refl
+
+-- a frame breaks a rule if its header does
+pub header_breaks : (words : CFrame) (bytes : List ℕ) (last : Bool) (frame : Frame) (flags : ℕ) → IsHeaded words.kind
+    → CanWriteFrame words bytes last frame
+    → breach_of (rules_in flags) (meaning_of frame) ≡ broken_if (breaks_flags flags words) breaches.Limit
+header_breaks words bytes last (frames.Crypto x) flags h can =
+    let s = can.described in rw (s.kind, s.numbers, s.count) refl
+header_breaks words bytes last (frames.Stream x) flags h can =
+    let s = can.described in rw (s.kind, s.numbers, s.count) refl
+header_breaks words bytes last (frames.Datagram x) flags h can =
+    let s = can.described in rw s.kind (sym (none_if (has_flag 0x002 flags)))
+header_breaks words bytes last (frames.MaxStreams dirs.Bi count) flags h can =
+    absurd (never words.kind 0x12 h can.described.kind refl)
+header_breaks words bytes last (frames.MaxStreams dirs.Uni count) flags h can =
+    absurd (never words.kind 0x13 h can.described.kind refl)
+header_breaks words bytes last (frames.StreamsBlocked dirs.Bi limit) flags h can =
+    absurd (never words.kind 0x16 h can.described.kind refl)
+header_breaks words bytes last (frames.StreamsBlocked dirs.Uni limit) flags h can =
+    absurd (never words.kind 0x17 h can.described.kind refl)
+header_breaks words bytes last (frames.Close (closes.Connection x)) flags h can =
+    absurd (never words.kind 0x1c h can.described.kind refl)
+header_breaks words bytes last (frames.Close (closes.Application x)) flags h can =
+    absurd (never words.kind 0x1d h can.described.kind refl)
+header_breaks words bytes last frame flags h can =
+    absurd (never words.kind (frame_kind_of frame) h can.described.kind refl)

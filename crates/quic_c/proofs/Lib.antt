@@ -3,6 +3,7 @@ mod Shown
 pub mod Places
 mod Shapes
 mod Meanings
+mod AnyData
 mod Filling
 mod Fronts
 mod RangeSteps
@@ -18,5 +19,7 @@ mod HeaderTypes
 mod HeaderSteps
 mod Ways
 mod Walking
+mod AckRanges
+mod RangeWalks
 mod ReadingOn
 mod Types

@@ -184,24 +184,24 @@ walking_stops shows flags payload before old new after count here entry result l
 -- ---- many with one call
 
 -- Entries were stored behind the first ones.
-pub record Behind (after : List CFrame) (count : ℕ) (here entries stored : List CFrame) : Type 0 where
+pub record Behind {E : Type 0} (after : List E) (count : ℕ) (here entries stored : List E) : Type 0 where
   pub was : here ≡ drop count after
   pub front : take count stored ≡ take count after
   pub back : drop count stored ≡ entries
   pub size : length stored ≡ length after
 
-pub put_behind : (after : List CFrame) (count : ℕ) (entries : List CFrame) → count ≤ length after
+pub put_behind : {E : Type 0} (after : List E) (count : ℕ) (entries : List E) → count ≤ length after
     → length entries ≡ length (mid_of count (length after - count) after)
     → Behind after count (mid_of count (length after - count) after) entries
     (put_mid count (length after - count) after entries)
-put_behind after count entries few size =
+put_behind {E = E} after count entries few size =
     let was : mid_of count (length after - count) after ≡ drop count after =
     take_all (length after - count) (drop count after) (omega (arith, length-drop count after)) in
     let none : post_of count (length after - count) after ≡ [] =
     drop_all (length after - count) (drop count after) (omega (arith, length-drop count after)) in
     let stored : put_mid count (length after - count) after entries ≡ take count after ++ entries =
-    ap (λ (l : List CFrame). take count after ++ (entries ++ l)) none
-    ∙ ap (λ (l : List CFrame). take count after ++ l) (append-nil entries) in
+    ap (λ (l : List E). take count after ++ (entries ++ l)) none
+    ∙ ap (λ (l : List E). take count after ++ l) (append-nil entries) in
     let front : length (take count after) ≡ count = length-take-le count after few in
     record {
       was = was;

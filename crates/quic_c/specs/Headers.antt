@@ -64,6 +64,11 @@ pub record WroteHeader (words : CFrame) (last : Bool) (old new : List ℕ) (writ
   pub count : written ≡ length (data_header_bytes words last)
   pub front : new ≡ data_header_bytes words last ++ drop written old
 
+-- The data of a CRYPTO or STREAM end past 2^62 - 1, and these flags forbid that.
+abbrev pub breaks_flags : ℕ → CFrame → Bool
+breaks_flags flags words =
+    has_flag 0x002 flags && (not (words.kind == 0x30) && ends_past (second_in words.numbers) words.data_len)
+
 -- There is less room than they need, and how much they need was reported.
 pub record HeaderNeedsMore (words : CFrame) (last : Bool) (old : List ℕ) (needed : ℕ) : Type 0 where
   pub can : HasHeader words last

@@ -1,5 +1,5 @@
 -- What is stored by callers that walk over a whole payload (RFC 9000, section 12.4), or over the ranges of an ACK.
-use Rattle.std.specs.Prelude.{◌≡◌, ℕ, ◌+◌, ◌<◌, ◌≤◌, ◌⊎◌, ℤ, pos, List, [], ◌∷◌, ◌++◌, length, take, drop, replicate, slice_index, Bool, None, Some}
+use Rattle.std.specs.Prelude.{◌≡◌, ℕ, ◌+◌, ◌<◌, ◌≤◌, ◌⊎◌, ℤ, pos, List, [], ◌∷◌, ◌++◌, length, map, take, drop, replicate, slice_index, Bool, None, Some}
 use Rattle.quic_frame_fields.specs.Payload.{TypedFrame}
 use Rattle.quic_frame_fields.specs.Reading.{Invalid}
 use Rattle.quic_frames.specs.declared.frame.Frame.{Frame}
@@ -8,6 +8,7 @@ use Rattle.quic_frames.specs.Meaning.{meaning_of}
 use Rattle.quic_frames.specs.Rules.{Checked}
 use Rattle.quic_frames.specs.Walk.{Stands}
 use Rattle.quic_c.specs.declared.words.CFrame.{CFrame}
+use Rattle.quic_c.specs.declared.words.CRange.{CRange}
 use Rattle.quic_c.specs.Filling.{Shows}
 use Rattle.quic_c.specs.Shown.{type_word, frame_words, invalid_words}
 use Rattle.quic_results.specs.Results.{failed, frame_failure}
@@ -80,3 +81,19 @@ pub record StoresFrames (shows : Ahead → CFrame → Ahead → Type 0) (before 
   pub shown : Shows shows (ahead 0 checked.frames) (take count after) end
   pub why : StopsFull before count last ⊎ StopsAtEnd before count last after checked end
       ⊎ StopsAtError before count last after checked end
+
+-- ---- the ranges of an ACK
+
+-- the entry for a range by its least and its greatest number
+abbrev pub range_entry : ℕ × ℕ → CRange
+range_entry range = record { start = range.0; end = range.1 + 1 }
+
+-- So many entries were stored, which are those of the first of these ranges, in order: all of them, and then 0 was
+-- returned; or as many as there is room for.
+pub record StoresRanges (ranges : List (ℕ × ℕ)) (before : List CRange) (count : ℕ) (last : ℤ)
+    (after : List CRange) : Type 0 where
+  pub few : count ≤ length before
+  pub are : take count after ≡ map range_entry (take count ranges)
+  pub kept : drop count after ≡ drop count before
+  pub why : ((last ≡ pos 0) × (count ≡ length ranges))
+      ⊎ ((last ≡ pos 1) × (count ≡ length before) × (count ≤ length ranges))

@@ -1,14 +1,16 @@
 -- The frames that words describe, and what the call that writes them answers.
-use Rattle.std.specs.Prelude.{◌≡◌, ℕ, ◌+◌, ◌<◌, ◌≤◌, ◌==◌, ℤ, pos, List, [], ◌++◌, length, take, drop, Bool, not}
+use Rattle.std.specs.Prelude.{◌≡◌, ℕ, ◌+◌, ◌<◌, ◌≤◌, ◌⊎◌, ℤ, pos, List, [], ◌++◌, length, take, drop, Bool, None, Some}
 use Rattle.quic_frame_fields.specs.Shortest.{shortest_frame}
 use Rattle.quic_frames.specs.declared.frame.Frame.{Frame}
 use Rattle.quic_frames.specs.declared.frame.Frame.TheVariants as frames
 use Rattle.quic_frames.specs.InRange.{IsNoAck, IsTypedFrame, CanStand}
 use Rattle.quic_frames.specs.Meaning.{meaning_of}
+use Rattle.quic_frames.specs.Rules.{breach_of, breach_text}
+use Rattle.quic_frames.specs.declared.frame.rules.Breach.{Breach}
 use Rattle.quic_c.specs.declared.words.CFrame.{CFrame}
-use Rattle.quic_c.specs.Shown.{frame_kind_of, flags_of, frame_numbers_of, data_of, tail_of}
+use Rattle.quic_c.specs.Shown.{frame_kind_of, flags_of, frame_numbers_of, data_of, tail_of, has_flag, rules_in}
 use Rattle.quic_results.specs.declared.results.Failure.TheVariants as failure
-use Rattle.quic_results.specs.Results.{failed}
+use Rattle.quic_results.specs.Results.{failed, frame_failure}
 
 -- the reset token that follows the data of a NEW_CONNECTION_ID, which are its id
 abbrev pub token_of : Frame → List ℕ
@@ -33,31 +35,48 @@ pub record CanWriteFrame (words : CFrame) (bytes : List ℕ) (last : Bool) (fram
   pub typed : IsTypedFrame frame
   pub stands : CanStand last frame
 
--- a flag of C: 0 is false, any other number is true
-abbrev pub flag_of : ℕ → Bool
-flag_of n = not (n == 0)
+-- 1: the frame is the last of its payload
+abbrev pub is_last : ℕ → Bool
+is_last flags = has_flag 0x001 flags
 
--- The bytes of such a frame are at the front, the bytes after them didn't change, and they are counted.
-pub record WroteFrame (words : CFrame) (bytes : List ℕ) (last : Bool) (old new : List ℕ) (written : ℕ) : Type 0 where
+-- The frame breaks no rule of these flags, which are those by which frames are read, except that 1 has another meaning.
+abbrev pub KeepsFlags : ℕ → Frame → Type 0
+KeepsFlags flags frame = breach_of (rules_in flags) (meaning_of frame) ≡ None
+
+-- The bytes of such a frame, which breaks no rule, are at the front, the bytes after them didn't change, and they are
+-- counted.
+pub record WroteFrame (words : CFrame) (bytes : List ℕ) (flags : ℕ) (old new : List ℕ) (written : ℕ) : Type 0 where
   pub frame : Frame
-  pub can : CanWriteFrame words bytes last frame
-  pub count : written ≡ length (shortest_frame last (meaning_of frame))
-  pub front : new ≡ shortest_frame last (meaning_of frame) ++ drop written old
+  pub can : CanWriteFrame words bytes (is_last flags) frame
+  pub kept : KeepsFlags flags frame
+  pub count : written ≡ length (shortest_frame (is_last flags) (meaning_of frame))
+  pub front : new ≡ shortest_frame (is_last flags) (meaning_of frame) ++ drop written old
 
 -- There is less room than such a frame needs, and how much it needs was reported.
-pub record FrameNeedsMore (words : CFrame) (bytes : List ℕ) (last : Bool) (old : List ℕ) (needed : ℕ) : Type 0 where
+pub record FrameNeedsMore (words : CFrame) (bytes : List ℕ) (flags : ℕ) (old : List ℕ) (needed : ℕ) : Type 0 where
   pub frame : Frame
-  pub can : CanWriteFrame words bytes last frame
-  pub count : needed ≡ length (shortest_frame last (meaning_of frame))
+  pub can : CanWriteFrame words bytes (is_last flags) frame
+  pub kept : KeepsFlags flags frame
+  pub count : needed ≡ length (shortest_frame (is_last flags) (meaning_of frame))
   pub full : length old < needed
+
+-- Such a frame breaks a rule, and what a reader reports of it is returned.
+pub record BreaksRule (words : CFrame) (bytes : List ℕ) (flags : ℕ) (result : ℤ) : Type 0 where
+  pub frame : Frame
+  pub can : CanWriteFrame words bytes (is_last flags) frame
+  pub breach : Breach
+  pub breaks : breach_of (rules_in flags) (meaning_of frame) ≡ Some breach
+  pub reason : result ≡ failed (frame_failure (breach_text breach))
 
 -- The words describe no such frame.
 abbrev pub DescribesNoFrame : CFrame → List ℕ → Bool → Type 0
 DescribesNoFrame words bytes last = (frame : Frame) → CanWriteFrame words bytes last frame → ⊥
 
 -- The result, and what the call leaves, are right for the words and these bytes.
-pub record IsAnswer (words : CFrame) (bytes : List ℕ) (last : Bool) (result : ℤ) (old new : List ℕ)
+pub record IsAnswer (words : CFrame) (bytes : List ℕ) (flags : ℕ) (result : ℤ) (old new : List ℕ)
     (written : ℕ) : Type 0 where
-  pub wrote : result ≡ pos 0 → WroteFrame words bytes last old new written
-  pub room : result ≡ failed failure.NoRoom → FrameNeedsMore words bytes last old written
-  pub refused : result ≡ failed failure.Argument → DescribesNoFrame words bytes last
+  pub returns : (result ≡ pos 0) ⊎ (result ≡ failed failure.NoRoom) ⊎ (result ≡ failed failure.Argument)
+      ⊎ BreaksRule words bytes flags result
+  pub wrote : result ≡ pos 0 → WroteFrame words bytes flags old new written
+  pub room : result ≡ failed failure.NoRoom → FrameNeedsMore words bytes flags old written
+  pub refused : result ≡ failed failure.Argument → DescribesNoFrame words bytes (is_last flags)

@@ -1,17 +1,20 @@
 //! The headers of STREAM, CRYPTO and DATAGRAM frames, after which the caller puts the data.
-ghost use Rattle.std.specs.Prelude.{◌≡◌, ◌⊎◌, ◌↔◌, ◌<◌, ◌≤◌, ◌^◌, ◌++◌, List, ℕ, Bool, pos, length, IsTrue, IfSome};
+ghost use Rattle.std.specs.Prelude.{◌≡◌, ◌==◌, ◌&&◌, ◌⊎◌, ◌↔◌, ◌<◌, ◌≤◌, ◌^◌, ◌++◌, List, ℕ, Bool, true, not, pos, length, IsTrue, IfSome};
 ghost use Rattle.quic_frame_fields.specs.Numbers.{AreNumeric, shortest_varints};
 ghost use Rattle.quic_frame_fields.specs.Putting.{Puts};
 ghost use Rattle.quic_frame_fields.specs.Shortest.{shortest_frame, stream_header};
 ghost use Rattle.quic_frames.specs.declared.frame.Frame.{Frame};
 ghost use Rattle.quic_frames.specs.Meaning.{meaning_of};
-ghost use Rattle.quic_c.specs.Headers.{IsHeaded, HasHeader, WroteHeader, HeaderNeedsMore, data_header_bytes};
-ghost use Rattle.quic_c.specs.Shown.{data_of};
-ghost use Rattle.quic_c.specs.Written.{CanWriteFrame, flag_of};
+ghost use Rattle.quic_c.specs.Headers.{IsHeaded, HasHeader, WroteHeader, HeaderNeedsMore, breaks_flags, data_header_bytes, second_in};
+ghost use Rattle.quic_c.specs.Shown.{data_of, rules_in};
+ghost use Rattle.quic_frames.specs.Rules.{breach_of, broken_if, ends_past};
+ghost use Rattle.quic_frames.specs.declared.frame.rules.Breach.{Breach};
+ghost use Rattle.quic_c.specs.Written.{CanWriteFrame, is_last};
 ghost use Rattle.quic_c.specs.declared.words.CFrame.{CFrame};
 ghost use Rattle.quic_results.specs.Results.{failed};
 
 use crate::ack_gaps::store;
+use crate::flags::is_last;
 use crate::words::CFrame;
 use quic_frame_fields::frame::write_into;
 use quic_frames::frame::FrameType;
@@ -90,28 +93,46 @@ fn put_header(words: &CFrame, last: bool, dest: &mut [u8]) -> Result<usize, usiz
     }
 }
 
-/// Writes the shortest encoding of a STREAM, CRYPTO or DATAGRAM, without its data, at the front of `out`; if `last`
-/// isn't 0, as the last frame of its payload (RFC 9000, sections 19.6 and 19.8; RFC 9221, section 4). The words have
-/// the length of the data; their place isn't read. It returns 0 with how many bytes were written, and bytes after
-/// those don't change; `NoRoom` with how many are needed, if `out` has fewer; `Argument` if the words describe no such
-/// frame that can be written. `out` changes only with 0, and `written` doesn't change with `Argument`.
+// Whether the data of a CRYPTO or STREAM end past 2^62 - 1.
+#[inline(never)]
+fn ends_past(words: &CFrame) -> bool
+    ensures { result ≡ (not (words.now.kind == 0x30) && ends_past (second_in words.now.numbers) words.now.data_len) }
+{
+    let len = words.data_len as u64;
+    let [_, offset, ..] = words.numbers;
+    let max = (1 << 62) - 1;
+    words.kind != 0x30 && (len > max || offset > max - len)
+}
+
+/// Writes the shortest encoding of a STREAM, CRYPTO or DATAGRAM, without its data, at the front of `out` (RFC 9000,
+/// sections 19.6 and 19.8; RFC 9221, section 4). If `flags` has 1, it is the last frame of its payload; the other flags
+/// are rules, as for the calls that read. The words have the length of the data; their place isn't read. It returns 0
+/// with how many bytes were written, and bytes after those don't change; `NoRoom` with how many are needed, if `out`
+/// has fewer; `Argument` if the words describe no such frame that can be written; and `FrameLimit` exactly if they
+/// describe one that breaks a rule. `out` changes only with 0, and `written` only with 0 and `NoRoom`.
 #[unsafe(no_mangle)]
 pub extern "C" fn quic_wire_frame_header_write_(
     frame: &CFrame,
-    last: u32,
+    flags: u32,
     out: &mut [u8],
     written: &mut usize,
 ) -> i32
-    ensures returns { (result ≡ pos 0) ⊎ (result ≡ failed Failure.NoRoom) ⊎ (result ≡ failed Failure.Argument) }
-    ensures wrote { result ≡ pos 0 → WroteHeader frame.now (flag_of last) out.old out.new written.new }
-    ensures room { result ≡ failed Failure.NoRoom → HeaderNeedsMore frame.now (flag_of last) out.old written.new }
-    ensures refused { (result ≡ failed Failure.Argument) ↔ (HasHeader frame.now (flag_of last) → ⊥) }
-    ensures kept { result ≡ failed Failure.Argument → written.new ≡ written.old }
+    ensures returns { (result ≡ pos 0) ⊎ (result ≡ failed Failure.NoRoom) ⊎ (result ≡ failed Failure.Argument)
+        ⊎ (result ≡ failed Failure.FrameLimit) }
+    ensures wrote { result ≡ pos 0 → WroteHeader frame.now (is_last flags) out.old out.new written.new }
+    ensures room { result ≡ failed Failure.NoRoom → HeaderNeedsMore frame.now (is_last flags) out.old written.new }
+    ensures refused { (result ≡ failed Failure.Argument) ↔ (HasHeader frame.now (is_last flags) → ⊥) }
+    ensures broken { (result ≡ failed Failure.FrameLimit)
+        ↔ (HasHeader frame.now (is_last flags) × (breaks_flags flags frame.now ≡ true)) }
     ensures same { (result ≡ pos 0) ⊎ (out.new ≡ out.old) }
+    ensures kept { (result ≡ pos 0) ⊎ (result ≡ failed Failure.NoRoom) ⊎ (written.new ≡ written.old) }
 {
-    let last = last != 0;
+    let last = is_last(flags);
     if !has_header(frame, last) {
         return Failure::Argument.number();
+    }
+    if flags & 0x002 != 0 && ends_past(frame) {
+        return Failure::FrameLimit.number();
     }
     match put_header(frame, last, out) {
         Ok(n) => {
@@ -126,10 +147,13 @@ pub extern "C" fn quic_wire_frame_header_write_(
 }
 
 /// A header followed by the data is the frame: a frame that can be written whole has a header, and its encoding is that
-/// header followed by its data.
+/// header followed by its data. It breaks a rule exactly if the header does.
 pub fn header_and_data()
-    ensures { (words : CFrame) (bytes : List ℕ) (last : Bool) (frame : Frame) → IsHeaded words.kind
+    ensures frame { (words : CFrame) (bytes : List ℕ) (last : Bool) (frame : Frame) → IsHeaded words.kind
         → CanWriteFrame words bytes last frame
         → HasHeader words last
         × (shortest_frame last (meaning_of frame) ≡ data_header_bytes words last ++ data_of frame) }
+    ensures broken { (words : CFrame) (bytes : List ℕ) (last : Bool) (frame : Frame) (flags : ℕ) → IsHeaded words.kind
+        → CanWriteFrame words bytes last frame
+        → breach_of (rules_in flags) (meaning_of frame) ≡ broken_if (breaks_flags flags words) Breach.Limit }
 {}

@@ -7,6 +7,7 @@ ghost use Rattle.quic_frames.specs.Rules.{breach_of, breach_text, fault_by, no_r
 ghost use Rattle.quic_frames.specs.declared.frame.rules.Breach.{Breach};
 ghost use Rattle.quic_frames.specs.Walk.{invalid_of};
 ghost use Rattle.quic_c.specs.Shown.{rules_in};
+ghost use Rattle.quic_c.specs.Written.{is_last};
 
 use quic_frames::frame::{Breach, Frame, FrameType, InvalidFrame, Rules};
 
@@ -72,4 +73,34 @@ pub(crate) fn broken(ty: Option<FrameType>, breach: Option<Breach>) -> InvalidFr
         None => "malformed",
     };
     InvalidFrame { ty, reason }
+}
+
+// All flags of rules by which frames are written.
+const WRITE_RULES: u32 = 0x20e;
+
+// Whether a frame is written as the last of its payload.
+#[inline(always)]
+pub(crate) fn is_last(flags: u32) -> bool
+    ensures { result ≡ is_last flags }
+{
+    flags & 0x001 != 0
+}
+
+// The rule of flags that a frame breaks, where flags name rules.
+#[inline(never)]
+fn breach_in(flags: u32, frame: &Frame<'_>) -> Option<Breach>
+    ensures { result ≡ breach_of (rules_in flags) (meaning_of frame.now) }
+{
+    rules_in(flags).breach(frame)
+}
+
+// The rule of flags that a frame to be written breaks.
+#[inline(always)]
+pub(crate) fn breach_of_flags(flags: u32, frame: &Frame<'_>) -> Option<Breach>
+    ensures { result ≡ breach_of (rules_in flags) (meaning_of frame.now) }
+{
+    if flags & WRITE_RULES == 0 {
+        return None;
+    }
+    breach_in(flags, frame)
 }

@@ -2,13 +2,21 @@
 ghost use Rattle.std.specs.Prelude.{◌≡◌, ◌≢◌, ◌↔◌, ◌<◌, [], length};
 ghost use Rattle.quic_base.specs.One.{ReturnsOne};
 ghost use Rattle.quic_c.specs.Shown.{rules_in};
-ghost use Rattle.quic_c.specs.Walks.{ShowsFrame, ShowsRun, StoresFrames};
+ghost use Rattle.quic_c.specs.Answers.{GivesFrameWords};
+ghost use Rattle.quic_c.specs.Walks.{ShowsFrame, ShowsRun, StoresFrames, StoresRanges};
+ghost use Rattle.quic_c.specs.declared.words.CFrameIter.{CFrameIter};
+ghost use Rattle.quic_frame_fields.specs.Acks.{ranges_acked};
+ghost use Rattle.quic_frame_fields.specs.declared.frame.ack.Ack.{Ack};
 ghost use Rattle.quic_frames.specs.Rules.{IsCheckedOf};
+ghost use Rattle.quic_frames.specs.declared.frame.Frame.TheVariants as frames;
+ghost use Rattle.quic_frames.specs.declared.frame.rules.Rules.{Rules};
 ghost use Rattle.quic_results.specs.Results.{failed};
 
+use crate::acks::{quic_wire_ack_ranges_init_, quic_wire_ack_ranges_next_};
 use crate::fill::{quic_wire_frames_fill_, quic_wire_frames_first_};
+use crate::fill_ranges::quic_wire_ack_ranges_fill_;
 use crate::frames::{quic_wire_frames_init_, quic_wire_frames_next_};
-use crate::words::{CFrame, CFrameIter};
+use crate::words::{CFrame, CFrameIter, CRange, CRangeIter};
 use quic_base::coding::are_bytes;
 use quic_frames::laws::{checked_readings, lasting, one_reading};
 use quic_results::results::Failure;
@@ -83,6 +91,66 @@ pub fn walk_fill(payload: &[u8], flags: u32, out: &mut [CFrame]) -> Walked
     while count < out.len() {
         let mut more = 0;
         let last = quic_wire_frames_fill_(&mut frames, payload, &mut out[count..], &mut more);
+        if last != 1 {
+            return Walked { count, last };
+        }
+        count += more;
+    }
+    Walked { count, last: 1 }
+}
+
+// Ranges that weren't begun.
+const NO_RANGES: CRangeIter = CRangeIter {
+    offset: 0,
+    left: 0,
+    largest: 0,
+};
+
+/// Stores the ranges of an ACK that `quic_wire_frames_next_` returned, from the words that it stored, until a call
+/// doesn't return 1 or there is no more room. They are exactly the ranges that the ACK acknowledges, in order, and then
+/// 0 is returned.
+pub fn walk_ranges(payload: &[u8], frame: &CFrame, out: &mut [CRange]) -> Walked
+    ensures { (rules : Rules) (old new : CFrameIter) (ack : Ack)
+        → (given : GivesFrameWords rules old payload.now new frame.now) → given.frame ≡ frames.Ack ack
+        → StoresRanges (ranges_acked ack) out.old result.count result.last out.new }
+{
+    let mut ranges = NO_RANGES;
+    let begun = quic_wire_ack_ranges_init_(&mut ranges, payload, frame);
+    if begun != 0 {
+        return Walked {
+            count: 0,
+            last: begun,
+        };
+    }
+    let mut count = 0;
+    while count < out.len() {
+        let last = quic_wire_ack_ranges_next_(&mut ranges, payload, &mut out[count]);
+        if last != 1 {
+            return Walked { count, last };
+        }
+        count += 1;
+    }
+    Walked { count, last: 1 }
+}
+
+/// The same with as many ranges for each call as there is room for.
+pub fn walk_ranges_fill(payload: &[u8], frame: &CFrame, out: &mut [CRange]) -> Walked
+    ensures { (rules : Rules) (old new : CFrameIter) (ack : Ack)
+        → (given : GivesFrameWords rules old payload.now new frame.now) → given.frame ≡ frames.Ack ack
+        → StoresRanges (ranges_acked ack) out.old result.count result.last out.new }
+{
+    let mut ranges = NO_RANGES;
+    let begun = quic_wire_ack_ranges_init_(&mut ranges, payload, frame);
+    if begun != 0 {
+        return Walked {
+            count: 0,
+            last: begun,
+        };
+    }
+    let mut count = 0;
+    while count < out.len() {
+        let mut more = 0;
+        let last = quic_wire_ack_ranges_fill_(&mut ranges, payload, &mut out[count..], &mut more);
         if last != 1 {
             return Walked { count, last };
         }

@@ -1,5 +1,5 @@
 //! Writes frames from words into the caller's bytes.
-ghost use Rattle.std.specs.Prelude.{◌≡◌, ◌<◌, ◌≤◌, ◌^◌, ◌⊎◌, ◌↔◌, ℕ, Bool, List, [], ◌∷◌, pos, length, false, IsTrue, IfSome, IsNone, None};
+ghost use Rattle.std.specs.Prelude.{◌≡◌, ◌<◌, ◌≤◌, ◌^◌, ◌⊎◌, ◌↔◌, ℕ, Bool, List, [], ◌∷◌, pos, length, false, IsTrue, IfSome, IsNone, None, Some};
 ghost use Rattle.quic_frame_fields.specs.Numbers.{AreNumeric};
 ghost use Rattle.quic_frames.specs.declared.frame.Frame.{Frame};
 ghost use Rattle.quic_frames.specs.declared.frame.Frame.TheVariants as frames;
@@ -7,10 +7,14 @@ ghost use Rattle.quic_frames.specs.InRange.{IsNoAck};
 ghost use Rattle.quic_frames.specs.Meaning.{meaning_of};
 ghost use Rattle.quic_frame_fields.specs.declared.frame.close.Close.TheVariants as closes;
 ghost use Rattle.quic_c.specs.Shapes.{IsSound, FillsShape, AreDataAndToken, IsShown, LacksData, LacksDataOrToken, shape_of, token_room};
-ghost use Rattle.quic_c.specs.Written.{CanWriteFrame, DescribesNoFrame, WroteFrame, FrameNeedsMore, IsAnswer, flag_of};
+ghost use Rattle.quic_c.specs.Written.{BreaksRule, CanWriteFrame, DescribesNoFrame, WroteFrame, FrameNeedsMore, IsAnswer, is_last};
 ghost use Rattle.quic_c.specs.declared.words.CFrame.{CFrame};
-ghost use Rattle.quic_results.specs.Results.{failed};
+ghost use Rattle.quic_c.specs.Shown.{rules_in};
+ghost use Rattle.quic_frames.specs.Rules.{breach_of, breach_text};
+ghost use Rattle.quic_frames.specs.declared.frame.rules.Breach.{Breach};
+ghost use Rattle.quic_results.specs.Results.{failed, frame_failure};
 
+use crate::flags::{breach_of_flags, is_last};
 use crate::show::parts_of;
 use crate::words::CFrame;
 use quic_base::ids::{ConnectionId, Dir, ResetToken, StreamId};
@@ -20,7 +24,7 @@ use quic_frames::frame::{
     NewConnectionId, NewToken, ResetStream, StopSending, Stream,
 };
 use quic_frames::transport_error::Code;
-use quic_results::results::Failure;
+use quic_results::results::{Failure, frame_failure};
 
 fn are_varints(numbers: [u64; 5]) -> bool
     ensures { IsTrue result ↔ AreNumeric numbers }
@@ -311,34 +315,41 @@ fn described<'a>(words: &CFrame, data: &'a [u8], last: bool) -> Option<Frame<'a>
     Some(frame)
 }
 
-/// Writes the shortest encoding of the frame that the words describe at the front of `out`; if `last` isn't 0, as the
-/// last frame of its payload (RFC 9000, section 19). Its data are read from `data` at the place in the words; for a
-/// NEW_CONNECTION_ID they are the id, and the sixteen bytes of its token follow it. If the words describe no data, or a
-/// kind that has none, neither `data` nor that place is read; the words for where the frame begins and ends never
-/// are. It returns 0 with how many bytes were written, and bytes after those don't change; `NoRoom` with how many are
-/// needed, if `out` has fewer; `Argument` if the words describe no frame that can be written, or an ACK: ACKs are
-/// written from sets. `out` changes only with 0, and `written` doesn't change with `Argument`.
+/// Writes the shortest encoding of the frame that the words describe at the front of `out` (RFC 9000, section 19). If
+/// `flags` has 1, it is the last frame of its payload; the other flags are rules, as for the calls that read. Its data
+/// are read from `data` at the place in the words; for a NEW_CONNECTION_ID they are the id, and the sixteen bytes of
+/// its token follow it. If the words describe no data, or a kind that has none, neither `data` nor that place is read;
+/// the words for where the frame begins and ends never are. It returns 0 with how many bytes were written, and bytes
+/// after those don't change; `NoRoom` with how many are needed, if `out` has fewer; `Argument` if the words describe no
+/// frame that can be written, or an ACK: ACKs are written from sets; and what a reader with the same rules reports,
+/// exactly if the frame breaks one of them. `out` changes only with 0, and `written` only with 0 and `NoRoom`.
 #[unsafe(no_mangle)]
 pub extern "C" fn quic_wire_frame_write_(
     frame: &CFrame,
     data: &[u8],
-    last: u32,
+    flags: u32,
     out: &mut [u8],
     written: &mut usize,
 ) -> i32
-    ensures returns { (result ≡ pos 0) ⊎ (result ≡ failed Failure.NoRoom) ⊎ (result ≡ failed Failure.Argument) }
-    ensures wrote { result ≡ pos 0 → WroteFrame frame.now data.now (flag_of last) out.old out.new written.new }
-    ensures room { result ≡ failed Failure.NoRoom → FrameNeedsMore frame.now data.now (flag_of last) out.old written.new }
-    ensures refused { result ≡ failed Failure.Argument
-        → DescribesNoFrame frame.now data.now (flag_of last) × (written.new ≡ written.old) }
+    ensures returns { (result ≡ pos 0) ⊎ (result ≡ failed Failure.NoRoom) ⊎ (result ≡ failed Failure.Argument)
+        ⊎ BreaksRule frame.now data.now flags result }
+    ensures wrote { result ≡ pos 0 → WroteFrame frame.now data.now flags out.old out.new written.new }
+    ensures room { result ≡ failed Failure.NoRoom → FrameNeedsMore frame.now data.now flags out.old written.new }
+    ensures refused { result ≡ failed Failure.Argument → DescribesNoFrame frame.now data.now (is_last flags) }
+    ensures broken { (f : Frame) (b : Breach) → CanWriteFrame frame.now data.now (is_last flags) f
+        → breach_of (rules_in flags) (meaning_of f) ≡ Some b → result ≡ failed (frame_failure (breach_text b)) }
     ensures same { (result ≡ pos 0) ⊎ (out.new ≡ out.old) }
+    ensures kept { (result ≡ pos 0) ⊎ (result ≡ failed Failure.NoRoom) ⊎ (written.new ≡ written.old) }
     ensures any_data { LacksData frame.now → (others : List ℕ)
-        → IsAnswer frame.now others (flag_of last) result out.old out.new written.new }
+        → IsAnswer frame.now others flags result out.old out.new written.new }
 {
-    let last = last != 0;
+    let last = is_last(flags);
     let Some(frame) = described(frame, data, last) else {
         return Failure::Argument.number();
     };
+    if let Some(breach) = breach_of_flags(flags, &frame) {
+        return frame_failure(breach.reason()).number();
+    }
     match frame.encode_into(last, out) {
         Ok(n) => {
             *written = n;

@@ -2,5 +2,9 @@ mod Answered
 mod Covered
 mod Masks
 mod Negotiated
+mod Packets
+mod RfcFlags
+mod RfcWalks
 mod Shaping
+mod Walking
 mod Writing

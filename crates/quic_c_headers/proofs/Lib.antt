@@ -3,6 +3,7 @@ mod Covered
 mod Masks
 mod Negotiated
 mod Packets
+mod PlainWalks
 mod RfcFlags
 mod RfcWalks
 mod Shaping

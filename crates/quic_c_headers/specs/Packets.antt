@@ -23,8 +23,8 @@ pub record IsPacketBy (flags id_len : ℕ) (versions bytes : List ℕ) (h : Prot
     pub fixed : ¬ (LacksFixedBit flags versions bytes)
     pub complete : has_bit 0x40 flags ≡ true → IsComplete h header_end end
 
--- The first thing that the flags don't allow: the fixed bit; then each field in its order, where only the ids are read
--- of a version that isn't known; then the token and the tag of a Retry, or the length.
+-- The first thing that the flags don't allow: the fixed bit; then each field in its order, up to the ids if the version
+-- isn't known; then the token and the tag of a Retry, or the length.
 pub data IsRefusedBy (flags id_len : ℕ) (versions bytes : List ℕ) : RfcRefusal → Type 0 where
   fixed_bit : LacksFixedBit flags versions bytes
       → IsRefusedBy flags id_len versions bytes (Unread (Invalid (codes "fixed bit unset")))

@@ -1,6 +1,7 @@
 -- The packets of a datagram, one after another (RFC 9000, section 12.2), and how a walk over them stores their headers.
-use Rattle.std.specs.Prelude.{◌≡◌, ℕ, ℤ, pos, ◌<◌, ◌≤◌, List, [], ◌∷◌, drop, length, take, zero, suc, Result, Ok, Err}
+use Rattle.std.specs.Prelude.{◌≡◌, ℕ, ℤ, pos, ◌+◌, ◌<◌, ◌≤◌, List, [], ◌∷◌, drop, length, take, zero, suc, Result, Ok, Err}
 use Rattle.quic_header_decode.specs.declared.protected.ProtectedHeader.{ProtectedHeader}
+use Rattle.quic_header_decode.specs.Datagram.{PlacedPacket}
 use Rattle.quic_header_decode.specs.Rfc.{RfcRefusal}
 use Rattle.quic_c_headers.specs.Packets.{header_shown, StandsFor}
 use Rattle.quic_c_headers.specs.declared.words.CHeader.{CHeader}
@@ -56,3 +57,10 @@ pub record StoresRow (bytes : List ℕ) (count : ℕ) (result : ℤ) (heads : Li
     pub few : count ≤ length heads
     pub shown : AreShown bytes row.0 (take count heads)
     pub why : EndsBy row.1 result
+
+-- the packets that the fields describe, of which the first begins the bytes, at this offset of their datagram
+abbrev pub placed_shown : ℕ → List ℕ → List CHeader → List PlacedPacket
+placed_shown start bytes [] = []
+placed_shown start bytes (head ∷ heads) =
+    record { start = start; stop = start + head.end; header = header_shown bytes head }
+    ∷ placed_shown (start + head.end) (drop head.end bytes) heads

@@ -1,17 +1,22 @@
 //! What is proved of callers of the exported functions. Their clauses are laws.
-ghost use Rattle.std.specs.Prelude.{◌≡◌, ◌+◌, ◌<◌, ◌≤◌, ◌⊎◌, ◌↔◌, ◌^◌, ℕ, pos, length};
+ghost use Rattle.std.specs.Prelude.{◌≡◌, ◌<◌, ◌≤◌, ◌⊎◌, ◌↔◌, ◌^◌, ℕ, None, Some, false, length, pos, take};
 ghost use Rattle.quic_base.specs.One.{ReturnsOne};
 ghost use Rattle.quic_c_headers.specs.Packets.{IsReturned, PacketAnswerBy, StandsFor};
-ghost use Rattle.quic_c_headers.specs.Walks.{IsRow, StoresRow};
+ghost use Rattle.quic_c_headers.specs.Walks.{IsRow, StoresRow, placed_shown};
+ghost use Rattle.quic_header_decode.specs.Datagram.{ArePackets};
+ghost use Rattle.quic_header_decode.specs.Parsers.{fixed_parsed};
 ghost use Rattle.quic_header_decode.specs.Places.{any_fixed};
+ghost use Rattle.quic_header_decode.specs.Reading.{read_by};
+ghost use Rattle.quic_header_decode.specs.Refusal.{Refusal};
 ghost use Rattle.quic_header_decode.specs.Rfc.{IsRfcPacket, IsRfcRefused, RfcPacketAnswer, RfcRefusal};
 ghost use Rattle.quic_header_decode.specs.declared.protected.ProtectedHeader.{ProtectedHeader};
 ghost use Rattle.quic_results.specs.Results.{failed};
 
 use crate::headers::quic_wire_header_read_;
-use crate::laws::rfc_flags;
+use crate::laws::{no_flags, rfc_flags};
 use crate::words::CHeader;
 use quic_base::coding::are_bytes;
+use quic_header_decode::laws::one_answer;
 use quic_results::laws::distinct;
 use quic_results::results::Failure;
 
@@ -102,4 +107,22 @@ pub fn walk_rfc(datagram: &[u8], id_len: u32, versions: &[u32], heads: &mut [CHe
 {
     rfc_flags();
     walk_packets(datagram, id_len, versions, READ_RFC, heads)
+}
+
+/// The same without flags: these are exactly the packets that are cut from the datagram one after another, with the
+/// fixed bit checked, up to its end, or up to bytes from which none is cut.
+pub fn walk_plain(datagram: &[u8], id_len: u32, versions: &[u32], heads: &mut [CHeader]) -> Walked
+    ensures whole { length datagram.now < 2 ^ 32 → id_len ≤ 20 → result.last ≡ pos 0
+        → ArePackets (read_by (fixed_parsed id_len) versions.now false) 0 datagram.now
+        (placed_shown 0 datagram.now (take result.count heads.new)) None }
+    ensures refused { length datagram.now < 2 ^ 32 → id_len ≤ 20 → (why : Failure) → result.last ≡ failed why
+        → (why ≡ Failure.NoRoom) ⊎ ((e : Refusal) × ArePackets (read_by (fixed_parsed id_len) versions.now false) 0
+        datagram.now (placed_shown 0 datagram.now (take result.count heads.new)) (Some e)) }
+    ensures invalid { (2 ^ 32 ≤ length datagram.now) ⊎ (20 < id_len) → result.last ≡ failed Failure.Length }
+{
+    no_flags();
+    one_answer();
+    distinct();
+    are_bytes(datagram);
+    walk_packets(datagram, id_len, versions, 0, heads)
 }

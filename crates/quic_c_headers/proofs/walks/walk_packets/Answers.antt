@@ -1,9 +1,8 @@
 -- Each call continues the row of packets.
-use Rattle.std.proofs.Common.{◌≡◌, ◌+◌, ◌-◌, ◌≤◌, ◌<◌, ◌∙◌, ◌^◌, ℕ, ℤ, List, arith, ap, sym, subst, refl, length, set, take, drop, length-drop, rules, to_z, of_z, w32, w64, pos, ◌≤ℤ◌}
+use Rattle.std.proofs.Common.{◌≡◌, ◌+◌, ◌-◌, ◌≤◌, ◌<◌, ◌∙◌, ℕ, ℤ, List, arith, ap, subst, refl, length, set, take, drop, length-drop, rules, to_z, of_z, w32, w64, pos, ◌≤ℤ◌}
 use Rattle.std.proofs.lemmas.Int.{ints}
 use Rattle.std.proofs.lemmas.List.{take_all}
 use lib.IntN.{nat_abs}
-use Rattle.quic_base.specs.Number.{AreBytes}
 use Rattle.quic_base.specs.One.{ReturnsOne}
 use Rattle.quic_c_headers.specs.Packets.{IsReturned, PacketAnswerBy}
 use Rattle.quic_results.specs.Results.{failed}

@@ -2,5 +2,10 @@ mod Answered
 mod Covered
 mod Masks
 mod Negotiated
+mod Packets
+mod PlainWalks
+mod RfcFlags
+mod RfcWalks
 mod Shaping
+mod Walking
 mod Writing

@@ -1,3 +1,5 @@
 pub mod Headers
+pub mod Packets
 pub mod Reading
 pub mod Protection
+pub mod Walks

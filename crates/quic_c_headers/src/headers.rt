@@ -1,11 +1,13 @@
 //! Reads packet headers, which are still protected.
 ghost use Rattle.std.specs.Prelude.{◌≡◌, ◌≢◌, ◌+◌, ◌<◌, ◌≤◌, ◌⊎◌, ◌↔◌, ◌^◌, ◌∷◌, ℕ, Contains, List, [], IsTrue, MatchOption, Result, Ok, Err, drop, length, pos, false, slice_index, take};
 ghost use Rattle.quic_base.specs.Number.{num};
+ghost use Rattle.quic_base.specs.One.{ReturnsOne};
 ghost use Rattle.quic_header_decode.specs.Grammar.{Cut, HeaderAt};
 ghost use Rattle.quic_header_decode.specs.Places.{any_fixed, ArePlacesWithin, IsSeen};
 ghost use Rattle.quic_header_decode.specs.declared.protected.ProtectedHeader.{ProtectedHeader};
 ghost use Rattle.quic_header_encode.specs.Kinds.{row};
 ghost use Rattle.quic_c_headers.specs.Headers.{word_of};
+ghost use Rattle.quic_c_headers.specs.Packets.{IsReturned, PacketAnswerBy};
 ghost use Rattle.quic_c_headers.specs.Reading.{header_words, is_partial, outcome_of, token_in, IsOfVersion, IsReceiverAt, IsReported, LacksFixedBit, Reported};
 ghost use Rattle.quic_results.specs.Results.{failed, returned};
 
@@ -290,6 +292,9 @@ pub extern "C" fn quic_wire_header_read_(
         ⊎ ((outcome : Result ℕ Failure) (words : CHeader)
         → Reported flags id_len versions.now packet.now head.old outcome words
         → (result ≡ returned outcome) × (head.new ≡ words)) }
+    // There is exactly one packet that the flags allow, or one thing that they don't, and it is returned.
+    ensures packet { length packet.now < 2 ^ 32 → id_len ≤ 20
+        → ReturnsOne (PacketAnswerBy flags id_len versions.now packet.now) (IsReturned packet.now result head.new) }
     // A complete packet is the one that is cut from the bytes.
     ensures whole { (end : ℕ) → result ≡ pos end
         → (h : ProtectedHeader) × Cut (any_fixed id_len versions.now) packet.now h head.new.header_end end }

@@ -7,6 +7,7 @@ pub mod laws;
 mod negotiation;
 mod numbers;
 mod protection;
+pub mod walks;
 mod words;
 mod write;
 

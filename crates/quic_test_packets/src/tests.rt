@@ -1,6 +1,7 @@
 //! Worked rows, unusual keys, and each allocation failing in turn.
 
 mod client;
+mod error_texts;
 mod headers;
 mod headers_refused;
 mod numbers;

@@ -17,6 +17,7 @@ pub use Rattle.quic_header_decode.specs.Grammar
 pub use Rattle.quic_header_decode.specs.Headers
 pub use Rattle.quic_header_decode.specs.Reading as HeaderReading
 pub use Rattle.quic_header_decode.specs.Refusal
+pub use Rattle.quic_header_decode.specs.Rfc as PacketRfc
 pub use Rattle.quic_packets.specs.Opening
 pub use Rattle.quic_packets.specs.Pairs
 pub use Rattle.quic_packets.specs.Sealing

@@ -1,6 +1,6 @@
--- What RFC 9000 allows by the bytes alone: payloads, lists of transport parameters, and the first packet of a datagram.
-use Rattle.std.specs.Prelude.{◌≡◌, ◌≢◌, ⊤, ℕ, ◌+◌, ◌<◌, ◌≤◌, ◌^◌, ◌⊎◌, List, [], ◌∷◌, ◌++◌, All, length, map, slice_index, IsTrue, Bool, true, false, not, Option, None, Some, codes}
-use Rattle.quic_base.specs.Number.{has_bit}
+-- What RFC 9000 allows by the bytes alone: payloads and lists of transport parameters. What it allows as the first
+-- packet of a datagram is in quic_header_decode's specs/Rfc.antt.
+use Rattle.std.specs.Prelude.{◌≡◌, ◌≢◌, ⊤, ℕ, ◌+◌, ◌<◌, ◌≤◌, ◌^◌, ◌⊎◌, List, [], ◌∷◌, ◌++◌, All, length, map, IsTrue, Bool, true, false, not, Option, None, Some, codes}
 use Rattle.quic_base.specs.declared.ids.Side.{Side}
 use Rattle.quic_frame_fields.specs.Field.{Value, Number, Bytes, NoNumber, StopsWithin}
 use Rattle.quic_frame_fields.specs.Payload.{Meaning, TypedFrame, AreClosed, AreFrames, BeginsWithType, HasLongType, IsFrame, last_type}
@@ -11,10 +11,6 @@ use Rattle.quic_frame_fields.specs.declared.frame.fault.Fault.TheVariants.{Inval
 use Rattle.quic_frames.specs.Least.{frame_in}
 use Rattle.quic_frames.specs.Rules.{Checked, is_of_ack_frequency}
 use Rattle.quic_frames.specs.declared.frame.rules.Rules.{Rules}
-use Rattle.quic_header_decode.specs.Grammar.{Cut}
-use Rattle.quic_header_decode.specs.Reading.{DecodeOptions}
-use Rattle.quic_header_decode.specs.declared.protected.ProtectedHeader.{ProtectedHeader}
-use Rattle.quic_header_decode.specs.declared.protected.ProtectedHeader.TheVariants as protected
 use Rattle.quic_params.specs.declared.parameter.TransportParameterId.{TransportParameterId}
 use Rattle.quic_params.specs.declared.record.TransportParameters.{TransportParameters}
 use Rattle.quic_params.specs.declared.value.Value.{Value as ParameterValue}
@@ -158,26 +154,3 @@ IsRfcListError side list error =
     × AreEntries entries front × AddUp entries given × (back ≢ []) × StopsAdding given back error)
     ⊎ ((entries : List Entry) × (given : List Given) × (params : TransportParameters) × AreEntries entries list
     × AddUp entries given × IsRecord given params × ¬ (IsValid side params) × (error ≡ refused.IllegalValue))
-
--- ---- the first packet of a datagram
-
--- the same options, with the fixed bit checked or not
-abbrev pub with_grease : Bool → DecodeOptions → DecodeOptions
-with_grease grease options = record options { grease = grease }
-
-abbrev pub IsNegotiation : ProtectedHeader → Type 0
-IsNegotiation (protected.VersionNegotiate random dst src) = ⊤
-IsNegotiation h = ⊥
-
--- a Retry has a token of at least one byte, and then a tag of sixteen (section 17.2.5)
-abbrev pub IsComplete : ProtectedHeader → ℕ → ℕ → Type 0
-IsComplete (protected.Retry dst src version) header_end end = header_end + 17 ≤ end
-IsComplete h header_end end = ⊤
-
--- A packet of so many bytes begins the datagram, and its header without the number ends there. The fixed bit is set
--- (sections 17.2 and 17.3), or it is a version negotiation, of which a client ignores that bit (section 17.2.1).
-pub record IsRfcPacket (options : DecodeOptions) (datagram : List ℕ) (h : ProtectedHeader) (header_end end : ℕ) : Type 0
-  where
-    pub cut : Cut (with_grease true options) datagram h header_end end
-    pub fixed : IsNegotiation h ⊎ (has_bit 0x40 (slice_index datagram 0) ≡ true)
-    pub complete : IsComplete h header_end end

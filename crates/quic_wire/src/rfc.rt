@@ -10,12 +10,13 @@ ghost use Rattle.quic_frames.specs.Least.{frame_in};
 ghost use Rattle.quic_frames.specs.Rules.{IsCheckedOf};
 ghost use Rattle.quic_frames.specs.Written.{IsShortestOf};
 ghost use Rattle.quic_header_decode.specs.Grammar.{Cut};
-ghost use Rattle.quic_header_decode.specs.Reading.{DecodeOptions};
+ghost use Rattle.quic_header_decode.specs.Reading.{DecodeOptions, TakesWithin};
+ghost use Rattle.quic_header_decode.specs.Rfc.{IsComplete, IsNegotiation, IsRfcPacket, RfcPacketAnswer, with_grease};
 ghost use Rattle.quic_header_decode.specs.declared.protected.ProtectedHeader.{ProtectedHeader};
 ghost use Rattle.quic_params.specs.Meaning.{IsReadAnswer};
 ghost use Rattle.quic_params.specs.Range.{IsRecordInRange, IsTypedRecord, plain};
 ghost use Rattle.quic_params.specs.Writing.{written};
-ghost use Rattle.quic_wire.specs.Rfc.{IsAllowed, IsComplete, IsNegotiation, IsRfcError, IsRfcList, IsRfcListError, IsRfcPacket, IsRfcPayload, rfc_rules, with_error, with_grease, without_error};
+ghost use Rattle.quic_wire.specs.Rfc.{IsAllowed, IsRfcError, IsRfcList, IsRfcListError, IsRfcPayload, rfc_rules, with_error, without_error};
 
 use crate::laws::{every_list, frames_again, parameters_again};
 use quic_base::ids::Side;
@@ -72,11 +73,14 @@ pub fn rfc_lists()
     parameters_again();
 }
 
-/// A datagram begins with at most one packet that is allowed. Each that is cut from it with the fixed bit checked, and
-/// isn't a Retry that lacks its token or its tag, is allowed; an allowed one that isn't a version negotiation is cut so;
-/// and an allowed version negotiation is cut with the fixed bit unchecked.
+/// A datagram begins with exactly one packet that is allowed, or with none for exactly one reason. Each packet that is
+/// cut from it with the fixed bit checked, and isn't a Retry that lacks its token or its tag, is allowed; an allowed one
+/// that isn't a version negotiation is cut so; and an allowed version negotiation is cut with the fixed bit unchecked.
 pub fn rfc_packets()
-    ensures one { (options : DecodeOptions) (datagram : List ℕ) (h other : ProtectedHeader) (p q p' q' : ℕ)
+    ensures one { (options : DecodeOptions) (datagram : List ℕ) → AreBytes datagram → TakesWithin options
+        → ExactlyOne (RfcPacketAnswer options datagram) }
+    // There is at most one packet whatever the parser of ids does.
+    ensures only { (options : DecodeOptions) (datagram : List ℕ) (h other : ProtectedHeader) (p q p' q' : ℕ)
         → AreBytes datagram → IsRfcPacket options datagram h p q → IsRfcPacket options datagram other p' q'
         → (h ≡ other) × (p ≡ p') × (q ≡ q') }
     ensures allowed { (options : DecodeOptions) (datagram : List ℕ) (h : ProtectedHeader) (p q : ℕ)
@@ -87,5 +91,5 @@ pub fn rfc_packets()
     ensures negotiation { (options : DecodeOptions) (datagram : List ℕ) (h : ProtectedHeader) (p q : ℕ)
         → IsNegotiation h → (Cut (with_grease true options) datagram h p q ↔ IsRfcPacket options datagram h p q) }
 {
-    quic_header_decode::laws::one_answer();
+    quic_header_decode::laws::rfc_packets();
 }

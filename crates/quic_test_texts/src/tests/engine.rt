@@ -323,3 +323,20 @@ fn the_longest_payload(rt: HostRuntime) -> Result<(), Fail> {
     checks.holds(repeats_a_ping(rt.alloc()));
     checks.verdict()
 }
+
+// As the documentation of each variant says.
+const RUN_ERRORS: &[(RunError, &str)] = &[
+    (RunError::Read, "read failed"),
+    (RunError::Write, "write failed"),
+    (RunError::OutOfMemory, "out of memory"),
+];
+
+#[test]
+fn texts_of_errors_of_runs(rt: HostRuntime) -> Result<(), Fail> {
+    let alloc = rt.alloc();
+    let mut checks = Checks::new(alloc);
+    for (error, text) in RUN_ERRORS {
+        checks.displays(alloc, error, text)?;
+    }
+    checks.verdict()
+}

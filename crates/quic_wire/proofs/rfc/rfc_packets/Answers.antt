@@ -1,12 +1,10 @@
 use Rattle.quic_wire.proofs.AllowedPackets.{negotiation_allowed, one_packet, packet_allowed, packet_read}
-use Rattle.quic_wire.specs.Rfc.{with_grease}
-use Rattle.std.specs.Prelude.{true}
 use Rattle.quic_wire.proofs.rfc.rfc_packets.Goals as goal
 
-pub returns-clause-one : goal.returns-clause-one
-returns-clause-one c = λ options datagram h other p q p' q' fits.
+pub returns-clause-only : goal.returns-clause-only
+returns-clause-only c = λ options datagram h other p q p' q' fits.
     one_packet options datagram h other p q p' q'
-    (λ one another is is'. c.one_answer.ensures.cut (with_grease true options) datagram one another fits is is')
+    (λ one another is is'. c.rfc_packets.ensures.only options datagram one another fits is is')
 
 pub returns-clause-allowed : goal.returns-clause-allowed
 returns-clause-allowed c = packet_allowed

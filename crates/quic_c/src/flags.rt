@@ -91,7 +91,7 @@ pub(crate) fn is_last(flags: u32) -> bool
 fn breach_in(flags: u32, frame: &Frame<'_>) -> Option<Breach>
     ensures { result ≡ breach_of (rules_in flags) (meaning_of frame.now) }
 {
-    rules_in(flags).breach(frame)
+    Rules::of_flags(flags).breach(frame)
 }
 
 // The rule of flags that a frame to be written breaks.

@@ -11,7 +11,7 @@ returns-in-Err c =
       answers = inr (
         c.in-Err.failure,
         count ∙ reason,
-        subst (λ r. RefusesHeader r c.args.bytes.now c.in-Err.failure) c.rules_in.ensures c.in-Err.ensures,
+        subst (λ r. RefusesHeader r c.args.bytes.now c.in-Err.failure) c.of_flags.ensures c.in-Err.ensures,
         refl,
       );
     }

@@ -852,7 +852,8 @@ quic_wire_frame_read(const uint8_t *payload, size_t payloadlen, uint32_t flags,
  *  - QUIC_WIRE_ERR_PAYLOAD_EMPTY if |len| is 0
  *  - QUIC_WIRE_ERR_FRAME_END if the bytes end within the header
  *  - QUIC_WIRE_ERR_FRAME_TYPE if the type is unknown
- *  - QUIC_WIRE_ERR_KIND if it is the type of another kind of frame
+ *  - QUIC_WIRE_ERR_KIND if it is the type of another kind of frame, also of
+ *    ACK_FREQUENCY and IMMEDIATE_ACK with QUIC_WIRE_READ_NO_ACK_FREQUENCY
  *  - QUIC_WIRE_ERR_FRAME_LONG_TYPE or QUIC_WIRE_ERR_FRAME_LIMIT if |flags|
  *    reject the header
  *  - QUIC_WIRE_ERR_ARGUMENT for NULL

@@ -7,6 +7,7 @@ mod Cuts
 mod FirstFaults
 mod Numbered
 mod Opened
+mod RfcReads
 mod Shortest
 mod Walks
 mod WholeNumbers

@@ -1,7 +1,7 @@
 -- What a call returned of a payload's reading (RFC 9000, section 12.4).
-use Rattle.std.specs.Prelude.{◌≡◌, ⊤, List, map, Option, Some, None}
+use Rattle.std.specs.Prelude.{◌≡◌, ⊤, ℕ, Bool, List, map, MatchOption, Option, Some, None}
 use Rattle.quic_errors.specs.declared.invalid_frame.InvalidFrame.{InvalidFrame}
-use Rattle.quic_frame_fields.specs.Payload.{Reading, Complete, FailsAfter}
+use Rattle.quic_frame_fields.specs.Payload.{Reading, TypedFrame, Complete, FailsAfter}
 use Rattle.quic_frame_fields.specs.Reading.{invalid}
 use Rattle.quic_frame_fields.specs.declared.frame.fault.Fault.TheVariants.{UnexpectedEnd}
 use Rattle.quic_frames.specs.declared.frame.Frame.{Frame}
@@ -9,6 +9,7 @@ use Rattle.quic_frames.specs.Least.{frame_in}
 use Rattle.quic_frames.specs.Meaning.{meaning_of}
 use Rattle.quic_frames.specs.Rules.{Checked}
 use Rattle.quic_frames.specs.Walk.{invalid_of, reported_of}
+use Rattle.quic_wire.specs.Rfc.{IsRfcError, IsRfcPayload}
 
 -- These frames were returned, and this error after them, or none.
 abbrev pub IsReturnedAs : List Frame → Option InvalidFrame → Reading → Type 0
@@ -26,3 +27,11 @@ MayGoOn (FailsAfter found type reason) = reason ≡ UnexpectedEnd
 pub record IsReturnedUnder (frames : List Frame) (error : Option InvalidFrame) (checked : Checked) : Type 0 where
   pub frames_are : map meaning_of frames ≡ map frame_in checked.frames
   pub error_is : reported_of error ≡ checked.error
+
+-- These frames were returned, which RFC 9000 allows, and they are the payload, or this error comes after them.
+pub record IsReadByRfc (negotiated : Bool) (payload : List ℕ) (frames : List Frame) (error : Option InvalidFrame) : Type 0
+  where
+    pub found : List TypedFrame
+    pub frames_are : map meaning_of frames ≡ map frame_in found
+    pub is : MatchOption error (IsRfcPayload negotiated found payload)
+        (λ e. IsRfcError negotiated found payload (invalid_of e))

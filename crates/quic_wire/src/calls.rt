@@ -1,5 +1,5 @@
 //! Functions that return what the laws speak of, or report that memory ran out. Each is proved from public contracts.
-ghost use Rattle.std.specs.Prelude.{◌↔◌, false, ◌≡◌, ◌≢◌, ◌++◌, ◌+◌, ◌<◌, ◌≤◌, ℕ, List, [], length, map, codes, IfErr, IfOk, IfSome, IsErrOf, IsTrue, MatchBool, MatchResult, OnErr, OnOk, vec_capacity, vec_len};
+ghost use Rattle.std.specs.Prelude.{◌↔◌, false, ◌≡◌, ◌≢◌, ◌++◌, ◌+◌, ◌<◌, ◌≤◌, ℕ, List, [], All, length, map, codes, IfErr, IfOk, IfSome, IsErrOf, IsTrue, MatchBool, MatchResult, OnErr, OnOk, vec_capacity, vec_len};
 ghost use Rattle.quic_base.specs.Number.{AreBytes};
 ghost use Rattle.quic_base.specs.One.{ReturnsOne};
 ghost use Rattle.quic_canon.specs.Least.{IsLeast};
@@ -23,12 +23,14 @@ ghost use Rattle.quic_params.specs.Meaning.{IsReadAnswer};
 ghost use Rattle.quic_params.specs.Options.{as_quinn};
 ghost use Rattle.quic_params.specs.Range.{IsRecordInRange, plain};
 ghost use Rattle.quic_wire.specs.Plain.{IsPlainInRange};
-ghost use Rattle.quic_wire.specs.Reading.{IsReturnedAs, IsReturnedUnder, MayGoOn};
+ghost use Rattle.quic_wire.specs.Reading.{IsReadByRfc, IsReturnedAs, IsReturnedUnder, MayGoOn};
+ghost use Rattle.quic_wire.specs.Rfc.{IsAllowed, rfc_rules};
 
 use crate::laws::{
     every_datagram, every_list, every_payload, frames_again, headers_again, lasting, one_shortest,
     packets_again, parameters_again,
 };
+use crate::rfc::{rfc_frames_again, rfc_payloads};
 use bytes::BytesMut;
 use quic_base::coding::{NoRoom, are_bytes};
 use quic_base::ids::Side;
@@ -113,6 +115,34 @@ pub fn read_checked<'a>(
         }
     }
     Ok((frames, None))
+}
+
+// RFC 9000's rules for a receiver, with the ACK frequency extension or without it.
+fn rules_of(negotiated: bool) -> Rules
+    ensures { result ≡ rfc_rules negotiated }
+{
+    Rules {
+        no_ack_frequency: !negotiated,
+        ..Rules::RFC
+    }
+}
+
+/// Reads a payload by RFC 9000's rules, with the ACK frequency extension or without it: its frames, all of which the RFC
+/// allows, and after them the error of the first thing that it doesn't allow, if there is one.
+pub fn read_rfc<'a>(
+    alloc: Global,
+    payload: &'a [u8],
+    negotiated: bool,
+) -> Result<(Vec<Frame<'a>>, Option<InvalidFrame>), PayloadError>
+    ensures read { IfOk result (λ x. IsReadByRfc negotiated payload.now x.0.items x.1) }
+    ensures empty { IsErrOf result PayloadError.Empty ↔ (payload.now ≡ []) }
+{
+    rfc_payloads();
+    let (frames, error) = match read_checked(alloc, payload, rules_of(negotiated)) {
+        Ok(parts) => parts,
+        Err(e) => return Err(e),
+    };
+    Ok((frames, error))
 }
 
 /// Cuts the first packet from a datagram with `PartialDecode::new`.
@@ -212,6 +242,49 @@ fn read_frames<'a>(
     };
     match error {
         None => Ok(read),
+        Some(_) => unreachable!(),
+    }
+}
+
+/// Writes frames that RFC 9000 allows as a payload, and reads it by its rules: it has these frames, and no error. The
+/// caller must ensure that the frames can be written one after the other, and that the buffer is empty.
+pub fn rfc_read_back<'a>(
+    alloc: Global,
+    frames: &[Frame<'_>],
+    negotiated: bool,
+    out: &'a mut Vec<u8>,
+) -> Result<Vec<Frame<'a>>, PayloadError>
+    requires some { frames.now ≢ [] }
+    requires follow { CanFollow frames.now }
+    requires allowed { All (IsAllowed negotiated) (map meaning_of frames.now) }
+    requires empty { out.old.items ≡ [] }
+    ensures { IfOk result (λ read. map meaning_of read.items ≡ map meaning_of frames.now) }
+{
+    if write_payload(frames, out).is_err() {
+        return Err(PayloadError::OutOfMemory);
+    }
+    read_allowed(alloc, frames, negotiated, out)
+}
+
+// Reads a payload that was written from frames that are allowed.
+fn read_allowed<'a>(
+    alloc: Global,
+    frames: &[Frame<'_>],
+    negotiated: bool,
+    payload: &'a [u8],
+) -> Result<Vec<Frame<'a>>, PayloadError>
+    requires some { frames.now ≢ [] }
+    requires written { IsPayload frames.now payload.now }
+    requires allowed { All (IsAllowed negotiated) (map meaning_of frames.now) }
+    ensures { IfOk result (λ read. map meaning_of read.items ≡ map meaning_of frames.now) }
+{
+    rfc_frames_again();
+    let (found, error) = match read_checked(alloc, payload, rules_of(negotiated)) {
+        Ok(parts) => parts,
+        Err(e) => return Err(e),
+    };
+    match error {
+        None => Ok(found),
         Some(_) => unreachable!(),
     }
 }

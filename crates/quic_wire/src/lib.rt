@@ -13,4 +13,5 @@ pub use quic_errors::transport_error;
 pub use quic_frames::frame;
 pub use quic_packets::{crypto, packet, pairs};
 pub use quic_params::transport_parameters;
+pub use quic_permitted::permitted;
 pub use quic_ranges::range_set;

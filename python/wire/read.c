@@ -223,8 +223,10 @@ static PyObject *canonical(PyObject *module, PyObject *const *args,
   }
   out = wire_new_bytes(bytes.len, &at);
   if (out)
-    result = quic_wire_canonical_with(bytes.at, bytes.len, flags, at, bytes.len,
-                                      &canon);
+    result = flags ? quic_wire_canonical_with(bytes.at, bytes.len, flags, at,
+                                              bytes.len, &canon)
+                   : quic_wire_canonical(bytes.at, bytes.len, at, bytes.len,
+                                         &canon);
   if (out && result == QUIC_WIRE_OK)
     out = wire_front(out, canon.len);
   else if (out) {

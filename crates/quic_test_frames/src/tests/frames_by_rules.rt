@@ -1,6 +1,9 @@
 //! Frames that just pass what RFC 9000 requires a receiver to check, and frames that don't.
+use quic_base::ids::Dir;
 use quic_checks::Checks;
-use quic_frames::frame::{FrameType, Iter, Rules};
+use quic_frames::frame::{
+    Checked, Crypto, Frame, FrameType, InvalidFrame, Iter, NewToken, Rules, first_error,
+};
 use std::test::Fail;
 
 // 2^62 - 2, 2^62 - 1, 2^60 and 2^60 + 1 end these, each in 8 bytes (RFC 9000, section 16).
@@ -27,6 +30,11 @@ const NONE: Rules = Rules {
     stream_limit: false,
     tokens: false,
     no_ack_frequency: false,
+};
+
+const SHORT: Rules = Rules {
+    short_types: true,
+    ..NONE
 };
 
 const DATA: Rules = Rules {
@@ -105,6 +113,20 @@ fn is_read(payload: &[u8], rules: Rules) -> bool {
     matches!(frames.next(), Some(Ok(_)))
         && frames.offset() == payload.len()
         && frames.next().is_none()
+        && first_error(payload, rules).is_none()
+}
+
+// Whether an error has this type and reason.
+fn is_error(invalid: &InvalidFrame, ty: u8, reason: &str) -> bool {
+    invalid.ty == Some(FrameType::of(u64::from(ty))) && invalid.reason == reason
+}
+
+// Whether the first error of the payload with these rules has this type and reason.
+fn is_first_error(payload: &[u8], rules: Rules, ty: u8, reason: &str) -> bool {
+    match first_error(payload, rules) {
+        Some(invalid) => is_error(&invalid, ty, reason),
+        None => false,
+    }
 }
 
 // Whether the payload is rejected with these rules, with this type and reason, and nothing is returned after that.
@@ -115,10 +137,10 @@ fn is_refused(payload: &[u8], rules: Rules, ty: u8, reason: &str) -> bool {
     let Some(Err(invalid)) = frames.next() else {
         return false;
     };
-    invalid.ty == Some(FrameType::of(u64::from(ty)))
-        && invalid.reason == reason
+    is_error(&invalid, ty, reason)
         && frames.offset() == 0
         && frames.next().is_none()
+        && is_first_error(payload, rules, ty, reason)
 }
 
 #[test]
@@ -147,5 +169,127 @@ fn frames_that_break_a_rule(rt: HostRuntime) -> Result<(), Fail> {
             is_refused(payload, Rules::RFC, *ty, reason),
         );
     }
+    checks.verdict()
+}
+
+// ACK_FREQUENCY cut off after its type, in two bytes and in four.
+const CUT: &[(&[u8], Rules, &str)] = &[
+    (b"\x40\xaf", NONE, "unexpected end"),
+    (b"\x40\xaf", SHORT, "unexpected end"),
+    (b"\x40\xaf", EXTENSION, "invalid frame ID"),
+    (b"\x40\xaf", Rules::RFC, "invalid frame ID"),
+    (b"\x80\x00\x00\xaf", NONE, "unexpected end"),
+    (b"\x80\x00\x00\xaf", EXTENSION, "invalid frame ID"),
+    (
+        b"\x80\x00\x00\xaf",
+        SHORT,
+        "frame type not in shortest form",
+    ),
+    (
+        b"\x80\x00\x00\xaf",
+        Rules::RFC,
+        "frame type not in shortest form",
+    ),
+];
+
+#[test]
+fn types_of_the_extension_without_fields(rt: HostRuntime) -> Result<(), Fail> {
+    let mut checks = Checks::new(rt.alloc());
+    for (payload, rules, reason) in CUT {
+        checks.holds_at(
+            format_args!("{payload:?}, {rules:?}"),
+            is_refused(payload, *rules, 0xaf, reason),
+        );
+    }
+    checks.verdict()
+}
+
+// PING, NEW_TOKEN with an empty token, PING, and a type that is cut off.
+const FOUR: &[u8] = b"\x01\x07\x00\x01\x40";
+
+// What is read first from an offset on, where PING was the last frame: no iterator, nothing, PING, or an error's type and
+// reason.
+#[derive(Debug)]
+enum First {
+    NoIterator,
+    Nothing,
+    Ping,
+    Error(u8, &'static str),
+}
+
+const RESUMED: &[(usize, Rules, First)] = &[
+    (0, Rules::RFC, First::Ping),
+    (1, Rules::RFC, First::Error(0x07, "malformed")),
+    (3, Rules::RFC, First::Ping),
+    (4, Rules::RFC, First::Error(0x01, "unexpected end")),
+    (5, Rules::RFC, First::Nothing),
+    (6, Rules::RFC, First::NoIterator),
+];
+
+fn is_resumed(offset: usize, rules: Rules, first: &First) -> bool {
+    let Some(mut frames) = Checked::resume(FOUR, offset, Some(FrameType::PING), rules) else {
+        return matches!(first, First::NoIterator);
+    };
+    match (frames.next(), first) {
+        (None, First::Nothing) => frames.offset() == offset,
+        (Some(Ok(Frame::Ping)), First::Ping) => frames.offset() == offset + 1,
+        (Some(Err(invalid)), First::Error(ty, reason)) => is_error(&invalid, *ty, reason),
+        _ => false,
+    }
+}
+
+#[test]
+fn payloads_are_resumed_by_rules(rt: HostRuntime) -> Result<(), Fail> {
+    let mut checks = Checks::new(rt.alloc());
+    for (offset, rules, first) in RESUMED {
+        checks.holds_at(
+            format_args!("{offset}, {rules:?}"),
+            is_resumed(*offset, *rules, first),
+        );
+    }
+    checks.verdict()
+}
+
+fn crypto(bytes: &'static [u8]) -> Frame<'static> {
+    Frame::Crypto(Crypto {
+        offset: (1 << 62) - 1,
+        bytes,
+    })
+}
+
+fn max_streams(count: u64) -> Frame<'static> {
+    Frame::MaxStreams {
+        dir: Dir::Uni,
+        count,
+    }
+}
+
+// All can be written. RFC 9000 allows those with `true`.
+#[test]
+fn frames_in_range_by_rules(rt: HostRuntime) -> Result<(), Fail> {
+    let mut checks = Checks::new(rt.alloc());
+    for (frame, rule, is_allowed) in [
+        (max_streams(1 << 60), STREAMS, true),
+        (max_streams((1 << 60) + 1), STREAMS, false),
+        (Frame::NewToken(NewToken { token: b"a" }), TOKENS, true),
+        (Frame::NewToken(NewToken { token: b"" }), TOKENS, false),
+        (crypto(b""), DATA, true),
+        (crypto(b"a"), DATA, false),
+        (Frame::ImmediateAck, EXTENSION, false),
+    ] {
+        checks.holds_at(format_args!("{frame:?}, no rules"), frame.in_range_by(NONE));
+        checks.same_at(
+            format_args!("{frame:?}, its rule"),
+            frame.in_range_by(rule),
+            is_allowed,
+        );
+        checks.same_at(
+            format_args!("{frame:?}, all rules"),
+            frame.in_range_by(Rules::RFC),
+            is_allowed,
+        );
+    }
+    // What can't be written isn't in range by any rules.
+    checks.holds(!max_streams(1 << 62).in_range_by(NONE));
     checks.verdict()
 }

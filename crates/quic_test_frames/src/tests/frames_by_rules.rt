@@ -1,9 +1,6 @@
 //! Frames that just pass what RFC 9000 requires a receiver to check, and frames that don't.
-use quic_base::ids::Dir;
 use quic_checks::Checks;
-use quic_frames::frame::{
-    Checked, Crypto, Frame, FrameType, InvalidFrame, Iter, NewToken, Rules, first_error,
-};
+use quic_frames::frame::{Checked, Frame, FrameType, InvalidFrame, Iter, Rules, first_error};
 use std::test::Fail;
 
 // 2^62 - 2, 2^62 - 1, 2^60 and 2^60 + 1 end these, each in 8 bytes (RFC 9000, section 16).
@@ -250,46 +247,32 @@ fn payloads_are_resumed_by_rules(rt: HostRuntime) -> Result<(), Fail> {
     checks.verdict()
 }
 
-fn crypto(bytes: &'static [u8]) -> Frame<'static> {
-    Frame::Crypto(Crypto {
-        offset: (1 << 62) - 1,
-        bytes,
-    })
+// Whether the payload's first frame can be written, and these rules allow it.
+fn is_in_range(payload: &[u8], rules: Rules) -> bool {
+    let Some(mut frames) = Iter::new(payload).ok() else {
+        return false;
+    };
+    let Some(Ok(frame)) = frames.next() else {
+        return false;
+    };
+    frame.in_range_by(rules)
 }
 
-fn max_streams(count: u64) -> Frame<'static> {
-    Frame::MaxStreams {
-        dir: Dir::Uni,
-        count,
-    }
-}
-
-// All can be written. RFC 9000 allows those with `true`.
 #[test]
 fn frames_in_range_by_rules(rt: HostRuntime) -> Result<(), Fail> {
     let mut checks = Checks::new(rt.alloc());
-    for (frame, rule, is_allowed) in [
-        (max_streams(1 << 60), STREAMS, true),
-        (max_streams((1 << 60) + 1), STREAMS, false),
-        (Frame::NewToken(NewToken { token: b"a" }), TOKENS, true),
-        (Frame::NewToken(NewToken { token: b"" }), TOKENS, false),
-        (crypto(b""), DATA, true),
-        (crypto(b"a"), DATA, false),
-        (Frame::ImmediateAck, EXTENSION, false),
-    ] {
-        checks.holds_at(format_args!("{frame:?}, no rules"), frame.in_range_by(NONE));
-        checks.same_at(
-            format_args!("{frame:?}, its rule"),
-            frame.in_range_by(rule),
-            is_allowed,
-        );
-        checks.same_at(
-            format_args!("{frame:?}, all rules"),
-            frame.in_range_by(Rules::RFC),
-            is_allowed,
+    for payload in KEPT {
+        checks.holds_at(
+            format_args!("{payload:?}"),
+            is_in_range(payload, Rules::RFC),
         );
     }
-    // What can't be written isn't in range by any rules.
-    checks.holds(!max_streams(1 << 62).in_range_by(NONE));
+    for (payload, rule, _, _) in BROKEN {
+        checks.holds_at(format_args!("{payload:?}"), is_in_range(payload, NONE));
+        checks.holds_at(
+            format_args!("{payload:?}, its rule"),
+            !is_in_range(payload, *rule) && !is_in_range(payload, Rules::RFC),
+        );
+    }
     checks.verdict()
 }

@@ -1,6 +1,6 @@
 //! Frames that just pass what RFC 9000 requires a receiver to check, and frames that don't.
 use quic_checks::Checks;
-use quic_frames::frame::{FrameType, Iter, Rules};
+use quic_frames::frame::{Checked, Frame, FrameType, InvalidFrame, Iter, Rules, first_error};
 use std::test::Fail;
 
 // 2^62 - 2, 2^62 - 1, 2^60 and 2^60 + 1 end these, each in 8 bytes (RFC 9000, section 16).
@@ -27,6 +27,11 @@ const NONE: Rules = Rules {
     stream_limit: false,
     tokens: false,
     no_ack_frequency: false,
+};
+
+const SHORT: Rules = Rules {
+    short_types: true,
+    ..NONE
 };
 
 const DATA: Rules = Rules {
@@ -105,6 +110,20 @@ fn is_read(payload: &[u8], rules: Rules) -> bool {
     matches!(frames.next(), Some(Ok(_)))
         && frames.offset() == payload.len()
         && frames.next().is_none()
+        && first_error(payload, rules).is_none()
+}
+
+// Whether an error has this type and reason.
+fn is_error(invalid: &InvalidFrame, ty: u8, reason: &str) -> bool {
+    invalid.ty == Some(FrameType::of(u64::from(ty))) && invalid.reason == reason
+}
+
+// Whether the first error of the payload with these rules has this type and reason.
+fn is_first_error(payload: &[u8], rules: Rules, ty: u8, reason: &str) -> bool {
+    match first_error(payload, rules) {
+        Some(invalid) => is_error(&invalid, ty, reason),
+        None => false,
+    }
 }
 
 // Whether the payload is rejected with these rules, with this type and reason, and nothing is returned after that.
@@ -115,10 +134,10 @@ fn is_refused(payload: &[u8], rules: Rules, ty: u8, reason: &str) -> bool {
     let Some(Err(invalid)) = frames.next() else {
         return false;
     };
-    invalid.ty == Some(FrameType::of(u64::from(ty)))
-        && invalid.reason == reason
+    is_error(&invalid, ty, reason)
         && frames.offset() == 0
         && frames.next().is_none()
+        && is_first_error(payload, rules, ty, reason)
 }
 
 #[test]
@@ -145,6 +164,114 @@ fn frames_that_break_a_rule(rt: HostRuntime) -> Result<(), Fail> {
         checks.holds_at(
             format_args!("{payload:?}, all rules"),
             is_refused(payload, Rules::RFC, *ty, reason),
+        );
+    }
+    checks.verdict()
+}
+
+// ACK_FREQUENCY cut off after its type, in two bytes and in four.
+const CUT: &[(&[u8], Rules, &str)] = &[
+    (b"\x40\xaf", NONE, "unexpected end"),
+    (b"\x40\xaf", SHORT, "unexpected end"),
+    (b"\x40\xaf", EXTENSION, "invalid frame ID"),
+    (b"\x40\xaf", Rules::RFC, "invalid frame ID"),
+    (b"\x80\x00\x00\xaf", NONE, "unexpected end"),
+    (b"\x80\x00\x00\xaf", EXTENSION, "invalid frame ID"),
+    (
+        b"\x80\x00\x00\xaf",
+        SHORT,
+        "frame type not in shortest form",
+    ),
+    (
+        b"\x80\x00\x00\xaf",
+        Rules::RFC,
+        "frame type not in shortest form",
+    ),
+];
+
+#[test]
+fn types_of_the_extension_without_fields(rt: HostRuntime) -> Result<(), Fail> {
+    let mut checks = Checks::new(rt.alloc());
+    for (payload, rules, reason) in CUT {
+        checks.holds_at(
+            format_args!("{payload:?}, {rules:?}"),
+            is_refused(payload, *rules, 0xaf, reason),
+        );
+    }
+    checks.verdict()
+}
+
+// PING, NEW_TOKEN with an empty token, PING, and a type that is cut off.
+const FOUR: &[u8] = b"\x01\x07\x00\x01\x40";
+
+// What is read first from an offset on, where PING was the last frame: no iterator, nothing, PING, or an error's type and
+// reason.
+#[derive(Debug)]
+enum First {
+    NoIterator,
+    Nothing,
+    Ping,
+    Error(u8, &'static str),
+}
+
+const RESUMED: &[(usize, Rules, First)] = &[
+    (0, Rules::RFC, First::Ping),
+    (1, Rules::RFC, First::Error(0x07, "malformed")),
+    (3, Rules::RFC, First::Ping),
+    (4, Rules::RFC, First::Error(0x01, "unexpected end")),
+    (5, Rules::RFC, First::Nothing),
+    (6, Rules::RFC, First::NoIterator),
+];
+
+fn is_resumed(offset: usize, rules: Rules, first: &First) -> bool {
+    let Some(mut frames) = Checked::resume(FOUR, offset, Some(FrameType::PING), rules) else {
+        return matches!(first, First::NoIterator);
+    };
+    match (frames.next(), first) {
+        (None, First::Nothing) => frames.offset() == offset,
+        (Some(Ok(Frame::Ping)), First::Ping) => frames.offset() == offset + 1,
+        (Some(Err(invalid)), First::Error(ty, reason)) => is_error(&invalid, *ty, reason),
+        _ => false,
+    }
+}
+
+#[test]
+fn payloads_are_resumed_by_rules(rt: HostRuntime) -> Result<(), Fail> {
+    let mut checks = Checks::new(rt.alloc());
+    for (offset, rules, first) in RESUMED {
+        checks.holds_at(
+            format_args!("{offset}, {rules:?}"),
+            is_resumed(*offset, *rules, first),
+        );
+    }
+    checks.verdict()
+}
+
+// Whether the payload's first frame can be written, and these rules allow it.
+fn is_in_range(payload: &[u8], rules: Rules) -> bool {
+    let Some(mut frames) = Iter::new(payload).ok() else {
+        return false;
+    };
+    let Some(Ok(frame)) = frames.next() else {
+        return false;
+    };
+    frame.in_range_by(rules)
+}
+
+#[test]
+fn frames_in_range_by_rules(rt: HostRuntime) -> Result<(), Fail> {
+    let mut checks = Checks::new(rt.alloc());
+    for payload in KEPT {
+        checks.holds_at(
+            format_args!("{payload:?}"),
+            is_in_range(payload, Rules::RFC),
+        );
+    }
+    for (payload, rule, _, _) in BROKEN {
+        checks.holds_at(format_args!("{payload:?}"), is_in_range(payload, NONE));
+        checks.holds_at(
+            format_args!("{payload:?}, its rule"),
+            !is_in_range(payload, *rule) && !is_in_range(payload, Rules::RFC),
         );
     }
     checks.verdict()

@@ -1,7 +1,9 @@
 //! Sets after a failed allocation. Each test passes whichever one allocation of its run fails, and if none does:
 //! `rt try --test --fail-alloc N` lets the Nth fail. Afterwards the set is as its contract promises, and the same call
 //! then succeeds.
-use super::shared::{Call, made, made_in_array, on_a_set, on_an_array, on_two_arrays, on_two_sets};
+use super::shared::{
+    Call, gives_replaced, made, made_in_array, on_a_set, on_an_array, on_two_arrays, on_two_sets,
+};
 use quic_base::coding::NoRoom;
 use quic_checks::Checks;
 use quic_ranges::range_set::{ArrayRangeSet, RangeSet, Replace};
@@ -398,4 +400,53 @@ fn change_runs(checks: &mut Checks, set: &mut RangeSet) -> Result<(), NoRoom> {
 #[test]
 fn refused_nothing_where_runs_grow_no_more(rt: HostRuntime) -> Result<(), Fail> {
     on_a_set(rt.alloc(), change_runs)
+}
+
+// Ranges that touch a run of that set, or two, and meet none: `replace` has nothing to return, and no more runs are left.
+const TOUCHING: &[(u64, u64)] = &[(5, 7), (19, 20), (35, 40), (395, END)];
+
+fn replace_what_touches(checks: &mut Checks, set: &mut RangeSet) -> Result<(), NoRoom> {
+    fill(checks, set)?;
+    for &(start, end) in TOUCHING {
+        checks.holds_at(start, gives_replaced(set, start..end, &[]));
+    }
+    checks.holds(set.peek_min() == Some(0..7) && set.max() == Some(END - 1));
+    checks.holds(set.len() as u64 == COUNT - 1);
+    Ok(())
+}
+
+#[test]
+fn refused_nothing_where_ranges_touch(rt: HostRuntime) -> Result<(), Fail> {
+    on_a_set(rt.alloc(), replace_what_touches)
+}
+
+// The runs of a set that slides, and from which step on it doesn't grow.
+const WIDTH: u64 = 8;
+
+const STEADY: u64 = 50;
+
+// Appends a run, and removes the first if there are more than eight. What it returns is the run of that step.
+fn slide(checks: &mut Checks, set: &mut RangeSet) -> Result<(), NoRoom> {
+    for index in 0..5000 {
+        let start = 2 * index;
+        match set.insert_one(start) {
+            Ok(changed) => checks.holds(changed),
+            Err(NoRoom) => {
+                checks.holds_at(start, index < STEADY);
+                let _ = set.insert_one(start)?;
+            }
+        }
+        if index >= WIDTH {
+            let first = 2 * (index - WIDTH);
+            checks.holds_at(start, set.pop_min() == Some(first..first + 1));
+        }
+    }
+    checks.holds(set.len() as u64 == WIDTH);
+    Ok(())
+}
+
+// The room of removed runs is used again, so the set allocates only a few times, while it gets its eight runs.
+#[test]
+fn refused_nothing_while_a_set_slides(rt: HostRuntime) -> Result<(), Fail> {
+    on_a_set(rt.alloc(), slide)
 }

@@ -92,7 +92,7 @@ MaySend sender permission = (permission.only_servers ≡ false) ⊎ (sender ≡ 
 -- On a bidirectional stream both sides send and receive data; on a unidirectional one the side that opened it sends, and
 -- the other side receives (section 2.1).
 abbrev pub MayBeSentOn : ℕ → Side → Part → Type 0
-MayBeSentOn stream sender part.None = ⊤
+MayBeSentOn stream _ part.None = ⊤
 MayBeSentOn stream sender part.SendsData = (dir_of stream ≡ Bi) ⊎ (initiator_of stream ≡ sender)
 MayBeSentOn stream sender part.ReceivesData = (dir_of stream ≡ Bi) ⊎ (initiator_of stream ≡ sender → ⊥)
 
@@ -107,11 +107,11 @@ abbrev pub permission_by : Rules → ℕ → Option Permission
 permission_by rules t = if is_unknown_by rules (Some t) then None else permission_in (row_of t)
 
 abbrev pub TypeAnswerBy : Option Permission → PacketType → Side → Result ⊤ Forbidden → Type 0
-TypeAnswerBy None packet sender result = result ≡ Err forbidden.Type
-TypeAnswerBy (Some p) packet sender (Err forbidden.Type) = ⊥
-TypeAnswerBy (Some p) packet sender (Err forbidden.Packet) = MayCarry packet p.packets → ⊥
+TypeAnswerBy None packet _ result = result ≡ Err forbidden.Type
+TypeAnswerBy (Some p) packet _ (Err forbidden.Type) = ⊥
+TypeAnswerBy (Some p) packet _ (Err forbidden.Packet) = MayCarry packet p.packets → ⊥
 TypeAnswerBy (Some p) packet sender (Err forbidden.Sender) = MayCarry packet p.packets × (MaySend sender p → ⊥)
-TypeAnswerBy (Some p) packet sender (Err forbidden.Stream) = ⊥
+TypeAnswerBy (Some p) packet _ (Err forbidden.Stream) = ⊥
 TypeAnswerBy (Some p) packet sender (Ok _) = MayCarry packet p.packets × MaySend sender p
 
 -- what is answered of a type before the fields are read

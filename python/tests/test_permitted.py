@@ -35,17 +35,20 @@ class Permitted(unittest.TestCase):
         error = caught.exception
         code, section, kind = row
         self.assertEqual((error.code, error.section, error.frame_type), (code, f"RFC 9000, section {section}", kind))
-        self.assertEqual((error.field, error.frames, error.why), (None, None, None))
+        self.assertEqual((error.field, error.frames), (None, None))
+        if code != q.Code.FRAME_ENCODING_ERROR:
+            self.assertIsNone(error.why)
         return error
 
     def test_packets_carry_what_table_3_says(self):
         self.assertEqual(len({frame.kind for frame, _ in TABLE}), 26)
         for frame, letters in TABLE:
             for packet, letter in LETTERS.items():
+                sender = CLIENT if packet == P.ZERO_RTT else SERVER
                 calls = [
-                    lambda: frame.check_permitted(packet, SERVER),
-                    lambda: q.check_type(frame.type, packet, SERVER),
-                    lambda: q.check_type(frame.type, packet_type=packet, sender=SERVER, checks=q.Checks.QUINN),
+                    lambda: frame.check_permitted(packet, sender),
+                    lambda: q.check_type(frame.type, packet, sender),
+                    lambda: q.check_type(frame.type, packet_type=packet, sender=sender, checks=q.Checks.QUINN),
                 ]
                 for call in calls:
                     with self.subTest(frame.name), self.subTest(packet):
@@ -69,6 +72,13 @@ class Permitted(unittest.TestCase):
                 else:
                     self.assertIsNone(call())
 
+    def test_servers_send_no_0rtt_packets(self):
+        for frame, letters in TABLE:
+            with self.subTest(frame.name):
+                section = "17.2.3" if "0" in letters else "12.4"
+                self.rejected(lambda: frame.check_permitted(P.ZERO_RTT, SERVER), PV, section, frame.type)
+                self.rejected(lambda: q.check_type(frame.type, P.ZERO_RTT, SERVER), PV, section, frame.type)
+
     def test_streams_have_directions(self):
         for kind, section, not_of_clients in STREAMS:
             for number in range(8):
@@ -90,6 +100,13 @@ class Permitted(unittest.TestCase):
         shown = "STREAM not permitted on this stream at 1 (RFC 9000, section 19.8)"
         self.assertEqual((str(caught.exception), caught.exception.offset), (shown, 1))
         self.assertEqual(caught.exception.frame_type, 0x0F)
+        self.assertEqual(q.Stream(3).begin, 0)
+        with self.assertRaises(q.FrameError) as caught:
+            q.Stream(3).check_permitted(P.ONE_RTT, CLIENT)
+        shown = "STREAM not permitted on this stream (RFC 9000, section 19.8)"
+        self.assertEqual((str(caught.exception), caught.exception.offset), (shown, None))
+        # An ACK that is made is read from its own bytes.
+        self.assertIsNone(self.rejected(lambda: q.Ack(1).check_permitted(P.ZERO_RTT, CLIENT), PV, "12.4", 2).offset)
         with self.assertRaises(q.FrameError) as caught:
             q.check_type(0x1E, P.ONE_RTT, CLIENT)
         shown = "HANDSHAKE_DONE not permitted from this side (RFC 9000, section 19.20)"
@@ -113,17 +130,21 @@ class Permitted(unittest.TestCase):
 
     def test_arguments(self):
         for call in (q.Ping().check_permitted, lambda *words, **more: q.check_type(1, *words, **more)):
-            for packet, sender in ((3, 0), (5, 0), (6, 0), (-1, 0), (1 << 70, 0), (4, 2), (4, -1)):
-                with self.assertRaisesRegex(ValueError, "^(packet_type|side) must be"):
-                    call(packet, sender)
-            for packet, sender in (("4", 0), (None, 0), (4, "0"), (4, None)):
-                with self.assertRaisesRegex(TypeError, "^(packet_type|side) must be"):
-                    call(packet, sender)
+            wrong = [(ValueError, (3, 5, 6, -1, 1 << 70), (2, -1, 1 << 70)), (TypeError, ("4", None), ("0", None))]
+            for kind, types, sides in wrong:
+                for packet in types:
+                    with self.assertRaisesRegex(kind, "^packet_type must be INITIAL, "):
+                        call(packet, 0)
+                for side in sides:
+                    with self.assertRaisesRegex(kind, "^sender must be Side.CLIENT or Side.SERVER$"):
+                        call(4, side)
             for words in ((), (4,), (4, 0, 0)):
                 with self.assertRaises(TypeError):
                     call(*words)
-            with self.assertRaisesRegex(ValueError, "^checks must be"):
-                call(4, 0, checks=-1)
+            for checks in (-1, 1 << 32):
+                with self.assertRaisesRegex(ValueError, r"^checks must be from 0 to 2\^32 - 1$"):
+                    call(4, 0, checks=checks)
+        self.assertRegex(q.Side.__doc__, r"`side`[^`]*`sender`")
         for number, kind in (("1", TypeError), (-1, ValueError), (1 << 64, ValueError)):
             with self.assertRaisesRegex(kind, "^type must be"):
                 q.check_type(number, 4, 0)

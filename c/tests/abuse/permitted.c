@@ -36,6 +36,9 @@ static int by_row(size_t row, uint32_t packet, uint32_t sender,
     return QUIC_WIRE_ERR_FRAME_TYPE;
   if (!strchr(rows[row].packets, letters[packet]))
     return QUIC_WIRE_ERR_FRAME_PACKET;
+  /* Only clients send 0-RTT packets (17.2.3). */
+  if (packet == QUIC_WIRE_PACKET_0RTT && sender == QUIC_WIRE_SIDE_SERVER)
+    return QUIC_WIRE_ERR_FRAME_SENDER;
   return rows[row].sender && sender == QUIC_WIRE_SIDE_CLIENT
              ? QUIC_WIRE_ERR_FRAME_SENDER
              : QUIC_WIRE_OK;

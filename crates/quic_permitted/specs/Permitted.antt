@@ -1,7 +1,7 @@
 -- Where a frame may be: in which packets (RFC 9000, section 12.4, table 3), from which side, and on which streams.
 use Rattle.std.specs.Prelude.{◌≡◌, ⊤, ◌⊎◌, ℕ, List, [], ◌∷◌, Contains, Option, Some, None, Result, Ok, Err, true, false, if◌then◌else◌}
 use Rattle.quic_base.specs.declared.ids.Side.{Side}
-use Rattle.quic_base.specs.declared.ids.Side.TheVariants.{Server}
+use Rattle.quic_base.specs.declared.ids.Side.TheVariants.{Client, Server}
 use Rattle.quic_base.specs.declared.ids.Dir.TheVariants.{Bi}
 use Rattle.quic_base.specs.Ids.{dir_of, initiator_of}
 use Rattle.quic_frame_fields.specs.Field.{Value, Number}
@@ -89,6 +89,10 @@ MayCarry packet packets = Contains (types_in packets) packet
 abbrev pub MaySend : Side → Permission → Type 0
 MaySend sender permission = (permission.only_servers ≡ false) ⊎ (sender ≡ Server)
 
+-- 0-RTT packets are a client's (section 17.2.3).
+abbrev pub IsFrom : Side → PacketType → Type 0
+IsFrom sender packet = (packet ≡ ZeroRtt → ⊥) ⊎ (sender ≡ Client)
+
 -- On a bidirectional stream both sides send and receive data; on a unidirectional one the side that opened it sends, and
 -- the other side receives (section 2.1).
 abbrev pub MayBeSentOn : ℕ → Side → Part → Type 0
@@ -110,9 +114,10 @@ abbrev pub TypeAnswerBy : Option Permission → PacketType → Side → Result �
 TypeAnswerBy None packet _ result = result ≡ Err forbidden.Type
 TypeAnswerBy (Some p) packet _ (Err forbidden.Type) = ⊥
 TypeAnswerBy (Some p) packet _ (Err forbidden.Packet) = MayCarry packet p.packets → ⊥
-TypeAnswerBy (Some p) packet sender (Err forbidden.Sender) = MayCarry packet p.packets × (MaySend sender p → ⊥)
+TypeAnswerBy (Some p) packet sender (Err forbidden.Sender) =
+    MayCarry packet p.packets × (MaySend sender p × IsFrom sender packet → ⊥)
 TypeAnswerBy (Some p) packet _ (Err forbidden.Stream) = ⊥
-TypeAnswerBy (Some p) packet sender (Ok _) = MayCarry packet p.packets × MaySend sender p
+TypeAnswerBy (Some p) packet sender (Ok _) = MayCarry packet p.packets × MaySend sender p × IsFrom sender packet
 
 -- what is answered of a type before the fields are read
 abbrev pub TypeAnswer : Rules → ℕ → PacketType → Side → Result ⊤ Forbidden → Type 0

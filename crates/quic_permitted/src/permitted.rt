@@ -2,7 +2,7 @@
 //! frame.
 ghost use Rattle.std.specs.Prelude.{◌≡◌, ◌↔◌, Some, IsTrue};
 ghost use Rattle.quic_frames.specs.Meaning.{meaning_of};
-ghost use Rattle.quic_permitted.specs.Permitted.{FrameAnswer, MayBeSentOn, MayCarry, MaySend, StreamAnswer, StreamAnswerBy, TypeAnswer, TypeAnswerBy, by_servers, code_of, in_packets, on_a_stream, permission_by, stream_by};
+ghost use Rattle.quic_permitted.specs.Permitted.{FrameAnswer, IsFrom, MayBeSentOn, MayCarry, MaySend, StreamAnswer, StreamAnswerBy, TypeAnswer, TypeAnswerBy, by_servers, code_of, in_packets, on_a_stream, permission_by, stream_by};
 
 use quic_base::ids::Side;
 use quic_frames::frame::{Frame, Rules};
@@ -63,7 +63,7 @@ pub enum Forbidden {
     Type,
     /// Packets of this type may not carry it.
     Packet,
-    /// This side may not send it.
+    /// This side may not send it, or no packet of this type.
     Sender,
     /// This side may not send it on this stream.
     Stream,
@@ -97,6 +97,14 @@ impl PacketType {
             }
             Packets::OneRtt => self == PacketType::OneRtt,
         }
+    }
+
+    /// Whether packets of this type come from a side: 0-RTT packets are a client's (RFC 9000, section 17.2.3).
+    #[inline(always)]
+    pub fn is_from(self, sender: Side) -> bool
+        ensures { IsTrue result ↔ IsFrom sender self }
+    {
+        self != PacketType::ZeroRtt || sender == Side::Client
     }
 }
 
@@ -195,7 +203,7 @@ fn permits_by(permission: Permission, packet: PacketType, sender: Side) -> Resul
     if !packet.may_carry(permission.packets) {
         return Err(Forbidden::Packet);
     }
-    if !permission.may_send(sender) {
+    if !permission.may_send(sender) || !packet.is_from(sender) {
         return Err(Forbidden::Sender);
     }
     Ok(())
@@ -211,12 +219,7 @@ fn permits_there(
 ) -> Result<(), Forbidden>
     ensures { StreamAnswerBy (Some permission) stream packet sender result }
 {
-    if !packet.may_carry(permission.packets) {
-        return Err(Forbidden::Packet);
-    }
-    if !permission.may_send(sender) {
-        return Err(Forbidden::Sender);
-    }
+    permits_by(permission, packet, sender)?;
     if !permission.may_be_sent_on(stream, sender) {
         return Err(Forbidden::Stream);
     }

@@ -18,6 +18,7 @@ if TYPE_CHECKING:
 
 _NEW_TOKEN, _NEW_CONNECTION_ID = 0x07, 0x18
 _OF_TYPES = (FRAME_TYPE, FRAME_LONG_TYPE)  # results for a type that was read
+_ACK_FREQUENCY = (0x1F, 0xAF)  # unknown only with Checks.NO_ACK_FREQUENCY
 _PERMISSIONS = (FRAME_PACKET, FRAME_SENDER, FRAME_STREAM)
 # For types of frames with a limit, except those of STREAM, the sections that have it.
 _OF_STREAMS = {0x12: "19.11", 0x13: "19.11", 0x16: "19.14", 0x17: "19.14"}
@@ -98,7 +99,7 @@ class Error(ValueError):
 class FrameError(Error):
     """A payload has an invalid frame, or is empty; or a frame isn't permitted, or isn't written, by a rule.
 
-    - frame_type: the type of the invalid frame; None if it couldn't be read.
+    - frame_type: the type of the invalid frame, as its attribute type; None if it couldn't be read.
     - frames: the frames before it; None if they were read one by one.
     - reason, why, offset, field, field_offset, code, section: as in Error. offset is None if the frame wasn't read.
     """
@@ -167,10 +168,15 @@ def _frame_section(result: int, frame_type: Optional[int]) -> str:
     elif result == FRAME_LIMIT:
         section = _LIMITS.get(number, "19.8")
     elif result == FRAME_SENDER:
-        section = _SENDERS[number]
+        section = _SENDERS.get(number, "17.2.3")
     elif result == FRAME_STREAM:
         section = _STREAMS.get(number, "19.8")
     return f"RFC 9000, section {section}"
+
+
+def _why_unknown(result: int, frame_type: Optional[int]) -> Optional[str]:
+    is_of_extension = result == FRAME_TYPE and frame_type in _ACK_FREQUENCY
+    return "the ACK frequency extension wasn't negotiated" if is_of_extension else None
 
 
 def _frame_error(
@@ -186,7 +192,7 @@ def _frame_error(
     error = FrameError(reason, begin, place, Code(code), _frame_section(result, frame_type))
     is_cut_off = result not in _OF_TYPES and place == _faults.Place(_faults.FRAME_TYPE_FIELD, begin)
     error.frame_type = None if is_cut_off else frame_type
-    error._last_type, error.why, error.frames = frame_type, why, before
+    error._last_type, error.why, error.frames = frame_type, why or _why_unknown(result, frame_type), before
     return error
 
 
@@ -194,6 +200,7 @@ def _rule_error(result: int, reason: str, code: int, frame_type: int, begin: Opt
     """For a frame that isn't permitted, or isn't written."""
     error = FrameError(reason, begin, None, Code(code), _frame_section(result, frame_type))
     error.frame_type, error._is_permission = frame_type, result in _PERMISSIONS
+    error.why = _why_unknown(result, frame_type)
     if result == FRAME_MALFORMED:
         error.why = "the token is empty"
     elif result == FRAME_LIMIT:

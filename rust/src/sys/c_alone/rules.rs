@@ -22,7 +22,7 @@ fn is_known(ty: u64) -> bool {
     FrameType::new(ty).is_some_and(|ty| !ty.to_string().starts_with("<unknown"))
 }
 
-// By table 3 of RFC 9000, section 12.4, and sections 19.7 and 19.20.
+// By table 3 of RFC 9000, section 12.4, and sections 17.2.3, 19.7 and 19.20.
 fn of_type(ty: u64, packet: u32, sender: u32, flags: u32) -> i32 {
     let is_extension = ty == 0x1f || ty == 0xaf;
     let carried = match ty {
@@ -38,6 +38,7 @@ fn of_type(ty: u64, packet: u32, sender: u32, flags: u32) -> i32 {
         Some(_) if !is_known(ty) || is_extension && flags & NO_ACK_FREQUENCY != 0 => UNKNOWN,
         Some(letter) if !carried.contains(letter) => PACKET,
         Some(_) if (ty == 0x07 || ty == 0x1e) && sender == 0 => SENDER,
+        Some('0') if sender == 1 => SENDER,
         Some(_) => OK,
     }
 }

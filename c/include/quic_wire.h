@@ -744,8 +744,9 @@ QUIC_WIRE_API uint32_t quic_wire_close_code(int result);
 /* ---- Reading frames */
 
 /** Begins to read a |payload| of |payloadlen| bytes.  |flags| are
- * QUIC_WIRE_READ_... Returns 0, QUIC_WIRE_ERR_PAYLOAD_EMPTY, or
- * QUIC_WIRE_ERR_ARGUMENT for NULL.  |frames| changes only with 0. */
+ * QUIC_WIRE_READ_...; other bits are ignored.  Returns 0,
+ * QUIC_WIRE_ERR_PAYLOAD_EMPTY, or QUIC_WIRE_ERR_ARGUMENT for NULL.  |frames|
+ * changes only with 0. */
 QUIC_WIRE_CHECKED QUIC_WIRE_API int
 quic_wire_frames_init(quic_wire_frame_iter *frames, const uint8_t *payload,
                       size_t payloadlen, uint32_t flags);
@@ -798,7 +799,8 @@ quic_wire_frames_fill(quic_wire_frame_iter *frames, const uint8_t *payload,
  * Begins to read a |payload| and reads its first frames, as many as the |room|
  * entries of |out| hold.  One call does what quic_wire_frames_init and then
  * quic_wire_frames_fill do.  If |frames->offset| is below |payloadlen|
- * afterwards, go on with quic_wire_frames_fill.
+ * afterwards, go on with quic_wire_frames_fill.  |flags| are
+ * QUIC_WIRE_READ_...; other bits are ignored.
  *
  * Returns:
  *  - QUIC_WIRE_ITEM, and in |*count| how many entries were filled, at least one
@@ -820,7 +822,8 @@ quic_wire_frames_first(quic_wire_frame_iter *frames, const uint8_t *payload,
  * Reads the frame at the front of |payload|, the rest of a payload, without an
  * iterator.  Go on where it ends, which is returned, until no byte remains.
  * Offsets in |frame| count from |payload|.  A PADDING frame and the zero bytes
- * after it are one frame.  |flags| are QUIC_WIRE_READ_...
+ * after it are one frame.  |flags| are QUIC_WIRE_READ_...; other bits are
+ * ignored.
  *
  * The ranges of an ACK below the first are written to the |room| entries of
  * |gaps| as they are encoded, and |frame->ngaps| is how many were.  If that
@@ -845,7 +848,8 @@ quic_wire_frame_read(const uint8_t *payload, size_t payloadlen, uint32_t flags,
  * quic_wire_frame_read gives of the whole frame: |frame->data| is the header's
  * length, |frame->datalen| the length that the header gives, and |frame->end|
  * is their sum, which may be above |len|.  If the header gives no length, all
- * bytes after it are data.  |flags| are QUIC_WIRE_READ_...
+ * bytes after it are data.  |flags| are QUIC_WIRE_READ_...; other bits are
+ * ignored.
  *
  * Returns:
  *  - the header's length, which is above 0
@@ -906,14 +910,15 @@ QUIC_WIRE_API uint32_t quic_wire_frame_rules(uint32_t kind);
  * QUIC_WIRE_SIDE_SERVER.  Of |flags| only QUIC_WIRE_READ_NO_ACK_FREQUENCY
  * counts.
  *
- * Returns:
+ * Returns, of the errors the first that applies:
  *  - 0 if it may
  *  - QUIC_WIRE_ERR_KIND if |packet| or |sender| is none of these
  *  - QUIC_WIRE_ERR_FRAME_TYPE if the type is unknown, as the types of
  *    ACK_FREQUENCY and IMMEDIATE_ACK are with that flag
  *  - QUIC_WIRE_ERR_FRAME_PACKET if such a packet may not carry the frame
  *  - QUIC_WIRE_ERR_FRAME_SENDER if it is a NEW_TOKEN or a HANDSHAKE_DONE from a
- *    client (sections 19.7 and 19.20)
+ *    client (sections 19.7 and 19.20), or in a 0-RTT packet from a server
+ *    (section 17.2.3)
  */
 QUIC_WIRE_CHECKED QUIC_WIRE_API int quic_wire_type_permitted(uint64_t type,
                                                              uint32_t packet,
@@ -922,12 +927,13 @@ QUIC_WIRE_CHECKED QUIC_WIRE_API int quic_wire_type_permitted(uint64_t type,
 
 /**
  * Whether a |packet| from |sender| may carry this |frame|, of which the kind
- * and the stream's id count.  The other arguments are those of
- * quic_wire_type_permitted.
+ * and the stream's id count.  Of the id only the two low bits count (section
+ * 2.1), so one of 2^62 or more, which no stream has, isn't an error by itself.
+ * The other arguments are those of quic_wire_type_permitted.
  *
- * Returns what quic_wire_type_permitted does for |frame->kind|;
+ * Returns what quic_wire_type_permitted does for |frame->kind|, or before that
  * QUIC_WIRE_ERR_ARGUMENT for NULL; and instead of 0
- * QUIC_WIRE_ERR_FRAME_STREAM if the stream is unidirectional (section 2.1) and
+ * QUIC_WIRE_ERR_FRAME_STREAM if the stream is unidirectional and
  *
  *  - |sender| can't send on it, of a RESET_STREAM, STREAM or
  *    STREAM_DATA_BLOCKED (sections 19.4, 19.8 and 19.13)
@@ -1008,6 +1014,9 @@ quic_wire_ack_ranges_fill(quic_wire_range_iter *ranges, const uint8_t *payload,
  *  - QUIC_WIRE_ERR_FRAME_LIMIT, QUIC_WIRE_ERR_FRAME_MALFORMED or
  *    QUIC_WIRE_ERR_FRAME_TYPE if it breaks a rule of |flags|
  *
+ * If several errors apply, QUIC_WIRE_ERR_ARGUMENT comes first, then a broken
+ * rule, and QUIC_WIRE_ERR_NOBUF last.
+ *
  * Without rules, frames that a reader rejects only because of its flags are
  * written.  |written| may be NULL, and changes only with the first two.  Bytes
  * of |dest| after those written don't change, and none after an error.
@@ -1019,10 +1028,12 @@ quic_wire_frame_write(const quic_wire_frame *frame, const uint8_t *data,
 
 /**
  * Writes |frame|, a STREAM, CRYPTO or DATAGRAM, up to its data, which has
- * |frame->datalen| bytes.  It is the front of what quic_wire_frame_write
- * writes; you put the data after it.  The frame's type, data, begin and end
- * are ignored.  |flags|, the results, |dest| and |written| are as for
- * quic_wire_frame_write; QUIC_WIRE_ERR_ARGUMENT also for other kinds.
+ * |frame->datalen| bytes: fewer than 2^62, except of a STREAM or DATAGRAM with
+ * QUIC_WIRE_WRITE_LAST, which has no length.  It is the front of what
+ * quic_wire_frame_write writes; you put the data after it.  The frame's type,
+ * data, begin and end are ignored.  |flags|, the results, |dest| and |written|
+ * are as for quic_wire_frame_write; QUIC_WIRE_ERR_ARGUMENT also for other kinds
+ * and for more bytes.
  */
 QUIC_WIRE_CHECKED QUIC_WIRE_API int
 quic_wire_frame_header_write(const quic_wire_frame *frame, uint32_t flags,
@@ -1080,9 +1091,10 @@ QUIC_WIRE_CHECKED QUIC_WIRE_API int
 quic_wire_canonical(const uint8_t *payload, size_t payloadlen, uint8_t *dest,
                     size_t destlen, quic_wire_canon *out);
 
-/** The same by rules: |payload| is also rejected if a frame breaks one of
- * |flags|, QUIC_WIRE_READ_..., as quic_wire_frames_next rejects it, and what is
- * written breaks none.  Returns what quic_wire_canonical does. */
+/** The same by rules (RFC 9000, sections 12.4 and 19): |payload| is also
+ * rejected if a frame breaks one of |flags|, QUIC_WIRE_READ_..., as
+ * quic_wire_frames_next rejects it, and what is written breaks none.  Other
+ * bits are ignored.  Returns what quic_wire_canonical does. */
 QUIC_WIRE_CHECKED QUIC_WIRE_API int
 quic_wire_canonical_with(const uint8_t *payload, size_t payloadlen,
                          uint32_t flags, uint8_t *dest, size_t destlen,
@@ -1376,7 +1388,7 @@ QUIC_WIRE_CHECKED QUIC_WIRE_API int quic_wire_set_len(uint8_t *packet,
  * encoding, and grease_quic_bit and min_ack_delay may occur twice, as in
  * quinn-proto.  With QUIC_WIRE_READ_ANY_WIDTH an integer may be in any
  * encoding (section 16), and with QUIC_WIRE_READ_NO_REPEATS no known parameter
- * may occur twice (section 7.4).
+ * may occur twice (section 7.4).  Other bits are ignored.
  *
  * Returns:
  *  - 0, and the parameters
@@ -1429,11 +1441,11 @@ quic_wire_params_write(uint32_t side, const quic_wire_params *params,
 /**
  * The same with further entries, in an order of your choice.  |further| is a
  * list of at most 235 entries, below 2^40 bytes, that quic_wire_params has no
- * fields for, none of them twice, as quic_wire_param_write writes them.  The
- * parameters of quic_wire_params have the numbers below, whether they are
- * written or not; the further entries have numbers from QUIC_WIRE_PARAM_ROWS
- * on.  |order| has each of these numbers once.  If |orderlen| is 0, the entries
- * are written in the order of their numbers.
+ * fields for, none of them twice.  Their ids and lengths may be in any encoding
+ * (section 16).  The parameters of quic_wire_params have the numbers below,
+ * whether they are written or not; the further entries have numbers from
+ * QUIC_WIRE_PARAM_ROWS on.  |order| has each of these numbers once.  If
+ * |orderlen| is 0, the entries are written in the order of their numbers.
  *
  *  - 0 max_idle_timeout
  *  - 1 max_udp_payload_size
@@ -1457,9 +1469,10 @@ quic_wire_params_write(uint32_t side, const quic_wire_params *params,
  *  - 19 grease_quic_bit
  *  - 20 min_ack_delay
  *
- * Each entry is written in its shortest encoding, and the peer reads the same
- * |params|.  Returns what quic_wire_params_write does; QUIC_WIRE_ERR_PARAM
- * also if |further| or |order| isn't as described.
+ * Each entry is written in its shortest encoding, also the id and length of a
+ * further one, and the peer reads the same |params|.  Returns what
+ * quic_wire_params_write does; QUIC_WIRE_ERR_PARAM also if |further| or |order|
+ * isn't as described.
  */
 QUIC_WIRE_CHECKED QUIC_WIRE_API int quic_wire_params_write_with(
     uint32_t side, const quic_wire_params *params, size_t size,

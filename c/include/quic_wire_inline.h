@@ -223,8 +223,8 @@ QUIC_WIRE_API size_t quic_wire_padding_count(const uint8_t *payload,
   return payload && frame && frame->kind == QUIC_WIRE_FRAME_PADDING &&
                  frame->end <= payloadlen && frame->begin < frame->end &&
                  (frame->end - frame->begin) >> (payload[frame->begin] >> 6)
-             ? frame->end + 1 - frame->begin -
-                   ((size_t)1 << (payload[frame->begin] >> 6))
+             ? (size_t)(frame->end + 1 - frame->begin -
+                        ((size_t)1 << (payload[frame->begin] >> 6)))
              : 0;
 }
 

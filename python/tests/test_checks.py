@@ -1,5 +1,6 @@
 """What readers and writers check: for each flag what is accepted without it and rejected with it, or the reverse."""
 
+import copy
 import functools
 import operator
 import unittest
@@ -117,11 +118,31 @@ class Flags(unittest.TestCase):
                             error = caught.exception
                             found = (error.reason, error.code, error.section)
                             self.assertEqual(found, (reason, code, f"RFC 9000, section {section}"))
-                            self.assertEqual((error.offset, error.field, error.frame_type), (None, None, frame.kind))
+                            self.assertEqual((error.offset, error.field, error.frame_type), (0, None, frame.type))
         with self.assertRaises(q.FrameError) as caught:
             q.MaxStreamsUni(1 << 61).encode(checks=q.Checks.RFC)
         shown = "limit exceeded in MAX_STREAMS_UNI: it is greater than 2^60 (RFC 9000, section 19.11)"
         self.assertEqual(str(caught.exception), shown)
+
+    def test_what_is_not_written_says_where_it_was_read(self):
+        for digits, at, kind in (("010700", 1, 0x07), ("010f00ffffffffffffffff0161", 1, 0x0F), ("40011f", 2, 0x1F)):
+            payload = bytes.fromhex(digits)
+            frame = q.read_frames(payload)[1]
+            calls = [
+                lambda: frame.encode(checks=q.Checks.RFC),
+                lambda: q.write_frames([q.Ping(), q.Ping(), frame], checks=q.Checks.RFC),
+                lambda: next(one for one in q.frames(payload) if one == frame).encode(checks=q.Checks.RFC),
+                lambda: q.canonical(payload, checks=q.Checks.RFC & ~q.Checks.SHORT_TYPES),
+            ]
+            for call in calls:
+                with self.subTest(digits), self.assertRaises(q.FrameError) as caught:
+                    call()
+                self.assertEqual((caught.exception.offset, caught.exception.frame_type), (at, kind))
+            # A copy has only the fields.
+            for made in (copy.copy(frame), type(frame)(**frame.as_dict())):
+                with self.subTest(digits), self.assertRaises(q.FrameError) as caught:
+                    made.encode(checks=q.Checks.RFC)
+                self.assertEqual((caught.exception.offset, caught.exception.frame_type), (None, made.type))
 
     def test_the_greatest_of_each_is_written(self):
         for digits in ALLOWED:
@@ -252,8 +273,11 @@ class Flags(unittest.TestCase):
             lambda **how: q.read_packet(b"\x40", 0, **how),
             lambda **how: q.TransportParameters.read(q.Side.CLIENT, b"", **how),
         ):
-            for kind, value in ((TypeError, "1"), (TypeError, None), (ValueError, -1), (ValueError, 1 << 32)):
-                with self.assertRaisesRegex(kind, "^checks must be"):
+            for value in ("1", None):
+                with self.assertRaisesRegex(TypeError, "^checks must be an int$"):
+                    call(checks=value)
+            for value in (-1, 1 << 32, 1 << 64):
+                with self.assertRaisesRegex(ValueError, r"^checks must be from 0 to 2\^32 - 1$"):
                     call(checks=value)
             with self.assertRaises(TypeError):
                 call(check=q.Checks.RFC)

@@ -68,12 +68,35 @@ class Errors(unittest.TestCase):
             ("06ffffffffffffffff01aa", past),
             ("0c00ffffffffffffffff61", past),
             ("12d000000000000001", "it is greater than 2^60"),
+            ("1f", "the ACK frequency extension wasn't negotiated"),
+            ("40af00000000", "the ACK frequency extension wasn't negotiated"),
+            ("20", None),
             ("0110", None),
             ("4001", None),
         ]
         for digits, why in rows:
             with self.subTest(digits):
-                self.assertEqual(rejected(q.read_frames, bytes.fromhex(digits), checks=q.Checks.RFC).why, why)
+                payload = bytes.fromhex(digits)
+                self.assertEqual(rejected(q.read_frames, payload, checks=q.Checks.RFC).why, why)
+                self.assertEqual(rejected(q.canonical, payload, checks=q.Checks.RFC).why, why)
+
+    def test_why_a_type_is_unknown(self):
+        why = "the ACK frequency extension wasn't negotiated"
+        for frame in (q.ImmediateAck(), q.AckFrequency()):
+            calls = [
+                lambda: frame.encode(checks=q.Checks.RFC),
+                lambda: q.write_frames([frame], checks=q.Checks.NO_ACK_FREQUENCY),
+                lambda: frame.check_permitted(4, 0, checks=q.Checks.RFC),
+                lambda: q.check_type(frame.type, 4, 0, checks=q.Checks.RFC),
+            ]
+            for call in calls:
+                error = rejected(call)
+                self.assertEqual((error.reason, error.why, error.frame_type), ("invalid frame ID", why, frame.type))
+        self.assertEqual(
+            str(rejected(q.ImmediateAck().encode, checks=q.Checks.RFC)),
+            f"invalid frame ID in IMMEDIATE_ACK: {why} (RFC 9000, section 12.4)",
+        )
+        self.assertIsNone(rejected(q.check_type, 0x20, 4, 0, checks=q.Checks.RFC).why)
 
     def test_of_packets(self):
         initial = "c00000000108" + "aa" * 8 + "00" + "00" + "4004" + "00000000"

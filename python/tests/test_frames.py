@@ -53,6 +53,11 @@ class Frames(unittest.TestCase):
         self.assertEqual(q.Datagram(b"hi").encode().hex(), "31026869")
         self.assertEqual(q.write_frames([q.Datagram(b"hi"), q.Stream(0, 0, True)]).hex(), "31026869" + "0900")
 
+    def test_a_payload_of_no_frames_is_written_but_not_read(self):
+        self.assertEqual(q.write_frames([], checks=q.Checks.RFC), b"")
+        with self.assertRaisesRegex(q.FrameError, "^packet payload is empty"):
+            q.read_frames(q.write_frames([]))
+
     def test_a_frame_is_a_value(self):
         for frame, digits, text in ROWS:
             with self.subTest(digits):
@@ -171,8 +176,10 @@ class Frames(unittest.TestCase):
             (ValueError, "largest must be the greatest", lambda: q.Ack(largest=9, ranges=[range(3)])),
             (ValueError, "count must be 1 or more", lambda: q.Padding(0)),
             (TypeError, "instances", q.Frame),
-            (TypeError, "'int' object", lambda: q.write_frames([1])),
-            (TypeError, "'str' object", lambda: q.write_frames(["01"])),
+            (TypeError, "^payload\\[0\\] must be a Frame, not NoneType$", lambda: q.write_frames([None])),
+            (TypeError, "^payload\\[1\\] must be a Frame, not str$", lambda: q.write_frames([q.Ping(), "01"])),
+            (TypeError, "^payload\\[0\\] must be a Frame, not type$", lambda: q.write_frames([q.Ping])),
+            (TypeError, "not iterable", lambda: q.write_frames(q.Ping())),
         ]
         for kind, text, make in rows:
             with self.subTest(text), self.assertRaisesRegex(kind, text):

@@ -51,6 +51,9 @@ class Parameters(unittest.TestCase):
                 self.assertEqual(made.write(q.Side.SERVER).hex(), digits)
                 read = q.TransportParameters.read(q.Side.CLIENT, bytes.fromhex(digits))
                 self.assertEqual((read, getattr(read, name)), (made, value))
+                for checks in (q.Checks.RFC, ~q.Checks.QUINN, *q.Checks):
+                    again = q.TransportParameters.read(q.Side.CLIENT, bytes.fromhex(digits), checks=checks)
+                    self.assertEqual(again, made)
                 self.assertEqual(repr(read), f"TransportParameters({name}={value!r})")
                 (entry,) = q.parameters(bytes.fromhex(digits))
                 self.assertEqual((entry.name, entry.is_known, entry.end), (name, True, len(digits) // 2))
@@ -85,7 +88,8 @@ class Parameters(unittest.TestCase):
         made = q.TransportParameters(initial_max_data=5, grease_quic_bit=True)
         written = made.write(q.Side.CLIENT, [(0x11, b"\x00\x00\x00\x01"), (27, b"x")], order=[27, 0x2AB2])
         self.assertEqual([entry.id for entry in q.parameters(written)], [27, 0x2AB2, 4, 0x11])
-        self.assertEqual(q.TransportParameters.read(q.Side.SERVER, written), made)
+        for checks in (q.Checks.QUINN, q.Checks.RFC):
+            self.assertEqual(q.TransportParameters.read(q.Side.SERVER, written, checks=checks), made)
         entries = {entry.id: bytes(entry.value) for entry in q.parameters(written) if not entry.is_known}
         self.assertEqual(entries, {27: b"x", 0x11: b"\x00\x00\x00\x01"})
         self.assertEqual(q.write_parameter(27, b"x").hex(), "1b0178")

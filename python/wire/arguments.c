@@ -2,75 +2,69 @@
 /* Checks of arguments, with exceptions that name them. */
 #include "wire.h"
 
-#define VARINT_END ((uint64_t)1 << 62)
-
-int wire_number(PyObject *value, const char *name, uint64_t *out) {
+/* A number of at most so many bits; -1 with an exception that names it. */
+static int number_of(PyObject *value, const char *name, int bits,
+                     uint64_t *out) {
   unsigned long long number;
   if (!PyLong_Check(value)) {
     PyErr_Format(PyExc_TypeError, "%s must be an int", name);
     return -1;
   }
   number = PyLong_AsUnsignedLongLong(value);
-  if (number == (unsigned long long)-1 && PyErr_Occurred()) {
+  if ((number == (unsigned long long)-1 && PyErr_Occurred()) ||
+      (bits < 64 && number >> bits)) {
     PyErr_Clear();
-    PyErr_Format(PyExc_ValueError, "%s must be from 0 to 2^64 - 1", name);
+    PyErr_Format(PyExc_ValueError, "%s must be from 0 to 2^%d - 1", name, bits);
     return -1;
   }
   *out = number;
   return 0;
 }
 
+int wire_number(PyObject *value, const char *name, uint64_t *out) {
+  return number_of(value, name, 64, out);
+}
+
 int wire_varint(PyObject *value, const char *name, uint64_t *out) {
-  if (wire_number(value, name, out) < 0) {
-    if (PyErr_ExceptionMatches(PyExc_ValueError)) {
-      PyErr_Clear();
-      PyErr_Format(PyExc_ValueError, "%s must be from 0 to 2^62 - 1", name);
-    }
-    return -1;
-  }
-  if (*out >= VARINT_END) {
-    PyErr_Format(PyExc_ValueError, "%s must be from 0 to 2^62 - 1", name);
-    return -1;
-  }
-  return 0;
+  return number_of(value, name, 62, out);
 }
 
 int wire_to_uint32(PyObject *value, void *out) {
   uint64_t number;
-  if (wire_number(value, "this argument", &number) < 0)
+  if (number_of(value, "this argument", 32, &number) < 0)
     return 0;
-  if (number > UINT32_MAX) {
-    PyErr_SetString(PyExc_ValueError, "this argument must be below 2^32");
-    return 0;
-  }
   *(uint32_t *)out = (uint32_t)number;
   return 1;
 }
 
 int wire_to_uint8(PyObject *value, void *out) {
-  uint32_t number;
-  if (!wire_to_uint32(value, &number))
+  uint64_t number;
+  if (number_of(value, "this argument", 8, &number) < 0)
     return 0;
-  if (number > UINT8_MAX) {
-    PyErr_SetString(PyExc_ValueError, "this argument must be below 2^8");
-    return 0;
-  }
   *(uint8_t *)out = (uint8_t)number;
   return 1;
 }
 
-int wire_to_side(PyObject *value, void *out) {
+static int to_side(PyObject *value, const char *name, uint32_t *out) {
   uint64_t number = 0;
   const int is_number = PyLong_Check(value);
-  if (is_number && wire_number(value, "side", &number) < 0)
+  if (is_number && wire_number(value, name, &number) < 0)
     PyErr_Clear();
   else if (is_number && number <= QUIC_WIRE_SIDE_SERVER) {
-    *(uint32_t *)out = (uint32_t)number;
+    *out = (uint32_t)number;
     return 1;
   }
-  PyErr_SetString(is_number ? PyExc_ValueError : PyExc_TypeError,
-                  "side must be Side.CLIENT or Side.SERVER");
+  PyErr_Format(is_number ? PyExc_ValueError : PyExc_TypeError,
+               "%s must be Side.CLIENT or Side.SERVER", name);
   return 0;
+}
+
+int wire_to_side(PyObject *value, void *out) {
+  return to_side(value, "side", out);
+}
+
+int wire_to_sender(PyObject *value, void *out) {
+  return to_side(value, "sender", out);
 }
 
 int wire_to_packet_type(PyObject *value, void *out) {
@@ -90,12 +84,8 @@ int wire_to_packet_type(PyObject *value, void *out) {
 
 int wire_to_checks(PyObject *value, void *out) {
   uint64_t number;
-  if (wire_number(value, "checks", &number) < 0)
+  if (number_of(value, "checks", 32, &number) < 0)
     return 0;
-  if (number > UINT32_MAX) {
-    PyErr_SetString(PyExc_ValueError, "checks must be below 2^32");
-    return 0;
-  }
   *(uint32_t *)out = (uint32_t)number;
   return 1;
 }

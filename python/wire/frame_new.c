@@ -250,6 +250,7 @@ PyObject *frame_new(PyTypeObject *type, PyObject *args, PyObject *keywords) {
   if (!m.made)
     return NULL;
   m.made->owner = NULL;
+  m.made->is_read = 0;
   memset(&m.made->f, 0, sizeof m.made->f);
   m.made->f.kind = m.made->f.type = kind->kind;
   if (set_fields(&m, kind, args, keywords) < 0 || finish(&m) < 0)
@@ -298,7 +299,7 @@ static PyObject *encode_other(PyObject *self, uint32_t flags) {
     return out;
   Py_XDECREF(out);
   if (result < QUIC_WIRE_ERR_PAYLOAD_EMPTY)
-    return wire_rule_error(result, FRAME(self)->kind, Py_None);
+    return frame_reject(self, result);
   return wire_mistake(result);
 }
 

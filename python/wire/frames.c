@@ -142,25 +142,28 @@ static PyObject *is_permitted_in(PyObject *self, PyObject *packet_type) {
                          (rules & QUIC_WIRE_RULE_IN(packet)) != 0);
 }
 
-/* By the rules of checks, in a packet of a type from a sender. */
-PyObject *frame_check(PyObject *self, PyObject *args, PyObject *keywords) {
-  static char *names[] = {"packet_type", "sender", "checks", NULL};
-  uint32_t packet, sender, flags = 0;
-  PyObject *begin;
-  int result;
-  if (!PyArg_ParseTupleAndKeywords(
-          args, keywords, "O&O&|$O&:check_permitted", names,
-          wire_to_packet_type, &packet, wire_to_side, &sender, wire_to_checks,
-          &flags))
-    return NULL;
-  result = quic_wire_frame_permitted(FRAME(self), packet, sender, flags);
-  if (result == QUIC_WIRE_OK)
-    return Py_NewRef(Py_None);
-  begin = get_begin(self, NULL);
+PyObject *frame_reject(PyObject *self, int result) {
+  PyObject *begin = ((frame_object *)self)->is_read ? get_begin(self, NULL)
+                                                    : Py_NewRef(Py_None);
   if (begin)
     wire_rule_error(result, FRAME(self)->type, begin);
   Py_XDECREF(begin);
   return NULL;
+}
+
+/* By the rules of checks, in a packet of a type from a sender. */
+PyObject *frame_check(PyObject *self, PyObject *args, PyObject *keywords) {
+  static char *names[] = {"packet_type", "sender", "checks", NULL};
+  uint32_t packet, sender, flags = 0;
+  int result;
+  if (!PyArg_ParseTupleAndKeywords(
+          args, keywords, "O&O&|$O&:check_permitted", names,
+          wire_to_packet_type, &packet, wire_to_sender, &sender, wire_to_checks,
+          &flags))
+    return NULL;
+  result = quic_wire_frame_permitted(FRAME(self), packet, sender, flags);
+  return result == QUIC_WIRE_OK ? Py_NewRef(Py_None)
+                                : frame_reject(self, result);
 }
 
 #define NUMBER(name, slot, doc)                                                \
@@ -319,6 +322,7 @@ PyObject *frame_made(wire_state *state, PyObject *owner,
   if (!made)
     return NULL;
   made->owner = Py_NewRef(owner);
+  made->is_read = 1;
   made->f = *frame;
   return (PyObject *)made;
 }
@@ -432,10 +436,12 @@ static PyMethodDef frame_methods[] = {
 #define RULE(name, get, rule, doc)                                             \
   { name, get, NULL, PyDoc_STR(doc), (void *)(size_t)(rule) }
 static PyGetSetDef common_fields[] = {
-    {"begin", get_begin, NULL, PyDoc_STR("where it begins in its payload"),
-     NULL},
+    {"begin", get_begin, NULL,
+     PyDoc_STR("where it begins in its payload; 0 if it wasn't read"), NULL},
     {"end", get_end, NULL, PyDoc_STR("where it ends in its payload"), NULL},
-    {"type", get_type, NULL, PyDoc_STR("the type in the payload"), NULL},
+    {"type", get_type, NULL,
+     PyDoc_STR("the type in the payload; if it wasn't read, one of its kind"),
+     NULL},
     {"kind", get_kind, NULL,
      PyDoc_STR("the type, but one number for every STREAM (0x08), one for "
                "every ACK (0x02), one for every DATAGRAM"),

@@ -250,7 +250,7 @@ static PyObject *check_type(PyObject *module, PyObject *args,
   (void)module;
   if (!PyArg_ParseTupleAndKeywords(
           args, keywords, "OO&O&|$O&:check_type", names, &number,
-          wire_to_packet_type, &packet, wire_to_side, &sender, wire_to_checks,
+          wire_to_packet_type, &packet, wire_to_sender, &sender, wire_to_checks,
           &flags) ||
       wire_number(number, "type", &type) < 0)
     return NULL;

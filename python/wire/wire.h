@@ -62,11 +62,13 @@ PyObject *wire_front(PyObject *bytes, size_t len);
 int wire_number(PyObject *value, const char *name, uint64_t *out);
 /* A number below 2^62. */
 int wire_varint(PyObject *value, const char *name, uint64_t *out);
-/* For "O&" of PyArg_ParseTuple: a number below 2^32, a byte, a side, a type of
- * packets that have frames, the argument `checks` as flags of readers. */
+/* For "O&" of PyArg_ParseTuple: a number below 2^32, a byte, the side `side` or
+ * `sender`, a type of packets that have frames, the argument `checks` as flags
+ * of readers. */
 int wire_to_uint32(PyObject *value, void *out);
 int wire_to_uint8(PyObject *value, void *out);
 int wire_to_side(PyObject *value, void *out);
+int wire_to_sender(PyObject *value, void *out);
 int wire_to_packet_type(PyObject *value, void *out);
 int wire_to_checks(PyObject *value, void *out);
 /* The same, if it is there: the only keyword argument, after the positional
@@ -114,7 +116,8 @@ PyObject *wire_add_type(PyObject *module, PyType_Spec *spec, PyObject *bases,
 
 typedef struct frame_object {
   PyObject_HEAD PyObject
-      *owner; /* of the bytes that it was read from; may be NULL */
+      *owner;  /* of the bytes that it was read from; may be NULL */
+  int is_read; /* from a payload, not made from its fields */
   quic_wire_frame f;
 } frame_object;
 
@@ -146,6 +149,8 @@ PyObject *frame_made(wire_state *state, PyObject *owner,
 PyObject *frame_new(PyTypeObject *type, PyObject *args, PyObject *keywords);
 PyObject *frame_encode(PyObject *self, PyObject *args, PyObject *keywords);
 PyObject *frame_check(PyObject *self, PyObject *args, PyObject *keywords);
+/* FrameError: the frame breaks a rule.  Returns NULL. */
+PyObject *frame_reject(PyObject *self, int result);
 /* The ranges of an ACK that was read, ascending, and how many: free them with
  * PyMem_Free.  NULL with an exception. */
 quic_wire_range *frame_ranges(PyObject *self, size_t *count);

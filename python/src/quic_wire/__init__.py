@@ -53,8 +53,12 @@ __all__ = [
 def write_frames(payload: Iterable[Frame], *, checks: Checks = Checks.QUINN) -> bytes:
     """A payload of frames, each in its shortest form; the last one without a length that it doesn't need.
 
-    Raises FrameError if a frame breaks a rule of checks: what is written can be read with them.
+    Raises FrameError if a frame breaks a rule of checks: what is written can be read with them, unless there is no
+    frame, as a payload must not be empty (RFC 9000, section 12.4).
     """
     all_frames = list(payload)
+    for i, frame in enumerate(all_frames):
+        if not isinstance(frame, Frame):
+            raise TypeError(f"payload[{i}] must be a Frame, not {type(frame).__name__}")
     last = len(all_frames) - 1
     return b"".join(Frame.encode(frame, last=i == last, checks=checks) for i, frame in enumerate(all_frames))

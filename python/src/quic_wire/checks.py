@@ -14,9 +14,9 @@ class Checks(enum.IntFlag):
 
     QUINN, the default, has no flag: it reads as quinn-proto does. RFC has each flag except GREASED_BIT: it reads as RFC
     9000 asks of a receiver that has negotiated no extension, except that DATAGRAM frames are read. Which packets may
-    carry a frame, who may send it and on which streams `Frame.check_permitted` checks. What is written with RFC is read
-    with it. Each call ignores the flags that aren't for it, so one value serves all. Sections are those of RFC 9000 if
-    no other is named.
+    carry a frame, who may send it and on which streams `Frame.check_permitted` checks. Frames that are written with RFC
+    are read with it. Each call ignores the flags that aren't for it, so one value serves all. Sections are those of RFC
+    9000 if no other is named.
 
     These flags reject more; writers check DATA_LIMIT, STREAM_LIMIT, NO_ACK_FREQUENCY and TOKENS:
 

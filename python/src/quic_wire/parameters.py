@@ -25,7 +25,11 @@ _RESET_TOKEN_LEN = 16
 
 
 class Side(enum.IntEnum):
-    """The side that reads or writes: a client reads what a server sent."""
+    """A side of a connection.
+
+    The argument `side` is the one that reads or writes: a client reads what a server sent. `sender` is the one that
+    sends a packet and the frames in it.
+    """
 
     CLIENT = 0
     SERVER = 1

@@ -3,7 +3,8 @@ use Rattle.std.specs.Prelude.{◌≡◌, ℕ, ℤ, pos, negsuc, ◌<ℤ◌, ◌�
 use Rattle.std.proofs.Common.{refl, sym, ap, subst, ◌∙◌, arith, append_assoc, set}
 use Rattle.std.proofs.Math.ListN.{length-set}
 use Rattle.std.proofs.lemmas.Int.{ints}
-use Rattle.std.proofs.lemmas.List.{append-nil, drop-drop, take_more_set}
+use Rattle.std.proofs.lemmas.Grind.{drop_more_same}
+use Rattle.std.proofs.lemmas.List.{append-nil, drop-drop, drop-set-lt, take_more_set}
 use Rattle.quic_base.specs.Number.{AreBytes}
 use Rattle.quic_base.specs.One.{ReturnsOne}
 use Rattle.quic_header_decode.proofs.Datagrams.{rest_bytes}
@@ -152,6 +153,12 @@ kept : (heads : List CHeader) (count : ℕ) (head : CHeader) → count < length 
 kept [] count head less = absurd (omega arith)
 kept (x ∷ heads) zero head less = refl
 kept (x ∷ heads) (suc count) head less = ap (λ (xs : List CHeader). x ∷ xs) (kept heads count head (omega arith))
+
+-- nor after it
+pub kept_behind : (heads before : List CHeader) (count : ℕ) (head : CHeader) → drop count heads ≡ drop count before
+    → drop (count + 1) (set heads count head) ≡ drop (count + 1) before
+kept_behind heads before count head same =
+    drop-set-lt (count + 1) heads count head (omega arith) ∙ drop_more_same heads before count same
 
 unchanged : (First : List ℕ → Answer → Type 0) (datagram : List ℕ) (heads : List CHeader) (start count : ℕ) (head : CHeader)
     → count < length heads → Walking First datagram heads start count

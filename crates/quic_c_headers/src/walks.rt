@@ -1,5 +1,5 @@
 //! What is proved of callers of the exported functions. Their clauses are laws.
-ghost use Rattle.std.specs.Prelude.{◌≡◌, ◌<◌, ◌≤◌, ◌⊎◌, ◌↔◌, ◌^◌, ℕ, None, Some, false, length, pos, take};
+ghost use Rattle.std.specs.Prelude.{◌≡◌, ◌+◌, ◌<◌, ◌≤◌, ◌⊎◌, ◌↔◌, ◌^◌, ℕ, None, Some, drop, false, length, pos, take};
 ghost use Rattle.quic_base.specs.One.{ReturnsOne};
 ghost use Rattle.quic_c_headers.specs.Packets.{IsReturned, PacketAnswerBy, StandsFor};
 ghost use Rattle.quic_c_headers.specs.Walks.{IsRow, StoresRow, placed_shown};
@@ -63,6 +63,8 @@ pub fn walk_packets(
         → ReturnsOne (IsRow (PacketAnswerBy flags id_len versions.now) (length heads.old) datagram.now)
         (StoresRow datagram.now result.count result.last heads.new) }
     ensures invalid { (2 ^ 32 ≤ length datagram.now) ⊎ (20 < id_len) → result.last ≡ failed Failure.Length }
+    // Only the headers that it stored change, and the one after them, which a call that fails may change.
+    ensures kept { drop (result.count + 1) heads.new ≡ drop (result.count + 1) heads.old }
 {
     are_bytes(datagram);
     let size = datagram.len();
@@ -104,6 +106,7 @@ pub fn walk_rfc(datagram: &[u8], id_len: u32, versions: &[u32], heads: &mut [CHe
         → ReturnsOne (IsRow (RfcPacketAnswer (any_fixed id_len versions.now)) (length heads.old) datagram.now)
         (StoresRow datagram.now result.count result.last heads.new) }
     ensures invalid { (2 ^ 32 ≤ length datagram.now) ⊎ (20 < id_len) → result.last ≡ failed Failure.Length }
+    ensures kept { drop (result.count + 1) heads.new ≡ drop (result.count + 1) heads.old }
 {
     rfc_flags();
     walk_packets(datagram, id_len, versions, READ_RFC, heads)
@@ -112,6 +115,9 @@ pub fn walk_rfc(datagram: &[u8], id_len: u32, versions: &[u32], heads: &mut [CHe
 /// The same without flags: these are exactly the packets that are cut from the datagram one after another, with the
 /// fixed bit checked, up to its end, or up to bytes from which none is cut.
 pub fn walk_plain(datagram: &[u8], id_len: u32, versions: &[u32], heads: &mut [CHeader]) -> Walked
+    ensures one { length datagram.now < 2 ^ 32 → id_len ≤ 20
+        → ReturnsOne (IsRow (PacketAnswerBy 0 id_len versions.now) (length heads.old) datagram.now)
+        (StoresRow datagram.now result.count result.last heads.new) }
     ensures whole { length datagram.now < 2 ^ 32 → id_len ≤ 20 → result.last ≡ pos 0
         → ArePackets (read_by (fixed_parsed id_len) versions.now false) 0 datagram.now
         (placed_shown 0 datagram.now (take result.count heads.new)) None }
@@ -119,6 +125,7 @@ pub fn walk_plain(datagram: &[u8], id_len: u32, versions: &[u32], heads: &mut [C
         → (why ≡ Failure.NoRoom) ⊎ ((e : Refusal) × ArePackets (read_by (fixed_parsed id_len) versions.now false) 0
         datagram.now (placed_shown 0 datagram.now (take result.count heads.new)) (Some e)) }
     ensures invalid { (2 ^ 32 ≤ length datagram.now) ⊎ (20 < id_len) → result.last ≡ failed Failure.Length }
+    ensures kept { drop (result.count + 1) heads.new ≡ drop (result.count + 1) heads.old }
 {
     no_flags();
     one_answer();

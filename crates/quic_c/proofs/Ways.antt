@@ -5,7 +5,6 @@ use Rattle.std.proofs.lemmas.List.{append-nil, replicate_more}
 use Rattle.std.proofs.lemmas.List.Elements.{All-nil, All-cons, All-head, All-tail}
 use Rattle.quic_base.specs.Number.{AreBytes}
 use Rattle.quic_base.specs.One.{ExactlyOne}
-use Rattle.quic_base.proofs.PublicLaws.{back_bytes}
 use Rattle.quic_frame_fields.specs.Payload.{Meaning, TypedFrame, AreClosed, Reading, Complete, FailsAfter, IsReadingAfter, IsReadingOf, followed_by, last_type}
 use Rattle.quic_frame_fields.specs.Reading.{Invalid}
 use Rattle.quic_frames.specs.Checking.{IsRefusedFrame}
@@ -16,6 +15,7 @@ use Rattle.quic_frames.specs.Walk.{rest_of, first_of, Finds, IsSpent, Stands}
 use Rattle.quic_frames.specs.declared.frame.Frame.{Frame}
 use Rattle.quic_frames.specs.declared.frame.Frame.TheVariants as frames
 use Rattle.quic_frames.specs.declared.frame.rules.Rules.{Rules}
+use Rattle.quic_frames.proofs.CheckedTurns.{HasReadBy, Lasts, Reads, all_read_by, ended_with, refused_by}
 use Rattle.quic_frames.proofs.Turns.{HasRead, has_read_none, has_read_more, has_read_all, has_read_error}
 use Rattle.quic_c.specs.declared.words.CFrame.{CFrame}
 use Rattle.quic_c.specs.Filling.{GivesEntry, Shows}
@@ -23,18 +23,7 @@ use Rattle.quic_c.specs.Shown.{frame_kind_of, frame_words}
 use Rattle.quic_c.specs.Walks.{Ahead, ahead, padding, ShowsFirst, ShowsFrame, ShowsRun}
 use Rattle.quic_c.proofs.Filling.{shows-append, kinds}
 
--- ---- what the laws of readings say
-
-abbrev pub Lasts : Type 0
-Lasts = (strict : Bool) (found : List TypedFrame) (bytes more : List ℕ) (rest : Reading)
-    → IsReadingOf strict bytes (Complete found) → AreClosed found
-    → IsReadingAfter strict (last_type None found) more rest
-    → IsReadingOf strict (bytes ++ more) (followed_by found rest)
-
-abbrev pub Reads : Type 0
-Reads = (strict : Bool) (before : Option ℕ) (bytes : List ℕ) → AreBytes bytes
-    → ExactlyOne (IsReadingAfter strict before bytes)
-
+-- what the law of checked readings says
 abbrev pub Checks : Type 0
 Checks = (rules : Rules) (before : Option ℕ) (bytes : List ℕ) → AreBytes bytes
     → ExactlyOne (IsCheckedAfter rules before bytes)
@@ -126,42 +115,27 @@ pub checked_rest : (rules : Rules) (payload : List ℕ) (found : List TypedFrame
 checked_rest rules payload found state rest lasts reads h kept is =
     by_rest rules payload found is.0 rest (reads_whole rules payload found state is.0 lasts reads h is.1) kept is.2
 
+-- the same to an iterator with rules
+abbrev read_by : (rules : Rules) (payload : List ℕ) (found : List TypedFrame) (state : IterState)
+    → HasRead rules.short_types payload found state → All (Keeps rules) found
+    → HasReadBy rules payload found (record { place = state; rules = rules })
+read_by rules payload found state h kept = record { read = h; kept = kept; by = refl; }
+
 -- nothing is to come
 pub checked_all : (rules : Rules) (payload : List ℕ) (found : List TypedFrame) (state : IterState)
     → HasRead rules.short_types payload found state → All (Keeps rules) found → IsSpent state
-    → IsCheckedOf rules payload (record { frames = found; error = None })
+    → IsCheckedOf rules payload (ended_with found None)
 checked_all rules payload found state h kept spent =
-    (Complete found, has_read_all rules.short_types payload found state h spent, inl (kept, refl))
+    all_read_by rules payload found (record { place = state; rules = rules })
+    (read_by rules payload found state h kept) spent
 
 -- an error comes next
 pub checked_error : (rules : Rules) (payload : List ℕ) (found : List TypedFrame) (state : IterState) (reported : Invalid)
     → Lasts → Reads → AreBytes payload → HasRead rules.short_types payload found state → All (Keeps rules) found
-    → IsRefusedFrame rules state reported
-    → IsCheckedOf rules payload (record { frames = found; error = Some reported })
-checked_error rules payload found state reported lasts reads fits h kept (inl l) = (
-  FailsAfter found l.lacks.type l.lacks.reason,
-  has_read_error rules.short_types payload found state l.plain h l.lacks,
-  inl (kept, ap (λ (i : Invalid). record { frames = found; error = Some i }) l.says),
-)
-checked_error rules payload found state reported lasts reads fits h kept (inr b) =
-    let f = b.finds in
-    let on = has_read_more rules.short_types payload found state b.next b.frame h f in
-    let after = reads rules.short_types b.next.last (rest_of b.next)
-    (back_bytes on.front (rest_of b.next) (subst AreBytes on.parts fits)) in
-    let w = reads_whole rules payload (found ++ f.found ∷ []) b.next after.it lasts reads on after.is in (
-      w.reading,
-      w.is,
-      inr (record {
-        broken = f.found;
-        others = (reported_by rules after.it).frames;
-        breach = b.breach;
-        parts = ap (λ (c : Checked). c.frames) w.parts
-            ∙ append_assoc found (f.found ∷ []) (reported_by rules after.it).frames;
-        kept = kept;
-        breaks = b.breaks;
-        reported = ap (λ (i : Invalid). Some i) b.says;
-      }),
-    )
+    → IsRefusedFrame rules state reported → IsCheckedOf rules payload (ended_with found (Some reported))
+checked_error rules payload found state reported lasts reads fits h kept refused =
+    refused_by rules payload found (record { place = state; rules = rules }) reported lasts reads fits
+    (read_by rules payload found state h kept) refused
 
 -- ---- on the way
 

@@ -13,7 +13,6 @@ mod frames;
 mod front;
 mod headers_read;
 pub mod laws;
-mod rules;
 mod show;
 pub mod walks;
 mod words;

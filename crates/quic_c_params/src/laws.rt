@@ -1,6 +1,7 @@
 //! What QUIC_WIRE_READ_RFC means for lists of transport parameters, and what it reads of what is written.
-ghost use Rattle.std.specs.Prelude.{◌≡◌, ◌≢◌, ◌⊎◌, pos};
+ghost use Rattle.std.specs.Prelude.{◌≡◌, ◌≢◌, ◌⊎◌, ◌↔◌, ◌<◌, ℕ, pos};
 ghost use Rattle.quic_c_params.specs.Answers.{options_of};
+ghost use Rattle.quic_c_params.specs.Written.{DescribesNoParams, ParamsNeedMore, WroteParams};
 ghost use Rattle.quic_results.specs.Results.{failed};
 
 use crate::read::quic_wire_params_read_;
@@ -29,6 +30,12 @@ pub fn read_as_written(
 ) -> i32
     ensures returns { (result ≡ pos 0) ⊎ (result ≡ failed Failure.NoRoom) ⊎ (result ≡ failed Failure.Kind)
         ⊎ (result ≡ failed Failure.Parameter) }
+    ensures wrote { result ≡ pos 0 → (size : ℕ) × WroteParams side words.now buffer.old buffer.new size }
+    ensures room { result ≡ failed Failure.NoRoom
+        → (needed : ℕ) × ParamsNeedMore side words.now buffer.old needed }
+    ensures side { (result ≡ failed Failure.Kind) ↔ (1 < side) }
+    ensures refused { result ≡ failed Failure.Parameter → DescribesNoParams side words.now }
+    ensures unwritten { (result ≡ pos 0) ⊎ (buffer.new ≡ buffer.old) }
     ensures same { result ≡ pos 0 → out.new ≡ words.now }
     ensures unread { result ≢ pos 0 → out.new ≡ out.old }
     ensures kept { refusal.new ≡ refusal.old }

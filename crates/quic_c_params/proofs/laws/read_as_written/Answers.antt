@@ -122,3 +122,20 @@ returns-clause-kept c =
     wrote.new.written c.quic_wire_params_read_.result c.args.refusal.now c.quic_wire_params_read_.new.refusal
     c.one_answer.ensures c.read_back.ensures.own (wrote.ensures.wrote done) c.quic_wire_params_read_.ensures in
     r.2
+
+pub returns-then-wrote-ne0-clause-refused : goal.returns-then-wrote-ne0-clause-refused
+returns-then-wrote-ne0-clause-refused c =
+    let wrote = c.quic_wire_params_write_-wrote in
+    let count : to_z w32 (of_z w32 wrote.result) ≡ wrote.result = search rules in
+    λ is. wrote.ensures.refused (sym count ∙ is)
+
+pub returns-clause-unwritten : goal.returns-clause-unwritten
+returns-clause-unwritten c =
+    let wrote = c.quic_wire_params_write_-wrote in
+    let count : to_z w32 (of_z w32 c.quic_wire_params_read_.result) ≡ c.quic_wire_params_read_.result = search rules in
+    let done : wrote.result ≡ pos 0 = search rules in
+    let r =
+    read_same c.args.side c.args.words.now c.args.out.now c.quic_wire_params_read_.new.out c.args.buffer.now wrote.new.dest
+    wrote.new.written c.quic_wire_params_read_.result c.args.refusal.now c.quic_wire_params_read_.new.refusal
+    c.one_answer.ensures c.read_back.ensures.own (wrote.ensures.wrote done) c.quic_wire_params_read_.ensures in
+    inl (count ∙ r.0)

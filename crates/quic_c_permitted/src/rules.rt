@@ -1,6 +1,6 @@
 //! Which packets may carry a frame, and what else RFC 9000, section 12.4, says of its kind.
 ghost use Rattle.std.specs.Prelude.{◌≡◌};
-ghost use Rattle.quic_c.specs.Rules.{rules_of};
+ghost use Rattle.quic_c_permitted.specs.Rules.{rules_of};
 
 // A bit for each kind of packet that may carry a frame: Initial, Handshake, 0-RTT, 1-RTT.
 const IN_ALL: u32 = 0x17;

@@ -1,15 +1,12 @@
 -- The rules find exactly what RFC 9000 allows.
-use Rattle.std.proofs.Common.{◌≡◌, ◌≢◌, ℕ, ◌+◌, ◌<◌, ◌≤◌, ◌^◌, ◌-◌, List, [], ◌∷◌, map, length, Bool, true, false, None, Some, refl, sym, ap, ◌∙◌, subst, arith, inl, inr}
-use Rattle.std.specs.Prelude.{◌⊎◌, ◌==◌, All, nat_lt, suc}
+use Rattle.std.proofs.Common.{◌≡◌, ◌≢◌, ℕ, ◌+◌, ◌<◌, ◌≤◌, ◌^◌, ◌-◌, List, [], ◌∷◌, map, length, Bool, true, false, None, refl, sym, subst, arith, inl}
+use Rattle.std.specs.Prelude.{◌==◌, All, nat_lt, suc}
 use Rattle.std.proofs.lemmas.Bool.Decides.{nat_tests}
 use Rattle.std.proofs.lemmas.List.Elements.{All-nil, All-cons, All-head, All-tail}
-use Rattle.std.specs.List.{AllZip}
 use Rattle.quic_canon.specs.Least.{IsLeast}
-use Rattle.quic_canon.specs.Same.{IsSameFrame}
 use Rattle.quic_frame_fields.specs.Field.{Value, Number, Bytes}
 use Rattle.quic_frame_fields.specs.Table.{Name, Crypto, NewToken, Stream, MaxStreams, StreamsBlocked, AckFrequency, ImmediateAck}
-use Rattle.quic_frame_fields.specs.Payload.{Meaning, TypedFrame, AreFrames, Reading, Complete, FailsAfter, IsReadingOf}
-use Rattle.quic_frame_fields.specs.Reading.{Invalid, invalid}
+use Rattle.quic_frame_fields.specs.Payload.{Meaning, TypedFrame, Complete, IsReadingOf}
 use Rattle.quic_frames.specs.Least.{frame_in}
 use Rattle.quic_frames.specs.Rules.{IsCheckedOf, Keeps, breach_by, broken_if}
 use Rattle.quic_frames.specs.declared.frame.rules.Breach.{Breach}

@@ -1,10 +1,9 @@
 -- A walk over a payload by an iterator with rules, whose frames are kept.
-use Rattle.std.proofs.Common.{◌≡◌, ℕ, List, [], ◌∷◌, ◌++◌, map, None, Some, Option, refl, ap, subst}
+use Rattle.std.proofs.Common.{◌≡◌, ℕ, List, [], ◌∷◌, ◌++◌, map, None, Some, refl, subst}
 use Rattle.quic_base.specs.Number.{AreBytes}
 use Rattle.quic_base.specs.One.{ExactlyOne, ReturnsOne}
 use Rattle.quic_errors.specs.declared.invalid_frame.InvalidFrame.{InvalidFrame}
 use Rattle.quic_frame_fields.specs.Payload.{TypedFrame}
-use Rattle.quic_frame_fields.specs.Reading.{Invalid}
 use Rattle.quic_frames.specs.Checking.{CheckedState, FindsKept, IsRefusedFrame, checked_first}
 use Rattle.quic_frames.specs.Least.{frame_in}
 use Rattle.quic_frames.specs.Meaning.{meaning_of}

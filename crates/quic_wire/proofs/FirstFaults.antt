@@ -1,6 +1,6 @@
 -- The error by RFC 9000's rules is that of the first thing that isn't allowed.
-use Rattle.std.proofs.Common.{◌≡◌, ◌≢◌, ℕ, zero, suc, ◌+◌, ◌<◌, List, [], ◌∷◌, ◌++◌, map, length, Bool, true, false, None, Some, Option, refl, sym, ap, ◌∙◌, subst, arith, inl, inr, append_assoc}
-use Rattle.std.specs.Prelude.{◌⊎◌, ◌==◌, ◌||◌, All, codes, not, if◌then◌else◌}
+use Rattle.std.proofs.Common.{◌≡◌, ℕ, zero, suc, ◌+◌, ◌<◌, List, [], ◌∷◌, ◌++◌, map, length, Bool, true, false, None, Some, Option, refl, sym, ap, ◌∙◌, subst, arith, inl, inr, append_assoc}
+use Rattle.std.specs.Prelude.{◌⊎◌, All, if◌then◌else◌}
 use Rattle.std.proofs.lemmas.Bool.Decides.{nat_tests}
 use Rattle.std.proofs.lemmas.List.{append-nil, length-append}
 use Rattle.std.proofs.lemmas.List.Elements.{All-head, All-tail}
@@ -10,12 +10,13 @@ use Rattle.quic_frame_fields.specs.Reading.{Invalid, invalid}
 use Rattle.quic_frame_fields.specs.Table.{Name, Row, Crypto, NewToken, Stream, MaxStreams, StreamsBlocked, AckFrequency, ImmediateAck, ack_frequency_row, is_open, row, row_of}
 use Rattle.quic_frame_fields.specs.declared.frame.fault.Fault.{Fault}
 use Rattle.quic_frame_fields.specs.declared.frame.fault.Fault.TheVariants.{InvalidFrameId, LongType, Malformed, UnexpectedEnd}
+use Rattle.quic_frame_fields.proofs.Steps.{true_is_not_false}
 use Rattle.quic_frames.specs.Least.{frame_in}
-use Rattle.quic_frames.specs.Rules.{Checked, IsCheckedOf, IsCheckedReading, Keeps, StopsAtBreach, breach_by, breach_of, breach_text, broken_if, fault_by, invalid_by, is_of_ack_frequency, is_unknown_by, reported_by}
+use Rattle.quic_frames.specs.Rules.{Checked, IsCheckedOf, IsCheckedReading, breach_by, breach_of, breach_text, broken_if, fault_by, invalid_by, is_of_ack_frequency, is_unknown_by, reported_by}
 use Rattle.quic_frames.specs.declared.frame.rules.Breach.{Breach}
 use Rattle.quic_frames.specs.declared.frame.rules.Breach.TheVariants as breaches
 use Rattle.quic_frames.proofs.Items.{frame_some}
-use Rattle.quic_wire.specs.Rfc.{AreAllowed, IsAllowed, IsRfcError, IsRfcFault, IsUnknown, cut_type, field, long_type, not_allowed, reason_for, rfc_rules, unknown_type, with_error}
+use Rattle.quic_wire.specs.Rfc.{AreAllowed, IsAllowed, IsRfcError, IsRfcFault, cut_type, field, long_type, not_allowed, reason_for, rfc_rules, unknown_type, with_error}
 use Rattle.quic_wire.proofs.Allowed.{all_allowed, keeps}
 
 -- ---- types of the extension
@@ -34,7 +35,7 @@ none_allowed name values (inl e) allowed =
 none_allowed name values (inr e) allowed =
     let no = subst (λ (n : Name). AreAllowed false n values) e allowed in cc
 
-name_of_extension : (t : ℕ) (r : Row) → row_of t ≡ Some r → is_of_ack_frequency t ≡ true
+pub name_of_extension : (t : ℕ) (r : Row) → row_of t ≡ Some r → is_of_ack_frequency t ≡ true
     → (r.name ≡ ImmediateAck) ⊎ (r.name ≡ AckFrequency)
 name_of_extension t r is e = elim (of_extension t e) [
   | inl one ↦ inl (ap (λ (x : Row). x.name) (sym (named t 0x1f r (row ImmediateAck []) one refl is)))
@@ -55,7 +56,7 @@ known_type : (negotiated : Bool) (found : TypedFrame) (bytes : List ℕ) → IsF
 known_type true found bytes f allowed = refl
 known_type false found bytes f allowed = by_test found bytes f allowed (is_of_ack_frequency found.type) refl
 
-last_known : (negotiated : Bool) (before : Option ℕ) (found : List TypedFrame) (bytes : List ℕ)
+pub last_known : (negotiated : Bool) (before : Option ℕ) (found : List TypedFrame) (bytes : List ℕ)
     → is_unknown_by (rfc_rules negotiated) before ≡ false → AreFrames true found bytes
     → All (IsAllowed negotiated) (map frame_in found)
     → is_unknown_by (rfc_rules negotiated) (last_type before found) ≡ false
@@ -81,7 +82,7 @@ only_end zero before bytes reason stops = absurd stops
 only_end (suc n) before bytes reason (inl stops) = stops.why
 only_end (suc n) before bytes reason (inr more) = only_end n (before ++ more.0) more.2 reason more.5
 
-ends_there : (t : ℕ) (r : Row) (bytes : List ℕ) (reason : Fault) → row_of t ≡ Some r → is_of_ack_frequency t ≡ true
+pub ends_there : (t : ℕ) (r : Row) (bytes : List ℕ) (reason : Fault) → row_of t ≡ Some r → is_of_ack_frequency t ≡ true
     → StopsWithin r.fields [] bytes reason → reason ≡ UnexpectedEnd
 ends_there t r bytes reason is e stops = elim (of_extension t e) [
   | inl one ↦
@@ -92,7 +93,7 @@ ends_there t r bytes reason is e stops = elim (of_extension t e) [
       only_end 4 [] bytes reason (subst (λ (x : Row). StopsWithin x.fields [] bytes reason) (sym same) stops)
 ]
 
-kept_reason : (negotiated : Bool) (type : Option ℕ) (reason : Fault)
+pub kept_reason : (negotiated : Bool) (type : Option ℕ) (reason : Fault)
     → is_unknown_by (rfc_rules negotiated) type ≡ false → fault_by (rfc_rules negotiated) type reason ≡ reason
 kept_reason negotiated type UnexpectedEnd known = rw known refl
 kept_reason negotiated type InvalidFrameId known = rw known refl
@@ -103,11 +104,12 @@ same_either : (unknown : Bool) → (if unknown then InvalidFrameId else InvalidF
 same_either true = refl
 same_either false = refl
 
-unknown_reason : (negotiated : Bool) (type : Option ℕ)
+pub unknown_reason : (negotiated : Bool) (type : Option ℕ)
     → fault_by (rfc_rules negotiated) type InvalidFrameId ≡ InvalidFrameId
 unknown_reason negotiated type = same_either (is_unknown_by (rfc_rules negotiated) type)
 
-unread_reason : (t : ℕ) → is_of_ack_frequency t ≡ true → fault_by (rfc_rules false) (Some t) UnexpectedEnd ≡ InvalidFrameId
+pub unread_reason : (t : ℕ) → is_of_ack_frequency t ≡ true
+    → fault_by (rfc_rules false) (Some t) UnexpectedEnd ≡ InvalidFrameId
 unread_reason t e = rw e refl
 
 reported : (negotiated : Bool) (before : Option ℕ) (bytes : List ℕ) (type : Option ℕ) (reason other : Fault)
@@ -172,8 +174,9 @@ record SplitAt (before : List TypedFrame) (broken : TypedFrame) (bytes : List �
   closed : AreClosed before
   cut : back ≡ piece ++ rest
   frame : IsFrame true broken piece
+  opens : is_open broken.type ≡ true → rest ≡ []
 
-some_left : (front piece rest all : List ℕ) → all ≡ front ++ (piece ++ rest) → 0 < length piece → all ≡ [] → ⊥
+pub some_left : (front piece rest all : List ℕ) → all ≡ front ++ (piece ++ rest) → 0 < length piece → all ≡ [] → ⊥
 some_left front piece rest all parts some none =
     let sizes : length all ≡ length front + (length piece + length rest) =
     ap length parts ∙ length-append front (piece ++ rest) ∙ ap (λ (n : ℕ). length front + n) (length-append piece rest) in
@@ -196,6 +199,7 @@ split_at [] broken others bytes are = record {
   closed = tt;
   cut = are.2;
   frame = are.3;
+  opens = are.4;
 }
 split_at (first ∷ before) broken others bytes are =
     let s = split_at before broken others are.1 are.5 in
@@ -214,13 +218,20 @@ split_at (first ∷ before) broken others bytes are =
       closed = (is_shut (is_open first.type) goes_on, s.closed);
       cut = s.cut;
       frame = s.frame;
+      opens = s.opens;
     }
+
+-- of frames that aren't open, also the one that breaks a rule isn't
+shut_at : (before : List TypedFrame) (broken : TypedFrame) (others : List TypedFrame)
+    → AreClosed (before ++ broken ∷ others) → is_open broken.type ≡ false
+shut_at [] broken others closed = closed.0
+shut_at (first ∷ before) broken others closed = shut_at before broken others closed.1
 
 broken_is : (is_broken : Bool) (one breach : Breach) → broken_if is_broken one ≡ Some breach → one ≡ breach
 broken_is true one breach e = cc
 broken_is false one breach e = absurd cc
 
-reason_is : (rules_of : Bool) (name : Name) (values : List Value) (breach : Breach)
+pub reason_is : (rules_of : Bool) (name : Name) (values : List Value) (breach : Breach)
     → breach_by (rfc_rules rules_of) name values ≡ Some breach → breach_text breach ≡ reason_for name
 reason_is negotiated Crypto (Number offset ∷ Bytes sent ∷ []) breach e =
     ap breach_text (sym (broken_is _ breaches.Limit breach e))
@@ -243,24 +254,34 @@ both o breach none some = cc
 
 breach_fault : (negotiated : Bool) (before : Option ℕ) (bytes front back : List ℕ) (found : TypedFrame)
     (breach : Breach) → bytes ≡ front ++ back → IsFrame true found front
-    → breach_of (rfc_rules negotiated) found.frame ≡ Some breach
+    → (is_open found.type ≡ true → back ≡ []) → breach_of (rfc_rules negotiated) found.frame ≡ Some breach
     → IsRfcFault negotiated before bytes (invalid_by found breach)
-breach_fault negotiated before bytes front back found breach parts frame breaks =
+breach_fault negotiated before bytes front back found breach parts frame opens breaks =
     let report : List ℕ → Invalid = λ reason. record { type = Some found.type; reason = reason } in
     let refused : IsAllowed negotiated found.frame → ⊥ = λ allowed.
     both (breach_of (rfc_rules negotiated) found.frame) breach
     (keeps negotiated found.frame.name found.frame.values allowed) breaks in
     subst (IsRfcFault negotiated before bytes)
     (ap report (sym (reason_is negotiated found.frame.name found.frame.values breach breaks)))
-    (not_allowed found front back parts frame refused)
+    (not_allowed found front back parts frame opens refused)
 
 -- ---- a payload
 
+-- Only if nothing follows the frames, the last may be open.
 frames_there : (negotiated : Bool) (payload : List ℕ) (reading : Reading) → IsReadingOf true payload reading
     → (front back : List ℕ) × (payload ≡ front ++ back)
     × AreFrames true (reported_by (rfc_rules negotiated) reading).frames front
-frames_there negotiated payload (Complete found) reads = (payload, [], sym (append-nil payload), reads)
-frames_there negotiated payload (FailsAfter found type reason) reads = (reads.front, reads.back, reads.parts, reads.frames)
+    × (AreClosed (reported_by (rfc_rules negotiated) reading).frames ⊎ (back ≡ []))
+frames_there negotiated payload (Complete found) reads = (payload, [], sym (append-nil payload), reads, inr refl)
+frames_there negotiated payload (FailsAfter found type reason) reads =
+    (reads.front, reads.back, reads.parts, reads.frames, inl reads.closed)
+
+ends_with_it : (before : List TypedFrame) (broken : TypedFrame) (others : List TypedFrame) (rest back : List ℕ)
+    → (is_open broken.type ≡ true → rest ≡ []) → AreClosed (before ++ broken ∷ others) ⊎ (back ≡ [])
+    → is_open broken.type ≡ true → rest ++ back ≡ []
+ends_with_it before broken others rest back ends (inl closed) opens =
+    absurd (true_is_not_false (sym opens ∙ shut_at before broken others closed))
+ends_with_it before broken others rest back ends (inr none) opens = ap (λ (l : List ℕ). l ++ back) (ends opens) ∙ none
 
 some_error : (a b : Invalid) → Some a ≡ Some b → a ≡ b
 some_error a b e = cc
@@ -296,6 +317,8 @@ of_reading negotiated frames payload error reading reads (inr stops) =
     let s = split_at frames stops.broken stops.others there.0
     (subst (λ (l : List TypedFrame). AreFrames true l there.0) stops.parts there.3) in
     let said : invalid_by stops.broken stops.breach ≡ error = some_error _ _ (sym stops.reported) in
+    let ends = ends_with_it frames stops.broken stops.others s.rest there.1 s.opens
+    (subst (λ (l : List TypedFrame). AreClosed l ⊎ (there.1 ≡ [])) stops.parts there.4) in
     let whole : s.back ++ there.1 ≡ s.piece ++ (s.rest ++ there.1) =
     ap (λ (l : List ℕ). l ++ there.1) s.cut ∙ append_assoc s.piece s.rest there.1 in
     record {
@@ -307,7 +330,7 @@ of_reading negotiated frames payload error reading reads (inr stops) =
       allowed = all_allowed negotiated frames stops.kept;
       fault = subst (IsRfcFault negotiated (last_type None frames) (s.back ++ there.1)) said
           (breach_fault negotiated (last_type None frames) (s.back ++ there.1) s.piece (s.rest ++ there.1) stops.broken
-          stops.breach whole s.frame stops.breaks);
+          stops.breach whole s.frame ends stops.breaks);
     }
 
 pub first_fault : (negotiated : Bool) (frames : List TypedFrame) (payload : List ℕ) (error : Invalid)

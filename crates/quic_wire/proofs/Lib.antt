@@ -4,6 +4,7 @@ mod AllowedLists
 mod AllowedPackets
 mod CheckedWalks
 mod Cuts
+mod FaultsFound
 mod FirstFaults
 mod Numbered
 mod Opened

@@ -1,5 +1,5 @@
 -- What is read by RFC 9000's rules.
-use Rattle.std.proofs.Common.{◌≡◌, ◌≢◌, ℕ, List, [], ◌∷◌, map, Bool, None, Some, Option, refl, sym, ap, subst, ◌∙◌}
+use Rattle.std.proofs.Common.{◌≡◌, ◌≢◌, ℕ, List, [], map, Bool, None, Some, Option, refl, sym, ap, subst, ◌∙◌}
 use Rattle.quic_base.specs.One.{ReturnsOne}
 use Rattle.quic_errors.specs.declared.invalid_frame.InvalidFrame.{InvalidFrame}
 use Rattle.quic_frame_fields.specs.Payload.{Meaning, TypedFrame}
@@ -10,7 +10,7 @@ use Rattle.quic_frames.specs.Rules.{Checked, IsCheckedOf}
 use Rattle.quic_frames.specs.Walk.{invalid_of, reported_of}
 use Rattle.quic_frames.specs.declared.frame.Frame.{Frame}
 use Rattle.quic_wire.specs.Reading.{IsReadByRfc, IsReturnedUnder}
-use Rattle.quic_wire.specs.Rfc.{IsRfcPayload, rfc_rules, with_error, without_error}
+use Rattle.quic_wire.specs.Rfc.{IsRfcPayload, rfc_rules, without_error}
 use Rattle.quic_wire.proofs.Allowed.{is_allowed_payload, reads_allowed}
 use Rattle.quic_wire.proofs.FirstFaults.{first_fault}
 

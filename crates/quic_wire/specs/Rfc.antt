@@ -5,7 +5,7 @@ use Rattle.quic_base.specs.declared.ids.Side.{Side}
 use Rattle.quic_frame_fields.specs.Field.{Value, Number, Bytes, NoNumber, StopsWithin}
 use Rattle.quic_frame_fields.specs.Payload.{Meaning, TypedFrame, AreClosed, AreFrames, BeginsWithType, HasLongType, IsFrame, last_type}
 use Rattle.quic_frame_fields.specs.Reading.{Invalid, invalid, reason_text}
-use Rattle.quic_frame_fields.specs.Table.{Name, Row, Crypto, NewToken, Stream, MaxStreams, StreamsBlocked, AckFrequency, ImmediateAck, row_of}
+use Rattle.quic_frame_fields.specs.Table.{Name, Row, Crypto, NewToken, Stream, MaxStreams, StreamsBlocked, AckFrequency, ImmediateAck, is_open, row_of}
 use Rattle.quic_frame_fields.specs.declared.frame.fault.Fault.{Fault}
 use Rattle.quic_frame_fields.specs.declared.frame.fault.Fault.TheVariants.{InvalidFrameId, LongType, Malformed, UnexpectedEnd}
 use Rattle.quic_frames.specs.Least.{frame_in}
@@ -97,8 +97,9 @@ pub data IsRfcFault (negotiated : Bool) (before : Option ℕ) (bytes : List ℕ)
   field : (t : ℕ) (r : Row) (reason : Fault) → IsKnown negotiated t r
       → BeginsWithType true bytes t (λ fields. StopsWithin r.fields [] fields reason)
       → IsRfcFault negotiated before bytes (invalid (Some t) reason)
+  -- a whole frame: an open one takes all that is left
   not_allowed : (found : TypedFrame) (front back : List ℕ) → bytes ≡ front ++ back → IsFrame true found front
-      → ¬ (IsAllowed negotiated found.frame)
+      → (is_open found.type ≡ true → back ≡ []) → ¬ (IsAllowed negotiated found.frame)
       → IsRfcFault negotiated before bytes (record { type = Some found.type; reason = reason_for found.frame.name })
 
 -- The payload is allowed frames, which aren't open, and then something that isn't an allowed frame.

@@ -30,15 +30,19 @@ pub fn rfc_payloads()
         → ExactlyOne (IsCheckedOf (rfc_rules negotiated) payload) }
     ensures allowed { (negotiated : Bool) (frames : List TypedFrame) (payload : List ℕ) → payload ≢ []
         → (IsCheckedOf (rfc_rules negotiated) payload (without_error frames) ↔ IsRfcPayload negotiated frames payload) }
-    // Its error, after frames that are allowed, is that of the first thing that isn't.
+    // Its error, after frames that are allowed, is that of the first thing that isn't; by `one`, a payload has one such
+    // error at most.
     ensures first { (negotiated : Bool) (frames : List TypedFrame) (payload : List ℕ) (reported : Invalid)
-        → IsCheckedOf (rfc_rules negotiated) payload (with_error frames reported)
-        → IsRfcError negotiated frames payload reported }
+        → AreBytes payload
+        → (IsCheckedOf (rfc_rules negotiated) payload (with_error frames reported)
+        ↔ IsRfcError negotiated frames payload reported) }
     // The rules of the code are these.
     ensures rules { Rules.RFC ≡ rfc_rules false }
     ensures negotiated { record Rules.RFC { no_ack_frequency = false } ≡ rfc_rules true }
 {
     quic_frames::laws::checked_readings();
+    quic_frames::laws::one_reading();
+    quic_frames::laws::lasting();
 }
 
 /// The shortest payload of allowed frames is allowed, and is read as these frames; and so is the shortest payload that

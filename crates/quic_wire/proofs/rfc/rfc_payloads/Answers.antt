@@ -1,6 +1,7 @@
 use Rattle.std.specs.Prelude.{None}
 use Rattle.quic_wire.specs.Rfc.{rfc_rules}
 use Rattle.quic_wire.proofs.Allowed.{is_allowed_payload, reads_allowed}
+use Rattle.quic_wire.proofs.FaultsFound.{is_found}
 use Rattle.quic_wire.proofs.FirstFaults.{first_fault}
 use Rattle.quic_wire.proofs.rfc.rfc_payloads.Goals as goal
 
@@ -12,4 +13,7 @@ returns-clause-allowed c = λ negotiated frames payload some.
     (is_allowed_payload negotiated frames payload some, reads_allowed negotiated frames payload)
 
 pub returns-clause-first : goal.returns-clause-first
-returns-clause-first c = first_fault
+returns-clause-first c = λ negotiated frames payload reported fits. (
+  first_fault negotiated frames payload reported,
+  is_found c.lasting.ensures.frames c.one_reading.ensures.one negotiated frames payload reported fits,
+)

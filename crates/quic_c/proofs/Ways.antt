@@ -5,7 +5,7 @@ use Rattle.std.proofs.lemmas.List.{append-nil, replicate_more}
 use Rattle.std.proofs.lemmas.List.Elements.{All-nil, All-cons, All-head, All-tail}
 use Rattle.quic_base.specs.Number.{AreBytes}
 use Rattle.quic_base.specs.One.{ExactlyOne}
-use Rattle.quic_frame_fields.specs.Payload.{Meaning, TypedFrame, AreClosed, Reading, Complete, FailsAfter, IsReadingAfter, IsReadingOf, followed_by, last_type}
+use Rattle.quic_frame_fields.specs.Payload.{Meaning, TypedFrame, Reading, Complete, FailsAfter, IsReadingAfter, IsReadingOf, followed_by}
 use Rattle.quic_frame_fields.specs.Reading.{Invalid}
 use Rattle.quic_frames.specs.Checking.{IsRefusedFrame}
 use Rattle.quic_frames.specs.IterState.{IterState}
@@ -16,7 +16,7 @@ use Rattle.quic_frames.specs.declared.frame.Frame.{Frame}
 use Rattle.quic_frames.specs.declared.frame.Frame.TheVariants as frames
 use Rattle.quic_frames.specs.declared.frame.rules.Rules.{Rules}
 use Rattle.quic_frames.proofs.CheckedTurns.{HasReadBy, Lasts, Reads, all_read_by, ended_with, refused_by}
-use Rattle.quic_frames.proofs.Turns.{HasRead, has_read_none, has_read_more, has_read_all, has_read_error}
+use Rattle.quic_frames.proofs.Turns.{HasRead, has_read_none, has_read_more}
 use Rattle.quic_c.specs.declared.words.CFrame.{CFrame}
 use Rattle.quic_c.specs.Filling.{GivesEntry, Shows}
 use Rattle.quic_c.specs.Shown.{frame_kind_of, frame_words}
@@ -119,7 +119,7 @@ checked_rest rules payload found state rest lasts reads h kept is =
 abbrev read_by : (rules : Rules) (payload : List ℕ) (found : List TypedFrame) (state : IterState)
     → HasRead rules.short_types payload found state → All (Keeps rules) found
     → HasReadBy rules payload found (record { place = state; rules = rules })
-read_by rules payload found state h kept = record { read = h; kept = kept; by = refl; }
+read_by rules payload found state h kept = record { read = h; kept = kept; by = refl }
 
 -- nothing is to come
 pub checked_all : (rules : Rules) (payload : List ℕ) (found : List TypedFrame) (state : IterState)

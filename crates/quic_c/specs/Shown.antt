@@ -1,5 +1,5 @@
 -- Frames and iterators over a payload as C sees them.
-use Rattle.std.specs.Prelude.{ℕ, ◌+◌, ◌-◌, ◌^◌, List, [], ◌∷◌, length, nat_lt, Bool, Option, Some, None, not, ◌==◌, if◌then◌else◌}
+use Rattle.std.specs.Prelude.{ℕ, ◌+◌, ◌-◌, ◌^◌, List, [], ◌∷◌, length, nat_lt, Option, Some, None, not, ◌==◌, if◌then◌else◌}
 use Rattle.quic_base.specs.Ids.{dir_number}
 use Rattle.quic_errors.specs.Types.{type_or_zero}
 use Rattle.quic_frames.specs.declared.frame.Frame.{Frame}

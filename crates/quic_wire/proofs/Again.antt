@@ -1,7 +1,9 @@
 -- What is written of frames is read as these.
-use Rattle.std.proofs.Common.{◌≡◌, ◌≢◌, ℕ, List, [], ◌∷◌, map, refl, Bool, false, true, Option, None, Some, sym, ap, ◌∙◌, subst, Result, Ok}
+use Rattle.std.proofs.Common.{◌≡◌, ◌≢◌, ℕ, List, [], ◌∷◌, map, refl, Bool, false, true, Option, None, Some, sym, ap, ◌∙◌, ◌++◌, subst, Result, Ok, Err}
 use Rattle.quic_base.specs.declared.ids.Side.{Side}
+use Rattle.std.specs.Prelude.{◌↔◌, IsErrOf}
 use Rattle.quic_canon.specs.Least.{IsLeast}
+use Rattle.quic_canon.proofs.LeastPayloads.{no_frame}
 use Rattle.quic_errors.specs.declared.invalid_frame.InvalidFrame.{InvalidFrame}
 use Rattle.quic_base.specs.One.{ReturnsOne}
 use Rattle.quic_frame_fields.specs.Payload.{Meaning, TypedFrame, AreFrames, Reading, Complete, FailsAfter, IsReadingOf}
@@ -16,6 +18,8 @@ use Rattle.quic_params.specs.Writing.{written}
 use Rattle.quic_params.specs.declared.error.Error.{Error}
 use Rattle.quic_params.specs.declared.record.TransportParameters.{TransportParameters}
 use Rattle.quic_wire.specs.Reading.{IsReturnedAs}
+use Rattle.quic_wire.specs.declared.calls.PayloadError.{PayloadError}
+use Rattle.quic_wire.specs.declared.calls.PayloadError.TheVariants.{Empty, OutOfMemory}
 
 pub read_again : (strict : Bool) (frames : List Meaning) (payload : List ℕ)
     → ((some others : List TypedFrame) (bytes : List ℕ) → AreFrames false some bytes → AreFrames false others bytes
@@ -32,6 +36,26 @@ read_again true frames payload one strictly is least =
 pub some_meanings : (frames : List Frame) → frames ≢ [] → map meaning_of frames ≢ []
 some_meanings [] some = absurd (some refl)
 some_meanings (frame ∷ frames) some = λ none. cc
+
+append_some : (front back : List ℕ) → front ≢ [] → front ++ back ≢ []
+append_some [] back some = absurd (some refl)
+append_some (byte ∷ front) back some = λ none. cc
+
+frames_some : (found : List TypedFrame) (frames : List Meaning) (payload : List ℕ) → map frame_in found ≡ frames
+    → frames ≢ [] → AreFrames false found payload → payload ≢ []
+frames_some [] frames payload means some encoded = absurd (some (sym means))
+frames_some (one ∷ others) frames payload means some encoded =
+    let front = append_some encoded.0 encoded.1 (no_frame one encoded.0 encoded.3) in
+    λ none. front (sym encoded.2 ∙ none)
+
+pub payload_some : (frames : List Meaning) (payload : List ℕ) → frames ≢ [] → IsShortestOf frames payload → payload ≢ []
+payload_some frames payload some is = frames_some is.found frames payload is.means some is.encoded
+
+-- A payload that isn't empty isn't read only for want of memory.
+pub only_memory : {T : Type 0} (payload : List ℕ) (e : PayloadError)
+    → (IsErrOf {T = T} (Err e) Empty ↔ (payload ≡ [])) → payload ≢ [] → e ≡ OutOfMemory
+only_memory payload Empty same some = absurd (some (same.0 refl))
+only_memory payload OutOfMemory same some = refl
 
 -- ---- and so are they returned
 

@@ -1,5 +1,6 @@
 -- What RFC 9000 allows by the bytes alone: payloads and lists of transport parameters. What it allows as the first
--- packet of a datagram is in quic_header_decode's specs/Rfc.antt.
+-- packet of a datagram is in quic_header_decode's specs/Rfc.antt, which packets may carry a frame in quic_permitted. The
+-- types of RFC 9221, DATAGRAM, are known here: whether support was offered the connection checks (section 3 there).
 use Rattle.std.specs.Prelude.{◌≡◌, ◌≢◌, ⊤, ℕ, ◌+◌, ◌<◌, ◌≤◌, ◌^◌, ◌⊎◌, List, [], ◌∷◌, ◌++◌, All, length, map, IsTrue, Bool, true, false, not, Option, None, Some, codes}
 use Rattle.quic_base.specs.declared.ids.Side.{Side}
 use Rattle.quic_frame_fields.specs.Field.{Value, Number, Bytes, NoNumber, StopsWithin}
@@ -128,7 +129,10 @@ abbrev pub AddUp : List Entry → List Given → Type 0
 AddUp [] given = given ≡ []
 AddUp (last ∷ earlier) given = (before : List Given) × AddUp earlier before × Adds before last given
 
--- The list is entries (section 18), with the values in the record, which this side may receive (section 18.2).
+-- The list is entries (section 18), with the values in the record, which this side may receive (section 18.2). Which
+-- connection ids have to be there, and that they are the right ones (sections 7.3 and 18.2), the connection checks. The
+-- text leaves open that an address of neither family is given: here it may not. min_ack_delay is an extension's, and is
+-- checked wherever it is given.
 pub record IsRfcList (side : Side) (params : TransportParameters) (list : List ℕ) : Type 0 where
   pub entries : List Entry
   pub given : List Given

@@ -1,10 +1,10 @@
 //! The calls that return shortest payloads.
 use super::growth_refused::{ROWS, is_not_appended, is_refused, is_same};
-use quic_canon::canonical::{CanonError, canonical, canonical_of};
+use quic_canon::canonical::{CanonError, canonical, canonical_of, canonical_with};
 use quic_canon::client::mean_the_same;
 use quic_checks::Checks;
 use quic_checks::codes::type_of;
-use quic_frames::frame::{FrameType, InvalidFrame};
+use quic_frames::frame::{FrameType, InvalidFrame, Rules};
 use std::alloc::Global;
 use std::test::Fail;
 
@@ -60,6 +60,70 @@ fn what_is_refused(rt: HostRuntime) -> Result<(), Fail> {
     });
     checks.holds(refuse(rt.alloc(), b"\x01\x06\x00\x03hi", &cut)?);
     checks.holds(refuse(rt.alloc(), b"", &CanonError::Empty)?);
+    checks.verdict()
+}
+
+// A payload, the rules, and its shortest form, or the type of the frame that they reject and the reason.
+type RulesRow = (
+    &'static [u8],
+    Rules,
+    Result<&'static [u8], (u8, &'static str)>,
+);
+
+// All rules of RFC 9000, except the one on types.
+const LONG_TYPES: Rules = Rules {
+    short_types: false,
+    ..Rules::RFC
+};
+
+const BY_RULES: &[RulesRow] = &[
+    (b"\x0a\x40\x00\x01a", Rules::RFC, Ok(b"\x08\x00a")),
+    // A type in two bytes (RFC 9000, section 12.4).
+    (b"\x40\x01", LONG_TYPES, Ok(b"\x01")),
+    (
+        b"\x40\x01",
+        Rules::RFC,
+        Err((0x01, "frame type not in shortest form")),
+    ),
+    // A token may not be empty (section 19.7).
+    (b"\x07\x40\x01a", LONG_TYPES, Ok(b"\x07\x01a")),
+    (b"\x01\x07\x40\x00", LONG_TYPES, Err((0x07, "malformed"))),
+    (b"\x06\x00\x03hi", LONG_TYPES, Err((0x06, "unexpected end"))),
+];
+
+fn invalid(ty: u8, reason: &'static str) -> CanonError {
+    CanonError::Invalid(InvalidFrame {
+        ty: Some(FrameType::of(u64::from(ty))),
+        reason,
+    })
+}
+
+// Whether the row's bytes follow what the vector has, or it has nothing more.
+fn is_kept_or_appended(alloc: Global, row: &RulesRow) -> Result<bool, Fail> {
+    let &(payload, rules, wanted) = row;
+    let mut out = Vec::new(alloc);
+    out.push(7)?;
+    let answer = canonical_with(payload, rules, &mut out);
+    let appended = out.as_slice().split_first();
+    match wanted {
+        Ok(least) => Ok(answer.is_ok() && appended == Some((&7, least))),
+        Err((ty, reason)) => {
+            let is_as_before = out.as_slice() == b"\x07".as_slice();
+            Ok(is_not_appended(&answer, &invalid(ty, reason)) && is_as_before)
+        }
+    }
+}
+
+#[test]
+fn what_rules_accept(rt: HostRuntime) -> Result<(), Fail> {
+    let mut checks = Checks::new(rt.alloc());
+    for row in BY_RULES {
+        let is_so = is_kept_or_appended(rt.alloc(), row)?;
+        checks.holds_at(format_args!("{row:?}"), is_so);
+    }
+    let mut out = Vec::new(rt.alloc());
+    let answer = canonical_with(b"", Rules::default(), &mut out);
+    checks.holds(is_not_appended(&answer, &CanonError::Empty) && out.is_empty());
     checks.verdict()
 }
 

@@ -87,9 +87,9 @@ loop-count-preserved c =
     omega (arith, end, c.if-end-size.false, length-drop c.loop-count.start c.args.datagram.now) in
     let within : c.loop-count.start + p.0.2 ≤ length c.args.datagram.now = omega (arith, end, c.if-end-size.false) in (
       moved_on first c.args.datagram.now (set c.loop-count.heads c.loop-count.count read.new.head) c.loop-count.start
-      (c.loop-count.count + 1) end
-      (walk_goes_on first c.args.datagram.now c.loop-count.heads c.loop-count.start c.loop-count.count read.result read.new.head
-      p.0 c.loop-count-test.true c.loop-count.invariant.0 p.1 p.2 less within),
+          (c.loop-count.count + 1) end
+          (walk_goes_on first c.args.datagram.now c.loop-count.heads c.loop-count.start c.loop-count.count read.result read.new.head
+          p.0 c.loop-count-test.true c.loop-count.invariant.0 p.1 p.2 less within),
       kept_behind c.loop-count.heads c.args.heads.now c.loop-count.count read.new.head c.loop-count.invariant.1,
     )
 

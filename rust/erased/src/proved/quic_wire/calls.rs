@@ -218,7 +218,8 @@ pub fn frames_read_back<'a>(
     //! requires some { frames.now ≢ [] }
     //! requires follow { CanFollow frames.now }
     //! requires empty { out.old.items ≡ [] }
-    //! ensures { IfOk result (λ read. map meaning_of read.items ≡ map meaning_of frames.now) }
+    //! ensures again { IfOk result (λ read. map meaning_of read.items ≡ map meaning_of frames.now) }
+    //! ensures memory { IfErr result (λ e. e ≡ PayloadError.OutOfMemory) }
     //! ```
     if write_payload(frames, out).is_err() {
         return Err(PayloadError::OutOfMemory);
@@ -234,7 +235,8 @@ fn read_frames<'a>(
 ) -> Result<Vec<Frame<'a>>, PayloadError>
     // requires some { frames.now ≢ [] }
     // requires written { IsPayload frames.now payload.now }
-    // ensures { IfOk result (λ read. map meaning_of read.items ≡ map meaning_of frames.now) }
+    // ensures again { IfOk result (λ read. map meaning_of read.items ≡ map meaning_of frames.now) }
+    // ensures memory { IfErr result (λ e. e ≡ PayloadError.OutOfMemory) }
 {
     frames_again();
     let (read, error) = match read_payload(payload) {
@@ -259,7 +261,8 @@ pub fn rfc_read_back<'a>(
     //! requires follow { CanFollow frames.now }
     //! requires allowed { All (IsAllowed negotiated) (map meaning_of frames.now) }
     //! requires empty { out.old.items ≡ [] }
-    //! ensures { IfOk result (λ read. map meaning_of read.items ≡ map meaning_of frames.now) }
+    //! ensures again { IfOk result (λ read. map meaning_of read.items ≡ map meaning_of frames.now) }
+    //! ensures memory { IfErr result (λ e. e ≡ PayloadError.OutOfMemory) }
     //! ```
     if write_payload(frames, out).is_err() {
         return Err(PayloadError::OutOfMemory);
@@ -277,7 +280,8 @@ fn read_allowed<'a>(
     // requires some { frames.now ≢ [] }
     // requires written { IsPayload frames.now payload.now }
     // requires allowed { All (IsAllowed negotiated) (map meaning_of frames.now) }
-    // ensures { IfOk result (λ read. map meaning_of read.items ≡ map meaning_of frames.now) }
+    // ensures again { IfOk result (λ read. map meaning_of read.items ≡ map meaning_of frames.now) }
+    // ensures memory { IfErr result (λ e. e ≡ PayloadError.OutOfMemory) }
 {
     rfc_frames_again();
     let (found, error) = match read_checked(payload, rules_of(negotiated)) {

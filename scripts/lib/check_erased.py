@@ -59,7 +59,7 @@ RULES = [
     (r"\bFormatter < W >", "Formatter < '_ >"),
     (r"\bprove !", "debug_assert !"),
     (r"(# \[ test \] fn \w+ \( )rt : HostRuntime( [^{]*\{)", r"\1\2 let rt = §kit :: rt :: HostRuntime ;"),
-    (r"(fn main \( )rt : HostRuntime( [^{]*\{)", r"pub ( super ) \1\2 let rt = §kit :: rt :: HostRuntime ;"),
+    (r"(fn main \( )rt : HostRuntime( [^{]*\{)", r"pub \1\2 let rt = §kit :: rt :: HostRuntime ;"),
     (rf"(\. )({FALLIBLE})(?= \()", r"\1kit_\2"),
     (rf"(\. )insert(?= {MAPPED})", r"\1kit_insert"),
     (r"\b(fn )reserve(?= \( (?:& )?(?:mut )?self\b)", r"\1kit_make_room"),
@@ -79,6 +79,57 @@ ADDED = [
     (rf'# \[ {BEGIN}\\n(?:[^"\\]|\\.)*" \] # \[ doc = "```" \]', ""),
 ]
 INTO = str.maketrans(" \n\t", "␣␤␉")
+
+
+# Functions that the crate guards by functions of their names, by their types.
+PREFIX = "proved_"
+GUARDED = {
+    "Ack": "encode encode_from from_parts",
+    "ApplicationClose": "encode min_len",
+    "Close": "encode min_len",
+    "ConnectionClose": "encode min_len",
+    "ConnectionId": "from_buf new",
+    "Crypto": "encode",
+    "Datagram": "encode size",
+    "EcnCounts": "encode",
+    "FixedLengthConnectionIdParser": "new",
+    "Frame": "encode encode_into encoded_len",
+    "Header": "encode encoded_len",
+    "NewConnectionId": "encode",
+    "NewToken": "encode size",
+    "PacketNumber": "decode encode expand new",
+    "Packets": "open_next",
+    "PartialDecode": "finish",
+    "PartialEncode": "finish",
+    "ReservedTransportParameter": "new",
+    "StreamId": "new",
+}
+# How they are called by values, in each source.
+CALLED = {
+    "quic_canon/src/canonical.rt": r"frame \. encode|frame \. encoded_len",
+    "quic_frame_fields/src/frame/ack_encode.rt": r"counts \. encode",
+    "quic_frame_fields/src/frame/encode.rt": r"close \. encode|close \. min_len|self \. min_len",
+    "quic_frames/src/frame/encode.rt": r"crypto \. encode|new \. encode|token \. encode|token \. size",
+    "quic_packets/src/opening.rt": r"\) \. expand",
+    "quic_packets/src/payload.rt": r"\] \. encoded_len|frame \. encode",
+    "quic_packets/src/seal.rt": r"header \. encode|header \. encoded_len|partial \. finish",
+    "quic_wire/src/calls.rt": r"\] \. encode",
+}
+# Lists of names with functions that users may not call, and methods that they need not.
+HIDDEN = r"\b(?:open_datagram|open_packet|seal_packet|write_(?:number_)?entry(?:_header)?(?:_into)?)\b"
+UNNEEDED = ("numbers", "of_flags", "type_bounds")
+# The traits that types have in Rust beside those of the sources.
+DERIVED = {
+    "Clone": "CanonBytes",
+    "Clone, Debug": "Checked Cursor Iter Keys SpaceKeys",
+    "Clone, PartialEq, Eq": "Header InitialHeader",
+    "Default, Hash": "EcnCounts Expected",
+    "Hash": "Ack AckFrequency ApplicationClose ConnectionClose HeaderKind InvalidFrame LongType PacketNumber",
+    "PartialEq, Eq": "ProtectedHeader ProtectedInitialHeader",
+    "PartialEq, Eq, Hash": "Close Crypto Datagram Frame NewConnectionId NewToken ResetStream StopSending Stream",
+    "PartialOrd, Ord, Hash": "Code FrameType",
+}
+DERIVED = {f"{kind} {name}": by for by, names in DERIVED.items() for name in names.split() for kind in ("struct", "enum")}
 
 
 def compiled(rules):
@@ -158,12 +209,55 @@ class File:
         code, clauses, self.ghosts = without_ghosts(text)
         self.lines = text.split("\n")
         joined, self.comments = tokens(code)
+        joined = self.guarded(joined, own.startswith("crate::proved"))
         joined = re.sub(r"§all(\w+)", lambda m: others(m[1]), by_rules(joined, RULES))
         joined = joined.replace("§own", own).replace("§kit", kit)
         self.wanted = [line.replace("::", " :: ").split() for line in joined.split("\n")]
         self.heads = {}
         for line in clauses:
             self.add_head(line)
+        self.restrict()
+
+    def guarded(self, joined, is_library):
+        """The tokens with the names of functions that the crate guards, and with the traits that types have in Rust."""
+        for ty, names in GUARDED.items():
+            joined = re.sub(rf"\b({ty}\s+::\s+)(?=(?:{names.replace(' ', '|')})\b)", rf"\1{PREFIX}", joined)
+        for file, calls in CALLED.items():
+            if self.name.endswith(file):
+                joined = re.sub(rf"({calls})(?= \()", lambda m: PREFIX.join(re.split(r"(?<=\. )", m[0])), joined)
+        if is_library:
+            joined = re.sub(
+                r"(\bderive \( )([^)]*)(\) \](?:\s+# \[ [^\]]*\])*\s+(?:pub )?(?:\( crate \) )?)((?:struct|enum) \w+)",
+                lambda m: m[1] + self.derived(m[2], DERIVED.get(m[4])) + m[3] + m[4],
+                joined,
+            )
+        return re.sub(r"\bpub(?= use [^;]*" + HIDDEN + ")", "pub ( crate )", joined)
+
+    @staticmethod
+    def derived(names, by):
+        if by is None:
+            return names
+        kept = [name for name in names.replace(" ", "").split(",") if name not in ("", "Drop")]
+        return " , ".join(kept + by.split(", ")) + " "
+
+    def restrict(self):
+        """Renames the functions that the crate guards, and restricts those that users may not call."""
+        ty = None
+        for at, line in enumerate(self.lines):
+            if m := re.match(r"impl(?:<[^>]*>)? ([\w:]+)(?:<.*>)? \{$", line):
+                ty = m[1]
+            elif line == "}":
+                ty = None
+            if not (m := re.match(r" *(pub )?(?:final )?(?:const )?fn (\w+)", line)) or "fn" not in self.wanted[at]:
+                continue
+            wanted, name = self.wanted[at], m[2]
+            end, clause = self.heads.get(at, (at, at))
+            requires = any(re.match(r" *requires\b", one) for one in self.lines[at + 1 : end + 1] if clause != at)
+            if ty and name in GUARDED.get(ty, "").split():
+                wanted[wanted.index(name)] = PREFIX + name
+            if m[1] and (requires or ty and name in UNNEEDED):
+                wanted[wanted.index("pub")] = "pub ( crate )"
+        self.wanted = [" ".join(line).split() for line in self.wanted]
 
     def add_head(self, clause):
         """The lines of a function with a clause, from its name up to its brace or semicolon."""
@@ -235,21 +329,20 @@ class File:
 
 def files(kind, folder):
     """All files of the folder, with their sources."""
-    crates = sorted(path.name for path in folder.iterdir() if path.is_dir())
-    for name in crates:
+    crates = {path.name: path for pattern in ("quic_*", "*/quic_*") for path in folder.glob(pattern) if path.is_dir()}
+    for name in sorted(crates):
         source = TOP / "crates" / name / "src"
         is_program = (source / "main.rt").exists()
-        of = "checks" if is_program else "crate"
 
-        def others(crate, of=of):
-            return f"{of}::{'tested' if kind == 'checks' and crate in crates else 'proved'}::{crate}"
+        def others(crate):
+            return f"crate::{'tested' if kind == 'checks' and crate in crates else 'proved'}::{crate}"
 
-        kit = "crate::kit" if kind == "library" else f"{of}::host"
-        own = f"crate::{name}" if is_program else others(name)
+        kit = "crate::kit" if kind == "library" else "crate::host"
+        own = f"crate::programs::{name}" if is_program else others(name)
         for file in sorted(source.rglob("*.rt")):
             to = file.relative_to(source).with_suffix(".rs")
             to = "mod.rs" if str(to) in ("lib.rs", "main.rs") else to
-            yield File(file, folder / name / to, kit, own, others)
+            yield File(file, crates[name] / to, kit, own, others)
 
 
 def mutant(text, chance):
@@ -270,7 +363,7 @@ def main():
     if not args.folder.is_dir():
         parser.error(f"no folder: {args.folder}")
     all_files, wrong, lines = list(files(args.kind, args.folder)), 0, 0
-    there = {*args.folder.glob("*/**/*.rs")}
+    there = {path for path in args.folder.glob("*/**/*.rs") if args.kind == "library" or path.parent.parent != args.folder}
     for path in sorted({file.rust for file in all_files} ^ there):
         wrong += 1
         print(f"{path}: {'made from no source' if path in there else 'missing'}")

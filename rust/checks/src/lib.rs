@@ -1,18 +1,24 @@
-//! The tests of the proved sources, and what their programs share, beside the same files as in the crate. The build
-//! script erases what isn't in the crate.
+//! The tests and programs of the proved sources, beside the same files as in the crate. The build script erases what
+//! isn't in the crate.
 
 extern crate alloc;
 
 pub mod host;
-#[path = "../../erased/src/kit/mod.rs"]
+#[path = "../../src/kit/mod.rs"]
 mod kit;
-#[path = "../../erased/src/proved/mod.rs"]
+#[path = "../../src/proved/mod.rs"]
 #[rustfmt::skip]
 pub mod proved;
 
-/// The crates that aren't in the Rust crate.
+/// The libraries and tests that aren't in the Rust crate.
 #[allow(dead_code, non_snake_case, unused_imports, unused_labels, unused_variables)]
 #[allow(clippy::complexity, clippy::style)]
 pub mod tested {
-    include!(concat!(env!("OUT_DIR"), "/mod.rs"));
+    include!(concat!(env!("OUT_DIR"), "/tested/mod.rs"));
+}
+
+/// The programs.
+#[allow(dead_code, unused_variables, clippy::complexity, clippy::style)]
+pub mod programs {
+    include!(concat!(env!("OUT_DIR"), "/programs/mod.rs"));
 }

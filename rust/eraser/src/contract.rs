@@ -27,12 +27,16 @@ impl Eraser<'_> {
         }
         self.handle(at)?;
         let Some((first, next)) = self.clauses_of(at)? else {
-            return Ok(());
+            return self.guard(at, false);
         };
+        let mut requires = false;
         for clause in first..next {
             let start = self.source.tokens[clause].start;
-            self.count(if self.source.text[start..].starts_with('r') { "requires" } else { "ensures" });
+            let is_required = self.source.text[start..].starts_with('r');
+            self.count(if is_required { "requires" } else { "ensures" });
+            requires |= is_required;
         }
+        self.guard(at, requires)?;
         self.clauses.insert(first, next);
         let has_body = self.source.word(next) == "{";
         let lines = self.lines_of(first, next, has_body)?;
@@ -90,7 +94,12 @@ impl Eraser<'_> {
 
     /// Whether the function whose `fn` is at `at` is `pub`, without a restriction.
     pub fn is_pub(&self, at: usize) -> bool {
-        (self.head_of(at)..at).any(|at| self.source.word(at) == "pub" && self.source.word(at + 1) != "(")
+        self.pub_of(at).is_some()
+    }
+
+    /// Its `pub`, if it has no restriction.
+    pub fn pub_of(&self, at: usize) -> Option<usize> {
+        (self.head_of(at)..at).find(|at| self.source.word(*at) == "pub" && self.source.word(at + 1) != "(")
     }
 
     // Whether others can call it: it is `pub`, or a trait's.

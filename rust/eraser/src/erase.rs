@@ -1,9 +1,11 @@
 //! One file: its rules are applied token by token, and its lines stay.
+use crate::guard::PREFIX;
 use crate::lex::{Kind, Refusal, Result, refuse, tokens};
 use crate::source::Source;
 use std::collections::BTreeMap;
 
 /// Which paths stand for the crates and for the shim.
+#[derive(Clone, Default)]
 pub struct Paths {
     /// The path that stands for the file's own crate.
     pub own: String,
@@ -11,6 +13,15 @@ pub struct Paths {
     pub others: BTreeMap<String, String>,
     /// The path of the shim, which stands for Rattle's libraries.
     pub kit: String,
+    /// Methods that are renamed where they are called, each after the token before its `.`.
+    pub renamed: Vec<(&'static str, &'static str)>,
+}
+
+impl Paths {
+    /// Whether the file is one of the Rust crate's.
+    pub fn is_library(&self) -> bool {
+        self.own.starts_with("crate::proved::")
+    }
 }
 
 /// How often each rule was used.
@@ -50,6 +61,10 @@ const OF_PRELUDE: [&str; 17] = [
     "push_reserved",
 ];
 
+/// The same of tests and programs, which call by its name what the crate renames.
+const OF_CHECKS: [&str; 8] =
+    ["encode", "encode_into", "encoded_len", "expand", "finish", "min_len", "open_next", "size"];
+
 /// Makes Rust of a Rattle file, with the same lines.
 ///
 /// # Errors
@@ -65,6 +80,11 @@ pub fn erase(text: &str, paths: &Paths) -> Result<Erased> {
         at = eraser.rule(at)?;
     }
     let text = eraser.applied()?;
+    for (receiver, method) in &paths.renamed {
+        if !text.contains(&format!("{receiver}.{PREFIX}{method}(")) {
+            return refuse(0, "a call that is to be renamed isn't there");
+        }
+    }
     is_rust(&text).map_err(|left| {
         // The lines are the same in both.
         let line = text[..left.at].matches('\n').count();
@@ -188,7 +208,8 @@ impl Eraser<'_> {
     // line.
     fn prelude(&mut self) -> Result<()> {
         let source = &self.source;
-        if !(0..source.len()).any(|at| OF_PRELUDE.contains(&source.word(at))) {
+        let of_checks = |word: &str| !self.paths.is_library() && OF_CHECKS.contains(&word);
+        if !(0..source.len()).any(|at| OF_PRELUDE.contains(&source.word(at)) || of_checks(source.word(at))) {
             return Ok(());
         }
         let mut at = 0;

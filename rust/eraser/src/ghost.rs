@@ -102,6 +102,7 @@ impl Eraser<'_> {
         if OF_THE_PROVER.contains(&name) {
             self.comment_out("attribute of the prover", at, close + 1)?;
         } else if name == "derive" {
+            self.derive(open + 2);
             for inside in open + 2..close {
                 if self.source.word(inside) == "Drop" {
                     self.listed("Drop derived", inside)?;

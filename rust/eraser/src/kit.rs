@@ -60,6 +60,10 @@ impl Eraser<'_> {
             self.replace("Formatter<W>", at + 2, at + 3, "'_");
             return Ok(at + 4);
         }
+        if self.renamed_call(at) {
+            return Ok(at + 1);
+        }
+        let source = &self.source;
         if self.is_path_head(at) {
             self.path(at);
         } else if before == "." && next == "(" && self.is_fallible(at) {
@@ -93,6 +97,8 @@ impl Eraser<'_> {
         let Some(end) = source.find(at, &[";"]) else {
             return source.fail(at, "a `use` without its end");
         };
+        self.guard_import(at, end);
+        let source = &self.source;
         let whole = ["std :: marker :: Model ;", "std :: alloc :: Global ;"];
         let words: Vec<&str> = (at + 1..=end).map(|at| source.word(at)).collect();
         if whole.contains(&words.join(" ").replace(": :", "::").as_str()) {
@@ -196,7 +202,7 @@ impl Eraser<'_> {
         };
         self.remove("handle of the runtime", at + 3, at + 6);
         if is_main {
-            self.insert(at, "pub(super) ".to_string());
+            self.insert(at, "pub ".to_string());
         }
         let behind = self.source.tokens[open].end;
         self.edit(behind, behind, format!(" let rt = {}::rt::HostRuntime;", self.paths.kit));

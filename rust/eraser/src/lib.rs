@@ -5,6 +5,7 @@ mod alike;
 mod contract;
 mod erase;
 mod ghost;
+mod guard;
 mod kit;
 mod lex;
 mod plan;

@@ -1,5 +1,6 @@
 //! Which crates are erased, and where they are put.
 use crate::erase::{Counts, Paths, erase};
+use crate::guard;
 use crate::lex::Refusal;
 use std::collections::{BTreeMap, BTreeSet};
 use std::path::{Path, PathBuf};
@@ -50,7 +51,8 @@ impl Tree {
         for file in files {
             let text = fs::read_to_string(&file).map_err(|e| format!("{}: {e}", file.display()))?;
             let named = file.strip_prefix(top).map_err(|e| e.to_string())?.display().to_string();
-            let erased = erase(&text, paths).map_err(|refusal| told(&named, &text, &refusal))?;
+            let paths = Paths { renamed: guard::calls_in(&named), ..paths.clone() };
+            let erased = erase(&text, &paths).map_err(|refusal| told(&named, &text, &refusal))?;
             for (rule, count) in erased.counts {
                 *self.counts.entry(rule).or_insert(0) += count;
             }
@@ -131,14 +133,15 @@ pub fn library(top: &Path) -> Result<Tree, String> {
     let others: BTreeMap<_, _> = names.iter().map(|name| (name.clone(), format!("crate::proved::{name}"))).collect();
     let mut tree = Tree::default();
     for (name, own) in &others {
-        let paths = Paths { own: own.clone(), others: others.clone(), kit: "crate::kit".to_string() };
+        let (own, others) = (own.clone(), others.clone());
+        let paths = Paths { own, others, kit: "crate::kit".to_string(), ..Paths::default() };
         tree.add(top, name, Path::new(name), &paths)?;
     }
     tree.files.insert(PathBuf::from("mod.rs"), MODULES.to_string() + &modules(names.iter()));
     Ok(tree)
 }
 
-/// The other crates: libraries and tests are modules of `checks::tested`, programs are files to include.
+/// The other crates: libraries and tests are modules of `checks::tested`, programs of `checks::programs`.
 ///
 /// # Errors
 ///
@@ -149,23 +152,17 @@ pub fn checks(top: &Path) -> Result<Tree, String> {
     let source = |name: &str, root: &str| top.join("crates").join(name).join("src").join(root).exists();
     let rest: Vec<&String> = all.keys().filter(|name| !library.contains(*name)).collect();
     let (programs, tested): (Vec<&String>, Vec<&String>) = rest.into_iter().partition(|name| source(name, "main.rt"));
-    let paths = |of: &str, own: String, kit: String| {
-        let proved = library.iter().map(|name| (name.clone(), format!("{of}::proved::{name}")));
-        let tested = tested.iter().map(|name| ((*name).clone(), format!("{of}::tested::{name}")));
-        Paths { own, others: proved.chain(tested).collect(), kit }
+    let paths = |own: String| {
+        let proved = library.iter().map(|name| (name.clone(), format!("crate::proved::{name}")));
+        let tested = tested.iter().map(|name| ((*name).clone(), format!("crate::tested::{name}")));
+        Paths { own, others: proved.chain(tested).collect(), kit: "crate::host".to_string(), ..Paths::default() }
     };
     let mut tree = Tree::default();
-    for name in &tested {
-        let own = format!("crate::tested::{name}");
-        tree.add(top, name, Path::new(name), &paths("crate", own, "crate::host".to_string()))?;
+    for (folder, names) in [("tested", &tested), ("programs", &programs)] {
+        for name in names {
+            tree.add(top, name, &Path::new(folder).join(name), &paths(format!("crate::{folder}::{name}")))?;
+        }
+        tree.files.insert(Path::new(folder).join("mod.rs"), modules(names.iter().copied()));
     }
-    for name in &programs {
-        let own = format!("crate::{name}");
-        tree.add(top, name, Path::new(name), &paths("checks", own, "checks::host".to_string()))?;
-        let allowed = "dead_code, unused_variables, clippy::complexity, clippy::style";
-        let root = format!("#[allow({allowed})]\n#[path = \"{name}/mod.rs\"]\nmod {name};\n");
-        tree.files.insert(PathBuf::from(format!("{name}.rs")), root);
-    }
-    tree.files.insert(PathBuf::from("mod.rs"), modules(tested.into_iter()));
     Ok(tree)
 }

@@ -7,7 +7,7 @@ use std::{env, fs, process};
 
 fn paths() -> Paths {
     let others = BTreeMap::from([("quic_base".to_string(), "crate::proved::quic_base".to_string())]);
-    Paths { own: "crate::proved::mine".into(), others, kit: "crate::kit".into() }
+    Paths { own: "crate::proved::mine".into(), others, kit: "crate::kit".into(), ..Paths::default() }
 }
 
 fn erased(text: &str) -> String {
@@ -36,7 +36,7 @@ fn a_private_function_keeps_its_clauses_as_comments() {
 fn a_public_function_documents_its_clauses() {
     assert_eq!(
         erased("/// Doc.\npub fn f(n: u64)\n    requires { n < 2 }\n\n    // Why.\n    ensures { ⊤ }\n{\n    n\n}\n"),
-        "/// Doc.\npub fn f(n: u64) { #![doc = \"# Contract\\n```text\"]\n    //! requires { n < 2 }\n    //!\n    \
+        "/// Doc.\npub(crate) fn f(n: u64) { #![doc = \"# Contract\\n```text\"]\n    //! requires { n < 2 }\n    //!\n    \
          //! // Why.\n    //! ensures { ⊤ }\n    //! ```\n    n\n}\n"
     );
     assert_eq!(
@@ -143,6 +143,48 @@ fn the_shim_stands_for_libraries() {
         "use crate::kit::prelude::*;\n#[test]\nfn t() { let rt = crate::kit::rt::HostRuntime;\n    \
          crate::kit::fallible_format!(\"{}\", 1)?;\n    crate::kit::host_println!(\"a\")?;\n}\n"
     );
+}
+
+#[test]
+fn a_function_with_a_condition_is_for_the_crate_alone() {
+    assert_eq!(
+        erased("impl<'a> Frame<'a> {\n    pub fn encode()\n        requires { a }\n    {\n    }\n}\n"),
+        "impl<'a> Frame<'a> {\n    pub(crate) fn proved_encode() { #![doc = \"# Contract\\n```text\"]\n        \
+         //! requires { a }\n        //! ```\n    }\n}\n"
+    );
+    assert_eq!(erased("impl X {\n    pub fn type_bounds() {}\n}\n"), "impl X {\n    pub(crate) fn type_bounds() {}\n}\n");
+    assert_eq!(erased("pub fn type_bounds() {}\n"), "pub fn type_bounds() {}\n");
+    assert_eq!(erased("pub use a::{B, open_packet};\n"), "pub(crate) use a::{B, open_packet};\n");
+    assert_eq!(erased("use a::{B, open_packet};\n"), "use a::{B, open_packet};\n");
+}
+
+#[test]
+fn a_function_that_is_renamed_is_called_by_its_new_name() {
+    let one = erased("\nfn f() {\n    StreamId::new(1);\n    a::StreamId::new(2);\n    X::new(3);\n}\n");
+    assert_eq!(one, "\nfn f() {\n    StreamId::proved_new(1);\n    a::StreamId::proved_new(2);\n    X::new(3);\n}\n");
+    let renamed = vec![("header", "encode"), ("]", "encode")];
+    let rust = erase("fn f() {\n    header.encode();\n    x[0].encode();\n    y.encode();\n}\n", &Paths { renamed, ..paths() });
+    let wanted = "fn f() {\n    header.proved_encode();\n    x[0].proved_encode();\n    y.encode();\n}\n";
+    assert_eq!(rust.map(|erased| erased.text).unwrap_or_default(), wanted);
+    let renamed = vec![("header", "encode")];
+    assert!(erase("fn f() {}\n", &Paths { renamed, ..paths() }).is_err(), "a call that isn't there");
+    assert_eq!(
+        refusal("impl Frame {\n    pub fn encode() {}\n}\n"),
+        (2, "a function that would be renamed and has no `requires`".to_string())
+    );
+}
+
+#[test]
+fn types_have_the_traits_that_rust_users_expect() {
+    assert_eq!(erased("#[derive(Drop)]\npub struct Keys<H>(H);\n"), "#[derive(Clone, Debug)]\npub struct Keys<H>(H);\n");
+    assert_eq!(
+        erased("#[derive(Clone, Copy)]\n#[must_use]\nenum Close {}\n"),
+        "#[derive(Clone, Copy, PartialEq, Eq, Hash)]\n#[must_use]\nenum Close {}\n"
+    );
+    assert_eq!(erased("#[derive(Clone)]\npub struct Other;\n"), "#[derive(Clone)]\npub struct Other;\n");
+    let tests = Paths { own: "crate::tested::mine".into(), ..paths() };
+    let kept = erase("#[derive(Drop)]\nstruct Keys;\n", &tests).map(|erased| erased.text).unwrap_or_default();
+    assert_eq!(kept, "#[derive()]\nstruct Keys;\n");
 }
 
 // Forms of ghosts that aren't known, or have lost a part.

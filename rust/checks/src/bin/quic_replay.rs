@@ -1,6 +1,5 @@
 //! The program `quic_replay`, erased.
-include!(concat!(env!("OUT_DIR"), "/quic_replay.rs"));
 
 fn main() -> impl std::process::Termination {
-    quic_replay::main()
+    checks::programs::quic_replay::main()
 }

@@ -2,6 +2,7 @@
 pub mod bytes;
 pub mod env;
 pub mod fs;
+pub mod guarded;
 pub mod hex;
 pub mod io;
 pub mod rt;
@@ -18,6 +19,7 @@ pub mod bstr {
 
 /// The traits that give Rust's types the methods of Rattle's.
 pub mod prelude {
+    pub use super::guarded::*;
     pub use super::bytes::{BytesExt as _, BytesMutExt as _, CopyExt, LimitExt as _};
     pub use super::rt::HostRuntime;
     pub use super::text::{BufWriterExt, CollectExt as _, StrExt as _, TextExt};

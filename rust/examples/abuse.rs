@@ -6,8 +6,8 @@ use quic_wire::packet::{
     Header, HeaderError, HeaderPlaces, LongType, PacketNumber, PacketPlace, Packets, PacketsMut, VersionNegotiation,
 };
 use quic_wire::range_set::ArrayRangeSet;
-use quic_wire::transport_parameters::{self, entries, TransportParameters};
-use quic_wire::{varint, Side, StreamId, WriteError};
+use quic_wire::transport_parameters::{self, TransportParameters, entries};
+use quic_wire::{Side, StreamId, WriteError, varint};
 use std::collections::BTreeSet;
 use std::env;
 

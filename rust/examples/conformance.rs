@@ -3,7 +3,7 @@
 //! a file it checks built-in payloads.
 use quic_wire::canonical::canonical;
 use quic_wire::frame::{FrameType, Iter};
-use quic_wire::{varint, Error};
+use quic_wire::{Error, varint};
 use std::fmt::{self, Display, Formatter};
 use std::ops::Range;
 use std::{env, fs, io};

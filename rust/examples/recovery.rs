@@ -1,9 +1,9 @@
 //! The sets of loss recovery (RFC 9002). A receiver stores the packet numbers that it received and writes them into an
 //! ACK; its peer reads that, removes what is acknowledged from what is in flight, and finds what is lost.
+use quic_wire::Error;
 use quic_wire::frame::{Ack, Frame, Iter};
 use quic_wire::range_set::ArrayRangeSet;
 use quic_wire::transport_error::Code;
-use quic_wire::Error;
 
 /// The packet reordering threshold (RFC 9002, section 6.1.1).
 const THRESHOLD: u64 = 3;

@@ -1,12 +1,12 @@
 //! show MODE: prints what `quic-show` prints, with the same text and status, in all of its modes: `frames`, `strict`,
 //! `canon`, `datagram LEN`, `params SIDE`.
+use quic_wire::MAX_CID_SIZE;
 use quic_wire::canonical::canonical;
 use quic_wire::frame::{EmptyPayload, Iter};
 use quic_wire::packet::{
-    LongType, PacketDecodeError, Packets, PartialDecode, ProtectedHeader, DEFAULT_SUPPORTED_VERSIONS,
+    DEFAULT_SUPPORTED_VERSIONS, LongType, PacketDecodeError, Packets, PartialDecode, ProtectedHeader,
 };
 use quic_wire::transport_parameters::{ErrorKind, PreferredAddress, Side, TransportParameters};
-use quic_wire::MAX_CID_SIZE;
 use std::env;
 use std::io::{self, Read, Write};
 use std::process::ExitCode;
@@ -52,11 +52,7 @@ fn print_canonical(payload: &[u8], out: &mut impl Write) -> io::Result<bool> {
 }
 
 fn id(bytes: &[u8]) -> String {
-    if bytes.is_empty() {
-        "-".into()
-    } else {
-        bytes.iter().map(|byte| format!("{byte:02x}")).collect()
-    }
+    if bytes.is_empty() { "-".into() } else { bytes.iter().map(|byte| format!("{byte:02x}")).collect() }
 }
 
 fn long(kind: &str, dst: &[u8], src: &[u8], version: u32) -> String {

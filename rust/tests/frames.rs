@@ -1,14 +1,14 @@
 //! Frames that are read, written and read again.
 #![cfg(feature = "alloc")]
-use quic_wire::canonical::{canonical, CanonError};
+use quic_wire::Side;
+use quic_wire::canonical::{CanonError, canonical};
 use quic_wire::frame::{
     Ack, ApplicationClose, Close, ConnectionClose, CryptoMeta, Datagram, DatagramMeta, EmptyPayload, Entry, Frame,
     FrameType, InvalidFrame, Iter, Meta, NewConnectionId, Reason, Rules, Stream, StreamMeta, WriteError,
 };
 use quic_wire::packet::PacketType;
 use quic_wire::transport_error::Code;
-use quic_wire::Side;
-use quic_wire::{varint, Dir, StreamId};
+use quic_wire::{Dir, StreamId, varint};
 use std::collections::HashSet;
 use std::mem::MaybeUninit;
 

@@ -1,12 +1,12 @@
 //! Packets that are cut, opened, written and sealed.
 #![cfg(feature = "alloc")]
 use quic_wire::packet::{
-    Header, HeaderChecks, HeaderError, HeaderPlaces, LongType, Opened, PacketDecodeError, PacketNumber, PacketPlace,
-    PacketType, Packets, PacketsMut, ProtectedHeader, UnprotectError, VersionNegotiation, DEFAULT_SUPPORTED_VERSIONS,
+    DEFAULT_SUPPORTED_VERSIONS, Header, HeaderChecks, HeaderError, HeaderPlaces, LongType, Opened, PacketDecodeError,
+    PacketNumber, PacketPlace, PacketType, Packets, PacketsMut, ProtectedHeader, UnprotectError, VersionNegotiation,
 };
 use quic_wire::transport_error::Code;
 use quic_wire::{Error, WriteError};
-use std::panic::{catch_unwind, AssertUnwindSafe};
+use std::panic::{AssertUnwindSafe, catch_unwind};
 
 const ID: &[u8] = &[7; 8];
 

@@ -1,6 +1,6 @@
 //! Transport parameters that are read, written and put in an order.
 #![cfg(feature = "alloc")]
-use quic_wire::transport_parameters::{entries, Entry, ErrorKind, PreferredAddress, ReadOptions, TransportParameters};
+use quic_wire::transport_parameters::{Entry, ErrorKind, PreferredAddress, ReadOptions, TransportParameters, entries};
 use quic_wire::{ConnectionId, Side, WriteError};
 use std::collections::{HashMap, HashSet};
 

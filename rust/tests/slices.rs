@@ -1,10 +1,10 @@
 //! What needs no allocator: every writer into a slice, with as much room as it asks for and with less.
-use quic_wire::canonical::{canonical, CanonError};
+use quic_wire::canonical::{CanonError, canonical};
 use quic_wire::frame::{Ack, CryptoMeta, DatagramMeta, Frame, StreamMeta};
 use quic_wire::packet::{Header, PacketNumber};
 use quic_wire::range_set::Run;
 use quic_wire::transport_parameters::{Entry, TransportParameters};
-use quic_wire::{varint, Buffer, Side, StreamId, WriteError};
+use quic_wire::{Buffer, Side, StreamId, WriteError, varint};
 use std::mem::MaybeUninit;
 
 // Each room that is too small is rejected with what is needed, and doesn't change.

@@ -103,6 +103,7 @@ GUARDED = {
     "PartialEncode": "finish",
     "ReservedTransportParameter": "new",
     "StreamId": "new",
+    "StreamMeta": "encode",
 }
 # How they are called by values, in each source.
 CALLED = {

@@ -7,7 +7,7 @@ use crate::lex::Result;
 pub const PREFIX: &str = "proved_";
 
 /// Types, and their functions that the crate has under the same names.
-const RENAMED: [(&str, &[&str]); 19] = [
+const RENAMED: [(&str, &[&str]); 20] = [
     ("Ack", &["encode", "encode_from", "from_parts"]),
     ("ApplicationClose", &["encode", "min_len"]),
     ("Close", &["encode", "min_len"]),
@@ -27,6 +27,7 @@ const RENAMED: [(&str, &[&str]); 19] = [
     ("PartialEncode", &["finish"]),
     ("ReservedTransportParameter", &["new"]),
     ("StreamId", &["new"]),
+    ("StreamMeta", &["encode"]),
 ];
 
 /// Calls of these by a value: the source, the token before the `.`, and the method.

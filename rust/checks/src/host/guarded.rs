@@ -4,7 +4,7 @@ use crate::proved::quic_base::coding::NoRoom;
 use crate::proved::quic_crypto::crypto::{HeaderKey, PacketKey};
 use crate::proved::quic_crypto::packet_number::PacketNumber;
 use crate::proved::quic_frame_fields::frame::{
-    ApplicationClose, Close, ConnectionClose, Crypto, Datagram, EcnCounts, NewConnectionId, NewToken,
+    ApplicationClose, Close, ConnectionClose, Crypto, Datagram, EcnCounts, NewConnectionId, NewToken, StreamMeta,
 };
 use crate::proved::quic_frames::frame::Frame;
 use crate::proved::quic_header_decode::cut::PartialDecode;
@@ -58,6 +58,10 @@ named! {
         { fn encode_into(&self, last: bool, dest: &mut [u8]) -> Result<usize, usize> } =>
             { self.proved_encode_into(last, dest) }
         { fn encoded_len(&self, last: bool) -> u128 } => { self.proved_encoded_len(last) }
+    }
+    OfStreamMeta for StreamMeta {
+        { fn encode<B: BufMut>(&self, with_length: bool, out: &mut B) -> Written } =>
+            { self.proved_encode(with_length, out) }
     }
     OfDatagram for Datagram<'_> {
         { fn encode(&self, with_length: bool, out: &mut Vec<u8>) -> Written } => { self.proved_encode(with_length, out) }

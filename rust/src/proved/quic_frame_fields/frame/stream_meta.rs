@@ -43,7 +43,7 @@ impl StreamMeta {
     /// is longer than the buffer's spare room. The buffer then has its old contents, and possibly a prefix of the frame
     /// after them. The caller must ensure that the range isn't reversed, that it starts below 2^62, and that its length
     /// is below 2^62 if it is written.
-    pub(crate) fn encode<B: BufMut>(&self, with_length: bool, out: &mut B) -> Result<(), NoRoom> { #![doc = "# Contract\n```text"]
+    pub(crate) fn proved_encode<B: BufMut>(&self, with_length: bool, out: &mut B) -> Result<(), NoRoom> { #![doc = "# Contract\n```text"]
         //! requires ordered { self.now.offsets.start ≤ self.now.offsets.end }
         //! requires start { self.now.offsets.start < 2 ^ 62 }
         //! requires counted { with_length ≡ true → self.now.offsets.end - self.now.offsets.start < 2 ^ 62 }

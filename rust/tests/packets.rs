@@ -1,24 +1,23 @@
-//! Packets that are cut, opened, written and sealed.
-#![cfg(feature = "alloc")]
-use quic_wire::packet::{
-    DEFAULT_SUPPORTED_VERSIONS, Header, HeaderChecks, HeaderError, HeaderPlaces, LongType, Opened, PacketDecodeError,
-    PacketNumber, PacketPlace, PacketType, Packets, PacketsMut, ProtectedHeader, UnprotectError, VersionNegotiation,
+//! Packets that are cut, opened and written in borrowed bytes.
+use quic_wire::datagram::{
+    Header, HeaderChecks, HeaderError, HeaderKind, HeaderPlaces, Opened, PacketPlace, Packets, PacketsMut,
+    UnprotectError, VersionNegotiation,
 };
+use quic_wire::packet::{DEFAULT_SUPPORTED_VERSIONS, LongType, PacketNumber};
 use quic_wire::transport_error::Code;
 use quic_wire::{Error, WriteError};
-use std::panic::{AssertUnwindSafe, catch_unwind};
 
 const ID: &[u8] = &[7; 8];
 
-fn number(number: u64) -> PacketNumber {
-    PacketNumber { number, len: 2 }
+fn number(number: u16) -> PacketNumber {
+    PacketNumber::U16(number)
 }
 
 // An Initial packet of 60 bytes and a short one of 40, greased.
 fn two_packets() -> Vec<u8> {
     let mut datagram = vec![0; 100];
     let long = Header::Initial { dst_cid: ID, src_cid: &[], token: &[1, 2, 3], number: number(5), version: 1 };
-    let first = long.encode(&mut datagram[..]).unwrap();
+    let first = long.encode_into(&mut datagram).unwrap();
     first.set_len(&mut datagram[..60]).unwrap();
     first.place(&datagram[..60]).protect(&mut datagram[..60], &[9; 5]).unwrap();
     let short = Header::Short { spin: true, key_phase: true, dst_cid: ID, number: number(6) };
@@ -33,7 +32,8 @@ fn a_packet_is_opened_where_it_stands() {
     // A short header with an id of two bytes and a number of one byte, under a mask of ones and fives.
     let mut datagram = [0x5f, 0xaa, 0xbb, 0x2c ^ 0x05, 1, 2, 3, 4, 5, 6, 7];
     let packet = Packets::new(&datagram, 2, DEFAULT_SUPPORTED_VERSIONS, false).next().unwrap().unwrap();
-    assert_eq!(packet.header(), ProtectedHeader::Short { spin: false, dst_cid: &[0xaa, 0xbb] });
+    assert_eq!((packet.header().kind(), packet.header().spin()), (HeaderKind::Short, false));
+    assert_eq!(packet.dst_cid(), [0xaa, 0xbb]);
     let place = packet.place();
     let mask = [0x1f, 5, 5, 5, 5];
     assert_eq!(place.sample(&datagram, 4), Ok(&[4, 5, 6, 7][..]));
@@ -42,21 +42,17 @@ fn a_packet_is_opened_where_it_stands() {
     assert_eq!(place.unprotect(&mut datagram[..6], &mask, 300), Err(UnprotectError::NotThere));
     let reported = Opened { number: 300, number_len: 1, payload: 4, first: 0x40 };
 
-    let mut places = vec![];
-    assert_eq!(place.unprotect_header(&datagram, &mask, 300, &mut places), Ok(reported));
-    assert_eq!((places.len(), &places[..4]), (7, &[0x40, 0xaa, 0xbb, 0x2c][..]));
-    let few = place.unprotect_header(&datagram, &mask, 300, &mut places[..6]);
-    assert_eq!(few, Err(Error::Write(WriteError::NoRoom(7))));
-    let late = place.unprotect_header(&datagram, &mask, 1 << 62, &mut places[..]);
-    assert_eq!(late, Err(Error::Protection(UnprotectError::Expected)));
-    let mut none = vec![];
-    let front = PacketPlace::new(0..11, 0).unprotect_header(&datagram, &mask, 300, &mut none);
-    assert_eq!((front, none.len()), (Err(Error::Protection(UnprotectError::TooShort)), 0));
+    let mut header = vec![0xa5];
+    assert_eq!(place.unprotect_header(&datagram, &mask, 300, &mut header), Ok(reported));
+    assert_eq!((header.len(), &header[..5]), (8, &[0xa5, 0x40, 0xaa, 0xbb, 0x2c][..]));
+    let late = place.unprotect_header(&datagram, &mask, 1 << 62, &mut header);
+    let front = PacketPlace::new(0..11, 0).unprotect_header(&datagram, &mask, 300, &mut header);
+    assert_eq!((late, front), (Err(UnprotectError::Expected), Err(UnprotectError::TooShort)));
+    assert_eq!(header.len(), 8);
 
     let opened = place.unprotect_with(&mut datagram, 4, |sample| [0x1f, 5, 5, sample[1], 5], 300).unwrap();
     assert_eq!(opened, reported);
     assert!(!opened.key_phase() && opened.reserved_bits_valid());
-    assert!(size_of::<PacketPlace>() == 12 && size_of::<HeaderPlaces>() == 32);
     assert_eq!(datagram, [0x40, 0xaa, 0xbb, 0x2c, 1, 2, 3, 4, 5, 6, 7]);
 }
 
@@ -69,8 +65,7 @@ fn the_packets_of_a_datagram_are_opened_in_a_loop() {
         let versions = vec![1];
         for packet in PacketsMut::new(&mut datagram, 8, &versions, true) {
             let packet = packet.unwrap();
-            let spins = matches!(packet.header(), ProtectedHeader::Short { spin: true, .. });
-            assert_eq!((spins, packet.dst_cid()), (!seen.is_empty(), ID));
+            assert_eq!((packet.header().spin(), packet.dst_cid()), (!seen.is_empty(), ID));
             seen.push(packet.open_with(16, |_| [9; 5], 0).unwrap());
         }
     }
@@ -95,7 +90,7 @@ fn the_packet_after_one_that_is_not_opened_is_opened() {
     assert_eq!(open(16).unwrap().number(), 6);
     assert!(packets.next().is_none());
     let mut packets = PacketsMut::new(&mut datagram[..59], 8, &[1], true);
-    assert!(packets.next().unwrap().is_err() && packets.next().is_none());
+    assert!(packets.next().unwrap().is_err() && packets.next().is_none() && packets.rest().len() == 59);
 }
 
 #[test]
@@ -115,7 +110,7 @@ fn a_retry_has_nothing_to_be_opened() {
     let mut datagram = vec![0xf0, 0, 0, 0, 1, 1, 0xaa, 0, b't', b'o', b'k'];
     datagram.extend([9; 16]);
     let before = datagram.clone();
-    let places = *Packets::new(&datagram, 0, &[1], false).next().unwrap().unwrap().header_places();
+    let places = *Packets::new(&datagram, 0, &[1], false).next().unwrap().unwrap().header();
     assert_eq!((places.is_protected(), places.header_end()), (false, 8));
     assert_eq!(places.retry(&datagram), Some((&b"tok"[..], &[9; 16])));
     assert_eq!(places.place(0).unprotect(&mut datagram, &[0xff; 5], 0), Err(UnprotectError::TooShort));
@@ -127,25 +122,25 @@ fn a_retry_has_nothing_to_be_opened() {
 
 #[test]
 fn a_packet_is_sealed_and_opened() {
-    let number = PacketNumber::new(0x1234, 0x1200).unwrap();
-    assert_eq!((number.len, number.truncated()), (1, 0x34));
-    assert_eq!(PacketNumber::new(1, 2), None);
+    let number = PacketNumber::new(0x1234, 0x1200);
+    assert_eq!((number, PacketNumber::try_new(1, 2)), (PacketNumber::U8(0x34), None));
     let (dst_cid, src_cid) = (&[1, 2, 3][..], &[4][..]);
-    let places = Header::Long { ty: LongType::Handshake, dst_cid, src_cid, number, version: 1 };
+    let header = Header::Long { ty: LongType::Handshake, dst_cid, src_cid, number, version: 1 };
     let mut datagram = vec![0x55];
-    let written = places.encode(&mut datagram).unwrap();
+    let written = header.encode(&mut datagram).unwrap();
     datagram.resize(1 + 34, 0xa5);
     let packet = &mut datagram[1..];
     written.set_len(packet).unwrap();
     assert_eq!(packet[..15], [0xe0, 0, 0, 0, 1, 3, 1, 2, 3, 1, 4, 0x40, 21, 0x34, 0xa5]);
-    assert_eq!((written.header_len, written.number, places.encoded_len()), (14, 13, 14));
+    assert_eq!((written.header_len, written.number, header.encoded_len()), (14, 13, Ok(14)));
     let before = packet.to_vec();
     let place = written.place(packet);
     assert_eq!((place.number(), place.sample(packet, 16)), (13, Ok(&[0xa5; 16][..])));
     place.protect(packet, &[0xff, 1, 2, 3, 4]).unwrap();
     assert_eq!((packet[0], packet[13], packet[14]), (0xef, 0x35, 0xa5));
     let cut = Packets::new(packet, 0, &[1], false).next().unwrap().unwrap();
-    assert_eq!(cut.header(), ProtectedHeader::Long { ty: LongType::Handshake, dst_cid, src_cid, len: 21, version: 1 });
+    assert_eq!((cut.header().kind(), cut.header().len_field()), (HeaderKind::Handshake, 21));
+    assert_eq!((cut.dst_cid(), cut.src_cid()), (dst_cid, src_cid));
     let opened = cut.place().unprotect(packet, &[0xff, 1, 2, 3, 4], 0x1234).unwrap();
     assert_eq!((opened.number, opened.number_len, opened.payload), (0x1234, 1, 14));
     assert_eq!(packet, before);
@@ -214,7 +209,7 @@ fn a_sample_is_there_where_a_header_is_opened() {
     for (end, number) in (2..24).flat_map(|end| (1..=end).map(move |number| (end, number))) {
         let place = PacketPlace::new(0..end, number);
         let opened = place.unprotect(&mut datagram.clone(), &[0; 5], 0);
-        assert_eq!(place.sample(&datagram, 0).map(|sample| sample.len()), opened.map(|_| 0), "{place:?}");
+        assert_eq!(place.sample(&datagram, 0).map(<[u8]>::len), opened.map(|_| 0), "{place:?}");
         for len in 0..24 {
             let sample = datagram[..end].get(number + 4..number + 4 + len);
             assert_eq!(place.sample(&datagram, len), sample.ok_or(UnprotectError::TooShort));
@@ -222,96 +217,50 @@ fn a_sample_is_there_where_a_header_is_opened() {
     }
 }
 
-/// The arguments of callers on which calls panic, as the README lists them.
-#[test]
-fn calls_panic_on_these_arguments() {
-    let packet = [0xc0, 0, 0, 0, 1, 1, 0xaa, 1, 0xbb, 1, 0x77, 2, 9, 9];
-    let places = HeaderPlaces::read(&packet, 20, &[1]).unwrap();
-    let number = PacketNumber { number: 9, len: 2 };
-    let written = Header::Short { spin: false, key_phase: false, dst_cid: ID, number }.encode(&mut [0; 11]).unwrap();
-    let mut frames = quic_wire::frame::Iter::new(&[1]).unwrap();
-    let calls: [&mut dyn FnMut(); 13] = [
-        &mut || _ = Packets::new(&packet, 21, &[1], false),
-        &mut || _ = PacketsMut::new(&mut [], 21, &[1], false),
-        &mut || _ = HeaderPlaces::read(&packet, 21, &[1]),
-        &mut || _ = HeaderPlaces::read(&[], usize::MAX, &[1]),
-        &mut || _ = places.dst_cid(&packet[..6]),
-        &mut || _ = places.src_cid(&packet[..8]),
-        &mut || _ = places.token(&packet[..10]),
-        &mut || _ = places.header(&packet[..8]),
-        &mut || _ = places.place((1 << 32) - 14),
-        &mut || _ = places.place(usize::MAX),
-        &mut || _ = PacketPlace::new(3..9, 2),
-        &mut || _ = PacketPlace::new(0..1 << 32, 2),
-        &mut || _ = written.place(&[0; 8]),
-    ];
-    let panics = |call: &mut dyn FnMut()| catch_unwind(AssertUnwindSafe(call)).is_err();
-    assert!(calls.into_iter().all(panics) && panics(&mut || _ = frames.fill(&mut [])));
-    assert_eq!(places.place((1 << 32) - 15).range().end, (1 << 32) - 1);
-    assert_eq!((places.header(&packet[..9]), written.place(&[0; 9]).number()), (places.header(&packet), 9));
-}
-
-#[test]
-fn a_truncated_number_is_what_is_written() {
-    for (len, shift) in (1..5).flat_map(|len| (2..64).map(move |shift| (len, shift))) {
-        let number = PacketNumber { number: 0x5555_5555_5555_5555 >> shift, len };
-        let mut out = [0; 5];
-        Header::Short { spin: false, key_phase: false, dst_cid: &[], number }.encode(&mut out).unwrap();
-        let written = out[1..=len].iter().fold(0, |number, byte| number << 8 | u64::from(*byte));
-        assert_eq!(number.truncated(), written);
-    }
-}
-
 #[test]
 fn a_length_that_does_not_fit_is_refused() {
     let header = Header::Long { ty: LongType::ZeroRtt, dst_cid: ID, src_cid: ID, number: number(1), version: 1 };
     let mut packet = vec![0; (1 << 14) + 100];
-    let written = header.encode(&mut packet[..]).unwrap();
+    let written = header.encode_into(&mut packet).unwrap();
     let most = written.number + (1 << 14) - 1;
     assert_eq!(written.set_len(&mut packet[..most]), Ok(()));
     assert_eq!(packet[written.number - 2..written.number], [0x7f, 0xff]);
-    let errors = [written.set_len(&mut packet[..most + 1]), written.set_len(&mut packet[..written.number])];
-    let named = ["a packet is too long for its length", "the header is longer than its packet"];
-    assert_eq!(errors, named.map(|what| Err(WriteError::OutOfRange(what))));
+    let errors = [written.set_len(&mut packet[..most + 1]), written.set_len(&mut packet[..written.number - 1])];
+    let what = "a packet is too long for its length, or ends before its number";
+    assert_eq!(errors, [Err(WriteError::OutOfRange(what)); 2]);
     let before = packet.clone();
     for number in 0..2 {
         let mut moved = written;
         moved.number = number;
-        let what = WriteError::OutOfRange("no length precedes this number");
-        assert_eq!((moved.set_len(&mut packet[..most]), &packet), (Err(what), &before));
+        assert!(moved.set_len(&mut packet[..most]).is_err() && packet == before);
     }
     // A short header has none.
     let short = Header::Short { spin: false, key_phase: false, dst_cid: ID, number: number(1) };
-    let written = short.encode(&mut packet[..]).unwrap();
+    let written = short.encode_into(&mut packet).unwrap();
     assert_eq!(written.set_len(&mut []), Ok(()));
 }
 
 #[test]
 fn headers_that_nobody_reads_are_refused() {
     let long = |dst_cid, number, version| Header::Initial { dst_cid, src_cid: &[], token: &[], number, version };
-    let negotiation = Header::VersionNegotiate { random: 0x3f, src_cid: &[], dst_cid: ID };
     let refused = [
         (long(&[0; 21], number(1), 1), "a connection id has more than 20 bytes"),
-        (long(ID, number(1 << 62), 1), "a packet number is 2^62 or more"),
-        (long(ID, PacketNumber { number: 1, len: 0 }, 1), "a packet number has 1 to 4 bytes"),
-        (long(ID, PacketNumber { number: 1, len: 5 }, 1), "a packet number has 1 to 4 bytes"),
-        (long(ID, PacketNumber { number: 1, len: usize::MAX }, 1), "a packet number has 1 to 4 bytes"),
+        (long(ID, PacketNumber::U24(1 << 24), 1), "a packet number of three bytes is 2^24 or more"),
         (long(ID, number(1), 0), "a long header of version 0 is a version negotiation"),
-        (negotiation, "a version negotiation without the fixed bit"),
     ];
     for (header, what) in refused {
-        let mut out = vec![];
-        assert_eq!(header.encode(&mut out), Err(WriteError::OutOfRange(what)));
-        assert!(out.is_empty() && header.encoded_len() < 50);
+        let (mut out, error) = (vec![], WriteError::OutOfRange(what));
+        assert_eq!((header.encode(&mut out), header.encoded_len()), (Err(error), Err(error)));
+        assert_eq!((header.encode_into(&mut [0; 99]), out.len()), (Err(error), 0));
     }
     let mut out = vec![];
-    negotiation.encode_with(true, &mut out).unwrap();
-    out.extend(1_u32.to_be_bytes());
+    let negotiation = VersionNegotiation { random: 0x3f, dst_cid: ID, src_cid: &[], versions: &[1] };
+    negotiation.encode(&mut out).unwrap();
     assert_eq!(out[0], 0xbf);
     assert!(Packets::new(&out, 0, &[1], false).next().unwrap().is_err());
     let greased = Packets::new(&out, 0, &[1], true).next().unwrap().unwrap();
-    assert_eq!(greased.header(), ProtectedHeader::VersionNegotiate { random: 0x3f, src_cid: &[], dst_cid: ID });
-    assert_eq!(greased.header_places().versions(&out).collect::<Vec<_>>(), [1]);
+    assert_eq!((greased.header().kind(), greased.dst_cid()), (HeaderKind::VersionNegotiate, ID));
+    assert_eq!(greased.header().versions(&out).collect::<Vec<_>>(), [1]);
 }
 
 #[test]
@@ -323,22 +272,21 @@ fn a_version_negotiation_is_written_with_ids_of_any_length() {
     assert_eq!((answer.encode(&mut out), answer.encoded_len()), (Ok(bytes.len()), bytes.len()));
     assert_eq!(out[1..], bytes);
     let mut room = [0xa5; 300];
-    let short = bytes.len() - 1;
-    assert_eq!(answer.encode(&mut room[..short]), Err(WriteError::NoRoom(bytes.len())));
+    assert_eq!(answer.encode(&mut &mut room[..bytes.len() - 1]), Err(WriteError::NoRoom));
     assert_eq!(room, [0xa5; 300]);
     let places = HeaderPlaces::read_version_negotiation(&bytes).unwrap();
-    assert_eq!(places.header(&bytes), ProtectedHeader::VersionNegotiate { random: 0x7f, dst_cid, src_cid });
+    assert_eq!((places.first(), places.dst_cid(&bytes), places.src_cid(&bytes)), (0xff, dst_cid, src_cid));
     assert_eq!((places.header_end(), places.end(), places.is_protected()), (7 + 255 + 21, bytes.len(), false));
     assert_eq!(places.versions(&bytes).collect::<Vec<_>>(), versions);
     assert!((0..places.header_end()).all(|len| HeaderPlaces::read_version_negotiation(&bytes[..len]).is_none()));
-    let other = [0x80, 0, 0, 0, 1, 0, 0];
-    assert_eq!(HeaderPlaces::read_version_negotiation(&other), None);
+    assert_eq!(HeaderPlaces::read_version_negotiation(&[0x80, 0, 0, 0, 1, 0, 0]), None);
     let too_long = VersionNegotiation { src_cid: &[9; 256], ..answer };
     let what = WriteError::OutOfRange("a connection id has more than 255 bytes");
     assert_eq!(too_long.encode(&mut out), Err(what));
-    let small = VersionNegotiation { random: 3, dst_cid: &[0xaa], src_cid: &[], versions };
-    let shown = "VersionNegotiation { dst_cid: aa, src_cid: , random: 3, versions: [00000001, 6b3343cf] }";
-    assert_eq!(format!("{small:?}"), shown);
+    // With short ids it is read alike.
+    let mut short = vec![];
+    VersionNegotiation { dst_cid: ID, src_cid: &[], ..answer }.encode(&mut short).unwrap();
+    assert_eq!(HeaderPlaces::read(&short, 0, &[1]).ok(), HeaderPlaces::read_version_negotiation(&short));
 }
 
 #[test]
@@ -350,41 +298,40 @@ fn every_header_is_read_back() {
         Header::Long { ty: LongType::ZeroRtt, dst_cid, src_cid, number, version },
         Header::Retry { dst_cid, src_cid, version },
         Header::Short { spin: true, key_phase: false, dst_cid, number },
-        Header::VersionNegotiate { random: 0x55, src_cid, dst_cid },
     ];
     for header in headers {
         let mut packet = vec![];
         let written = header.encode(&mut packet).unwrap();
-        assert_eq!((packet.len(), written.header_len), (header.encoded_len(), header.encoded_len()));
+        assert_eq!(Ok(packet.len()), header.encoded_len());
+        assert_eq!(written.header_len, packet.len());
         for room in 0..packet.len() {
-            assert_eq!(header.encode(&mut packet.clone()[..room]), Err(WriteError::NoRoom(packet.len())));
+            assert_eq!(header.encode_into(&mut packet.clone()[..room]), Err(WriteError::NoRoom));
         }
+        let mut room = vec![0xa5; packet.len() + 1];
+        assert_eq!(header.encode_into(&mut room), Ok(written));
+        assert_eq!((&room[..packet.len()], room[packet.len()]), (&packet[..], 0xa5));
         packet.resize(packet.len() + 20, 0);
         written.set_len(&mut packet).unwrap();
         let read = Packets::new(&packet, 8, &[version], false).next().unwrap().unwrap();
         assert_eq!((read.dst_cid(), read.data()), (ID, &packet[..]));
-        let places = read.header_places();
-        let ty = match header {
-            Header::Initial { .. } => PacketType::Initial,
-            Header::Long { ty: LongType::Handshake, .. } => PacketType::Handshake,
-            Header::Long { ty: LongType::ZeroRtt, .. } => PacketType::ZeroRtt,
-            Header::Retry { .. } => PacketType::Retry,
-            Header::Short { .. } => PacketType::OneRtt,
-            Header::VersionNegotiate { .. } => PacketType::VersionNegotiation,
+        let places = read.header();
+        let kind = match header {
+            Header::Initial { .. } => HeaderKind::Initial,
+            Header::Long { ty: LongType::Handshake, .. } => HeaderKind::Handshake,
+            Header::Long { ty: LongType::ZeroRtt, .. } => HeaderKind::ZeroRtt,
+            Header::Retry { .. } => HeaderKind::Retry,
+            Header::Short { .. } => HeaderKind::Short,
         };
-        assert_eq!((places.packet_type(), read.header().packet_type()), (ty, ty));
+        assert_eq!(places.kind(), kind);
         assert_eq!(places.header_end() + if places.is_protected() { 2 } else { 0 }, written.header_len);
-        let reported =
-            (places.src_cid(&packet), places.token(&packet), places.retry(&packet), places.versions(&packet).count());
+        let reported = (read.src_cid(), read.token(), places.retry(&packet), places.versions(&packet).count());
         let wanted = match header {
             Header::Initial { token, .. } => (src_cid, token, None, 0),
             Header::Long { .. } => (src_cid, &[][..], None, 0),
-            Header::Retry { .. } => (src_cid, &[0; 4][..], Some((&[0; 4][..], &[0; 16])), 0),
+            Header::Retry { .. } => (src_cid, &[][..], Some((&[0; 4][..], &[0; 16])), 0),
             Header::Short { .. } => (&[][..], &[][..], None, 0),
-            Header::VersionNegotiate { .. } => (src_cid, &[][..], None, 5),
         };
         assert_eq!(reported, wanted);
-        assert!(!format!("{header:?} {read:?} {places:?}").contains("0808080808080808080808080808080808"));
     }
 }
 
@@ -410,6 +357,8 @@ fn a_header_is_read_with_checks() {
             let read = HeaderPlaces::read_with(&packet, 0, &[1], checks);
             let read = read.map(|header| header.end()).map_err(|error| error.to_string());
             assert_eq!(read, wanted.map_err(str::to_string), "{name}, {checks:?}");
+            let cut = Packets::with_checks(&packet, 0, &[1], checks).next().unwrap();
+            assert_eq!(cut.map(|cut| cut.data().len()).map_err(|error| error.to_string()), read);
         }
     }
 }
@@ -426,39 +375,41 @@ fn a_header_is_reported_where_its_packet_is_cut_off() {
     let error = HeaderPlaces::read(&unknown, 0, &[1]).unwrap_err();
     let HeaderError::UnsupportedVersion(packet) = error else { panic!() };
     assert_eq!((packet.version(), packet.dst_cid(&unknown).len(), packet.src_cid(&unknown)), (9, 255, &[2][..]));
-    let debug = "UnsupportedVersion { version: 00000009, dst_cid_len: 255, src_cid_len: 1 }";
-    assert_eq!(format!("{packet:?}"), debug);
-    assert_eq!(Error::from(error), Error::UnsupportedVersion(9));
+    assert_eq!(Error::from(error).to_string(), "packet: unsupported version 9");
 }
 
 #[test]
 fn an_unknown_version_gives_its_ids() {
-    let datagram = [0xc0, 0, 0, 0, 9, 1, 0xaa, 2, 0xbb, 0xcc, 0];
-    let mut packets = Packets::new(&datagram, 0, DEFAULT_SUPPORTED_VERSIONS, false);
+    let datagram = [0x40, 7, 0xc0, 0, 0, 0, 9, 1, 0xaa, 2, 0xbb, 0xcc, 0];
+    let mut packets = Packets::new(&datagram[2..], 0, DEFAULT_SUPPORTED_VERSIONS, false);
     let error = packets.next().unwrap().unwrap_err();
     assert_eq!(error.to_string(), "unsupported version 9");
-    let PacketDecodeError::UnsupportedVersion { src_cid, dst_cid, .. } = error else { panic!() };
-    assert_eq!((dst_cid, src_cid), (&[0xaa][..], &[0xbb, 0xcc][..]));
-    assert!(packets.next().is_none());
+    let HeaderError::UnsupportedVersion(packet) = error else { panic!() };
+    let rest = packets.rest();
+    assert_eq!((packet.dst_cid(rest), packet.src_cid(rest)), (&[0xaa][..], &[0xbb, 0xcc][..]));
+    assert!(packets.next().is_none() && packets.offset() == 0);
     let empty = Packets::new(&[], 0, &[], false).next().unwrap().unwrap_err();
     assert_eq!(empty.to_string(), "unexpected end of packet");
 }
 
 #[test]
 fn numbers_are_reported_by_the_one_that_is_expected() {
-    assert_eq!(PacketNumber::expand(6, 1, 600), Some(518));
-    assert_eq!(PacketNumber::expand(0x9b32, 2, 0xa82f_30eb), Some(0xa82f_9b32));
-    assert_eq!([PacketNumber::expand(6, 0, 1), PacketNumber::expand(6, 5, 1)], [None; 2]);
-    assert_eq!(PacketNumber::expand(6, 1, 1 << 62), None);
-    let lens = [1, 127, 128, 0x8000, 0x80_0000, 0x7fff_ffff].map(|n| PacketNumber::new(n, 0).map(|n| n.len));
-    assert_eq!(lens, [1, 1, 2, 3, 4, 4].map(Some));
+    assert_eq!(PacketNumber::U8(6).expand(600), 518);
+    assert_eq!(PacketNumber::U16(0x9b32).expand(0xa82f_30eb), 0xa82f_9b32);
+    let lens = [1, 127, 128, 0x8000, 0x80_0000, 0x7fff_ffff].map(|n| PacketNumber::new(n, 0).len());
+    assert_eq!(lens, [1, 1, 2, 3, 4, 4]);
+    let mut out = vec![];
+    PacketNumber::U24(0x01_0203).encode(&mut out).unwrap();
+    assert_eq!(PacketNumber::decode(3, &mut &out[..]), Ok(PacketNumber::U24(0x01_0203)));
+    assert!(PacketNumber::decode(4, &mut &out[..]).is_err());
+    assert!(PacketNumber::U24(1 << 24).encode(&mut out).is_err() && out == [1, 2, 3]);
 }
 
 // From a datagram to its frames by one type of error.
 fn first_frame(datagram: &mut [u8]) -> Result<u64, Error> {
-    let packet = PacketsMut::new(datagram, 8, &[1], false).next().ok_or(Error::EmptyPayload)??;
+    let packet = PacketsMut::new(datagram, 8, &[1], false).next().ok_or(Error::UnexpectedEnd)??;
     let packet = packet.open_with(16, |_| [9; 5], 0)?;
-    let frame = quic_wire::frame::Iter::new(packet.payload)?.next().ok_or(Error::EmptyPayload)??;
+    let frame = quic_wire::frame::Iter::new(packet.payload)?.next().ok_or(Error::UnexpectedEnd)??;
     Ok(frame.ty().into())
 }
 
@@ -468,16 +419,15 @@ fn one_error_for_a_whole_pass() {
     assert_eq!(first_frame(&mut datagram.clone()), Ok(0));
     let named = |datagram: &mut [u8]| {
         let error = first_frame(datagram).unwrap_err();
-        (error.to_string(), error.code(), error.frame_type())
+        (error.to_string(), error.code())
     };
-    assert_eq!(named(&mut datagram.clone()[60..]), ("packet: fixed bit unset".into(), None, None));
-    assert_eq!(named(&mut []), ("packet: unexpected end of packet".into(), None, None));
+    assert_eq!(named(&mut datagram.clone()[60..]), ("packet: fixed bit unset".into(), None));
+    assert_eq!(named(&mut []), ("packet: unexpected end of packet".into(), None));
     let cut = "packet: packet too short to contain payload length";
-    assert_eq!(named(&mut datagram.clone()[..59]), (cut.into(), None, None));
+    assert_eq!(named(&mut datagram.clone()[..59]), (cut.into(), None));
     datagram[23] = 0x21;
-    let (text, code, ty) = named(&mut datagram.clone());
+    let (text, code) = named(&mut datagram.clone());
     assert_eq!((&text[..], code), ("frame: invalid frame ID in <unknown 21>", Some(Code::FRAME_ENCODING_ERROR)));
-    assert_eq!(ty.map(u64::from), Some(0x21));
     datagram[4] = 9;
-    assert_eq!(named(&mut datagram), ("packet: unsupported version 9".into(), None, None));
+    assert_eq!(named(&mut datagram), ("packet: unsupported version 9".into(), None));
 }

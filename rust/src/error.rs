@@ -117,7 +117,8 @@ impl fmt::Display for Error {
     fn fmt(&self, f: &mut fmt::Formatter<'_>) -> fmt::Result {
         match self {
             Error::Frame(invalid) => write!(f, "frame: {invalid}"),
-            Error::Transport(error) => error.fmt(f),
+            Error::Transport(error) if error.reason.as_str().is_empty() => error.code.fmt(f),
+            Error::Transport(error) => error.reason.fmt(f),
             Error::Packet(error) => write!(f, "packet: {error}"),
             Error::Header(error) => write!(f, "packet: {error}"),
             Error::Protection(error) => write!(f, "header protection: {error}"),

@@ -39,7 +39,8 @@ fn a_function_with_a_condition_is_no_users() {
         for clause in (0..lines.len()).filter(|at| is_clause(lines[*at])) {
             let function = function_of(&lines, clause);
             let head = lines[function].trim();
-            let item = (0..=function).rev().find(|at| !lines[*at].is_empty() && !lines[*at].starts_with([' ', '}', '/']));
+            let item =
+                (0..=function).rev().find(|at| !lines[*at].is_empty() && !lines[*at].starts_with([' ', '}', '/']));
             let item = lines[item.unwrap()];
             let of_trait = item.starts_with("pub trait ") && TRAITS.iter().any(|name| item.contains(name));
             let is_private = head.starts_with("fn ") || head.starts_with("const fn ");

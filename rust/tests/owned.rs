@@ -90,7 +90,8 @@ const PARSER: fn() -> FixedLengthConnectionIdParser = || FixedLengthConnectionId
 // An Initial, a Handshake and a short packet.
 fn datagram() -> Vec<u8> {
     let (mut out, keys) = (vec![], spaces());
-    let packets = [(initial as fn(_) -> _, &keys.initial, 5), (handshake, &keys.handshake, 70_000), (short, &keys.app, 9)];
+    let packets =
+        [(initial as fn(_) -> _, &keys.initial, 5), (handshake, &keys.handshake, 70_000), (short, &keys.app, 9)];
     for (header, keys, number) in packets {
         let before = out.len();
         let len = seal_packet(&header(PacketNumber::new(number, 0)), number, &FRAMES, keys, &mut out);

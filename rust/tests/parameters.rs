@@ -166,8 +166,7 @@ fn a_list_is_read_as_quinn_or_as_rfc_9000_has_it() {
         for (bits, answer) in answers.into_iter().enumerate() {
             let options = ReadOptions { any_width: bits & 1 != 0, no_repeats: bits & 2 != 0 };
             let read = TransportParameters::read_list(Side::Client, options, list);
-            let seen =
-                read.map(|p| p.initial_max_data.into_inner()).map_err(|refusal| (refusal.id, refusal.offset));
+            let seen = read.map(|p| p.initial_max_data.into_inner()).map_err(|refusal| (refusal.id, refusal.offset));
             assert_eq!(seen, answer, "{list:x?} with {options:?}");
             let alone = TransportParameters::read_with(Side::Client, options, &mut &list[..]);
             assert_eq!(alone.map_err(|_| ()), read.map_err(|_| ()));

@@ -280,6 +280,9 @@ impl PacketPlace {
         header: &mut Vec<u8>,
     ) -> Result<Opened, UnprotectError> {
         let packet = datagram.get(self.range()).ok_or(UnprotectError::NotThere)?;
+        if expected > varint::MAX {
+            return Err(UnprotectError::Expected);
+        }
         let protected = packet.get(..self.number - self.begin + 4).ok_or(UnprotectError::TooShort)?;
         let start = header.len();
         header.extend_from_slice(protected);

@@ -131,7 +131,7 @@ fn a_set_grows() {
     let shown = (set.len(), set.min(), set.max(), set.contains(6), set.contains(7));
     assert_eq!(shown, (100, Some(0), Some(297), true, false));
     assert_eq!(set, set.clone());
-    assert_eq!(set.clone().replace(1..5).collect::<Vec<_>>(), [3..4]);
+    assert!(set.clone().replace(1..5).eq(std::iter::once(3..4)));
     set.subtract(&std::iter::once(1..296).collect());
     assert_eq!(format!("{set:?}"), "{0..1, 297..298}");
     assert_eq!(set.elts().rev().collect::<Vec<_>>(), [297, 0]);

@@ -152,7 +152,10 @@ fn a_function_with_a_condition_is_for_the_crate_alone() {
         "impl<'a> Frame<'a> {\n    pub(crate) fn proved_encode() { #![doc = \"# Contract\\n```text\"]\n        \
          //! requires { a }\n        //! ```\n    }\n}\n"
     );
-    assert_eq!(erased("impl X {\n    pub fn type_bounds() {}\n}\n"), "impl X {\n    pub(crate) fn type_bounds() {}\n}\n");
+    assert_eq!(
+        erased("impl X {\n    pub fn type_bounds() {}\n}\n"),
+        "impl X {\n    pub(crate) fn type_bounds() {}\n}\n"
+    );
     assert_eq!(erased("pub fn type_bounds() {}\n"), "pub fn type_bounds() {}\n");
     assert_eq!(erased("pub use a::{B, open_packet};\n"), "pub(crate) use a::{B, open_packet};\n");
     assert_eq!(erased("use a::{B, open_packet};\n"), "use a::{B, open_packet};\n");
@@ -163,7 +166,10 @@ fn a_function_that_is_renamed_is_called_by_its_new_name() {
     let one = erased("\nfn f() {\n    StreamId::new(1);\n    a::StreamId::new(2);\n    X::new(3);\n}\n");
     assert_eq!(one, "\nfn f() {\n    StreamId::proved_new(1);\n    a::StreamId::proved_new(2);\n    X::new(3);\n}\n");
     let renamed = vec![("header", "encode"), ("]", "encode")];
-    let rust = erase("fn f() {\n    header.encode();\n    x[0].encode();\n    y.encode();\n}\n", &Paths { renamed, ..paths() });
+    let rust = erase(
+        "fn f() {\n    header.encode();\n    x[0].encode();\n    y.encode();\n}\n",
+        &Paths { renamed, ..paths() },
+    );
     let wanted = "fn f() {\n    header.proved_encode();\n    x[0].proved_encode();\n    y.encode();\n}\n";
     assert_eq!(rust.map(|erased| erased.text).unwrap_or_default(), wanted);
     let renamed = vec![("header", "encode")];
@@ -176,7 +182,10 @@ fn a_function_that_is_renamed_is_called_by_its_new_name() {
 
 #[test]
 fn types_have_the_traits_that_rust_users_expect() {
-    assert_eq!(erased("#[derive(Drop)]\npub struct Keys<H>(H);\n"), "#[derive(Clone, Debug)]\npub struct Keys<H>(H);\n");
+    assert_eq!(
+        erased("#[derive(Drop)]\npub struct Keys<H>(H);\n"),
+        "#[derive(Clone, Debug)]\npub struct Keys<H>(H);\n"
+    );
     assert_eq!(
         erased("#[derive(Clone, Copy)]\n#[must_use]\nenum Close {}\n"),
         "#[derive(Clone, Copy, PartialEq, Eq, Hash)]\n#[must_use]\nenum Close {}\n"

@@ -19,8 +19,8 @@ pub mod bstr {
 
 /// The traits that give Rust's types the methods of Rattle's.
 pub mod prelude {
-    pub use super::guarded::*;
     pub use super::bytes::{BytesExt as _, BytesMutExt as _, CopyExt, LimitExt as _};
+    pub use super::guarded::*;
     pub use super::rt::HostRuntime;
     pub use super::text::{BufWriterExt, CollectExt as _, StrExt as _, TextExt};
     pub use crate::kit::prelude::*;

@@ -1,5 +1,5 @@
-//! abuse [ROUNDS [SEED]]: every call with random and damaged bytes and fields. Different calls must agree: from the front
-//! or resumed, in borrowed bytes or with packets that own theirs, written and read.
+//! abuse [ROUNDS [SEED]]: every call with random and damaged bytes and fields. Different calls must agree: from the
+//! front or resumed, in borrowed bytes or with packets that own theirs, written and read.
 use bytes::{Bytes, BytesMut};
 use quic_wire::canonical::canonical;
 use quic_wire::datagram::{self, HeaderError, HeaderPlaces, PacketPlace, Packets, PacketsMut, VersionNegotiation};

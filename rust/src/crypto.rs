@@ -1,6 +1,6 @@
 //! Keys of packets, as traits with laws (RFC 9001, sections 5.3 and 5.4). You implement them by your ciphers. The laws
-//! stand in the contracts of the traits; no compiler checks them, and [`crate::packet`] opens what it sealed only if they
-//! hold.
+//! stand in the contracts of the traits; no compiler checks them, and [`crate::packet`] opens what it sealed only if
+//! they hold.
 use bytes::BytesMut;
 
 pub use crate::proved::quic_crypto::crypto::{CryptoError, HeaderKey, PacketKey};

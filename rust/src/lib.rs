@@ -1,12 +1,13 @@
 //! The wire layer of QUIC, versions 1 and 2, for stacks and for tools that inspect bytes: frames ([`frame`]; RFC 9000,
-//! section 19, with DATAGRAM of RFC 9221 and the ACK frequency extension) and their shortest form ([`canonical`]); packet
-//! headers and their protection ([`packet`], and [`datagram`] for borrowed bytes; RFC 9000, sections 12.2 and 17; RFC
-//! 9001, section 5); transport parameters ([`transport_parameters`]; RFC 9000, section 18); sets of packet numbers
-//! ([`range_set`]); which packets may carry a frame ([`permitted`]). The names are those of `quinn-proto`, which keeps
-//! these parts private.
+//! section 19, with DATAGRAM of RFC 9221 and the ACK frequency extension) and their shortest form ([`canonical`]);
+//! packet headers and their protection ([`packet`], and [`datagram`] for borrowed bytes; RFC 9000, sections 12.2 and
+//! 17; RFC 9001, section 5); transport parameters ([`transport_parameters`]; RFC 9000, section 18); sets of packet
+//! numbers ([`range_set`]); which packets may carry a frame ([`permitted`]). The names are those of `quinn-proto`,
+//! which keeps these parts private.
 //!
-//! Reading and writing is proved: each function with a section "Contract" was written in Rattle and proved to fulfil the
-//! clauses that stand there, and a tool made Rust of it. What is written in Rust instead says so. You bring the ciphers.
+//! Reading and writing is proved: each function with a section "Contract" was written in Rattle and proved to fulfil
+//! the clauses that stand there, and a tool made Rust of it. What is written in Rust instead says so. You bring the
+//! ciphers.
 //!
 //! ```
 //! use quic_wire::frame::{Frame, Iter};

@@ -1,5 +1,5 @@
-//! Packets as values: cut from datagrams, opened, sealed, and their headers written (RFC 9000, sections 12.2 and 17; RFC
-//! 9001, section 5). [`crate::datagram`] does that in borrowed bytes.
+//! Packets as values: cut from datagrams, opened, sealed, and their headers written (RFC 9000, sections 12.2 and 17;
+//! RFC 9001, section 5). [`crate::datagram`] does that in borrowed bytes.
 //!
 //! ```
 //! use bytes::BytesMut;
@@ -45,8 +45,8 @@ pub use seal::SealError;
 
 impl PacketNumber {
     /// The low part of `n` for a receiver that has acknowledged `largest_acked` (RFC 9000, appendix A.2). It has the
-    /// fewest bytes, 1, 2, 3 or 4, with which a receiver that expects a number from `largest_acked` to `n + 1` finds `n`.
-    /// [`PacketNumber::try_new`] returns `None` instead of panicking.
+    /// fewest bytes, 1, 2, 3 or 4, with which a receiver that expects a number from `largest_acked` to `n + 1` finds
+    /// `n`. [`PacketNumber::try_new`] returns `None` instead of panicking.
     ///
     /// ```
     /// use quic_wire::packet::PacketNumber;
@@ -109,8 +109,8 @@ impl PacketNumber {
         PacketNumber::proved_decode(len, r)
     }
 
-    /// The whole packet number, from the one that is expected next (RFC 9000, appendix A.3): of the numbers with this low
-    /// part, the one nearest to `expected`. It isn't checked against 2^62.
+    /// The whole packet number, from the one that is expected next (RFC 9000, appendix A.3): of the numbers with this
+    /// low part, the one nearest to `expected`. It isn't checked against 2^62.
     ///
     /// ```
     /// use quic_wire::packet::PacketNumber;
@@ -185,15 +185,15 @@ impl Header {
 }
 
 impl PartialEncode {
-    /// Finishes the packet `buf` (RFC 9001, sections 5.3 and 5.4): fills in the length, if the header has one; seals the
-    /// payload with the packet number and the key of `crypto`, if given; and protects the header with `header_key`. The
-    /// payload's last bytes are room for the tag. Retry and version negotiation don't change.
+    /// Finishes the packet `buf` (RFC 9001, sections 5.3 and 5.4): fills in the length, if the header has one; seals
+    /// the payload with the packet number and the key of `crypto`, if given; and protects the header with `header_key`.
+    /// The payload's last bytes are room for the tag. Retry and version negotiation don't change.
     ///
     /// # Panics
     ///
-    /// If the packet ends before its header and the tag, or has fewer than four bytes and the sample from its number on;
-    /// if the header has a length and there are 2^14 bytes or more from the number on; or if the number doesn't come
-    /// after a first byte, and after the length. Such a header isn't written.
+    /// If the packet ends before its header and the tag, or has fewer than four bytes and the sample from its number
+    /// on; if the header has a length and there are 2^14 bytes or more from the number on; or if the number doesn't
+    /// come after a first byte, and after the length. Such a header isn't written.
     pub fn finish<H: HeaderKey + ?Sized, P: PacketKey + ?Sized>(
         self,
         buf: &mut [u8],
@@ -216,9 +216,9 @@ impl PartialEncode {
 }
 
 impl PartialDecode {
-    /// Removes the protection of the packet's header, and splits the packet after the header, which ends with the packet
-    /// number (RFC 9001, section 5.4). A Retry or version negotiation has no protection: it needs no key, and is returned
-    /// unchanged.
+    /// Removes the protection of the packet's header, and splits the packet after the header, which ends with the
+    /// packet number (RFC 9001, section 5.4). A Retry or version negotiation has no protection: it needs no key, and is
+    /// returned unchanged.
     ///
     /// # Errors
     ///

@@ -174,8 +174,8 @@ set! {
 }
 
 impl RangeSet {
-    /// Inserts a range, and returns the nonempty parts of it that were in the set before. The set is the union from this
-    /// call on, however many parts are read.
+    /// Inserts a range, and returns the nonempty parts of it that were in the set before. The set is the union from
+    /// this call on, however many parts are read.
     pub fn replace(&mut self, x: Range<u64>) -> Replace<'_> {
         grown(self.0.replace(x))
     }
@@ -242,8 +242,8 @@ impl<const N: usize> BoundedRangeSet<N> {
         self.insert(x..x.saturating_add(1))
     }
 
-    /// Inserts a range. If there is no room for one more run, that of the least numbers, the range or one that was there,
-    /// is dropped and returned.
+    /// Inserts a range. If there is no room for one more run, that of the least numbers, the range or one that was
+    /// there, is dropped and returned.
     pub fn insert_or_drop_min(&mut self, x: Range<u64>) -> Option<Range<u64>> {
         self.0.insert(x);
         if self.0.len() > N { self.0.pop_min() } else { None }

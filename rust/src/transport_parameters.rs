@@ -107,7 +107,8 @@ impl Entry<'_> {
     ///
     /// # Errors
     ///
-    /// If its number is 2^62 or more: nothing is written then. If there is too little room: a prefix may be written then.
+    /// If its number is 2^62 or more: nothing is written then. If there is too little room: a prefix may be written
+    /// then.
     pub fn write<B: BufMut>(&self, out: &mut B) -> Result<(), WriteError> {
         if self.id > varint::MAX || self.value.len() as u64 > varint::MAX {
             return Err(WriteError::OutOfRange("a number of a parameter is 2^62 or more"));

@@ -177,7 +177,8 @@ fn each_kind_has_a_writer_of_its_own() {
     assert!(refused.iter().all(Result::is_err) && out.len() == 50 + 2, "{refused:?} {}", out.len());
 }
 
-/// What RFC 9000, section 19.8, has a receiver reject ("cannot exceed 2^62-1") is for rules, or the connection, to check.
+/// What RFC 9000, section 19.8, has a receiver reject ("cannot exceed 2^62-1") is for rules, or the connection, to
+/// check.
 #[test]
 fn data_that_end_at_2_62_are_written() {
     let (id, offset) = (StreamId::default(), (1 << 62) - 2);

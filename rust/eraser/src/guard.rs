@@ -1,5 +1,5 @@
-//! What a user of the crate may call. A function with a `requires` is for the crate alone; if the crate has a public one
-//! of its name, which checks what is required, it is renamed. Traits that Rust users expect are derived.
+//! What a user of the crate may call. A function with a `requires` is for the crate alone; if the crate has a public
+//! one of its name, which checks what is required, it is renamed. Traits that Rust users expect are derived.
 use crate::erase::Eraser;
 use crate::lex::Result;
 

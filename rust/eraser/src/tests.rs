@@ -36,7 +36,8 @@ fn a_private_function_keeps_its_clauses_as_comments() {
 fn a_public_function_documents_its_clauses() {
     assert_eq!(
         erased("/// Doc.\npub fn f(n: u64)\n    requires { n < 2 }\n\n    // Why.\n    ensures { ⊤ }\n{\n    n\n}\n"),
-        "/// Doc.\npub(crate) fn f(n: u64) { #![doc = \"# Contract\\n```text\"]\n    //! requires { n < 2 }\n    //!\n    \
+        "/// Doc.\npub(crate) fn f(n: u64) { #![doc = \"# Contract\\n```text\"]\n    //! requires { n < 2 }\n    \
+         //!\n    \
          //! // Why.\n    //! ensures { ⊤ }\n    //! ```\n    n\n}\n"
     );
     assert_eq!(

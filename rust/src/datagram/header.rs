@@ -20,9 +20,10 @@ pub struct HeaderChecks {
 impl HeaderChecks {
     /// Those of quinn-proto: the fixed bit must be set in each packet.
     pub const QUINN: HeaderChecks = HeaderChecks { grease_quic_bit: false, any_version: false, whole_retry: false };
-    /// What RFC 9000 requires of a protected header, if no extension was negotiated. It is up to you to reject a version
-    /// negotiation whose versions are cut off or missing, a Retry whose tag is invalid, an Initial with a token from a
-    /// server, datagrams that are too small, and [reserved bits](super::Opened::reserved_bits_valid) that aren't 0.
+    /// What RFC 9000 requires of a protected header, if no extension was negotiated. It is up to you to reject a
+    /// version negotiation whose versions are cut off or missing, a Retry whose tag is invalid, an Initial with a token
+    /// from a server, datagrams that are too small, and [reserved bits](super::Opened::reserved_bits_valid) that aren't
+    /// 0.
     pub const RFC: HeaderChecks = HeaderChecks { grease_quic_bit: false, any_version: true, whole_retry: true };
     // The fixed bit isn't checked.
     const NONE: HeaderChecks = HeaderChecks { grease_quic_bit: true, any_version: false, whole_retry: false };
@@ -146,8 +147,9 @@ pub struct HeaderPlaces {
 }
 
 impl HeaderPlaces {
-    /// Reads the header of the packet at the front of the bytes. Ids of short headers have `cid_len` bytes. For versions
-    /// other than `versions` only the ids are read. The fixed bit isn't checked: see [`HeaderPlaces::fixed_bit`].
+    /// Reads the header of the packet at the front of the bytes. Ids of short headers have `cid_len` bytes. For
+    /// versions other than `versions` only the ids are read. The fixed bit isn't checked: see
+    /// [`HeaderPlaces::fixed_bit`].
     ///
     /// # Errors
     ///
@@ -358,8 +360,8 @@ impl HeaderPlaces {
 }
 
 /// The receiver's id in a packet of any version, as you need to forward it (RFC 8999, section 5). A short header's id
-/// has `cid_len` bytes. `None` if the packet ends before the id does. The fixed bit is ignored. It is written in Rust: no
-/// proof covers it.
+/// has `cid_len` bytes. `None` if the packet ends before the id does. The fixed bit is ignored. It is written in Rust:
+/// no proof covers it.
 ///
 /// ```
 /// use quic_wire::datagram::receiver_id;

@@ -5,8 +5,8 @@ use bytes::BufMut;
 use core::fmt;
 use core::iter::FusedIterator;
 
-/// A version negotiation to be written. Its ids are those of the packet that it responds to, which may have any version,
-/// so they have up to 255 bytes (RFC 8999, section 6).
+/// A version negotiation to be written. Its ids are those of the packet that it responds to, which may have any
+/// version, so they have up to 255 bytes (RFC 8999, section 6).
 ///
 /// ```
 /// use quic_wire::datagram::{HeaderPlaces, VersionNegotiation};

@@ -159,8 +159,8 @@ impl<'a> PacketRef<'a> {
     }
 }
 
-/// The packets of a datagram that is opened in place. Each borrows its own part of it, so you open them in a loop, which
-/// goes on after a packet that isn't opened (RFC 9000, section 12.2). It ends when no packet can be cut.
+/// The packets of a datagram that is opened in place. Each borrows its own part of it, so you open them in a loop,
+/// which goes on after a packet that isn't opened (RFC 9000, section 12.2). It ends when no packet can be cut.
 ///
 /// ```
 /// use quic_wire::datagram::PacketsMut;

@@ -1,5 +1,5 @@
-//! Header protection (RFC 9001, section 5.4). Masks are applied in Rust, which no proof covers; the packet number is read
-//! and expanded by proved functions.
+//! Header protection (RFC 9001, section 5.4). Masks are applied in Rust, which no proof covers; the packet number is
+//! read and expanded by proved functions.
 use crate::packet::PacketNumber;
 use crate::varint;
 use alloc::vec::Vec;
@@ -96,8 +96,8 @@ fn mask_number(first: u8, number: &mut [u8; 4], mask: &[u8; 5]) {
 }
 
 impl PacketPlace {
-    /// A packet in a datagram, given its byte range and the offset of its packet number there; the packet's end if it has
-    /// none.
+    /// A packet in a datagram, given its byte range and the offset of its packet number there; the packet's end if it
+    /// has none.
     ///
     /// ```
     /// use quic_wire::datagram::PacketPlace;
@@ -214,9 +214,9 @@ impl PacketPlace {
         self.unprotect_by(datagram, sample_len, unmask, expected)
     }
 
-    /// As [`PacketPlace::unprotect`], but with a cipher that removes its mask itself and doesn't reveal it, like that of
-    /// `rustls`. It gets the sample of `sample_len` bytes, the first byte, and four bytes from the packet number on, of
-    /// which it changes the number's.
+    /// As [`PacketPlace::unprotect`], but with a cipher that removes its mask itself and doesn't reveal it, like that
+    /// of `rustls`. It gets the sample of `sample_len` bytes, the first byte, and four bytes from the packet number on,
+    /// of which it changes the number's.
     ///
     /// ```
     /// use quic_wire::datagram::PacketPlace;

@@ -95,8 +95,8 @@ impl<'a> Ack<'a> {
     ///
     /// # Errors
     ///
-    /// If the set is empty, or a number in it, the delay or a count is 2^62 or more; nothing is written then. If there is
-    /// too little room: a prefix of the frame may be written then.
+    /// If the set is empty, or a number in it, the delay or a count is 2^62 or more; nothing is written then. If there
+    /// is too little room: a prefix of the frame may be written then.
     pub fn encode<B: BufMut>(
         delay: u64,
         ranges: &ArrayRangeSet,

@@ -65,8 +65,8 @@ impl Frame<'_> {
     ///
     /// # Errors
     ///
-    /// If the frame isn't in range ([`Frame::in_range`]): nothing is written then. If there is too little room: a prefix
-    /// of the frame may be written then.
+    /// If the frame isn't in range ([`Frame::in_range`]): nothing is written then. If there is too little room: a
+    /// prefix of the frame may be written then.
     #[inline]
     pub fn encode<B: BufMut>(&self, last: bool, out: &mut B) -> Result {
         self.check(last)?;
@@ -156,8 +156,8 @@ impl NewConnectionId {
 }
 
 impl Datagram<'_> {
-    /// Appends the frame, with the length of its data if `with_length` is set. A frame without it must be the last of its
-    /// payload (RFC 9221, section 4).
+    /// Appends the frame, with the length of its data if `with_length` is set. A frame without it must be the last of
+    /// its payload (RFC 9221, section 4).
     ///
     /// # Errors
     ///
@@ -193,8 +193,8 @@ impl StreamMeta {
     ///
     /// # Errors
     ///
-    /// If the offsets are reversed, or the first one or the length is 2^62 or more: nothing is written then. If there is
-    /// too little room: a prefix may be written then.
+    /// If the offsets are reversed, or the first one or the length is 2^62 or more: nothing is written then. If there
+    /// is too little room: a prefix may be written then.
     pub fn encode<B: BufMut>(&self, with_length: bool, out: &mut B) -> Result {
         let Some(len) = self.offsets.end.checked_sub(self.offsets.start) else {
             return Err(WriteError::OutOfRange("the offsets of a STREAM are reversed"));

@@ -15,7 +15,8 @@
 //! # Ok::<(), quic_wire::Error>(())
 //! ```
 //!
-//! A frame borrows its payload. Numbers that were read are below 2^62, except those of PATH_CHALLENGE and PATH_RESPONSE.
+//! A frame borrows its payload. Numbers that were read are below 2^62, except those of PATH_CHALLENGE and
+//! PATH_RESPONSE.
 mod ack;
 mod encode;
 mod ty;
@@ -45,8 +46,8 @@ impl Frame<'_> {
         !matches!(self, Frame::Ack(_))
     }
 
-    /// Whether a packet that has only such frames probes a path (RFC 9000, section 9.1). It is written in Rust: no proof
-    /// covers it.
+    /// Whether a packet that has only such frames probes a path (RFC 9000, section 9.1). It is written in Rust: no
+    /// proof covers it.
     ///
     /// ```
     /// use quic_wire::frame::Frame;
@@ -69,8 +70,8 @@ impl Frame<'_> {
 
     /// Whether packets of this type may carry it, whoever sends it (RFC 9000, section 12.4, table 3). DATAGRAM,
     /// ACK_FREQUENCY and IMMEDIATE_ACK may be in 0-RTT and 1-RTT packets (RFC 9221, section 4; as in quinn-proto). A
-    /// frame in another packet is a `PROTOCOL_VIOLATION`, which [`Iter`] doesn't check; [`permitted::permits`] also asks
-    /// for the sender.
+    /// frame in another packet is a `PROTOCOL_VIOLATION`, which [`Iter`] doesn't check; [`permitted::permits`] also
+    /// asks for the sender.
     ///
     /// ```
     /// use quic_wire::frame::{Frame, Iter};

@@ -6,6 +6,8 @@
 pub mod bytes;
 pub mod net;
 pub mod smallvec;
+#[cfg(test)]
+mod tests;
 pub mod text;
 pub mod vec;
 

@@ -64,7 +64,8 @@ named! {
             { self.proved_encode(with_length, out) }
     }
     OfDatagram for Datagram<'_> {
-        { fn encode(&self, with_length: bool, out: &mut Vec<u8>) -> Written } => { self.proved_encode(with_length, out) }
+        { fn encode(&self, with_length: bool, out: &mut Vec<u8>) -> Written } =>
+            { self.proved_encode(with_length, out) }
         { fn size(&self, with_length: bool) -> usize } => { self.proved_size(with_length) }
     }
     OfConnectionClose for ConnectionClose<'_> {

@@ -3,7 +3,7 @@ use crate::colour::When;
 use crate::help::HELP;
 use crate::input::Plain;
 use quic_wire::packet::DEFAULT_SUPPORTED_VERSIONS;
-use quic_wire::{varint, Side, MAX_CID_SIZE};
+use quic_wire::{MAX_CID_SIZE, Side, varint};
 use std::ffi::{OsStr, OsString};
 
 pub enum Call {

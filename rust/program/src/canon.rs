@@ -1,24 +1,23 @@
 //! The shortest form of payloads.
 use crate::fault;
 use crate::output::{Output, Value};
-use quic_wire::canonical::{canonical, CanonError};
+use quic_wire::canonical::{CanonError, canonical};
 use quic_wire::frame::Iter;
 use std::io::{self, Write};
 
 /// Prints the shortest payload with the same frames.
 pub fn show(payload: &[u8], output: &mut Output<impl Write>) -> io::Result<()> {
     let mut shortest = Vec::new();
-    shortest.try_reserve_exact(payload.len())?;
-    shortest.resize(payload.len(), 0);
-    match canonical(payload, &mut shortest[..]) {
-        Ok(len) => {
-            let fields = [("len", Value::Number(len as u64)), ("data", Value::bytes(&shortest[..len]))];
+    match canonical(payload, &mut shortest) {
+        Ok(()) => {
+            let fields = [("len", Value::Number(shortest.len() as u64)), ("data", Value::bytes(&shortest))];
             output.item(0..payload.len(), ("form", "SHORTEST"), &fields, &[])
         }
         Err(CanonError::Invalid(invalid)) => {
             let at = end_of_frames(payload);
             output.error(&invalid.to_string(), Some(at), &fault::of_frame(payload, at, &invalid))
         }
+        Err(CanonError::OutOfMemory) => Err(io::ErrorKind::OutOfMemory.into()),
         Err(empty) => output.error(&empty.to_string(), Some(0), &fault::of_empty_payload()),
     }
 }

@@ -11,9 +11,10 @@ pub fn is_closed() -> bool {
 
 // Functions in this section run before Rust's runtime starts. This one asks the system for another descriptor of the
 // same file, and needs nothing that starts later.
+// SAFETY: the section has pointers to functions of this type.
 #[cfg(target_os = "linux")]
 #[used]
-#[link_section = ".init_array"]
+#[unsafe(link_section = ".init_array")]
 static LOOK: extern "C" fn() = look;
 
 #[cfg(target_os = "linux")]

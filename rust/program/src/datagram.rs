@@ -3,11 +3,11 @@ use crate::args::Datagrams;
 use crate::fault;
 use crate::link::{self, Packet};
 use crate::output::{Field, Output, Value};
-use quic_wire::packet::{HeaderError, HeaderPlaces, LongType, ProtectedHeader};
+use Value::{Flag, Number, Version, Versions};
 use quic_wire::ConnectionId;
+use quic_wire::datagram::{HeaderError, HeaderKind, HeaderPlaces};
 use std::collections::VecDeque;
 use std::io::{self, Write};
-use Value::{Flag, Number, Version, Versions};
 
 // How many ids are remembered: the latest ones.
 const MOST_IDS: usize = 256;
@@ -19,7 +19,7 @@ pub struct Ids(VecDeque<ConnectionId>);
 
 impl Ids {
     fn learn(&mut self, id: &[u8]) {
-        let Some(id) = ConnectionId::new(id).filter(|id| !self.0.contains(id)) else { return };
+        let Some(id) = ConnectionId::try_from(id).ok().filter(|id| !self.0.contains(id)) else { return };
         if self.0.len() == MOST_IDS {
             self.0.pop_front();
         }
@@ -104,37 +104,26 @@ fn reported<'a>(error: &HeaderError, rest: &'a [u8], begin: usize) -> Vec<Field<
 }
 
 fn fields<'a>(places: &HeaderPlaces, packet: &'a [u8], begin: usize) -> (&'static str, Vec<Field<'a>>) {
-    let number_at = ("number_at", Number((begin + places.header_end()) as u64));
-    let ids = |dst: &'a [u8], src: &'a [u8]| vec![("dst", Value::bytes(dst)), ("src", Value::bytes(src))];
-    match places.header(packet) {
-        ProtectedHeader::Initial { dst_cid, src_cid, token_pos, len, version } => {
-            let token_at = ("token_at", Number((begin + token_pos.start) as u64));
-            let token = ("token", Value::bytes(&packet[token_pos]));
-            let more = [("version", Version(version)), token_at, token, ("len", Number(len)), number_at];
-            ("initial", [&ids(dst_cid, src_cid)[..], &more].concat())
+    let at = |offset: usize| Number((begin + offset) as u64);
+    let (dst, src) = (("dst", Value::bytes(places.dst_cid(packet))), ("src", Value::bytes(places.src_cid(packet))));
+    let version = ("version", Version(places.version()));
+    let (len, number_at) = (("len", Number(places.len_field())), ("number_at", at(places.header_end())));
+    let rest = &packet[places.header_end()..];
+    match places.kind() {
+        HeaderKind::Initial => {
+            let (token_at, token) = (at(places.token_pos().start), Value::bytes(places.token(packet)));
+            ("initial", vec![dst, src, version, ("token_at", token_at), ("token", token), len, number_at])
         }
-        ProtectedHeader::Long { ty, dst_cid, src_cid, len, version } => {
-            let name = if ty == LongType::Handshake { "handshake" } else { "0rtt" };
-            (
-                name,
-                [&ids(dst_cid, src_cid)[..], &[("version", Version(version)), ("len", Number(len)), number_at]]
-                    .concat(),
-            )
-        }
-        ProtectedHeader::Retry { dst_cid, src_cid, version } => {
-            let rest = &packet[places.header_end()..];
+        HeaderKind::Handshake => ("handshake", vec![dst, src, version, len, number_at]),
+        HeaderKind::ZeroRtt => ("0rtt", vec![dst, src, version, len, number_at]),
+        HeaderKind::Retry => {
             let more = match places.retry(packet) {
                 Some((token, tag)) => vec![("token", Value::bytes(token)), ("tag", Value::few(*tag))],
                 None => vec![("rest", Value::bytes(rest))],
             };
-            ("retry", [&ids(dst_cid, src_cid)[..], &[("version", Version(version))], &more].concat())
+            ("retry", [&[dst, src, version], &more[..]].concat())
         }
-        ProtectedHeader::Short { spin, dst_cid } => {
-            ("short", vec![("dst", Value::bytes(dst_cid)), ("spin", Flag(spin)), number_at])
-        }
-        ProtectedHeader::VersionNegotiate { dst_cid, src_cid, .. } => {
-            let versions = &packet[places.header_end()..];
-            ("version-negotiation", [&ids(dst_cid, src_cid)[..], &[("versions", Versions(versions))]].concat())
-        }
+        HeaderKind::Short => ("short", vec![dst, ("spin", Flag(places.spin())), number_at]),
+        HeaderKind::VersionNegotiate => ("version-negotiation", vec![dst, src, ("versions", Versions(rest))]),
     }
 }

@@ -13,8 +13,8 @@
 mod line;
 
 use crate::input::Piece;
-pub use line::{has_offset, is_heading, Line};
 use line::{Form, Order};
+pub use line::{Line, has_offset, is_heading};
 use std::io;
 
 // How many bytes a dump with lines of `*` may have.

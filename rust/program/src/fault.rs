@@ -26,11 +26,21 @@ impl Place {
     }
 }
 
+/// The name that RFC 9000 gives a code, if it does.
+pub fn code_name(code: Code) -> String {
+    let (name, number) = (format!("{code:?}"), u64::from(code));
+    match number {
+        _ if !name.starts_with("Code") => name,
+        0x100..=0x1ff => format!("CRYPTO_ERROR {}", number - 0x100),
+        _ => format!("<unknown {number:x}>"),
+    }
+}
+
 // The code to close with, and the section that says so.
 fn closed(code: Code, section: &'static str) -> [Field<'static>; 3] {
     [
         ("close_code", Value::Number(code.into())),
-        ("close_name", Value::Word(code.to_string().into())),
+        ("close_name", Value::Word(code_name(code).into())),
         ("section", Value::sentence(section)),
     ]
 }

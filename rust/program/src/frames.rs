@@ -1,39 +1,54 @@
 //! The frames of payloads.
 use crate::fault;
 use crate::output::{Field, Output, Value};
-use quic_wire::frame::{Ack, ApplicationClose, Close, ConnectionClose, Entry, Frame, Iter, NewConnectionId};
+use Value::{Flag, Number, Ranges, Text};
+use quic_wire::frame::{Ack, ApplicationClose, Close, ConnectionClose, Frame, Iter, NewConnectionId};
 use quic_wire::varint;
 use std::io::{self, Write};
-use Value::{Flag, Number, Ranges, Text};
+use std::ops::Range;
 
-// How many frames are read with one call.
-const ENTRIES: usize = 64;
-
+/// Prints the frames of a payload, a run of PADDING as one.
 pub fn show(payload: &[u8], strict: bool, output: &mut Output<impl Write>) -> io::Result<()> {
     let begun = if strict { Iter::strict(payload) } else { Iter::new(payload) };
     let mut frames = match begun {
         Ok(frames) => frames,
-        Err(empty) => return output.error(&empty.to_string(), Some(0), &fault::of_empty_payload()),
+        Err(empty) => return output.error(empty.reason.as_str(), Some(0), &fault::of_empty_payload()),
     };
-    let mut entries = [Entry::default(); ENTRIES];
-    while let Some(batch) = frames.fill(&mut entries) {
-        let batch = match batch {
-            Ok(batch) => batch,
+    let (mut begin, mut run) = (0, 0..0);
+    while let Some(frame) = frames.next() {
+        let place = begin..frames.offset();
+        begin = place.end;
+        if frame == Ok(Frame::Padding) {
+            run.end = place.end;
+            continue;
+        }
+        if !run.is_empty() {
+            show_frame(payload, run, &Frame::Padding, output)?;
+        }
+        run = place.end..place.end;
+        match frame {
+            Ok(frame) => show_frame(payload, place, &frame, output)?,
             Err(invalid) => {
                 let at = frames.offset();
                 return output.error(&invalid.to_string(), Some(at), &fault::of_frame(payload, at, &invalid));
             }
-        };
-        for (place, frame) in batch {
-            let bytes = &payload[place.clone()];
-            // A run of PADDING has its number of frames.
-            let count = ("count", Number(padding(bytes)));
-            let fields = if frame == Frame::Padding { vec![count] } else { fields(&frame) };
-            let raw_type = varint::read(bytes).map_or(0, |(ty, _)| ty);
-            output.item(place, ("type", &frame.ty().to_string()), &fields, &[("raw_type", Number(raw_type))])?;
         }
     }
-    Ok(())
+    if run.is_empty() { Ok(()) } else { show_frame(payload, run, &Frame::Padding, output) }
+}
+
+fn show_frame(
+    payload: &[u8],
+    place: Range<usize>,
+    frame: &Frame<'_>,
+    output: &mut Output<impl Write>,
+) -> io::Result<()> {
+    let bytes = &payload[place.clone()];
+    // A run of PADDING has its number of frames.
+    let count = ("count", Number(padding(bytes)));
+    let fields = if *frame == Frame::Padding { vec![count] } else { fields(frame) };
+    let raw_type = varint::read(bytes).map_or(0, |(ty, _)| ty);
+    output.item(place, ("type", &frame.ty().to_string()), &fields, &[("raw_type", Number(raw_type))])
 }
 
 // How many PADDING types there are, each in one byte or more.
@@ -51,16 +66,16 @@ fn fields<'a>(frame: &Frame<'a>) -> Vec<Field<'a>> {
         Frame::Padding | Frame::Ping | Frame::ImmediateAck | Frame::HandshakeDone => vec![],
         Frame::Ack(ack) => ack_fields(&ack),
         Frame::ResetStream(r) => {
-            numbers([("id", r.id.into()), ("error_code", r.error_code), ("final_offset", r.final_offset)])
+            numbers([("id", r.id.into()), ("error_code", r.error_code.into()), ("final_offset", r.final_offset.into())])
         }
-        Frame::StopSending(s) => numbers([("id", s.id.into()), ("error_code", s.error_code)]),
-        Frame::Crypto(c) => [vec![("offset", Number(c.offset))], data(c.data)].concat(),
+        Frame::StopSending(s) => numbers([("id", s.id.into()), ("error_code", s.error_code.into())]),
+        Frame::Crypto(c) => [vec![("offset", Number(c.offset))], data(c.bytes)].concat(),
         Frame::NewToken(t) => vec![("token", Value::bytes(t.token))],
         Frame::Stream(s) => {
             let front = vec![("id", Number(s.id.into())), ("offset", Number(s.offset)), ("fin", Flag(s.fin))];
-            [front, data(s.data)].concat()
+            [front, data(s.bytes)].concat()
         }
-        Frame::MaxData(limit) => numbers([("limit", limit)]),
+        Frame::MaxData(limit) => numbers([("limit", limit.into())]),
         Frame::MaxStreamData { id, offset } | Frame::StreamDataBlocked { id, offset } => {
             numbers([("id", id.into()), ("offset", offset)])
         }
@@ -72,12 +87,12 @@ fn fields<'a>(frame: &Frame<'a>) -> Vec<Field<'a>> {
         Frame::PathChallenge(data) | Frame::PathResponse(data) => vec![("data", Value::few(data.to_be_bytes()))],
         Frame::Close(Close::Connection(close)) => connection_fields(&close),
         Frame::Close(Close::Application(close)) => application_fields(&close),
-        Frame::Datagram(d) => data(d.data),
+        Frame::Datagram(d) => data(d.bytes),
         Frame::AckFrequency(f) => numbers([
-            ("sequence", f.sequence),
-            ("ack_eliciting_threshold", f.ack_eliciting_threshold),
-            ("request_max_ack_delay", f.request_max_ack_delay),
-            ("reordering_threshold", f.reordering_threshold),
+            ("sequence", f.sequence.into()),
+            ("ack_eliciting_threshold", f.ack_eliciting_threshold.into()),
+            ("request_max_ack_delay", f.request_max_ack_delay.into()),
+            ("reordering_threshold", f.reordering_threshold.into()),
         ]),
     }
 }
@@ -90,9 +105,9 @@ fn numbers<'a, const N: usize>(fields: [(&'static str, u64); N]) -> Vec<Field<'a
     fields.map(|(name, number)| (name, Number(number))).to_vec()
 }
 
-fn new_id_fields<'a>(n: &NewConnectionId<'a>) -> Vec<Field<'a>> {
+fn new_id_fields<'a>(n: &NewConnectionId) -> Vec<Field<'a>> {
     let front = numbers([("sequence", n.sequence), ("retire_prior_to", n.retire_prior_to)]);
-    let ids = [("id", Value::bytes(n.id)), ("reset_token", Value::few(n.reset_token))];
+    let ids = [("id", Value::few(&n.id[..])), ("reset_token", Value::few(&n.reset_token[..]))];
     [&front[..], &ids].concat()
 }
 
@@ -114,7 +129,8 @@ fn reason(bytes: &[u8]) -> [Field<'_>; 2] {
 }
 
 fn connection_fields<'a>(close: &ConnectionClose<'a>) -> Vec<Field<'a>> {
-    let mut fields = vec![("error_code", Number(close.error_code.into())), ("error_name", word(close.error_code))];
+    let mut fields =
+        vec![("error_code", Number(close.error_code.into())), ("error_name", word(fault::code_name(close.error_code)))];
     if let Some(ty) = close.frame_type {
         fields.extend([("frame_type", Number(ty.into())), ("frame_name", word(ty))]);
     }
@@ -123,7 +139,7 @@ fn connection_fields<'a>(close: &ConnectionClose<'a>) -> Vec<Field<'a>> {
 }
 
 fn application_fields<'a>(close: &ApplicationClose<'a>) -> Vec<Field<'a>> {
-    let mut fields = vec![("error_code", Number(close.error_code))];
+    let mut fields = vec![("error_code", Number(close.error_code.into()))];
     fields.extend(reason(close.reason));
     fields
 }

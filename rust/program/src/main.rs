@@ -71,11 +71,7 @@ fn show(args: &Args) -> ExitCode {
             Ok(()) => {}
         }
     }
-    if are_read {
-        status(Ok(()), output.is_clean())
-    } else {
-        ExitCode::from(FAILED)
-    }
+    if are_read { status(Ok(()), output.is_clean()) } else { ExitCode::from(FAILED) }
 }
 
 fn look(args: &Args) -> Look {

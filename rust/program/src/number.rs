@@ -1,9 +1,9 @@
 //! Varints (RFC 9000, section 16), and truncated packet numbers (section 17.1).
 use crate::output::{Output, Value};
+use Value::Number;
 use quic_wire::packet::PacketNumber;
 use quic_wire::varint;
 use std::io::{self, Write};
-use Value::Number;
 
 /// Prints the varints in the bytes, or the packet number that ends with them, given the largest received one.
 pub fn show(bytes: &[u8], largest: Option<u64>, output: &mut Output<impl Write>) -> io::Result<()> {
@@ -29,10 +29,14 @@ fn show_numbers(bytes: &[u8], output: &mut Output<impl Write>) -> io::Result<()>
 }
 
 fn show_packet_number(bytes: &[u8], largest: u64, output: &mut Output<impl Write>) -> io::Result<()> {
-    let written = bytes.iter().take(4).fold(0, |sum, byte| (sum << 8) | u64::from(*byte));
-    match PacketNumber::expand(written, bytes.len(), largest + 1) {
+    let number = match *bytes {
+        [_] | [_, _] | [_, _, _] | [_, _, _, _] => PacketNumber::decode(bytes.len(), &mut &bytes[..]).ok(),
+        _ => None,
+    };
+    match number.filter(|_| largest < varint::MAX) {
         Some(number) => {
-            let fields = [("value", Number(number)), ("written", Number(written))];
+            let written = bytes.iter().fold(0, |sum, byte| (sum << 8) | u64::from(*byte));
+            let fields = [("value", Number(number.expand(largest + 1))), ("written", Number(written))];
             output.item(0..bytes.len(), ("kind", "PACKET_NUMBER"), &fields, &[])
         }
         None => {

@@ -5,7 +5,7 @@ use crate::colour::{Painted, Part};
 use std::fmt::Display;
 use std::io::{self, Write};
 use std::ops::Range;
-pub use value::{unknown, Field, Value};
+pub use value::{Field, Value, unknown};
 use value::{Json, Quoted};
 
 /// How lines look.

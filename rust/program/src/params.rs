@@ -1,17 +1,17 @@
 //! Lists of transport parameters.
 use crate::fault;
-use crate::output::{unknown, Field, Output, Value};
-use quic_wire::transport_parameters::{ErrorKind, PreferredAddress, TransportParameters};
+use crate::output::{Field, Output, Value, unknown};
+use Value::{Flag, Ids, Number, Unknown, Word};
+use quic_wire::transport_parameters::{Error, PreferredAddress, ReadOptions, TransportParameters};
 use quic_wire::{ConnectionId, Side};
 use std::io::{self, Write};
-use Value::{Flag, Ids, Number, Unknown, Word};
 
 pub fn show(list: &[u8], side: Side, output: &mut Output<impl Write>) -> io::Result<()> {
-    let read = match TransportParameters::read(side, list) {
+    let read = match TransportParameters::read_list(side, ReadOptions::QUINN, list) {
         Ok(read) => read,
-        Err(error) => {
-            let what = if error.kind() == ErrorKind::IllegalValue { "illegal value" } else { "malformed" };
-            let (at, fields) = fault::of_parameters(list, side, error);
+        Err(refusal) => {
+            let what = if refusal.error == Error::IllegalValue { "illegal value" } else { "malformed" };
+            let (at, fields) = fault::of_parameters(list, side, refusal);
             return output.error(what, at, &fields);
         }
     };
@@ -27,15 +27,15 @@ pub fn show(list: &[u8], side: Side, output: &mut Output<impl Write>) -> io::Res
 fn fields(p: &TransportParameters) -> Vec<Field<'static>> {
     let id = |name, id: Option<ConnectionId>| id.map(|id| (name, Value::few(&*id)));
     let mut fields = numbers(p);
-    fields.extend(p.stateless_reset_token.map(|token| ("stateless_reset_token", Value::few(token))));
+    fields.extend(p.stateless_reset_token.map(|token| ("stateless_reset_token", Value::few(&token[..]))));
     fields.extend(p.disable_active_migration.then_some(("disable_active_migration", Flag(true))));
-    fields.extend(p.max_datagram_frame_size.map(|size| ("max_datagram_frame_size", Number(size))));
+    fields.extend(p.max_datagram_frame_size.map(|size| ("max_datagram_frame_size", Number(size.into()))));
     fields.extend(p.preferred_address.iter().flat_map(address));
     fields.extend(id("original_dst_cid", p.original_dst_cid));
     fields.extend(id("initial_src_cid", p.initial_src_cid));
     fields.extend(id("retry_src_cid", p.retry_src_cid));
     fields.extend(p.grease_quic_bit.then_some(("grease_quic_bit", Flag(true))));
-    fields.extend(p.min_ack_delay.map(|delay| ("min_ack_delay", Number(delay))));
+    fields.extend(p.min_ack_delay.map(|delay| ("min_ack_delay", Number(delay.into()))));
     fields
 }
 
@@ -54,6 +54,7 @@ fn numbers(p: &TransportParameters) -> Vec<Field<'static>> {
             ("max_ack_delay", p.max_ack_delay),
             ("active_connection_id_limit", p.active_connection_id_limit),
         ]
+        .map(|(name, number)| (name, number.into_inner()))
     };
     let by_default = all(&TransportParameters::default());
     let differs = |(number, default): ((&'static str, u64), (&str, u64))| {
@@ -67,6 +68,6 @@ fn address(a: &PreferredAddress) -> Vec<Field<'static>> {
     fields.extend(a.address_v4.map(|address| ("preferred_address_v4", Word(address.to_string().into()))));
     fields.extend(a.address_v6.map(|address| ("preferred_address_v6", Word(address.to_string().into()))));
     fields.push(("preferred_address_cid", Value::few(&*a.connection_id)));
-    fields.push(("preferred_address_token", Value::few(a.stateless_reset_token)));
+    fields.push(("preferred_address_token", Value::few(&a.stateless_reset_token[..])));
     fields
 }

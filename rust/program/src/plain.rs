@@ -109,11 +109,7 @@ fn value_at(text: &[u8]) -> usize {
     let (name, value) = (&text[..end], text[end + 1..].trim_ascii());
     let is_name = name.trim_ascii_start().first().is_some_and(|byte| byte.is_ascii_alphabetic() || *byte == b'_');
     let is_quoted = name.iter().any(|byte| b"\"'\\".contains(byte));
-    if is_name && !is_quoted && !value.is_empty() && !value.starts_with(b"=") {
-        end + 1
-    } else {
-        0
-    }
+    if is_name && !is_quoted && !value.is_empty() && !value.starts_with(b"=") { end + 1 } else { 0 }
 }
 
 /// Where a literal of bytes begins, as `b'..'` of Python or Rust, if the text is one.

@@ -1,49 +1,42 @@
 //! Sets of packet numbers, in decimal.
 use crate::output::{Output, Value};
+use Value::Number;
 use quic_wire::frame::Ack;
-use quic_wire::range_set::{self, Run};
+use quic_wire::range_set::RangeSet;
 use quic_wire::varint;
 use std::io::{self, Write};
 use std::ops::Range;
-use Value::Number;
 
 /// Prints the set of the numbers and ranges in a line, and an ACK of it.
 pub fn show(line: &[u8], output: &mut Output<impl Write>) -> io::Result<()> {
     let is_blank = |byte: &u8| b" \t,;[]{}()".contains(byte);
     let words = || line.split(is_blank).filter(|word| !word.is_empty());
-    let mut runs = Vec::new();
-    runs.try_reserve_exact(words().count())?;
-    runs.resize(words().count(), Run::default());
-    let mut count = 0;
+    let mut set = RangeSet::new();
     for word in words() {
-        let inserted = range(word).map(|range| range_set::insert(&mut runs, &mut count, range));
-        if !matches!(inserted, Some(Ok(_))) {
+        if range(word).map(|range| set.insert(range)).is_none() {
             let what = format!("not a packet number or range below 2^62: {:?}", String::from_utf8_lossy(word));
             return output.error(&what, None, &[]);
         }
     }
-    runs.truncate(count);
-    show_set(&runs, output)
+    show_set(&set, output)
 }
 
-fn show_set(runs: &[Run], output: &mut Output<impl Write>) -> io::Result<()> {
-    let Some(last) = runs.last() else { return output.error("no packet numbers", None, &[]) };
+fn show_set(set: &RangeSet, output: &mut Output<impl Write>) -> io::Result<()> {
+    let Some(largest) = set.max() else { return output.error("no packet numbers", None, &[]) };
     let mut ranges = Vec::new();
-    ranges.try_reserve_exact(runs.len())?;
-    ranges.extend(runs.iter().rev().map(|run| (run.start, run.end - 1)));
+    ranges.try_reserve_exact(set.len())?;
+    ranges.extend(set.iter().rev().map(|run| (run.start, run.end - 1)));
     let mut ack = Vec::new();
     // A type, four numbers, and two for each range.
-    ack.try_reserve_exact(8 * (2 * runs.len() + 4))?;
-    ack.resize(8 * (2 * runs.len() + 4), 0);
-    let len = match Ack::encode(0, runs, None, &mut ack[..]) {
-        Ok(len) => len,
-        Err(error) => return output.error(&error.to_string(), None, &[]),
-    };
+    ack.try_reserve_exact(8 * (2 * set.len() + 4))?;
+    if let Err(error) = Ack::encode_from(0, set, None, &mut ack) {
+        return output.error(&error.to_string(), None, &[]);
+    }
     let fields = [
-        ("largest", Number(last.end - 1)),
-        ("count", Number(runs.iter().map(|run| run.end - run.start).sum())),
+        ("largest", Number(largest)),
+        ("count", Number(set.iter().map(|run| run.end - run.start).sum())),
         ("ranges", Value::Runs(ranges)),
-        ("ack", Value::bytes(&ack[..len])),
+        ("ack", Value::bytes(&ack)),
     ];
     output.fields(&fields, &[])
 }

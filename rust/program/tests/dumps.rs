@@ -3,7 +3,6 @@
 //! The files hold 51 bytes, as these programs printed them: xxd 2022-01-14, hexdump of util-linux 2.38.1, od of GNU
 //! coreutils 9.1, tshark 4.0.17 and tcpdump 4.99.3 (a capture of the link type 147, which adds nothing in front),
 //! Python 3.11, rustc 1.95. Wireshark's are those of tshark with the three blanks that its Copy puts behind an offset.
-#![cfg(feature = "std")]
 use std::collections::BTreeSet;
 use std::fs;
 use std::path::PathBuf;

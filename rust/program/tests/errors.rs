@@ -1,5 +1,4 @@
 //! Where an error of `quic-wire` is, in which field, and what an endpoint does by the RFCs.
-#![cfg(feature = "std")]
 mod common;
 
 use common::{lines, run};

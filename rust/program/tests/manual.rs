@@ -1,9 +1,8 @@
 //! The page of the manual and the completions name what `quic-wire --help` names, which is what the program takes.
-#![cfg(feature = "std")]
 use std::collections::BTreeSet;
 use std::process::Command;
 
-const TAKEN: &str = include_str!("../src/bin/quic-wire/args.rs");
+const TAKEN: &str = include_str!("../src/args.rs");
 const MANUAL: &str = include_str!("../man/quic-wire.1");
 const BASH: &str = include_str!("../completions/quic-wire.bash");
 const ZSH: &str = include_str!("../completions/_quic-wire");

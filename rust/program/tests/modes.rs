@@ -1,5 +1,4 @@
 //! The modes of `quic-wire` beside frames, packets and parameters, and what it knows of the lines before.
-#![cfg(feature = "std")]
 mod common;
 
 use common::lines;

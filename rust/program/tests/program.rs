@@ -1,5 +1,4 @@
 //! The program `quic-wire`: what it prints, and that it reads what `quic-show` reads.
-#![cfg(feature = "std")]
 mod common;
 
 use common::{lines, run};

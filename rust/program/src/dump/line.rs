@@ -44,11 +44,7 @@ impl Form {
             Form::OdOctal | Form::Units => text.len() == 7,
             Form::Colon | Form::Wireshark => false,
         };
-        if is_one && text.iter().all(u8::is_ascii_hexdigit) {
-            self.offset(text)
-        } else {
-            None
-        }
+        if is_one && text.iter().all(u8::is_ascii_hexdigit) { self.offset(text) } else { None }
     }
 
     /// Whether its program prints a line that closes a dump.

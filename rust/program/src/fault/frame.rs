@@ -1,9 +1,13 @@
 //! Frames: RFC 9000, section 19; RFC 9221, section 4; the ACK frequency extension.
-use super::{closed, Place, Walk};
+use super::{Place, Walk, closed};
 use crate::output::Field;
-use quic_wire::frame::{FrameType, InvalidFrame, Reason};
-use quic_wire::transport_error::Code;
 use quic_wire::MAX_CID_SIZE;
+use quic_wire::frame::{FrameType, InvalidFrame};
+use quic_wire::transport_error::Code;
+
+// The reasons of errors that are of a frame's type.
+const INVALID_TYPE: &str = "invalid frame ID";
+const LONG_TYPE: &str = "frame type not in shortest form";
 
 /// What is known about a payload without frames.
 pub fn of_empty_payload() -> Vec<Field<'static>> {
@@ -12,18 +16,19 @@ pub fn of_empty_payload() -> Vec<Field<'static>> {
 
 /// What is known about an invalid frame that begins at an offset of the payload.
 pub fn of_frame(payload: &[u8], begin: usize, invalid: &InvalidFrame) -> Vec<Field<'static>> {
+    let is_of_type = invalid.reason == INVALID_TYPE || invalid.reason == LONG_TYPE;
     let section = match invalid.reason {
-        Reason::InvalidFrameId | Reason::LongType => "RFC 9000, section 12.4",
-        Reason::Malformed if invalid.ty == Some(FrameType::NEW_CONNECTION_ID) => "RFC 9000, section 19.15",
-        Reason::Malformed => "RFC 9000, section 19.3.1",
+        _ if is_of_type => "RFC 9000, section 12.4",
+        "malformed" if invalid.ty == Some(FrameType::NEW_CONNECTION_ID) => "RFC 9000, section 19.15",
+        "malformed" => "RFC 9000, section 19.3.1",
         _ => "RFC 9000, section 20.1",
     };
     let place = match invalid.reason {
-        Reason::InvalidFrameId | Reason::LongType => Some(Place { field: "Frame Type", at: 0 }),
+        _ if is_of_type => Some(Place { field: "Frame Type", at: 0 }),
         _ => place(&payload[begin..]),
     };
     let place = place.map(|place| place.fields(begin));
-    [place.as_slice().as_flattened(), &closed(invalid.code(), section)].concat()
+    [place.as_slice().as_flattened(), &closed(invalid.to_error().code, section)].concat()
 }
 
 // The first field of a frame that is cut off or has an invalid value.
@@ -141,7 +146,7 @@ mod tests {
             frame[0] %= 0x32;
             match Iter::new(&frame).unwrap().next().unwrap() {
                 Ok(_) => assert_eq!(place(&frame), None, "{frame:02x?}"),
-                Err(invalid) if invalid.reason == Reason::InvalidFrameId => {}
+                Err(invalid) if invalid.reason == INVALID_TYPE => {}
                 Err(invalid) => {
                     let at = place(&frame).unwrap_or_else(|| panic!("{invalid} {frame:02x?}")).at;
                     assert!(at <= len, "{frame:02x?}");

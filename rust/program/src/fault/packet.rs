@@ -1,8 +1,8 @@
 //! Packet headers: RFC 9000, section 17; RFC 8999.
 use super::{Place, Walk};
 use crate::output::{Field, Value};
-use quic_wire::packet::HeaderError;
 use quic_wire::MAX_CID_SIZE;
+use quic_wire::datagram::HeaderError;
 
 const VERSION_2: u32 = 0x6b33_43cf;
 

@@ -1,9 +1,9 @@
 //! Transport parameters: RFC 9000, sections 7.4 and 18.
-use super::{closed, Walk};
+use super::{Walk, closed};
 use crate::output::{Field, Value};
 use quic_wire::transport_error::Code;
-use quic_wire::transport_parameters::Error;
-use quic_wire::{varint, Side};
+use quic_wire::transport_parameters::Refusal;
+use quic_wire::{Side, varint};
 use std::ops::Range;
 
 struct Parameter {
@@ -85,14 +85,14 @@ fn known(id: u64) -> Option<&'static Parameter> {
 }
 
 /// Where the parameter is for which a list is rejected, and what is known about it.
-pub fn of_parameters(list: &[u8], side: Side, error: Error) -> (Option<usize>, Vec<Field<'static>>) {
-    let at = error.offset();
+pub fn of_parameters(list: &[u8], side: Side, refusal: Refusal) -> (Option<usize>, Vec<Field<'static>>) {
+    let at = refusal.offset;
     let fields = match entries(list).find(|entry| entry.place.start == at) {
         Some(entry) => match known(entry.id) {
             Some(known) => of_entry(list, side, &entry, known),
             None => closed(Code::TRANSPORT_PARAMETER_ERROR, REPEATED).to_vec(),
         },
-        None => of_cut_off(error.id()),
+        None => of_cut_off(refusal.id),
     };
     (Some(at), fields)
 }
@@ -146,7 +146,7 @@ mod tests {
     #[test]
     fn the_table_has_the_parameters_that_the_library_knows() {
         for id in (0..0x1_0000).chain([MIN_ACK_DELAY]) {
-            let is_known = transport_parameters::Entry { id, value: &[] }.is_known();
+            let is_known = transport_parameters::known(id).is_some();
             assert_eq!(known(id).is_some(), is_known, "{id:#x}");
         }
     }

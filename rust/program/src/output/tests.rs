@@ -18,8 +18,7 @@ fn items_are_lines_and_objects() {
     let object = "{\"line\":7,\"start\":0,\"end\":5,\"type\":\"CLOSE\",\"reason\":\"a\\\"\\u000a\u{fffd}\",\
                   \"ranges\":[[1,2],[0,0]],\"raw_type\":28}\n";
     assert_eq!(written(Look::Json, item), object);
-    let coloured =
-        "\x1b[2m7:\x1b[0m \x1b[33m0..5\x1b[0m \x1b[1;32mCLOSE\x1b[0m \x1b[36mreason\x1b[0m=\"a\\\"\\n\u{fffd}\" \
+    let coloured = "\x1b[2m7:\x1b[0m \x1b[33m0..5\x1b[0m \x1b[1;32mCLOSE\x1b[0m \x1b[36mreason\x1b[0m=\"a\\\"\\n\u{fffd}\" \
                     \x1b[36mranges\x1b[0m=1-2,0-0\n";
     assert_eq!(written(Look::Coloured, item), coloured);
 }

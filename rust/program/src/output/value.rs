@@ -1,6 +1,6 @@
 //! The values of a line's fields. They borrow long data.
 use quic_wire::frame::Ack;
-use quic_wire::transport_parameters::{entries, Entry};
+use quic_wire::transport_parameters::{Entry, entries, known};
 use std::borrow::Cow;
 use std::fmt::{self, Display, Formatter, Write};
 
@@ -47,7 +47,7 @@ impl<'a> Value<'a> {
 
 /// The parameters without a name in a list.
 pub fn unknown(list: &[u8]) -> impl Iterator<Item = Entry<'_>> {
-    entries(list).flatten().filter(|entry| !entry.is_known())
+    entries(list).flatten().filter(|entry| known(entry.id).is_none())
 }
 
 // Bytes in hexadecimal.

@@ -1,5 +1,5 @@
 // Recognizes what a text has besides digits: comments, names of lists, bytes as Python and Rust print them, lists of
-// decimal numbers, the lines above a dump; and dumps that swap bytes, which aren't read. rust/README.md has the table.
+// decimal numbers, the lines above a dump; and dumps that swap bytes, which aren't read. rust/program/README.md has the table.
 // Functions "with pauses" are generators (slices.js).
 
 import { AT_ONCE, eachLine, Pace } from "./slices.js";

@@ -1,7 +1,7 @@
 #!/usr/bin/env python3
 """Proves for all values what is computed without a call of the proved library: the expressions of
-c/include/quic_wire_inline.h, and those for the ends of a set in rust/src/range_set/ends.rs. Their text is given to the
-solver z3 as it is. What they must equal is written here, in numbers of 72 bits, in which nothing wraps.
+c/include/quic_wire_inline.h. Their text is given to the solver z3 as it is. What they must equal is written here, in
+numbers of 72 bits, in which nothing wraps.
 
 all_words.py   needs gcc and Debian's python3-z3 and python3-pycparser
 """
@@ -354,52 +354,6 @@ def short_numbers(functions):
     prove("others are read by the library", f.path == z3.And(is_given, z3.Not(there)))
 
 
-# ---- rust/src/range_set/ends.rs
-
-
-def conditions_of(text):
-    """The conditions in Rust, as written, with the ends of the two runs as values."""
-    names = {f"{run}_{end}": z3.BitVec(f"{run}.{end}", 64) for run in ("range", "last", "first") for end in ("start", "end")}
-
-    def of(condition):
-        parts = []
-        for part in re.split(r"&&|\|\|", condition):
-            left, op, right = re.fullmatch(r"\s*(\w+\.\w+) (<|<=|>|>=) (\w+\.\w+)\s*", part).groups()
-            parts.append(OPERATORS[op](*[Word(names[it.replace(".", "_")], False) for it in (left, right)]))
-        return z3.Or(*parts) if "||" in condition else z3.And(*parts)
-
-    arms = re.findall(r"(?:Some\(last\)|_) if (.*?) => ", text)
-    refuse = re.search(r"if ([^{]*) \{\s*return None;", text)[1]
-    changes = re.search(r"let changes = ([^;]*);", text)[1]
-    return names, [of(it) for it in arms], of(refuse), of(changes)
-
-
-def ends_of_sets():
-    text = (TOP / "rust/src/range_set/ends.rs").read_text()
-    names, (before, kept, extended, behind), refused, changes = conditions_of(text)
-    start, end, last_start, last_end = [names[it] for it in ("range_start", "range_end", "last_start", "last_end")]
-    number = z3.BitVec("number", 64)
-    within = lambda low, high: z3.And(z3.ULE(low, number), z3.ULT(number, high))
-    run = z3.ULT(last_start, last_end)
-    put = z3.Or(within(last_start, last_end), within(start, end))
-    first_kept = z3.And(z3.Not(before), kept)
-    grows = z3.And(z3.Not(before), z3.Not(kept), extended)
-    other = z3.And(z3.Not(before), z3.Not(kept), z3.Not(extended))
-    prove("a set that is kept has the numbers", put == within(last_start, last_end), run, first_kept)
-    prove("a run that goes on has the numbers", put == within(last_start, end), run, grows)
-    prove("and is longer", z3.ULT(last_end, end), run, grows)
-    prove("a run behind touches none", z3.And(z3.ULT(last_end, start), z3.ULT(start, end)), run, other, behind)
-    prove("no number is put in otherwise", z3.Not(within(start, end)), run, other, z3.Not(behind))
-    first_start, first_end = names["first_start"], names["first_end"]
-    run = z3.ULT(first_start, first_end)
-    left = z3.And(within(first_start, first_end), z3.Not(within(start, end)))
-    prove("numbers taken from the front are out", left == within(end, first_end), run, z3.Not(refused), changes)
-    prove("and others are left", z3.ULT(end, first_end), run, z3.Not(refused), changes)
-    prove("a set that doesn't change had none of them", left == within(first_start, first_end), run, z3.Not(refused),
-          z3.Not(changes))
-    prove("no later run had one of them", z3.Not(within(start, end)), z3.Not(refused), z3.UGT(number, first_end))
-
-
 TREE = parsed_header()
 CONSTANTS = constants_of(TREE)
 FIELDS = fields_of(TREE)
@@ -413,7 +367,6 @@ def main():
     paddings(functions)
     header_lens(functions)
     short_numbers(functions)
-    ends_of_sets()
 
 
 if __name__ == "__main__":

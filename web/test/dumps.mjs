@@ -1,4 +1,4 @@
-// Compares what the page reads from the files in a folder: each file *.txt of the table in rust/README.md must have the
+// Compares what the page reads from the files in a folder: each file *.txt of the table in rust/program/README.md must have the
 // bytes of xxd-p.txt, or be rejected if its row says so. It uses a copy of web/'s module, since node takes *.js files
 // for modules only if a package.json says so.
 //
@@ -17,9 +17,9 @@ try {
   writeFileSync(join(room, "package.json"), '{"type":"module"}');
   const { readEntries } = await import(pathToFileURL(join(room, "entries.js")));
   const { toHex } = await import(pathToFileURL(join(room, "bytes.js")));
-  const dumps = join(top, "rust", "tests", "dumps");
+  const dumps = join(top, "rust", "program", "tests", "dumps");
   const want = readFileSync(join(dumps, "xxd-p.txt"), "utf8").trim();
-  const readme = readFileSync(join(top, "rust", "README.md"), "utf8");
+  const readme = readFileSync(join(top, "rust", "program", "README.md"), "utf8");
   const rows = readme.split("\n").filter((row) => row.includes(".txt` |"));
   let failed = 0;
   for (const row of rows) {

@@ -6,7 +6,6 @@ numbers of 72 bits, in which nothing wraps.
 all_words.py   needs gcc and Debian's python3-z3 and python3-pycparser
 """
 import pathlib
-import re
 import subprocess
 import sys
 import tempfile

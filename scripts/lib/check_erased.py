@@ -121,7 +121,7 @@ HIDDEN = r"\b(?:open_datagram|open_packet|seal_packet|write_(?:number_)?entry(?:
 UNNEEDED = ("numbers", "of_flags", "type_bounds")
 # The traits that types have in Rust beside those of the sources.
 DERIVED = {
-    "Clone": "CanonBytes",
+    "Clone": "CanonBytes InitialPacket Opened Packet PartialDecode",
     "Clone, Debug": "Checked Cursor Iter Keys SpaceKeys",
     "Clone, PartialEq, Eq": "Header InitialHeader",
     "Default, Hash": "EcnCounts Expected",

@@ -66,7 +66,7 @@ const REEXPORTED: [&str; 7] = [
 const FOR_THE_CRATE: [&str; 3] = ["numbers", "of_flags", "type_bounds"];
 
 /// Types, and the traits that they have in Rust beside those of the sources.
-const DERIVED: [(&str, &str); 31] = [
+const DERIVED: [(&str, &str); 35] = [
     ("Ack", "Hash"),
     ("AckFrequency", "Hash"),
     ("ApplicationClose", "Hash"),
@@ -85,13 +85,17 @@ const DERIVED: [(&str, &str); 31] = [
     ("Header", "Clone, PartialEq, Eq"),
     ("HeaderKind", "Hash"),
     ("InitialHeader", "Clone, PartialEq, Eq"),
+    ("InitialPacket", "Clone"),
     ("InvalidFrame", "Hash"),
     ("Iter", "Clone, Debug"),
     ("Keys", "Clone, Debug"),
     ("LongType", "Hash"),
     ("NewConnectionId", "PartialEq, Eq, Hash"),
     ("NewToken", "PartialEq, Eq, Hash"),
+    ("Opened", "Clone"),
+    ("Packet", "Clone"),
     ("PacketNumber", "Hash"),
+    ("PartialDecode", "Clone"),
     ("ProtectedHeader", "PartialEq, Eq"),
     ("ProtectedInitialHeader", "PartialEq, Eq"),
     ("ResetStream", "PartialEq, Eq, Hash"),

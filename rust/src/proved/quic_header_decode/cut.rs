@@ -16,7 +16,7 @@ use crate::proved::quic_header_encode::long_type::LongType;
 // use std::marker::Model;
 
 /// A packet that was cut from a datagram, whose header is still protected.
-#[derive(Debug)]
+#[derive(Debug, Clone)]
 pub struct PartialDecode {
     pub(crate) plain_header: ProtectedHeader,
     pub(crate) packet: BytesMut,

@@ -8,7 +8,7 @@ use crate::kit::bytes::{Bytes, BytesMut};
 use crate::proved::quic_header_encode::header::{Header, InitialHeader};
 
 /// An Initial packet whose header protection was removed. Its payload may still be sealed.
-#[derive(Debug)]
+#[derive(Debug, Clone)]
 pub struct InitialPacket {
     /// The header.
     pub header: InitialHeader,
@@ -19,7 +19,7 @@ pub struct InitialPacket {
 }
 
 /// A packet whose header protection was removed. Its payload may still be sealed.
-#[derive(Debug)]
+#[derive(Debug, Clone)]
 pub struct Packet {
     /// The header.
     pub header: Header,

@@ -35,7 +35,7 @@ pub enum OpenError {
 }
 
 /// A packet that was opened, or one that has no protection.
-#[derive(Debug)]
+#[derive(Debug, Clone)]
 pub struct Opened {
     /// The header.
     pub header: Header,

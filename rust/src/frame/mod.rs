@@ -27,7 +27,7 @@ use core::iter::FusedIterator;
 
 pub use crate::proved::quic_frame_fields::frame::{
     Ack, AckError, AckFrequency, AckIter, ApplicationClose, Close, ConnectionClose, Crypto, Datagram, EcnCounts,
-    NewConnectionId, NewToken, ResetStream, StopSending, Stream, StreamMeta,
+    NewConnectionId, NewToken, ResetStream, StopSending, Stream, StreamMeta, split_first_range,
 };
 pub use crate::proved::quic_frames::frame::{
     Breach, Checked, Frame, FrameStruct, FrameType, InvalidFrame, Iter, RETIRE_CONNECTION_ID_SIZE_BOUND, Rules,

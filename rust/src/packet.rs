@@ -58,7 +58,9 @@ impl PacketNumber {
     /// If `largest_acked` is above `n`, or 2^31 or more below it.
     #[inline]
     pub fn new(n: u64, largest_acked: u64) -> PacketNumber {
-        PacketNumber::try_new(n, largest_acked).expect("a packet number is 0 to 2^31 - 1 above an acknowledged one")
+        let is_near = n >= largest_acked && n - largest_acked < 1 << 31;
+        assert!(is_near, "a packet number is 0 to 2^31 - 1 above an acknowledged one");
+        PacketNumber::proved_new(n, largest_acked)
     }
 
     /// As [`PacketNumber::new`]; `None` if that would panic.
@@ -69,6 +71,7 @@ impl PacketNumber {
     }
 
     // Whether it has the bytes that its variant says.
+    #[inline(always)]
     fn in_range(self) -> bool {
         !matches!(self, PacketNumber::U24(low) if low >= 1 << 24)
     }
@@ -143,18 +146,21 @@ impl FixedLengthConnectionIdParser {
 
 impl Header {
     // Why it can't be written, if so.
+    #[inline(always)]
     fn unwritable(&self) -> Option<&'static str> {
-        if self.number().is_some_and(|number| !number.in_range()) {
-            return Some("a packet number of three bytes is 2^24 or more");
-        }
-        match self {
+        let number = match self {
             Header::Initial(initial) if initial.token.len() as u64 > varint::MAX => {
-                Some("a token of 2^62 bytes or more")
+                return Some("a token of 2^62 bytes or more");
             }
-            _ => None,
-        }
+            Header::Initial(InitialHeader { number, .. })
+            | Header::Long { number, .. }
+            | Header::Short { number, .. } => number,
+            Header::Retry { .. } | Header::VersionNegotiate { .. } => return None,
+        };
+        if number.in_range() { None } else { Some("a packet number of three bytes is 2^24 or more") }
     }
 
+    #[inline(always)]
     fn assert_writable(&self) {
         if let Some(why) = self.unwritable() {
             panic!("{why}");
@@ -201,14 +207,15 @@ impl PartialEncode {
         crypto: Option<(u64, &P)>,
     ) {
         if let Some((pn_len, has_len)) = self.pn {
-            let front = if has_len { 3 } else { 1 };
-            assert!(pn_len <= 4 && pn_len + front <= self.header_len, "a packet number comes after other fields");
-            let behind = buf.len().checked_sub(self.header_len).expect("a packet has its whole header");
+            let (front, most) = if has_len { (3, (1 << 14) - 1) } else { (1, usize::MAX) };
+            let is_header = pn_len <= 4 && pn_len + front <= self.header_len && self.header_len <= buf.len();
+            assert!(is_header, "a packet has its whole header, whose number comes after other fields");
+            let behind = buf.len() - self.header_len;
             let tag = crypto.as_ref().map_or(0, |(_, key)| key.tag_len());
             assert!(tag <= behind, "a packet has room for its tag");
-            let sample = header_key.sample_size().checked_add(4).is_some_and(|len| len <= behind + pn_len);
-            assert!(sample, "a packet has four bytes and the sample from its number on");
-            assert!(!has_len || behind + pn_len < 1 << 14, "a packet is too long for its length field");
+            let len = behind + pn_len;
+            let has_sample = len >= 4 && header_key.sample_size() <= len - 4;
+            assert!(has_sample && len <= most, "a packet has a sample, and fits in its length field");
         }
         let crypto = crypto.as_ref().map(|(number, key)| (*number, key));
         self.proved_finish(buf, &header_key, crypto);
@@ -229,7 +236,9 @@ impl PartialDecode {
     /// If there is no key for a packet that has protection, which are those with a [`PartialDecode::space`].
     #[inline]
     pub fn finish<H: HeaderKey + ?Sized>(self, header_key: Option<&H>) -> Result<Packet, PacketDecodeError> {
-        assert!(header_key.is_some() || self.space().is_none(), "a protected packet needs a header key");
+        if header_key.is_none() {
+            assert!(self.space().is_none(), "a protected packet needs a header key");
+        }
         self.proved_finish(header_key.as_ref())
     }
 }

@@ -1,58 +1,49 @@
 //! The glue to `quic_wire`: converts between its frames and those of quinn-proto.
-use bytes::Bytes;
+use bytes::{Bytes, BufMut};
 pub(crate) use quic_wire::frame::Frame;
-use quic_wire::frame::{self as theirs, FrameType};
-use quic_wire::transport_error::Code;
+use quic_wire::frame as theirs;
+use quic_wire::ids;
+use quic_wire::varint::VarInt as Number;
 
-use crate::{Dir, ResetToken, StreamId, TransportErrorCode, VarInt, frame, shared::ConnectionId};
+use crate::{Dir, StreamId, TransportErrorCode, VarInt, frame};
 
-pub(crate) fn put(buf: &mut Vec<u8>, x: &Frame<'_>) {
-    x.encode(false, buf).expect("a frame in range");
+#[inline]
+pub(crate) fn put<W: BufMut>(buf: &mut W, x: &Frame<'_>) {
+    x.encode(false, buf).expect("room");
 }
 
-/// A close of at most `max_len` bytes, with as much of its reason as fits.
-pub(crate) fn put_close(buf: &mut Vec<u8>, close: theirs::Close<'_>, max_len: usize) {
-    put(buf, &Frame::Close(close.shortened(max_len).expect("room for a close")));
+/// A varint, which this crate keeps below 2^62
+#[inline]
+pub(crate) fn number(x: VarInt) -> Number {
+    Number::from_u64(x.into_inner()).expect("below 2^62")
 }
 
-pub(crate) fn code(code: TransportErrorCode) -> Code {
-    Code::new(code.into()).expect("below 2^62")
+#[inline]
+fn var(x: Number) -> VarInt {
+    VarInt(x.into_inner())
 }
 
-/// The type PADDING means that none is known.
-pub(crate) fn frame_type(ty: u64) -> Option<FrameType> {
-    FrameType::new(ty).filter(|ty| *ty != FrameType::PADDING)
+#[inline]
+pub(crate) fn id(x: StreamId) -> ids::StreamId {
+    Number::from_u64(x.0).expect("below 2^62").into()
 }
 
-pub(crate) fn token(token: &ResetToken) -> [u8; 16] {
-    let mut bytes = [0; 16];
-    bytes.copy_from_slice(token);
-    bytes
-}
-
-fn var(x: u64) -> VarInt {
-    VarInt::from_u64(x).expect("read as a varint")
-}
-
-pub(crate) fn id(x: StreamId) -> theirs::StreamId {
-    theirs::StreamId(x.0)
-}
-
-pub(crate) fn dir(x: Dir) -> theirs::Dir {
+pub(crate) fn dir(x: Dir) -> ids::Dir {
     match x {
-        Dir::Bi => theirs::Dir::Bi,
-        Dir::Uni => theirs::Dir::Uni,
+        Dir::Bi => ids::Dir::Bi,
+        Dir::Uni => ids::Dir::Uni,
     }
 }
 
-fn own_id(x: theirs::StreamId) -> StreamId {
-    StreamId(x.0)
+#[inline]
+fn own_id(x: ids::StreamId) -> StreamId {
+    StreamId(x.into())
 }
 
-fn own_dir(x: theirs::Dir) -> Dir {
+fn own_dir(x: ids::Dir) -> Dir {
     match x {
-        theirs::Dir::Bi => Dir::Bi,
-        theirs::Dir::Uni => Dir::Uni,
+        ids::Dir::Bi => Dir::Bi,
+        ids::Dir::Uni => Dir::Uni,
     }
 }
 
@@ -60,7 +51,7 @@ fn close(payload: &Bytes, x: theirs::Close<'_>) -> frame::Close {
     match x {
         theirs::Close::Connection(x) => frame::Close::Connection(frame::ConnectionClose {
             error_code: TransportErrorCode::of(x.error_code.into()),
-            frame_type: x.frame_type.map(|t| frame::FrameType::of(t.into())),
+            frame_type: x.frame_type.map(|t| frame::FrameType::of(t.into_inner())),
             reason: payload.slice_ref(x.reason),
         }),
         theirs::Close::Application(x) => frame::Close::Application(frame::ApplicationClose {
@@ -80,7 +71,7 @@ pub(crate) fn owned(payload: &Bytes, frame: Frame<'_>) -> frame::Frame {
         Frame::Ack(ack) => Ours::Ack(frame::Ack {
             largest: ack.largest(),
             delay: ack.delay(),
-            bytes: payload.slice_ref(ack.as_bytes()),
+            additional: payload.slice_ref(ack.additional()),
             ecn: ack.ecn().map(|e| frame::EcnCounts { ect0: e.ect0, ect1: e.ect1, ce: e.ce }),
         }),
         Frame::ResetStream(x) => Ours::ResetStream(frame::ResetStream {
@@ -91,13 +82,13 @@ pub(crate) fn owned(payload: &Bytes, frame: Frame<'_>) -> frame::Frame {
         Frame::StopSending(x) => {
             Ours::StopSending(frame::StopSending { id: own_id(x.id), error_code: var(x.error_code) })
         }
-        Frame::Crypto(x) => Ours::Crypto(frame::Crypto { offset: x.offset, data: payload.slice_ref(x.data) }),
+        Frame::Crypto(x) => Ours::Crypto(frame::Crypto { offset: x.offset, data: payload.slice_ref(x.bytes) }),
         Frame::NewToken(x) => Ours::NewToken(frame::NewToken { token: payload.slice_ref(x.token) }),
         Frame::Stream(x) => Ours::Stream(frame::Stream {
             id: own_id(x.id),
             offset: x.offset,
             fin: x.fin,
-            data: payload.slice_ref(x.data),
+            data: payload.slice_ref(x.bytes),
         }),
         Frame::MaxData(x) => Ours::MaxData(var(x)),
         Frame::MaxStreamData { id: x, offset } => Ours::MaxStreamData { id: own_id(x), offset },
@@ -108,14 +99,14 @@ pub(crate) fn owned(payload: &Bytes, frame: Frame<'_>) -> frame::Frame {
         Frame::NewConnectionId(x) => Ours::NewConnectionId(frame::NewConnectionId {
             sequence: x.sequence,
             retire_prior_to: x.retire_prior_to,
-            id: ConnectionId::new(x.id),
-            reset_token: (*x.reset_token).into(),
+            id: x.id,
+            reset_token: <[u8; 16]>::from(x.reset_token).into(),
         }),
         Frame::RetireConnectionId { sequence } => Ours::RetireConnectionId { sequence },
         Frame::PathChallenge(x) => Ours::PathChallenge(x),
         Frame::PathResponse(x) => Ours::PathResponse(x),
         Frame::Close(x) => Ours::Close(close(payload, x)),
-        Frame::Datagram(x) => Ours::Datagram(frame::Datagram { data: payload.slice_ref(x.data) }),
+        Frame::Datagram(x) => Ours::Datagram(frame::Datagram { data: payload.slice_ref(x.bytes) }),
         Frame::HandshakeDone => Ours::HandshakeDone,
         Frame::AckFrequency(x) => Ours::AckFrequency(frame::AckFrequency {
             sequence: var(x.sequence),

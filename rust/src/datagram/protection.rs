@@ -161,17 +161,14 @@ impl PacketPlace {
         behind.get(..len).ok_or(UnprotectError::TooShort)
     }
 
-    // What is read once the protection was removed.
+    // What is read once the protection was removed, by an expected number below 2^62.
     #[inline]
     fn opened(&self, first: u8, number: &[u8; 4], expected: u64) -> Opened {
         let number_len = PacketNumber::decode_len(first);
-        let written = match *number {
-            [a, ..] if number_len == 1 => PacketNumber::U8(a),
-            [a, b, ..] if number_len == 2 => PacketNumber::U16(u16::from_be_bytes([a, b])),
-            [a, b, c, _] if number_len == 3 => PacketNumber::U24(u32::from_be_bytes([0, a, b, c])),
-            _ => PacketNumber::U32(u32::from_be_bytes(*number)),
-        };
-        Opened { number: written.expand(expected), number_len, payload: self.number + number_len, first }
+        // It is 1 to 4, so there are as many bytes, and the number is in range.
+        let written = PacketNumber::proved_decode(number_len, &mut &number[..]).unwrap_or(PacketNumber::U8(0));
+        let number = written.proved_expand(expected);
+        Opened { number, number_len, payload: self.number + number_len, first }
     }
 
     /// Removes the packet's header protection with a mask (RFC 9001, section 5.4.1), and expands its packet number from

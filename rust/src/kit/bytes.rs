@@ -37,7 +37,7 @@ pub trait BufMut {
         self.put_slice(&n.to_be_bytes())
     }
 
-    /// Appends the lowest `nbytes` bytes of a number, the highest of them first. There are at most 8.
+    /// Appends the lowest `nbytes` bytes of a number, the highest of them first. It panics if these are more than 8.
     #[inline]
     fn put_uint(&mut self, n: u64, nbytes: usize) -> Result<(), AllocError> {
         self.put_slice(&n.to_be_bytes()[8 - nbytes..])

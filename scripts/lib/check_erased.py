@@ -125,12 +125,15 @@ DERIVED = {
     "Clone, Debug": "Checked Cursor Iter Keys SpaceKeys",
     "Clone, PartialEq, Eq": "Header InitialHeader",
     "Default, Hash": "EcnCounts Expected",
-    "Hash": "Ack AckFrequency ApplicationClose ConnectionClose HeaderKind InvalidFrame LongType PacketNumber",
+    "Hash": "Ack AckError AckFrequency ApplicationClose ConnectionClose EcnCodepoint HeaderKind InvalidFrame LongType "
+    "PacketNumber PacketType ReadOptions Rules SpaceId",
     "PartialEq, Eq": "ProtectedHeader ProtectedInitialHeader",
-    "PartialEq, Eq, Hash": "Close Crypto Datagram Frame NewConnectionId NewToken ResetStream StopSending Stream",
+    "PartialEq, Eq, Hash": "Close Crypto Datagram Frame NewConnectionId NewToken ResetStream StopSending Stream "
+    "StreamMeta",
     "PartialOrd, Ord, Hash": "Code FrameType",
 }
-DERIVED = {f"{kind} {name}": by for by, names in DERIVED.items() for name in names.split() for kind in ("struct", "enum")}
+KINDS = ("struct", "enum")
+DERIVED = {f"{kind} {name}": by for by, names in DERIVED.items() for name in names.split() for kind in KINDS}
 
 
 def compiled(rules):
@@ -364,7 +367,9 @@ def main():
     if not args.folder.is_dir():
         parser.error(f"no folder: {args.folder}")
     all_files, wrong, lines = list(files(args.kind, args.folder)), 0, 0
-    there = {path for path in args.folder.glob("*/**/*.rs") if args.kind == "library" or path.parent.parent != args.folder}
+    # A folder of several crates has a list of them.
+    depth = 1 if args.kind == "library" else 2
+    there = {path for path in args.folder.glob("*/**/*.rs") if len(path.relative_to(args.folder).parts) > depth}
     for path in sorted({file.rust for file in all_files} ^ there):
         wrong += 1
         print(f"{path}: {'made from no source' if path in there else 'missing'}")

@@ -66,8 +66,9 @@ const REEXPORTED: [&str; 7] = [
 const FOR_THE_CRATE: [&str; 3] = ["numbers", "of_flags", "type_bounds"];
 
 /// Types, and the traits that they have in Rust beside those of the sources.
-const DERIVED: [(&str, &str); 35] = [
+const DERIVED: [(&str, &str); 42] = [
     ("Ack", "Hash"),
+    ("AckError", "Hash"),
     ("AckFrequency", "Hash"),
     ("ApplicationClose", "Hash"),
     ("CanonBytes", "Clone"),
@@ -78,6 +79,7 @@ const DERIVED: [(&str, &str); 35] = [
     ("Crypto", "PartialEq, Eq, Hash"),
     ("Cursor", "Clone, Debug"),
     ("Datagram", "PartialEq, Eq, Hash"),
+    ("EcnCodepoint", "Hash"),
     ("EcnCounts", "Default, Hash"),
     ("Expected", "Default, Hash"),
     ("Frame", "PartialEq, Eq, Hash"),
@@ -95,13 +97,18 @@ const DERIVED: [(&str, &str); 35] = [
     ("Opened", "Clone"),
     ("Packet", "Clone"),
     ("PacketNumber", "Hash"),
+    ("PacketType", "Hash"),
     ("PartialDecode", "Clone"),
     ("ProtectedHeader", "PartialEq, Eq"),
     ("ProtectedInitialHeader", "PartialEq, Eq"),
+    ("ReadOptions", "Hash"),
     ("ResetStream", "PartialEq, Eq, Hash"),
+    ("Rules", "Hash"),
+    ("SpaceId", "Hash"),
     ("SpaceKeys", "Clone, Debug"),
     ("StopSending", "PartialEq, Eq, Hash"),
     ("Stream", "PartialEq, Eq, Hash"),
+    ("StreamMeta", "PartialEq, Eq, Hash"),
 ];
 
 // Whether a function of a type is renamed.

@@ -21,7 +21,7 @@ mod ack;
 mod encode;
 mod ty;
 
-use crate::ids::{Side, StreamId};
+use crate::ids::Side;
 use crate::permitted::{self, Forbidden, PacketType};
 use core::iter::FusedIterator;
 
@@ -115,14 +115,3 @@ impl core::fmt::Display for Breach {
         f.write_str(self.reason())
     }
 }
-
-impl PartialEq for StreamMeta {
-    fn eq(&self, other: &StreamMeta) -> bool {
-        let key = |meta: &StreamMeta| -> (StreamId, core::ops::Range<u64>, bool) {
-            (meta.id, meta.offsets.clone(), meta.fin)
-        };
-        key(self) == key(other)
-    }
-}
-
-impl Eq for StreamMeta {}

@@ -264,7 +264,7 @@ impl fmt::Display for StreamId {
 
 /// The ECN codepoint of a datagram. Its number is the codepoint's two bits (RFC 9000, section 13.4; RFC 3168, section
 /// 5).
-#[derive(Clone, Copy, Debug, PartialEq, Eq)]
+#[derive(Clone, Copy, Debug, PartialEq, Eq, Hash)]
 pub enum EcnCodepoint {
     /// ECN-capable transport, ECT(0).
     Ect0 = 0b10,
@@ -392,7 +392,7 @@ pub struct IssuedCid {
 }
 
 /// The packet number spaces (RFC 9000, section 12.3).
-#[derive(Clone, Copy, Debug, PartialEq, Eq, PartialOrd, Ord)]
+#[derive(Clone, Copy, Debug, PartialEq, Eq, PartialOrd, Ord, Hash)]
 pub enum SpaceId {
     /// Initial packets.
     Initial = 0,

@@ -4,7 +4,7 @@
 // ghost use Rattle.quic_params.specs.Options.{as_quinn};
 
 /// How a list is read in what RFC 9000 and quinn-proto differ. The default is quinn-proto's reading: both `false`.
-#[derive(Clone, Copy, Debug, PartialEq, Eq)]
+#[derive(Clone, Copy, Debug, PartialEq, Eq, Hash)]
 pub struct ReadOptions {
     /// Accepts an integer that has a default in an encoding of any width (RFC 9000, section 16), not only in the
     /// shortest one.

@@ -10,7 +10,7 @@ use crate::proved::quic_frames::frame::{Frame, Rules};
 use crate::proved::quic_frames::transport_error::Code;
 
 /// The types of packets that carry frames (RFC 9000, section 12.4).
-#[derive(Clone, Copy, Debug, PartialEq, Eq)]
+#[derive(Clone, Copy, Debug, PartialEq, Eq, Hash)]
 pub enum PacketType {
     /// Section 17.2.2.
     Initial,

@@ -23,7 +23,7 @@ pub struct Ack<'a> {
 }
 
 /// Why bytes are not the blocks of an acknowledgement: the first reason that a reader meets (RFC 9000, section 19.3.1).
-#[derive(Clone, Copy, Debug, PartialEq, Eq, Error)]
+#[derive(Clone, Copy, Debug, PartialEq, Eq, Error, Hash)]
 pub enum AckError {
     /// A number is missing or cut off.
     #[error("unexpected end")]

@@ -12,7 +12,7 @@ use crate::kit::smallvec::SmallVec;
 use std::ops::Range;
 
 /// A STREAM without its data.
-#[derive(Clone, Debug)]
+#[derive(Clone, Debug, PartialEq, Eq, Hash)]
 pub struct StreamMeta {
     /// The stream.
     pub id: StreamId,

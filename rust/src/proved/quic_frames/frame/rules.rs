@@ -14,7 +14,7 @@ use crate::proved::quic_frame_fields::frame::fault::Fault;
 
 /// What is checked in a payload's frames besides their encoding. `Rules::default()` checks nothing more, as quinn-proto
 /// does. `Rules::RFC` checks all that RFC 9000 requires of a receiver.
-#[derive(Clone, Copy, Debug, PartialEq, Eq)]
+#[derive(Clone, Copy, Debug, PartialEq, Eq, Hash)]
 pub struct Rules {
     /// A type must be in its shortest encoding (RFC 9000, section 12.4).
     pub short_types: bool,

@@ -1,6 +1,7 @@
 // The part of the page's link after #: the choices, and the inputs.
 
-import { readText, toHex } from "./bytes.js";
+import { toHex } from "./bytes.js";
+import { readText } from "./entries.js";
 import { VERSIONS } from "./names.js";
 
 // Longer inputs are left out of the link.

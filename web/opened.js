@@ -1,7 +1,8 @@
 // The packets of a datagram that are opened: Initial packets by the page itself, others with what the user pastes, the
 // mask of the header and the plaintext payload.
 
-import { readText, toHex } from "./bytes.js";
+import { toHex } from "./bytes.js";
+import { readText } from "./entries.js";
 import { hasCiphers, hasInitialKeys, NO_CIPHERS, openInitial } from "./initial.js";
 import { INITIAL, packetName, RETRY, typeName, VERSION_NEGOTIATION } from "./names.js";
 import { readBytes } from "./reading.js";

@@ -1,8 +1,8 @@
 // The page: reads the form, has the bytes read, and shows what they are.
 
 import { Beside } from "./beside.js";
-import { fromBase64, fromHex, readText, toHex } from "./bytes.js";
-import { entriesOf } from "./entries.js";
+import { fromBase64, fromHex, toHex } from "./bytes.js";
+import { entriesOf, readText } from "./entries.js";
 import { EXAMPLES } from "./examples.js";
 import { Form } from "./form.js";
 import { inspect } from "./inspector.js";

@@ -3,6 +3,7 @@
 
 // How many characters are read between two pauses, with a few more.
 export const AT_ONCE = 1 << 15;
+const ITEMS_AT_ONCE = 1 << 12;
 // For how many milliseconds a task takes steps; it then finishes the last one.
 const TASK_TIME = 10;
 
@@ -46,26 +47,21 @@ export function inTasks(steps, isWanted, end) {
   }
 }
 
-// The parts of a text, none of which ends within 0x or \x.
-export function* partsOf(text) {
-  for (let from = 0, to; from < text.length; from = to) {
-    to = from + AT_ONCE;
-    if (text[to] === "x" || text[to] === "X") {
-      to += 1;
+// Calls |visit| with each item of a list, with pauses.
+export function* forEach(items, visit) {
+  for (const [at, item] of items.entries()) {
+    visit(item);
+    if (at % ITEMS_AT_ONCE === ITEMS_AT_ONCE - 1) {
+      yield;
     }
-    yield text.slice(from, to);
   }
 }
 
-// The lines of a text.
+// The lines of a text, without their ends.
 export function* eachLine(text) {
-  for (let from = 0; ;) {
-    const end = text.indexOf("\n", from);
-    if (end < 0) {
-      yield text.slice(from);
-      return;
-    }
-    yield text.slice(from, end > from && text[end - 1] === "\r" ? end - 1 : end);
-    from = end + 1;
+  for (let from = 0, end = 0; end >= 0; from = end + 1) {
+    end = text.indexOf("\n", from);
+    const to = end < 0 ? text.length : end;
+    yield text.slice(from, to > from && text[to - 1] === "\r" ? to - 1 : to);
   }
 }

@@ -1,187 +1,294 @@
-// Recognizes what a text has besides digits: comments, names of lists, bytes as Python and Rust print them, lists of
-// decimal numbers, the lines above a dump; and dumps that swap bytes, which aren't read. rust/program/README.md has the table.
-// Functions "with pauses" are generators (slices.js).
+// Bytes that aren't a dump: hexadecimal, lists as in source code and JSON, literals of Python and Rust, base64; and
+// comments. Functions "with pauses" are generators (slices.js). What can't be read is a Fault.
 
 import { AT_ONCE, eachLine, Pace } from "./slices.js";
 
-const SWAPPED_UNITS = "the bytes of each group are swapped, as hexdump without -C and od -x print them; use hexdump "
-  + "-C or od -t x1";
-const WIDE_UNITS = "these are units of more than a byte, as od and hexdump print them; use od -t x1 or "
-  + "hexdump -C";
-const BITS = "these are bits, as xxd -b prints them; use xxd without -b";
-const EITHER = "ambiguous numbers, decimal or hexadecimal; add 0x to each";
-const SWAPPED_GROUPS = "the bytes of each group are swapped, as xxd -e prints them; use xxd without -e";
+export const HEX_DIGITS = /^[0-9a-f]*$/i;
+const NOT_HEX = /[^0-9a-f]/i;
+const PAIRS_WITH_BLANKS = /^[0-9a-f]{2}(?: [0-9a-f]{2})*$/i;
+const SEPARATED = /[^ \t\r\n,:;(){}[\]"'\\]+/g;
+const DECIMAL = /^(?:0|[1-9]\d{0,2})$/;
+const ESCAPES = { a: 7, b: 8, t: 9, n: 10, v: 11, f: 12, r: 13, "\\": 92, "'": 39, '"': 34 };
+const SPELLED = { "\0": "\\0", "\t": "\\t", "\r": "\\r", "\n": "\\n", "\\": "\\\\", "'": "\\'" };
+const UNSEEN = /[\p{C}\p{Z}\p{Mn}\p{Me}]/u;
+const BASE64_LINE = /^[A-Za-z0-9+/_-]+$/;
+const BASE64_END = /={0,2}$/;
 
-// A line of a dump in units of more than a byte, of a dump of bits, and of xxd with its text.
-const UNITS_LINE = /^[0-9a-f]{7}((?: +[0-9a-f]{3,22})+) *$/i;
-const BITS_LINE = /^[0-9a-f]{8,}:((?: [01]{8})+)  (.*)$/;
-const XXD_LINE = /^[0-9a-f]{8,}: (((?:[0-9a-f]{2,} )*[0-9a-f]{2,})  (.*))$/i;
+// Why there are no bytes, and from which character of the text on.
+export class Fault {
+  constructor(what, at) {
+    this.what = what;
+    this.at = at;
+  }
+}
 
-// The lines that tshark and tcpdump print above a dump.
-const HEADING = /^\s*(?:.*\(\d+ bytes\):|(?:\S+ )?\d\d:\d\d:\d\d\.\d{6} .*|.* → .*|.* > .*: .*)$/;
+function fail(what, at) {
+  throw new Fault(what, at);
+}
 
-// Where a bytes literal begins, what it contains, and what may follow it; the name before a value, and how many bytes
-// there are, as xxd -i prints it.
-const LITERAL = /^(?:bytearray\()?b(?=['"])/;
-const LITERAL_PART = /\\x[0-9a-f]{2}|\\[^]|[\x00-\x5b\x5d-\x7f]/giy;
-const BEHIND_LITERAL = /^[);,\s]*$/;
-const NAME = /^\s*[a-z_][^"'\\=]*=(?=\s*[^=\s])/i;
-const LENGTH = /^unsigned int \w+_len = \d+;\s*$/m;
-const ESCAPES = { a: 7, b: 8, t: 9, n: 10, v: 11, f: 12, r: 13, 0: 0, "\\": 92, "'": 39, '"': 34 };
-const COMMENT = /\/\*[^]*?\*\/|(?:#|\/\/)[^\n]*/g;
-const WORD = /[^\s,:;(){}[\]]+/g;
-// No line of a dump and no name is longer.
-const LONGEST = 1000;
+// What the readers in Rust and Python call a blank.
+const isBlank = (text, at) => " \t\n\r\f".includes(text[at]);
 
-export const isHeading = (line) => HEADING.test(line);
+export function trimmedStart(text) {
+  let from = 0;
+  while (from < text.length && isBlank(text, from)) {
+    from += 1;
+  }
+  return text.slice(from);
+}
 
-// Whether the last group has fewer digits than the first and is right-aligned, as xxd -e prints it.
-function isAtRight(rest, width) {
-  for (let at = 0; at + width <= rest.length; at += width + 1) {
-    const column = rest.slice(at, at + width);
-    if (!/^[0-9a-f]+$/i.test(column)) {
-      return /^ +[0-9a-f]+$/i.test(column) && rest.startsWith("  ", at + width);
+export function trimmedEnd(text) {
+  let to = text.length;
+  while (to > 0 && isBlank(text, to - 1)) {
+    to -= 1;
+  }
+  return text.slice(0, to);
+}
+
+export const trimmed = (text) => trimmedEnd(trimmedStart(text));
+
+// The character at an offset, in quotes.
+function characterAt(text, at) {
+  const c = String.fromCodePoint(text.codePointAt(at));
+  return `'${SPELLED[c] ?? (c !== " " && UNSEEN.test(c) ? `\\u{${c.codePointAt(0).toString(16)}}` : c)}'`;
+}
+
+// What is between separators, with its offset. After a backslash an x is one too.
+function* wordsOf(text, begin) {
+  SEPARATED.lastIndex = begin;
+  for (let match = SEPARATED.exec(text); match; match = SEPARATED.exec(text)) {
+    const { 0: word, index } = match;
+    const end = SEPARATED.lastIndex;
+    const isEscaped = word[0] === "x" && index > begin && text[index - 1] === "\\";
+    if (!isEscaped) {
+      yield [index, word];
+    } else if (word.length > 1) {
+      yield [index + 1, word.slice(1)];
+    }
+    SEPARATED.lastIndex = end;
+  }
+}
+
+const DIGIT = new Int8Array(128).fill(-1);
+for (let value = 0; value < 16; value += 1) {
+  DIGIT[value.toString(16).charCodeAt(0)] = value;
+  DIGIT[value.toString(16).toUpperCase().charCodeAt(0)] = value;
+}
+
+// Puts the bytes of an even number of digits at a place, with pauses. Returns the place behind them.
+function* putDigits(bytes, from, digits) {
+  let place = from;
+  for (let at = 0; at < digits.length; at += 2, place += 1) {
+    bytes[place] = 16 * DIGIT[digits.charCodeAt(at)] + DIGIT[digits.charCodeAt(at + 1)];
+    if (at % AT_ONCE === AT_ONCE - 2) {
+      yield;
     }
   }
-  return false;
+  return place;
 }
 
-function fitsText(pairs, text) {
-  return pairs.every((pair, at) => {
-    const code = parseInt(pair, 16);
-    return text[at] === String.fromCharCode(code) || (text[at] === "." && (code < 0x21 || code > 0x7e));
-  });
+// The bytes in an even number of digits, with pauses.
+export function* fromDigits(digits) {
+  const bytes = new Uint8Array(digits.length / 2);
+  yield* putDigits(bytes, 0, digits);
+  return bytes;
 }
 
-// Whether the text beside groups of digits fits their bytes only if those of each group are swapped.
-function isSwapped(groups, text) {
-  const pairs = groups.map((group) => group.match(/../g) ?? []);
-  const inOrder = pairs.flat();
-  const shown = text.slice(-inOrder.length);
-  const swapped = pairs.flatMap((group) => group.toReversed());
-  return [4, 8, 16].includes(groups[0].length) && !fitsText(inOrder, shown) && fitsText(swapped, shown);
+// Bytes of two digits, at least one, with one blank between them or, if there is a gap, two behind the eighth; or null.
+export function pairsOf(text, hasGap) {
+  const pairs = hasGap && text.slice(23, 25) === "  " ? text.slice(0, 23) + text.slice(24) : text;
+  return PAIRS_WITH_BLANKS.test(pairs) ? pairs.replace(/ /g, "") : null;
 }
 
-function refusalOfLine(line) {
-  const units = UNITS_LINE.exec(line)?.[1].trim().split(/ +/);
-  if (units?.every((unit) => unit.length === units[0].length)) {
-    return units[0].length === 4 ? SWAPPED_UNITS : WIDE_UNITS;
-  }
-  const bits = BITS_LINE.exec(line);
-  if (bits && bits[2].trimStart().length <= bits[1].trim().split(" ").length) {
-    return BITS;
-  }
-  const [, rest, groups, text] = XXD_LINE.exec(line) ?? [];
-  const isOfXxdE = rest && (isAtRight(rest, groups.search(/ |$/)) || isSwapped(groups.split(" "), text));
-  return isOfXxdE ? SWAPPED_GROUPS : null;
+// The digits of groups with only blanks between them, or null.
+export function groupsOf(text) {
+  const groups = text.split(" ").filter((group) => group !== "");
+  const areBytes = groups.length > 0 && groups.every((group) => group.length % 2 === 0 && HEX_DIGITS.test(group));
+  return areBytes ? groups.join("") : null;
 }
 
-// The numbers of a list if all may be decimal bytes, as in JSON, with pauses.
-function* decimalsOf(text) {
-  const list = text.trim();
-  if (!/^[[{(]/.test(list.slice(0, 1)) || ['"', "'", "\\"].some((sign) => list.includes(sign))) {
-    return [];
-  }
-  const words = [];
+// Digits by twos, with separators between them; with pauses.
+function* hexadecimalOf(text, begin) {
+  const bytes = new Uint8Array((text.length - begin) >> 1);
+  let place = 0;
   const pace = new Pace();
-  for (const [word] of list.matchAll(WORD)) {
-    if (!/^(?:0|[1-9]\d{0,2})$/.test(word) || Number(word) > 255) {
-      return [];
+  for (const [at, word] of wordsOf(text, begin)) {
+    const front = /^0x/i.test(word) ? 2 : 0;
+    const digits = word.slice(front);
+    const wrong = digits.search(NOT_HEX);
+    if (wrong >= 0) {
+      fail(`not hexadecimal: ${characterAt(text, at + front + wrong)}`, at + front + wrong);
     }
-    words.push(word);
+    if (digits === "" || digits.length % 2 === 1) {
+      fail(digits === "" ? "no digits after 0x" : `an odd number of digits, ${digits.length},`, at);
+    }
+    place = yield* putDigits(bytes, place, digits);
     if (pace.isDue(word.length)) {
       yield;
     }
   }
-  return words;
+  return bytes.slice(0, place);
 }
 
-// Why a text isn't read: it is a dump that swaps bytes or prints other units, or a list that may mean two things. With
-// pauses; |bare| is the text without names.
-export function* refusalOf(text, bare) {
+// The bytes of a list, if all its numbers may be decimal as in JSON, or null; with pauses.
+function* decimalsOf(text, begin) {
+  const value = text.slice(begin);
+  if (!/[[{(]/.test(value) || /["'\\]/.test(value)) {
+    return null;
+  }
+  const bytes = new Uint8Array(text.length - begin);
+  let [count, first, haveTwo] = [0, begin, true];
   const pace = new Pace();
-  for (const line of eachLine(text)) {
-    const refusal = line.length < LONGEST ? refusalOfLine(line) : null;
-    if (refusal) {
-      return refusal;
+  for (const [at, word] of wordsOf(text, begin)) {
+    if (!DECIMAL.test(word) || Number(word) > 255) {
+      return null;
     }
+    first = count === 0 ? at : first;
+    haveTwo &&= word.length === 2;
+    bytes[count] = Number(word);
+    count += 1;
+    if (pace.isDue(word.length)) {
+      yield;
+    }
+  }
+  if (haveTwo && count > 0) {
+    fail("ambiguous numbers, decimal or hexadecimal; add 0x to each, from the one", first);
+  }
+  return bytes.slice(0, count);
+}
+
+// Where the value begins that is given to a name, as in `uint8_t payload[] = {`; else 0.
+function valueAt(text) {
+  const end = text.indexOf("=");
+  const [name, value] = [trimmedStart(text.slice(0, end < 0 ? 0 : end)), trimmedStart(text.slice(end + 1))];
+  return end >= 0 && /^[a-z_]/i.test(name) && !/["'\\]/.test(name) && value !== "" && value[0] !== "=" ? end + 1 : 0;
+}
+
+// Where a literal of bytes begins, as b'..' of Python or Rust, or -1.
+function literalAt(text) {
+  const value = trimmedStart(text.slice(valueAt(text)));
+  const bare = value.startsWith("bytearray(") ? value.slice(10) : value;
+  return /^b['"]/.test(bare) ? text.length - bare.length : -1;
+}
+
+export const isLiteral = (line) => literalAt(line) >= 0;
+
+// The byte that an escape means, and how many characters it has after its backslash, or null.
+function escapedAt(text, at) {
+  if (text[at] === "x") {
+    const digits = text.slice(at + 1, at + 3);
+    return digits.length === 2 && HEX_DIGITS.test(digits) ? [parseInt(digits, 16), 3] : null;
+  }
+  if (text[at] === "0") {
+    return /^\d/.test(text.slice(at + 1, at + 2)) ? null : [0, 1];
+  }
+  const code = at < text.length && Object.hasOwn(ESCAPES, text[at]) ? ESCAPES[text[at]] : null;
+  return code === null ? null : [code, 1];
+}
+
+// The bytes of a literal, with pauses.
+function* literalOf(text, begin) {
+  const quote = text[begin + 1];
+  const bytes = [];
+  let at = begin + 2;
+  for (; at < text.length && text[at] !== quote; at += 1) {
+    const escape = text[at] === "\\" ? escapedAt(text, at + 1) : [text.charCodeAt(at), 0];
+    if (escape === null || text.charCodeAt(at) > 0x7f) {
+      fail(escape === null ? "unknown escape:" : "value above one byte:", at);
+    }
+    bytes.push(escape[0]);
+    at += escape[1];
+    if (bytes.length % AT_ONCE === 0) {
+      yield;
+    }
+  }
+  if (at >= text.length) {
+    fail("no closing quote for the bytes that begin", begin);
+  }
+  const behind = text.slice(at + 1).search(/[^) \t\r\n,;]/);
+  if (behind >= 0) {
+    fail("unexpected text after the bytes:", at + 1 + behind);
+  }
+  return Uint8Array.from(bytes);
+}
+
+// The bytes that a line, or the lines of a list, mean; with pauses. Throws a Fault.
+export function* readPlain(text) {
+  const literal = literalAt(text);
+  if (literal >= 0) {
+    return yield* literalOf(text, literal);
+  }
+  const begin = valueAt(text);
+  return (yield* decimalsOf(text, begin)) ?? (yield* hexadecimalOf(text, begin));
+}
+
+// A line with blanks in place of comments.
+export function withoutComments(line) {
+  let [begin, at, marks] = [0, 0, /#|\/\/|\/\*/g];
+  const parts = [];
+  for (let mark = marks.exec(line); mark; mark = marks.exec(line)) {
+    const close = mark[0] === "/*" ? line.indexOf("*/", mark.index + 2) : line.length - 2;
+    const end = close + 2;
+    if (mark[0] === "/*" && close < 0) { // no other is closed either
+      [at, marks] = [mark.index + 1, /#|\/\//g];
+    } else {
+      parts.push(line.slice(begin, mark.index), line.slice(mark.index, end).replace(/[^]/gu, " "));
+      [begin, at] = [end, end];
+    }
+    marks.lastIndex = at;
+  }
+  return parts.join("") + line.slice(begin);
+}
+
+// How many brackets are open after a line, if this many were before it.
+export function openBrackets(before, line) {
+  let open = before;
+  for (const [bracket] of line.matchAll(/[[{()}\]]/g)) {
+    open = "[{(".includes(bracket) ? open + 1 : Math.max(0, open - 1);
+  }
+  return open;
+}
+
+// Whether a line is the number of bytes, as `xxd -i` and `xxd -C -i` print it below them.
+export function isLength(line) {
+  const text = trimmed(line);
+  return text.startsWith("unsigned int ") && text.endsWith(";") && text.toLowerCase().includes("_len = ");
+}
+
+// The digits of base64 in a text, with pauses, or null if anything else is in it. Its lines may end anywhere, but no
+// line has a blank.
+function* base64Digits(text) {
+  const whole = text.trim().replace(BASE64_END, "");
+  const lines = [];
+  const pace = new Pace();
+  for (const line of eachLine(whole)) {
+    const digits = line.trimEnd();
+    if (!BASE64_LINE.test(digits) && (digits !== "" || lines.length === 0)) {
+      return null;
+    }
+    lines.push(digits);
     if (pace.isDue(line.length)) {
       yield;
     }
   }
-  const decimals = yield* decimalsOf(bare);
-  return decimals.length > 0 && decimals.every((word) => word.length === 2) ? EITHER : null;
+  return /\s$/.test(whole) ? null : lines.join("");
 }
 
-// The bytes of a literal of Python or Rust, or null, with pauses.
-export function* fromLiteral(text) {
-  const literal = withoutName(text).trim();
-  const [begin] = LITERAL.exec(literal) ?? [];
-  if (begin === undefined) {
+// The bytes of base64, with pauses, or null.
+export function* base64Of(text) {
+  const digits = yield* base64Digits(text);
+  if (digits === null || digits.length % 4 === 1) {
     return null;
   }
-  const quote = literal[begin.length];
-  const codes = [];
-  const pace = new Pace();
-  let at = begin.length + 1;
-  while (literal[at] !== quote) {
-    LITERAL_PART.lastIndex = at;
-    const [part] = LITERAL_PART.exec(literal) ?? [""];
-    const code = part.length < 2 ? part.charCodeAt(0) : ESCAPES[part[1]];
-    codes.push(part.length === 4 ? parseInt(part.slice(2), 16) : code);
-    if (!(codes[codes.length - 1] >= 0)) {
-      return null;
+  const bytes = new Uint8Array(Math.floor(digits.length * 3 / 4));
+  for (let from = 0, place = 0; from < digits.length; from += AT_ONCE) {
+    const part = atob(digits.slice(from, from + AT_ONCE).replace(/-/g, "+").replace(/_/g, "/"));
+    for (let at = 0; at < part.length; at += 1, place += 1) {
+      bytes[place] = part.charCodeAt(at);
     }
-    at += part.length;
-    if (pace.isDue(part.length)) {
+    if (from > 0) {
       yield;
     }
   }
-  return BEHIND_LITERAL.test(literal.slice(at + 1)) ? Uint8Array.from(codes) : null;
-}
-
-// The bytes of a list of decimal numbers, as in JSON, or null, with pauses.
-export function* fromDecimals(bare) {
-  const words = yield* decimalsOf(bare);
-  const bytes = new Uint8Array(words.length);
-  for (const [at, word] of words.entries()) {
-    bytes[at] = Number(word);
-    if (at % AT_ONCE === AT_ONCE - 1) {
-      yield;
-    }
-  }
-  return words.length > 0 ? bytes : null;
-}
-
-function withoutName(text) {
-  const [name] = NAME.exec(text.slice(0, LONGEST)) ?? [""];
-  return text.slice(name.length);
-}
-
-function withoutLength(text) {
-  const at = text.lastIndexOf("unsigned int ");
-  const isLine = at === 0 || text[at - 1] === "\n";
-  return at >= 0 && isLine ? text.slice(0, at) + text.slice(at).replace(LENGTH, "") : text;
-}
-
-function* withoutComments(text) {
-  if (!text.includes("#") && !text.includes("/")) {
-    return text;
-  }
-  const parts = [];
-  const pace = new Pace();
-  let from = 0;
-  for (const { 0: comment, index } of text.matchAll(COMMENT)) {
-    parts.push(text.slice(from, index), " ".repeat(comment.length));
-    if (pace.isDue(index + comment.length - from)) {
-      yield;
-    }
-    from = index + comment.length;
-  }
-  return parts.join("") + text.slice(from);
-}
-
-// A text without comments, names of lists, and lines that don't belong to one, with pauses.
-export function* withoutNames(text) {
-  return withoutName(withoutLength(yield* withoutComments(text)));
+  return bytes;
 }

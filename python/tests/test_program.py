@@ -152,9 +152,9 @@ class Modes(unittest.TestCase):
         text = run("frames", "--color=always", given=b"01")[0]
         self.assertEqual(text, "\x1b[2m1:\x1b[0m \x1b[33m0..1\x1b[0m \x1b[1;32mPING\x1b[0m\n")
 
-    # The dumps that the Rust crate's program reads are read in the same way.
+    # Those of the dumps that need an option, or are two in one file; test_dumps.py has the others.
     def test_dumps_are_read(self):
-        folder = REPOSITORY / "rust" / "tests" / "dumps"
+        folder = REPOSITORY / "rust" / "program" / "tests" / "dumps"
         if not folder.is_dir():
             self.skipTest("the dumps aren't here")
         wanted = [
@@ -162,15 +162,13 @@ class Modes(unittest.TestCase):
             "1..26 CRYPTO offset=0 len=22 data=2330783431207c48656c6c6f3e20303030302020612c",
             "26..51 STREAM id=4 offset=0 fin=true len=22 data=6c617374206c696e65206f6620616c6c206279746573",
         ]
-        rejected = {"hexdump.txt", "od-x.txt", "xxd-e.txt", "xxd-e-g2.txt", "od.txt", "xxd-b.txt"}
-        for path in sorted(folder.glob("*.txt")):
-            with self.subTest(path.name):
-                more = ["--base64"] if path.name == "base64.txt" else []
-                found = [line.split(": ", 1)[1] for line in run("frames", *more, str(path))[0].splitlines()]
-                if path.name in rejected:
-                    self.assertTrue(len(found) == 1 and found[0].startswith("error "), found)
-                else:
-                    self.assertEqual(found, wanted)
+        base64 = (folder / "base64.txt").read_text()
+        self.assertEqual(lines("frames", "--base64", given=base64), [f"1: {frame}" for frame in wanted])
+        twice = (folder / "xxd.txt").read_text() * 2
+        self.assertEqual(lines("frames", given=twice), [f"{at}: {frame}" for at in (1, 5) for frame in wanted])
+        rejected = run("frames", given=(folder / "xxd-b.txt").read_bytes() * 2)
+        error = "error these are bits, as xxd -b prints them; use xxd without -b\n"
+        self.assertEqual(rejected, (f"1: {error}10: {error}", "", 1))
 
     def test_a_capture_is_printed_as_c_prints_it(self):
         folder = REPOSITORY / "c" / "tests"

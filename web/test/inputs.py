@@ -13,9 +13,9 @@ WRITTEN = [
     '{"time":12,"name":"packet_received","raw":{"length":6,"data":"40000a000161"}}',
 ]
 FAULTY = {
-    "4": "an odd number of digits: 1", "4000 0a0": "an odd number of digits: 7",
-    "40 0g": "neither hexadecimal nor base64: “g” is character 5",
-    "Łą": "neither hexadecimal nor base64: “Ł” is character 1",
+    "4": "an odd number of digits, 1, in column 1", "4000 0a0": "an odd number of digits, 3, in column 6",
+    "40 0g": "not hexadecimal: 'g' in column 5", "Łą": "not hexadecimal: 'Ł' in column 1",
+    "000000 01 06": "ambiguous: an offset and bytes, or only bytes; add the next line of the dump, or remove spaces",
 }
 
 

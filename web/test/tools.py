@@ -59,9 +59,9 @@ def opened(browser, address):
 
 def wrongly_opened(browser):
     """What can't be a mask or the payload of this packet is reported."""
-    for field, text, want in (("mask", "aefefe7d", "Mask: 4 of 5 bytes."), ("mask", "x.z", "Mask: neither hexadecimal"),
+    for field, text, want in (("mask", "aefefe7d", "Mask: 4 of 5 bytes."), ("mask", "x.z", "Mask: not hexadecimal"),
                               ("plain", "0101", "The payload of this packet has 1 byte, and here are 2."),
-                              ("plain", "0", "Payload: an odd number of digits: 1.")):
+                              ("plain", "0", "Payload: an odd number of digits, 1, in column 1.")):
         set_field(browser, ".packet [data-name=mask]", "aefefe7d03")
         set_field(browser, ".packet [data-name=plain]", "01")
         set_field(browser, f".packet [data-name={field}]", text)

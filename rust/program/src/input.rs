@@ -4,7 +4,6 @@ use crate::plain::{self, Fault};
 use std::io::{self, BufRead};
 use std::mem;
 
-const BAD_DUMP: &str = "an offset without bytes after it as xxd or tcpdump print them";
 const UTF_16: &str = "the text is UTF-16, not UTF-8";
 const OPEN: &str = "a bracket is not closed";
 
@@ -26,11 +25,13 @@ pub enum Plain {
     Decimal,
 }
 
-// Lines of a list, the number of the first, and how many of its brackets aren't closed.
+// Lines of a list, the number of the first, how many of its brackets aren't closed, and whether a comma is the last of
+// its characters.
 struct List {
     line: usize,
     text: Vec<u8>,
     open: usize,
+    has_comma: bool,
 }
 
 /// The pieces of a source, each as soon as it is whole.
@@ -43,6 +44,8 @@ pub struct Pieces<R> {
     list: Option<List>,
     // Whether a dump ended with the line before, ignoring blank ones.
     is_behind_dump: bool,
+    // Whether the line before couldn't be read.
+    is_below_fault: bool,
     // What was read beyond a dump.
     next: Option<Piece>,
     is_ended: bool,
@@ -50,11 +53,11 @@ pub struct Pieces<R> {
 
 impl<R: BufRead> Pieces<R> {
     pub fn new(source: R, plain: Plain) -> Self {
-        let (dump, list, next) = (None, None, None);
-        Pieces { source, plain, line: 0, dump, list, is_behind_dump: false, next, is_ended: false }
+        let (dump, list, next, is_ended) = (None, None, None, false);
+        Pieces { source, plain, line: 0, dump, list, is_behind_dump: false, is_below_fault: false, next, is_ended }
     }
 
-    // The next line without its end.
+    // The next line without its end. If it doesn't fit into memory, reading fails.
     fn read_line(&mut self) -> io::Result<Option<Vec<u8>>> {
         let mut line = Vec::new();
         loop {
@@ -83,107 +86,110 @@ impl<R: BufRead> Pieces<R> {
     }
 
     // What is whole once a line is read.
-    fn take(&mut self, mut text: Vec<u8>) -> io::Result<Option<Piece>> {
+    fn take(&mut self, mut text: Vec<u8>) -> Option<Piece> {
         if self.line == 1 && text.starts_with(b"\xef\xbb\xbf") {
             text.drain(..3);
         }
         if self.line == 1 && (text.starts_with(b"\xff\xfe") || text.starts_with(b"\xfe\xff")) {
             self.is_ended = true;
-            return Ok(Some(Piece { line: 1, bytes: Err(UTF_16.into()) }));
+            return Some(Piece { line: 1, bytes: Err(UTF_16.into()) });
         }
         if let Some(list) = self.list.take() {
             return self.go_on(list, text);
         }
-        let step = match &mut self.dump {
-            Some(dump) => Some(dump.take(self.line, &text)?),
-            None => None,
-        };
-        match step {
-            Some(Step::GoesOn) => return Ok(None),
-            Some(Step::Ends) => return Ok(self.finish_dump()),
+        match self.dump.as_mut().map(|dump| dump.take(self.line, &text)) {
+            Some(Step::GoesOn) => return None,
+            Some(Step::Ends) => return self.finish_dump(),
             Some(Step::Another) | None => {}
         }
         let Some(before) = self.finish_dump() else { return self.begin(text) };
-        self.next = self.begin(text)?;
-        Ok(Some(before))
+        self.next = self.begin(text);
+        Some(before)
     }
 
     // A line after what is whole.
-    fn begin(&mut self, mut text: Vec<u8>) -> io::Result<Option<Piece>> {
+    fn begin(&mut self, mut text: Vec<u8>) -> Option<Piece> {
+        let is_below_fault = mem::take(&mut self.is_below_fault);
         if self.is_behind_dump && text.trim_ascii().is_empty() {
-            return Ok(None);
+            return None;
         }
         let was_behind_dump = mem::take(&mut self.is_behind_dump);
         if self.plain != Plain::Hexadecimal {
             return self.other_line(text);
         }
-        if let Some(first) = Line::read(&text)?.filter(Line::begins_dump) {
+        if let Some(first) = Line::read(&text) {
             let is_whole = first.is_last;
-            self.dump = Some(Dump::new(self.line, first));
-            return Ok(if is_whole { self.finish_dump() } else { None });
+            self.dump = Some(Dump::new(self.line, text, first, is_below_fault));
+            return if is_whole { self.finish_dump() } else { None };
         }
-        if dump::has_offset(&text) {
-            return Ok(Some(Piece { line: self.line, bytes: Err(BAD_DUMP.into()) }));
-        }
-        let has_comment = !plain::is_literal(&text) && plain::blank_comments(&mut text);
-        let is_left_out = has_comment && text.trim_ascii().is_empty();
-        if is_left_out || plain::is_length(&text) {
-            self.is_behind_dump = was_behind_dump || !has_comment;
-            return Ok(None);
-        }
-        let list = List { line: self.line, open: plain::open_brackets(0, &text), text };
-        self.list_or_piece(list)
-    }
-
-    // A line that isn't hexadecimal.
-    fn other_line(&mut self, mut text: Vec<u8>) -> io::Result<Option<Piece>> {
-        if self.plain == Plain::Base64 {
-            return Ok(Some(piece(self.line, &text, plain::base64(&text)?)));
+        if plain::is_literal(&text) {
+            return self.whole(plain_line(self.line, &text));
         }
         let has_comment = plain::blank_comments(&mut text);
         let is_left_out = has_comment && text.trim_ascii().is_empty();
-        Ok((!is_left_out).then_some(Piece { line: self.line, bytes: Ok(text) }))
+        if is_left_out || plain::is_length(&text) {
+            self.is_behind_dump = was_behind_dump || !has_comment;
+            return None;
+        }
+        self.list_or_piece(List { line: self.line, text: Vec::new(), open: 0, has_comma: false }, text)
+    }
+
+    // A line that isn't hexadecimal.
+    fn other_line(&mut self, mut text: Vec<u8>) -> Option<Piece> {
+        if self.plain == Plain::Base64 {
+            return Some(piece(self.line, &text, plain::base64(&text)));
+        }
+        let has_comment = plain::blank_comments(&mut text);
+        let is_left_out = has_comment && text.trim_ascii().is_empty();
+        (!is_left_out).then_some(Piece { line: self.line, bytes: Ok(text) })
     }
 
     // A line after those of a list.
-    fn go_on(&mut self, mut list: List, mut text: Vec<u8>) -> io::Result<Option<Piece>> {
+    fn go_on(&mut self, mut list: List, mut text: Vec<u8>) -> Option<Piece> {
         if text.trim_ascii().is_empty() {
-            return list.end().map(Some);
+            return self.whole(list.end());
         }
         plain::blank_comments(&mut text);
-        list.open = plain::open_brackets(list.open, &text);
-        list.text.try_reserve(1 + text.len())?;
         list.text.push(b'\n');
-        list.text.extend(text);
-        self.list_or_piece(list)
+        self.list_or_piece(list, text)
     }
 
-    // What a list or a line is, if it doesn't go on in the next line.
-    fn list_or_piece(&mut self, list: List) -> io::Result<Option<Piece>> {
-        if (list.open > 0 || list.text.trim_ascii_end().ends_with(b",")) && !plain::is_literal(&list.text) {
+    // What a list or a line is with one more line, if it doesn't go on in the next.
+    fn list_or_piece(&mut self, mut list: List, text: Vec<u8>) -> Option<Piece> {
+        list.open = plain::open_brackets(list.open, &text);
+        if let Some(last) = text.trim_ascii_end().last() {
+            list.has_comma = *last == b',';
+        }
+        list.text.extend(text);
+        if list.open > 0 || list.has_comma {
             self.list = Some(list);
-            return Ok(None);
+            return None;
         }
-        let read = plain::read(&list.text)?;
-        if read.is_err() && dump::is_heading(&list.text) {
+        let read = plain_line(list.line, &list.text);
+        if read.bytes.is_err() && dump::is_heading(&list.text) {
             self.is_behind_dump = true;
-            return Ok(None);
+            return None;
         }
-        Ok(Some(piece(list.line, &list.text, read)))
+        self.whole(read)
+    }
+
+    fn whole(&mut self, read: Piece) -> Option<Piece> {
+        self.is_below_fault = read.bytes.is_err();
+        Some(read)
     }
 
     fn finish_dump(&mut self) -> Option<Piece> {
         let dump = self.dump.take()?;
-        self.is_behind_dump = true;
-        Some(dump.finish())
+        let is_plain = dump.is_plain();
+        let piece = dump.finish();
+        self.is_behind_dump = !is_plain;
+        self.is_below_fault = is_plain && piece.bytes.is_err();
+        Some(piece)
     }
 
     // What is whole at the end.
-    fn finish(&mut self) -> io::Result<Option<Piece>> {
-        match self.list.take() {
-            Some(list) => list.end().map(Some),
-            None => Ok(self.finish_dump()),
-        }
+    fn finish(&mut self) -> Option<Piece> {
+        self.list.take().map(List::end).or_else(|| self.finish_dump())
     }
 
     fn read_piece(&mut self) -> io::Result<Option<Piece>> {
@@ -192,8 +198,8 @@ impl<R: BufRead> Pieces<R> {
         }
         while !self.is_ended {
             let read = match self.read_line()? {
-                Some(line) => self.take(line)?,
-                None => return self.finish(),
+                Some(line) => self.take(line),
+                None => return Ok(self.finish()),
             };
             if read.is_some() {
                 return Ok(read);
@@ -213,13 +219,17 @@ impl<R: BufRead> Iterator for Pieces<R> {
 
 impl List {
     // The list, if a blank line or the end of the input ends it.
-    fn end(self) -> io::Result<Piece> {
-        let List { line, text, open } = self;
-        match open {
-            0 => Ok(piece(line, &text, plain::read(&text)?)),
-            _ => Ok(Piece { line, bytes: Err(OPEN.into()) }),
+    fn end(self) -> Piece {
+        match self.open {
+            0 => plain_line(self.line, &self.text),
+            _ => Piece { line: self.line, bytes: Err(OPEN.into()) },
         }
     }
+}
+
+/// A line, or lines of a list, that aren't a dump.
+pub fn plain_line(line: usize, text: &[u8]) -> Piece {
+    piece(line, text, plain::read(text))
 }
 
 // With the position of the fault in the lines.
@@ -240,7 +250,7 @@ fn piece(line: usize, text: &[u8], read: plain::Read) -> Piece {
 // What a line that isn't hexadecimal may be meant as.
 fn hint(text: &[u8]) -> &'static str {
     let is_base64 = text.len() >= 8 && text.len() % 4 == 0 && !text.contains(&b' ');
-    match is_base64 && matches!(plain::base64(text), Ok(Ok(_))) {
+    match is_base64 && plain::base64(text).is_ok() {
         true => "; base64 is read with --base64",
         false => "",
     }

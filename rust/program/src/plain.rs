@@ -1,5 +1,4 @@
 //! Bytes that aren't a dump: hexadecimal, lists as in source code and JSON, literals of Python and Rust, base64.
-use std::io;
 
 /// Why there are no bytes, and from which byte of the text on.
 #[derive(Debug, PartialEq)]
@@ -10,12 +9,12 @@ pub struct Fault {
 
 pub type Read = Result<Vec<u8>, Fault>;
 
-fn fault<T>(what: impl Into<String>, at: usize) -> io::Result<Result<T, Fault>> {
-    Ok(Err(Fault { what: what.into(), at }))
+fn fault<T>(what: impl Into<String>, at: usize) -> Result<T, Fault> {
+    Err(Fault { what: what.into(), at })
 }
 
 /// The bytes that a text means.
-pub fn read(text: &[u8]) -> io::Result<Read> {
+pub fn read(text: &[u8]) -> Read {
     let begin = value_at(text);
     if let Some(at) = literal_at(text) {
         return literal(text, at);
@@ -28,31 +27,40 @@ pub fn read(text: &[u8]) -> io::Result<Read> {
 }
 
 // A list as JSON has it. Where each number has two digits it may be hexadecimal.
-fn list_of_decimals(text: &[u8], begin: usize) -> io::Result<Read> {
+fn list_of_decimals(text: &[u8], begin: usize) -> Read {
     if words(text, begin).all(|(_, word)| word.len() == 2) {
         return match words(text, begin).next() {
             Some((at, _)) => fault("ambiguous numbers, decimal or hexadecimal; add 0x to each, from the one", at),
-            None => Ok(Ok(Vec::new())),
+            None => Ok(Vec::new()),
         };
     }
-    let mut bytes = Vec::new();
-    bytes.try_reserve_exact(words(text, begin).count())?;
-    bytes.extend(words(text, begin).filter_map(|(_, word)| decimal(word)));
-    Ok(Ok(bytes))
+    Ok(words(text, begin).filter_map(|(_, word)| decimal(word)).collect())
 }
 
 /// Hexadecimal with only blanks between its digits.
-pub fn unhex(text: &[u8]) -> io::Result<Option<Vec<u8>>> {
-    if text.iter().any(|byte| *byte != b' ' && !byte.is_ascii_hexdigit()) {
-        return Ok(None);
+pub fn unhex(text: &[u8]) -> Option<Vec<u8>> {
+    let is_hex = text.iter().all(|byte| *byte == b' ' || byte.is_ascii_hexdigit());
+    hexadecimal(text, 0).ok().filter(|_| is_hex)
+}
+
+/// Bytes of two digits, at least one, with one blank between them or, if there is a gap, two behind the eighth.
+pub fn pairs(text: &[u8], has_gap: bool) -> Option<Vec<u8>> {
+    let mut bytes = Vec::new();
+    let mut at = 0;
+    loop {
+        bytes.push((digit(*text.get(at)?)? << 4) | digit(*text.get(at + 1)?)?);
+        match &text[at + 2..] {
+            [] => return Some(bytes),
+            [b' ', b' ', ..] if has_gap && bytes.len() == 8 => at += 4,
+            [b' ', ..] => at += 3,
+            _ => return None,
+        }
     }
-    Ok(hexadecimal(text, 0)?.ok())
 }
 
 // Digits by twos, with separators between them.
-fn hexadecimal(text: &[u8], begin: usize) -> io::Result<Read> {
-    let mut bytes = Vec::new();
-    bytes.try_reserve_exact((text.len() - begin) / 2)?;
+fn hexadecimal(text: &[u8], begin: usize) -> Read {
+    let mut bytes = Vec::with_capacity((text.len() - begin) / 2);
     for (at, word) in words(text, begin) {
         let digits = word.strip_prefix(b"0x").or_else(|| word.strip_prefix(b"0X")).unwrap_or(word);
         let first = at + word.len() - digits.len();
@@ -69,7 +77,7 @@ fn hexadecimal(text: &[u8], begin: usize) -> io::Result<Read> {
         }
         bytes.extend(pairs.filter_map(|pair| Some((digit(pair[0])? << 4) | digit(pair[1])?)));
     }
-    Ok(Ok(bytes))
+    Ok(bytes)
 }
 
 fn digit(byte: u8) -> Option<u8> {
@@ -124,10 +132,9 @@ pub fn is_literal(text: &[u8]) -> bool {
     literal_at(text).is_some()
 }
 
-fn literal(text: &[u8], begin: usize) -> io::Result<Read> {
+fn literal(text: &[u8], begin: usize) -> Read {
     let quote = text[begin + 1];
     let mut bytes = Vec::new();
-    bytes.try_reserve_exact(text.len() - begin)?;
     let mut at = begin + 2;
     loop {
         match text.get(at) {
@@ -147,7 +154,7 @@ fn literal(text: &[u8], begin: usize) -> io::Result<Read> {
     }
     match text[at + 1..].iter().position(|byte| !b") \t\r\n,;".contains(byte)) {
         Some(behind) => fault("unexpected text after the bytes:", at + 1 + behind),
-        None => Ok(Ok(bytes)),
+        None => Ok(bytes),
     }
 }
 
@@ -170,9 +177,8 @@ fn escaped(text: &[u8]) -> Option<(u8, usize)> {
 }
 
 /// The bytes of a text in base64, with either alphabet of RFC 4648, and with padding or without.
-pub fn base64(text: &[u8]) -> io::Result<Read> {
-    let mut bytes = Vec::new();
-    bytes.try_reserve_exact(text.len() / 4 * 3 + 3)?;
+pub fn base64(text: &[u8]) -> Read {
+    let mut bytes = Vec::with_capacity(text.len() / 4 * 3 + 3);
     let (mut bits, mut count, mut padding) = (0_u32, 0, 0);
     for (at, c) in text.iter().enumerate().filter(|(_, c)| !c.is_ascii_whitespace()) {
         let value = match c {
@@ -197,25 +203,34 @@ pub fn base64(text: &[u8]) -> io::Result<Read> {
     }
     match count % 4 {
         1 => fault("base64 ends within a byte", text.len()),
-        _ => Ok(Ok(bytes)),
+        _ => Ok(bytes),
     }
 }
 
-/// Replaces comments, such as `# ..`, `// ..` and `/* .. */`, with blanks. Returns whether there was one.
-pub fn blank_comments(text: &mut [u8]) -> bool {
-    let mut has_comment = false;
+/// Replaces the comments of a line, `# ..`, `// ..` and `/* .. */`, with blanks. Returns whether there was one.
+pub fn blank_comments(text: &mut Vec<u8>) -> bool {
+    let (mut blanked, mut has_comment, mut is_closed) = (Vec::with_capacity(text.len()), false, true);
     let mut at = 0;
     while at < text.len() {
         let rest = &text[at..];
         let len = match rest {
-            [b'#', ..] | [b'/', b'/', ..] => rest.iter().position(|byte| *byte == b'\n').unwrap_or(rest.len()),
-            [b'/', b'*', ..] => rest.windows(2).skip(2).position(|two| two == b"*/").map_or(0, |end| end + 4),
+            [b'#', ..] | [b'/', b'/', ..] => rest.len(),
+            [b'/', b'*', ..] if is_closed => {
+                let end = rest.windows(2).skip(2).position(|two| two == b"*/");
+                is_closed = end.is_some();
+                end.map_or(0, |end| end + 4)
+            }
             _ => 0,
         };
-        text[at..at + len].fill(b' ');
+        if len == 0 {
+            blanked.push(text[at]);
+        }
+        // One for each character.
+        blanked.extend(rest[..len].iter().filter(|byte| **byte & 0xc0 != 0x80).map(|_| b' '));
         has_comment |= len > 0;
         at += len.max(1);
     }
+    *text = blanked;
     has_comment
 }
 
@@ -228,8 +243,9 @@ pub fn open_brackets(before: usize, text: &[u8]) -> usize {
     })
 }
 
-/// Whether a line is the number of bytes, as `xxd -i` prints it below them.
+/// Whether a line is the number of bytes, as `xxd -i` and `xxd -C -i` print it below them.
 pub fn is_length(text: &[u8]) -> bool {
+    let is_equal = |part: &[u8]| part.eq_ignore_ascii_case(b"_len = ");
     let text = text.trim_ascii();
-    text.starts_with(b"unsigned int ") && text.ends_with(b";") && text.windows(7).any(|part| part == b"_len = ")
+    text.starts_with(b"unsigned int ") && text.ends_with(b";") && text.windows(7).any(is_equal)
 }

@@ -227,11 +227,12 @@ front of them:
   00000010  01 02 ..   `hexdump -C`
   0010  01 02 ..       Wireshark (Copy, as a Hex Dump), `tshark -x`
   000010 01 02 ..      `od -A x -t x1` or, with text, `od -A x -t x1z`
-  0000020 01 02 ..     `od -t x1`: seven octal digits
-`xxd -e`, and `hexdump` without -C, swap bytes and are rejected. A datagram may begin with its Ethernet, IP and UDP
-headers, as captures print them.
-A blank line ends a dump, as does its last offset. Each line of output begins with the number of its line of input, and
-is written before the next line is read.
+  0000020 01 02 ..     `od -t x1`: seven octal digits or, with -A d, decimal ones
+`xxd -e`, and `hexdump` without -C, swap bytes and are rejected, and so is what may mean two things, such as a single
+line `000000 01 06`. The manual page of quic-wire, INPUT, has the rule. A datagram may begin with its Ethernet, IP and
+UDP headers, as captures print them.
+A blank line ends a dump, as does its last offset; a row at offset 0 begins another. Each line of output begins with the
+number of its line of input, and is written as soon as that input is whole.
 
 options:
   --base64             read lines as base64

@@ -9,9 +9,11 @@ from typing import NoReturn, Optional
 
 _WORDS = re.compile(rb"""[^ \t\r\n,:;(){}\[\]"'\\]+""")
 _NOT_HEX = re.compile(rb"[^0-9a-fA-F]")
-_BLANKS = b" \t\r\n\x0c"  # as for Rust's trim_ascii
+BLANKS = b" \t\r\n\x0c"  # as for Rust's trim_ascii
 _NOT_QUOTED = re.compile(rb"[^) \t\r\n,;]")
-_COMMENT = re.compile(rb"(?:#|//)[^\n]*|/\*.*?\*/", re.S)
+_COMMENT = re.compile(rb"#|//|/\*")
+_COMMENT_OF_LINE = re.compile(rb"#|//")
+_PAIR = re.compile(rb"[0-9a-fA-F]{2}")
 _ESCAPES = {ord(c): byte for c, byte in zip("abtnvfr\\'\"", b"\x07\x08\t\n\x0b\x0c\r\\'\"")}
 _BASE64 = {byte: i for i, byte in enumerate(b"ABCDEFGHIJKLMNOPQRSTUVWXYZabcdefghijklmnopqrstuvwxyz0123456789+/")}
 _BASE64.update({ord("-"): 62, ord("_"): 63})
@@ -30,7 +32,7 @@ def fail(what: str, at: int) -> NoReturn:
 
 
 def trimmed(text: bytes) -> bytes:
-    return text.strip(_BLANKS)
+    return text.strip(BLANKS)
 
 
 def character(data: bytes) -> str:
@@ -81,6 +83,14 @@ def unhex(text: bytes) -> Optional[bytes]:
         return None
 
 
+def pairs(text: bytes, has_gap: bool) -> Optional[bytes]:
+    """Bytes of two digits, at least one, with one blank between them or, if there is a gap, two behind the eighth."""
+    if has_gap and text[23:25] == b"  ":
+        text = text[:23] + text[24:]
+    words = text.split(b" ")
+    return bytes.fromhex(text.decode("ascii")) if all(_PAIR.fullmatch(word) for word in words) else None
+
+
 def _hexadecimal(text: bytes, begin: int) -> bytes:
     out = bytearray()
     for at, word in _words(text, begin):
@@ -119,7 +129,7 @@ def value_at(text: bytes) -> int:
     if end < 0:
         return 0
     name, value = text[:end], trimmed(text[end + 1 :])
-    front = name.lstrip(_BLANKS)[:1]
+    front = name.lstrip(BLANKS)[:1]
     is_name = front.isalpha() or front == b"_"
     is_quoted = any(byte in b"\"'\\" for byte in name)
     return end + 1 if is_name and not is_quoted and value and value[:1] != b"=" else 0
@@ -127,7 +137,7 @@ def value_at(text: bytes) -> int:
 
 def literal_at(text: bytes) -> Optional[int]:
     """Where a bytes literal begins, such as `b'..'` of Python or Rust, if the text is one."""
-    value = text[value_at(text) :].lstrip(_BLANKS).removeprefix(b"bytearray(")
+    value = text[value_at(text) :].lstrip(BLANKS).removeprefix(b"bytearray(")
     return len(text) - len(value) if value[:2] in (b"b'", b'b"') else None
 
 
@@ -176,7 +186,7 @@ def base64(text: bytes) -> bytes:
     out = bytearray()
     bits = count = padding = 0
     for at, c in enumerate(text):
-        if c in _BLANKS:
+        if c in BLANKS:
             continue
         value = _BASE64.get(c)
         if c == ord("=") and count % 4 >= 2 and padding < 4 - count % 4:
@@ -195,9 +205,19 @@ def base64(text: bytes) -> bytes:
 
 
 def blank_comments(text: bytes) -> tuple[bytes, bool]:
-    """The text with blanks in place of comments, and whether there was one."""
-    blanked, count = _COMMENT.subn(lambda found: b" " * len(found.group()), text)
-    return blanked, count > 0
+    """A line with blanks in place of comments, and whether there was one."""
+    parts: list[bytes] = []
+    begin, at, mark = 0, 0, _COMMENT
+    while found := mark.search(text, at):
+        at, end = found.start(), len(text)
+        if found.group() == b"/*":
+            end = text.find(b"*/", at + 2) + 2
+            if end < at + 2:  # no other is closed either
+                at, mark = at + 1, _COMMENT_OF_LINE
+                continue
+        parts += [text[begin:at], b" " * sum(byte & 0xC0 != 0x80 for byte in text[at:end])]
+        begin = at = end
+    return b"".join(parts) + text[begin:], bool(parts)
 
 
 def open_brackets(before: int, text: bytes) -> int:
@@ -211,6 +231,6 @@ def open_brackets(before: int, text: bytes) -> int:
 
 
 def is_length(text: bytes) -> bool:
-    """Whether a line is how many bytes there are, as `xxd -i` prints it below them."""
+    """Whether a line is how many bytes there are, as `xxd -i` and `xxd -C -i` print it below them."""
     text = trimmed(text)
-    return text.startswith(b"unsigned int ") and text.endswith(b";") and b"_len = " in text
+    return text.startswith(b"unsigned int ") and text.endswith(b";") and b"_len = " in text.lower()

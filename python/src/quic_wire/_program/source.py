@@ -4,13 +4,12 @@ from __future__ import annotations
 
 import enum
 from collections.abc import Callable, Iterator
-from typing import BinaryIO, NamedTuple, Optional, Union
+from typing import BinaryIO, Optional, Union
 
 from . import plain
 from .dump import Dump, Piece, Step
-from .dump_line import has_offset, is_heading, read_line
+from .dump_line import is_heading, read_line
 
-_BAD_DUMP = "an offset without bytes after it as xxd or tcpdump print them"
 _UTF_16 = "the text is UTF-16, not UTF-8"
 _OPEN = "a bracket is not closed"
 
@@ -23,12 +22,22 @@ class Plain(enum.Enum):
     DECIMAL = 2  # numbers that a mode reads itself
 
 
-class _List(NamedTuple):
-    """Lines of a list, the number of the first, and how many of its brackets aren't closed."""
+class _List:
+    """Lines of a list, the number of the first, how many of its brackets aren't closed, and whether a comma is the last
+    of its characters."""
 
-    line: int
-    text: bytes
-    open: int
+    def __init__(self, line: int) -> None:
+        self.line, self.lines, self.open, self.has_comma = line, list[bytes](), 0, False
+
+    def add(self, text: bytes) -> None:
+        self.lines.append(text)
+        self.open = plain.open_brackets(self.open, text)
+        if plain.trimmed(text):
+            self.has_comma = plain.trimmed(text).endswith(b",")
+
+    @property
+    def text(self) -> bytes:
+        return b"\n".join(self.lines)
 
 
 class Pieces:
@@ -41,6 +50,8 @@ class Pieces:
         self._list: Optional[_List] = None
         # Whether a dump ended with the line before, except for blank ones.
         self._is_behind_dump = False
+        # Whether the line before couldn't be read.
+        self._is_below_fault = False
 
     def __iter__(self) -> Iterator[Piece]:
         for raw in self._source:
@@ -70,6 +81,7 @@ class Pieces:
 
     def _begin(self, text: bytes) -> Iterator[Piece]:
         """A line after a complete input."""
+        is_below_fault, self._is_below_fault = self._is_below_fault, False
         if self._is_behind_dump and not plain.trimmed(text):
             return
         was_behind_dump, self._is_behind_dump = self._is_behind_dump, False
@@ -77,22 +89,20 @@ class Pieces:
             yield from self._other_line(text)
             return
         first = read_line(text)
-        if first is not None and first.begins_dump:
-            self._dump = Dump(self._line, first)
+        if first is not None:
+            self._dump = Dump(self._line, text, first, is_below_fault)
             if first.is_last:
                 yield from self._finish_dump()
             return
-        if has_offset(text):
-            yield Piece(self._line, _BAD_DUMP)
+        if plain.is_literal(text):
+            yield self._whole(_piece(self._line, text, plain.read))
             return
-        has_comment = False
-        if not plain.is_literal(text):
-            text, has_comment = plain.blank_comments(text)
+        text, has_comment = plain.blank_comments(text)
         is_left_out = has_comment and not plain.trimmed(text)
         if is_left_out or plain.is_length(text):
             self._is_behind_dump = was_behind_dump or not has_comment
             return
-        yield from self._list_or_piece(_List(self._line, text, plain.open_brackets(0, text)))
+        yield from self._list_or_piece(_List(self._line), text)
 
     def _other_line(self, text: bytes) -> Iterator[Piece]:
         """A line that isn't hexadecimal."""
@@ -106,29 +116,34 @@ class Pieces:
     def _go_on(self, begun: _List, text: bytes) -> Iterator[Piece]:
         """A line after those of a list."""
         if not plain.trimmed(text):
-            yield _end_of_list(begun)
+            yield self._whole(_end_of_list(begun))
             return
-        text, _ = plain.blank_comments(text)
-        more = begun.text + b"\n" + text
-        yield from self._list_or_piece(_List(begun.line, more, plain.open_brackets(begun.open, text)))
+        yield from self._list_or_piece(begun, plain.blank_comments(text)[0])
 
-    def _list_or_piece(self, read: _List) -> Iterator[Piece]:
-        """What a list or a line is, if it doesn't continue in the next line."""
-        goes_on = read.open > 0 or plain.trimmed(read.text).endswith(b",")
-        if goes_on and not plain.is_literal(read.text):
+    def _list_or_piece(self, read: _List, text: bytes) -> Iterator[Piece]:
+        """What a list or a line is with one more line, if it doesn't continue in the next."""
+        read.add(text)
+        if read.open or read.has_comma:
             self._list = read
             return
         piece = _piece(read.line, read.text, plain.read)
         if isinstance(piece.data, str) and is_heading(read.text):
             self._is_behind_dump = True
             return
-        yield piece
+        yield self._whole(piece)
+
+    def _whole(self, piece: Piece) -> Piece:
+        self._is_below_fault = isinstance(piece.data, str)
+        return piece
 
     def _finish_dump(self) -> Iterator[Piece]:
         if self._dump is not None:
-            finished, self._dump = self._dump.finish(), None
-            self._is_behind_dump = True
-            yield finished
+            dump, self._dump = self._dump, None
+            self._is_behind_dump = not dump.is_plain
+            if dump.is_plain:
+                yield self._whole(_piece(dump.line, dump.text, plain.read))
+            else:
+                yield dump.finish()
 
 
 def _end_of_list(read: _List) -> Piece:

@@ -1,6 +1,6 @@
 //! A line of a dump.
-use crate::plain::unhex;
-use std::io;
+use super::order::{self, Order};
+use crate::plain::{pairs, unhex};
 
 /// The program that prints such lines.
 #[derive(Clone, Copy, Debug, PartialEq)]
@@ -12,39 +12,52 @@ pub enum Form {
     /// Wireshark and `tshark -x`.
     Wireshark,
     OdHex,
-    OdOctal,
-    /// `hexdump` without `-C`, `od` without `-t x1`, `xxd -b`: what they print isn't read.
+    /// Offsets in octal or, with `-A d`, in decimal.
+    Od,
+    /// `hexdump` without `-C`, `od` without `-t x1`: what they print isn't read.
     Units,
 }
+
+/// What the digits of an offset mean in hexadecimal or octal, and in decimal: whichever the lines after it allow.
+pub type Offsets = [Option<u64>; 2];
+
+/// How many digits an offset has.
+const DIGITS: std::ops::RangeInclusive<usize> = 4..=12;
 
 impl Form {
     // The form of an offset with these digits, if blanks and no colon follow.
     fn of(digits: &[u8], blanks: usize) -> Option<Form> {
-        let is_octal = digits.iter().all(|digit| (b'0'..=b'7').contains(digit));
-        match digits.len() {
-            _ if !digits.iter().all(u8::is_ascii_hexdigit) => None,
-            8.. if blanks >= 2 => Some(Form::Hexdump),
-            4.. if blanks >= 2 => Some(Form::Wireshark),
-            6 => Some(Form::OdHex),
-            7 if is_octal => Some(Form::OdOctal),
+        match (digits.len(), blanks) {
+            (8.., 2..) => Some(Form::Hexdump),
+            (4..=6, 2..) => Some(Form::Wireshark),
+            (6, 1) => Some(Form::OdHex),
+            (7, 1) => Some(Form::Od),
             _ => None,
         }
     }
 
-    fn offset(self, digits: &[u8]) -> Option<u64> {
-        let radix = if self == Form::OdOctal { 8 } else { 16 };
-        u64::from_str_radix(std::str::from_utf8(digits).ok()?, radix).ok()
+    // The offsets that digits may mean, if there is one. Those after 0x are hexadecimal.
+    fn offsets(self, digits: &[u8], is_0x: bool) -> Option<Offsets> {
+        let in_base = |base| u64::from_str_radix(std::str::from_utf8(digits).ok()?, base).ok();
+        let is_hex = DIGITS.contains(&digits.len()) && digits.iter().all(u8::is_ascii_hexdigit);
+        let offsets = match self {
+            Form::Od => [in_base(8), in_base(10)],
+            Form::Colon if !is_0x => [in_base(16), in_base(10)],
+            _ => [in_base(16), None],
+        };
+        (is_hex && offsets != [None, None]).then_some(offsets)
     }
 
     /// The offset of a line that has only that, as the end's offset closes a dump.
-    pub fn closing(self, text: &[u8]) -> Option<u64> {
+    pub fn closing(self, text: &[u8]) -> Option<Offsets> {
         let is_one = match self {
             Form::Hexdump => text.len() >= 8,
             Form::OdHex => text.len() == 6,
-            Form::OdOctal | Form::Units => text.len() == 7,
+            Form::Od => text.len() == 7,
+            Form::Units => matches!(text.len(), 6 | 7),
             Form::Colon | Form::Wireshark => false,
         };
-        if is_one && text.iter().all(u8::is_ascii_hexdigit) { self.offset(text) } else { None }
+        self.offsets(text, true).filter(|_| is_one)
     }
 
     /// Whether its program prints a line that closes a dump.
@@ -53,27 +66,25 @@ impl Form {
     }
 }
 
-/// The order of the bytes in a group, from the text next to them. Of two lines the greater value decides.
-#[derive(Clone, Copy, Debug, PartialEq, Eq, PartialOrd, Ord)]
-pub enum Order {
-    /// The text says nothing, and it isn't needed.
-    Untold,
-    /// It doesn't say, and the groups are as wide as those of `xxd -e`.
-    Unknown,
-    AsDumped,
-    /// As `xxd -e` prints them.
-    Swapped,
+/// What a line is if the one below it doesn't go on from it.
+#[derive(Clone, Copy, Debug, PartialEq)]
+pub enum Alone {
+    Dump,
+    /// A line of a dump or plain hexadecimal.
+    Ambiguous,
+    Plain,
 }
 
 /// A line of a dump.
 #[derive(Debug)]
 pub struct Line {
     pub form: Form,
-    pub offset: u64,
+    pub offsets: Offsets,
     pub bytes: Vec<u8>,
+    /// How many columns it has: of bytes, or of the numbers that aren't read.
+    pub columns: usize,
     pub order: Order,
-    // Whether it can only be a line of a dump.
-    is_sure: bool,
+    pub alone: Alone,
     /// Whether it has fewer bytes than a full line, so that no other follows.
     pub is_last: bool,
     /// Why its bytes aren't read.
@@ -83,97 +94,110 @@ pub struct Line {
 const BITS: &str = "these are bits, as xxd -b prints them; use xxd without -b";
 const SWAPPED: &str = "the bytes of each group are swapped, as hexdump without -C and od -x print them; \
     use hexdump -C or od -t x1";
-const UNITS: &str = "these are units of more than a byte, as od and hexdump print them; \
-    use od -t x1 or hexdump -C";
+const UNITS: &str = "these are numbers, not bytes in hexadecimal, as hexdump without -C and od without -t x1 print \
+    them; use hexdump -C or od -t x1";
+const NO_BYTES: &str = "an offset without bytes after it as xxd or tcpdump print them";
 
 impl Line {
     /// A line of a dump, if the text is one.
-    pub fn read(text: &[u8]) -> io::Result<Option<Line>> {
-        let text = text.trim_ascii_start();
-        if let Some((digits, rest)) = split_at_colon(text) {
-            return Line::with_colon(digits, rest);
+    pub fn read(text: &[u8]) -> Option<Line> {
+        let text = text.trim_ascii();
+        if let Some(at) = text.iter().position(|byte| *byte == b':') {
+            if let (front, [b':', rest @ ..]) = text.split_at(at) {
+                if let Some(line) = Line::with_colon(front, rest) {
+                    return Some(line);
+                }
+            }
         }
-        if let Some(line) = Line::of_units(text) {
-            return Ok(Some(line));
-        }
-        Line::of_columns(text)
+        let (digits, rest) = text.split_at(text.iter().position(|byte| *byte == b' ')?);
+        Line::of_units(digits, rest).or_else(|| Line::of_columns(digits, rest))
     }
 
-    /// Whether a dump may begin with it.
-    pub fn begins_dump(&self) -> bool {
-        self.is_sure || self.offset == 0
+    /// Whether it is the first of what was dumped.
+    pub fn is_front(&self) -> bool {
+        self.offsets[0] == Some(0)
     }
 
-    fn refused(offset: u64, refusal: &'static str) -> Line {
+    fn refused(form: Form, offsets: Offsets, refusal: &'static str) -> Line {
         let (bytes, order) = (Vec::new(), Order::Untold);
-        Line { form: Form::Units, offset, bytes, order, is_sure: true, is_last: false, refusal: Some(refusal) }
+        Line { form, offsets, bytes, columns: 0, order, alone: Alone::Dump, is_last: false, refusal: Some(refusal) }
     }
 
-    fn with_colon(digits: &[u8], rest: &[u8]) -> io::Result<Option<Line>> {
-        let Some(offset) = Form::Colon.offset(digits) else { return Ok(None) };
-        let rest = rest.trim_ascii_start();
-        let end = find(rest, b"  ").unwrap_or(rest.len());
-        let (groups, shown) = rest.split_at(end);
+    // The digits of an offset, and what follows its colon, which begins with a blank.
+    fn with_colon(front: &[u8], rest: &[u8]) -> Option<Line> {
+        let digits = front.strip_prefix(b"0x").unwrap_or(front);
+        let offsets = Form::Colon.offsets(digits, digits.len() < front.len())?;
+        let aligned = rest.strip_prefix(b" ").or(rest.is_empty().then_some(rest))?;
+        let rest = aligned.trim_ascii_start();
+        let (groups, shown) = rest.split_at(find(rest, b"  ").unwrap_or(rest.len()));
         let shown = shown.get(2..).unwrap_or_default();
         if are_bits(groups, shown) {
-            return Ok(Some(Line::refused(offset, BITS)));
+            return Some(Line::refused(Form::Colon, offsets, BITS));
         }
-        let Some(bytes) = unhex(groups)?.filter(|bytes| !bytes.is_empty()) else { return Ok(None) };
-        let order = match is_right_aligned(rest) {
+        let refused = || Line::refused(Form::Colon, offsets, NO_BYTES);
+        let Some(bytes) = unhex(groups).filter(|bytes| !bytes.is_empty()) else { return Some(refused()) };
+        let order = match order::is_right_aligned(aligned) {
             true => Order::Swapped,
-            false => order(groups, &bytes, shown),
+            false => order::of(groups, &bytes, shown),
         };
-        // Each byte has a character in the text, from which an editor may have removed trailing spaces.
-        let left = bytes.get(shown.len()..).unwrap_or_default();
-        if order != Order::Swapped && !shown.is_empty() && left.iter().any(|byte| *byte != b' ') {
-            return Ok(None);
+        if order != Order::Swapped && !is_text_of(shown, &bytes) {
+            return Some(refused());
         }
-        // Missing digits leave spaces before the text.
-        let is_last = shown.len() > bytes.len() && order != Order::Swapped;
-        Ok(Some(Line { form: Form::Colon, offset, bytes, order, is_sure: true, is_last, refusal: None }))
+        let (columns, is_last) = (bytes.len(), shown.len() > bytes.len() && order != Order::Swapped);
+        Some(Line { form: Form::Colon, offsets, bytes, columns, order, alone: Alone::Dump, is_last, refusal: None })
     }
 
-    // Seven digits and groups of more than two.
-    fn of_units(text: &[u8]) -> Option<Line> {
-        let (digits, rest) = text.split_at(text.iter().position(|byte| *byte == b' ')?);
-        let mut groups = rest.split(|byte| *byte == b' ').filter(|group| !group.is_empty()).peekable();
-        let width = groups.peek()?.len();
-        let is_units = (3..=22).contains(&width) && digits.len() == 7 && digits.iter().all(u8::is_ascii_hexdigit);
-        if !is_units || !groups.all(|group| group.len() == width && group.iter().all(u8::is_ascii_hexdigit)) {
+    // Six or seven digits and columns, wider than those of bytes, with numbers at their right ends.
+    fn of_units(digits: &[u8], rest: &[u8]) -> Option<Line> {
+        let blanks = rest.iter().take_while(|byte| **byte == b' ').count();
+        let width = rest[blanks..].iter().position(|byte| *byte == b' ').map_or(rest.len(), |len| blanks + len);
+        let is_number = |column: &[u8]| {
+            let number = &column[column.iter().take_while(|byte| **byte == b' ').count()..];
+            let digits = number.strip_prefix(b"-").unwrap_or(number);
+            number.len() < column.len() && !digits.is_empty() && digits.iter().all(u8::is_ascii_hexdigit)
+        };
+        if width < 4 || rest.len() % width != 0 || !rest.chunks(width).all(is_number) {
             return None;
         }
-        Some(Line::refused(Form::Units.offset(digits)?, if width == 4 { SWAPPED } else { UNITS }))
+        let alone = match digits.len() {
+            6 if blanks == 1 => Alone::Plain,
+            6 | 7 => Alone::Dump,
+            _ => return None,
+        };
+        let refusal = if width == 5 && blanks == 1 { SWAPPED } else { UNITS };
+        let columns = rest.len() / width;
+        Some(Line { alone, columns, ..Line::refused(Form::Units, Form::Units.offsets(digits, true)?, refusal) })
     }
 
-    fn of_columns(text: &[u8]) -> io::Result<Option<Line>> {
-        let Some(end) = text.iter().position(|byte| *byte == b' ') else { return Ok(None) };
-        let (digits, rest) = text.split_at(end);
+    fn of_columns(digits: &[u8], rest: &[u8]) -> Option<Line> {
         let blanks = rest.iter().take_while(|byte| **byte == b' ').count();
-        let Some(form) = Form::of(digits, blanks) else { return Ok(None) };
+        let form = Form::of(digits, blanks)?;
         let rest = &rest[blanks..];
         let shown = match form {
             Form::Wireshark => find(rest, b"   "),
             Form::Hexdump => rest.iter().position(|byte| *byte == b'|').or_else(|| find(rest, b"   ")),
             _ => rest.iter().position(|byte| *byte == b'>'),
         };
-        let (columns, text) = rest.split_at(shown.unwrap_or(rest.len()));
-        let Some(offset) = form.offset(digits) else { return Ok(None) };
-        let Some(bytes) = bytes_by_twos(columns)? else { return Ok(None) };
-        let is_sure = form != Form::OdHex || shown.is_some();
-        let is_last = form == Form::Wireshark && text.len() > bytes.len() + 3;
-        Ok(Some(Line { form, offset, bytes, order: Order::Untold, is_sure, is_last, refusal: None }))
+        let (twos, text) = rest.split_at(shown.unwrap_or(rest.len()));
+        let offsets = form.offsets(digits, false)?;
+        let bytes = pairs(twos.trim_ascii_end(), blanks > 1)?;
+        let is_zero = offsets[0] == Some(0);
+        let alone = match form {
+            _ if !text.is_empty() || digits.len() % 2 == 1 => Alone::Dump,
+            Form::OdHex if digits.ends_with(b"0") => Alone::Ambiguous,
+            Form::OdHex => Alone::Plain,
+            _ if is_zero => Alone::Dump,
+            _ => Alone::Ambiguous,
+        };
+        let (columns, is_last) = (bytes.len(), form == Form::Wireshark && text.len() > bytes.len() + 3);
+        Some(Line { form, offsets, bytes, columns, order: Order::Untold, alone, is_last, refusal: None })
     }
-}
-
-/// Whether a line has an offset and a colon, and so isn't plain hexadecimal.
-pub fn has_offset(text: &[u8]) -> bool {
-    split_at_colon(text.trim_ascii_start()).is_some()
 }
 
 /// Whether a line is one that `tshark` or `tcpdump` prints above a dump: its source, or a summary of the packet.
 pub fn is_heading(text: &[u8]) -> bool {
     let text = text.trim_ascii();
-    let is_data_source = text.ends_with(b" bytes):") && text.contains(&b'(');
+    let is_data_source = (text.ends_with(b" bytes):") || text.ends_with(b"(1 byte):")) && text.contains(&b'(');
     let time = text.split(|byte| *byte == b' ').take(2).find(|word| word.contains(&b':')).unwrap_or_default();
     let is_time =
         time.len() == 15 && time[8] == b'.' && time.iter().all(|byte| byte.is_ascii_digit() || b":.".contains(byte));
@@ -186,56 +210,17 @@ fn find(text: &[u8], what: &[u8]) -> Option<usize> {
     text.windows(what.len()).position(|part| part == what)
 }
 
-// Whether each group has a character of the text.
+// Whether a text has a character for each byte, behind the blanks of missing digits. An editor may have removed spaces
+// at its end.
+fn is_text_of(shown: &[u8], bytes: &[u8]) -> bool {
+    let missing = bytes.get(shown.len()..).unwrap_or_default();
+    let blanks = shown.len().saturating_sub(bytes.len());
+    shown.is_empty() || missing.iter().chain(&shown[..blanks]).all(|byte| *byte == b' ')
+}
+
+// Whether each group is a byte in binary: then it has at most a character of the text.
 fn are_bits(groups: &[u8], shown: &[u8]) -> bool {
     let is_binary = |group: &[u8]| group.len() == 8 && group.iter().all(|digit| matches!(digit, b'0' | b'1'));
     let count = groups.split(|byte| *byte == b' ').count();
-    groups.split(|byte| *byte == b' ').all(is_binary) && (1..=count).contains(&shown.trim_ascii_start().len())
-}
-
-// The digits of an offset, and what follows its colon: they begin with a blank.
-fn split_at_colon(text: &[u8]) -> Option<(&[u8], &[u8])> {
-    let end = text.iter().position(|byte| *byte == b':')?;
-    let (digits, rest) = text.split_at(end);
-    let digits = digits.strip_prefix(b"0x").unwrap_or(digits);
-    let rest = &rest[1..];
-    let is_offset = digits.len() >= 4 && digits.iter().all(u8::is_ascii_hexdigit);
-    (is_offset && rest.starts_with(b" ")).then_some((digits, rest))
-}
-
-// Whether the last group has fewer digits than the first and is right-aligned, as `xxd -e` prints it.
-fn is_right_aligned(rest: &[u8]) -> bool {
-    let is_hex = |digits: &[u8]| digits.iter().all(u8::is_ascii_hexdigit);
-    let width = rest.iter().position(|byte| *byte == b' ').unwrap_or(rest.len());
-    let mut columns = (0..).map_while(|i| rest.get(i * (width + 1)..)?.split_at_checked(width));
-    let Some((last, behind)) = columns.find(|(column, _)| !is_hex(column)) else { return false };
-    let digits = last.trim_ascii_start();
-    width.is_power_of_two() && !digits.is_empty() && is_hex(digits) && behind.starts_with(b"  ")
-}
-
-// From the text next to groups, which has a character for each byte.
-fn order(groups: &[u8], bytes: &[u8], shown: &[u8]) -> Order {
-    let width = groups.split(|byte| *byte == b' ').next().map_or(0, |group| group.len() / 2);
-    let shown = &shown[shown.len().saturating_sub(bytes.len())..];
-    if !matches!(width, 2 | 4 | 8) || shown.len() != bytes.len() {
-        return Order::Untold;
-    }
-    let fits = |(byte, c): (&u8, &u8)| c == byte || (*c == b'.' && !byte.is_ascii_graphic());
-    let swapped = || bytes.chunks(width).flat_map(|group| group.iter().rev());
-    let is_same = swapped().eq(bytes);
-    match (bytes.iter().zip(shown).all(fits), swapped().zip(shown).all(fits)) {
-        (false, true) => Order::Swapped,
-        (true, false) => Order::AsDumped,
-        (true, true) if width > 2 && !is_same => Order::Unknown,
-        _ => Order::Untold,
-    }
-}
-
-// One byte or more, each of two digits, with one or two spaces between them.
-fn bytes_by_twos(text: &[u8]) -> io::Result<Option<Vec<u8>>> {
-    let mut words = text.split(|byte| *byte == b' ').filter(|word| !word.is_empty());
-    if !words.all(|word| word.len() == 2) {
-        return Ok(None);
-    }
-    Ok(unhex(text)?.filter(|bytes| !bytes.is_empty()))
+    groups.split(|byte| *byte == b' ').all(is_binary) && shown.trim_ascii_start().len() <= count
 }

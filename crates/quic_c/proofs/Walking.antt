@@ -21,8 +21,8 @@ use Rattle.quic_c.specs.Answers.{AnswersNext, GivesFrameWords, GivesInvalid}
 use Rattle.quic_c.specs.Filling.{AnswersFill, AnswersFirst, Fills, ReportsInvalid}
 use Rattle.quic_c.specs.Shown.{at_front, state_of, rules_in, type_word, invalid_words}
 use Rattle.quic_c.specs.Walks.{Ahead, ahead, ShowsFrame, ShowsRun, StopsFull, StopsAtEnd, StopsAtError, StoresFrames}
-use Rattle.quic_c.proofs.Ways.{Way, Checks, after_frames, way_begins, way_frame, way_entries, checked_rest, checked_all, checked_error}
-use Rattle.quic_frames.proofs.CheckedTurns.{Lasts, Reads}
+use Rattle.quic_c.proofs.Ways.{Way, Checks, way_begins, way_frame, way_entries, checked_rest, checked_all, checked_error}
+use Rattle.quic_frames.proofs.CheckedTurns.{Lasts, Reads, after_frames}
 use Rattle.quic_frames.proofs.Turns.{HasRead}
 use Rattle.quic_results.specs.Results.{failed, frame_failure}
 use Rattle.quic_results.specs.declared.results.Failure.TheVariants as failure

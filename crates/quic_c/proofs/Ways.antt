@@ -1,11 +1,11 @@
 -- A walk over a payload, call by call.
-use Rattle.std.proofs.Common.{◌≡◌, ◌≢◌, ℕ, zero, suc, ◌+◌, ◌<◌, List, [], ◌∷◌, ◌++◌, length, Bool, None, Some, Option, refl, sym, ap, subst, ◌∙◌, inl, inr, append_assoc, arith}
-use Rattle.std.specs.Prelude.{◌⊎◌, All, replicate, slice_index}
+use Rattle.std.proofs.Common.{◌≡◌, ℕ, zero, suc, ◌+◌, ◌<◌, List, [], ◌∷◌, ◌++◌, length, Bool, None, Some, Option, refl, sym, ap, subst, ◌∙◌, inl, inr, append_assoc, arith}
+use Rattle.std.specs.Prelude.{All, replicate, slice_index}
 use Rattle.std.proofs.lemmas.List.{append-nil, replicate_more}
 use Rattle.std.proofs.lemmas.List.Elements.{All-nil, All-cons, All-head, All-tail}
 use Rattle.quic_base.specs.Number.{AreBytes}
 use Rattle.quic_base.specs.One.{ExactlyOne}
-use Rattle.quic_frame_fields.specs.Payload.{Meaning, TypedFrame, Reading, Complete, FailsAfter, IsReadingAfter, IsReadingOf, followed_by}
+use Rattle.quic_frame_fields.specs.Payload.{Meaning, TypedFrame, Reading}
 use Rattle.quic_frame_fields.specs.Reading.{Invalid}
 use Rattle.quic_frames.specs.Checking.{IsRefusedFrame}
 use Rattle.quic_frames.specs.IterState.{IterState}
@@ -15,7 +15,7 @@ use Rattle.quic_frames.specs.Walk.{rest_of, first_of, Finds, IsSpent, Stands}
 use Rattle.quic_frames.specs.declared.frame.Frame.{Frame}
 use Rattle.quic_frames.specs.declared.frame.Frame.TheVariants as frames
 use Rattle.quic_frames.specs.declared.frame.rules.Rules.{Rules}
-use Rattle.quic_frames.proofs.CheckedTurns.{HasReadBy, Lasts, Reads, all_read_by, ended_with, refused_by}
+use Rattle.quic_frames.proofs.CheckedTurns.{HasReadBy, Lasts, Reads, ReadsWhole, after_frames, all_read_by, ended_with, reads_whole, refused_by}
 use Rattle.quic_frames.proofs.Turns.{HasRead, has_read_none, has_read_more}
 use Rattle.quic_c.specs.declared.words.CFrame.{CFrame}
 use Rattle.quic_c.specs.Filling.{GivesEntry, Shows}
@@ -36,50 +36,6 @@ all_append rules [] others kept also = also
 all_append rules (first ∷ found) others kept also =
     All-cons (Keeps rules) first (found ++ others) (All-head (Keeps rules) first found kept)
     (all_append rules found others (All-tail (Keeps rules) first found kept) also)
-
-abbrev pub after_frames : List TypedFrame → Checked → Checked
-after_frames found checked = record { frames = found ++ checked.frames; error = checked.error }
-
-reported_followed : (rules : Rules) (found : List TypedFrame) (rest : Reading)
-    → reported_by rules (followed_by found rest) ≡ after_frames found (reported_by rules rest)
-reported_followed rules found (Complete others) = refl
-reported_followed rules found (FailsAfter others type reason) = refl
-
-none_or_some : (bytes : List ℕ) → (bytes ≡ []) ⊎ (bytes ≢ [])
-none_or_some [] = inl refl
-none_or_some (byte ∷ bytes) = inr (λ e. cc)
-
-record ReadsWhole (rules : Rules) (payload : List ℕ) (found : List TypedFrame) (rest : Reading) : Type 0 where
-  reading : Reading
-  is : IsReadingOf rules.short_types payload reading
-  parts : reported_by rules reading ≡ after_frames found (reported_by rules rest)
-
-reads_whole : (rules : Rules) (payload : List ℕ) (found : List TypedFrame) (state : IterState) (rest : Reading)
-    → Lasts → Reads → HasRead rules.short_types payload found state
-    → IsReadingAfter rules.short_types state.last (rest_of state) rest → ReadsWhole rules payload found rest
-reads_whole rules payload found state rest lasts reads h is = elim (none_or_some (rest_of state)) [
-  | inl none ↦
-      let whole : h.front ≡ payload =
-      sym (h.parts ∙ ap (λ (l : List ℕ). h.front ++ l) none ∙ append-nil h.front) in
-      let nothing = subst (λ (l : List ℕ). IsReadingAfter rules.short_types state.last l rest) none is in
-      let one = reads rules.short_types state.last [] (λ k. omega arith) in
-      let same : rest ≡ Complete [] = one.only rest nothing ∙ sym (one.only (Complete []) refl) in
-      let all : after_frames found (reported_by rules (Complete [])) ≡ reported_by rules (Complete found) =
-      ap (λ (l : List TypedFrame). reported_by rules (Complete l)) (append-nil found) in
-      record {
-        reading = Complete found;
-        is = subst (λ (l : List ℕ). IsReadingOf rules.short_types l (Complete found)) whole h.encoded;
-        parts = sym (ap (λ (r : Reading). after_frames found (reported_by rules r)) same ∙ all);
-      }
-  | inr some ↦
-      let behind = subst (λ (t : Option ℕ). IsReadingAfter rules.short_types t (rest_of state) rest) h.last is in
-      record {
-        reading = followed_by found rest;
-        is = subst (λ (l : List ℕ). IsReadingOf rules.short_types l (followed_by found rest)) (sym h.parts)
-            (lasts rules.short_types found h.front (rest_of state) rest h.encoded (h.closed some) behind);
-        parts = reported_followed rules found rest;
-      }
-]
 
 -- more is to come
 by_rest : (rules : Rules) (payload : List ℕ) (found : List TypedFrame) (reading : Reading) (rest : Checked)

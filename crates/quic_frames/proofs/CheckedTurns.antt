@@ -1,5 +1,5 @@
 -- What an iterator with rules returns in turn, and what that says about the payload.
-use Rattle.std.proofs.Common.{◌≡◌, ◌≢◌, ℕ, List, [], ◌∷◌, ◌++◌, Bool, None, Some, Option, refl, sym, ap, subst, ◌∙◌, inl, inr, append_assoc}
+use Rattle.std.proofs.Common.{◌≡◌, ◌≢◌, ℕ, List, [], ◌∷◌, ◌++◌, Bool, None, Some, Option, refl, sym, ap, subst, ◌∙◌, inl, inr, append_assoc, arith}
 use Rattle.std.specs.Prelude.{◌⊎◌, All}
 use Rattle.std.proofs.lemmas.List.{append-nil}
 use Rattle.std.proofs.lemmas.List.Elements.{All-nil, All-cons, All-head, All-tail}
@@ -7,10 +7,10 @@ use Rattle.quic_base.specs.Number.{AreBytes}
 use Rattle.quic_base.specs.One.{ExactlyOne}
 use Rattle.quic_base.proofs.PublicLaws.{back_bytes}
 use Rattle.quic_frame_fields.specs.Payload.{TypedFrame, AreClosed, Reading, Complete, FailsAfter, IsReadingAfter, IsReadingOf, followed_by, last_type}
-use Rattle.quic_frame_fields.specs.Reading.{Invalid, invalid}
+use Rattle.quic_frame_fields.specs.Reading.{Invalid}
 use Rattle.quic_frames.specs.Checking.{BreaksRule, CheckedState, FindsKept, IsRefusedFrame, LacksBy, checked_first}
 use Rattle.quic_frames.specs.IterState.{IterState}
-use Rattle.quic_frames.specs.Rules.{Checked, IsCheckedOf, Keeps, fault_by, invalid_by, reported_by}
+use Rattle.quic_frames.specs.Rules.{Checked, IsCheckedOf, Keeps, reported_by}
 use Rattle.quic_frames.specs.Walk.{rest_of, IsSpent}
 use Rattle.quic_frames.specs.declared.frame.Frame.{Frame}
 use Rattle.quic_frames.specs.declared.frame.rules.Rules.{Rules}
@@ -70,15 +70,14 @@ lacks rules payload found state reported w l =
 
 -- ---- a frame that breaks a rule
 
-frames_followed : (rules : Rules) (found : List TypedFrame) (rest : Reading)
-    → (reported_by rules (followed_by found rest)).frames ≡ found ++ (reported_by rules rest).frames
-frames_followed rules found (Complete others) = refl
-frames_followed rules found (FailsAfter others type reason) = refl
+-- what is reported of a payload that goes on after frames that were read
+abbrev pub after_frames : List TypedFrame → Checked → Checked
+after_frames found checked = record { frames = found ++ checked.frames; error = checked.error }
 
--- what comes after frames that were read
-abbrev ReadsOn : Rules → List ℕ → List TypedFrame → Type 0
-ReadsOn rules payload found = (reading : Reading) × (others : List TypedFrame)
-    × IsReadingOf rules.short_types payload reading × ((reported_by rules reading).frames ≡ found ++ others)
+pub reported_followed : (rules : Rules) (found : List TypedFrame) (rest : Reading)
+    → reported_by rules (followed_by found rest) ≡ after_frames found (reported_by rules rest)
+reported_followed rules found (Complete others) = refl
+reported_followed rules found (FailsAfter others type reason) = refl
 
 abbrev pub Lasts : Type 0
 Lasts = (strict : Bool) (found : List TypedFrame) (bytes more : List ℕ) (rest : Reading)
@@ -94,27 +93,46 @@ none_or_some : (bytes : List ℕ) → (bytes ≡ []) ⊎ (bytes ≢ [])
 none_or_some [] = inl refl
 none_or_some (byte ∷ bytes) = inr (λ e. cc)
 
-reads_on : (rules : Rules) (payload : List ℕ) (found : List TypedFrame) (state : IterState) → Lasts → Reads
-    → AreBytes payload → HasRead rules.short_types payload found state → ReadsOn rules payload found
-reads_on rules payload found state lasts reads fits h = elim (none_or_some (rest_of state)) [
+-- the payload that they and what comes after them make
+pub record ReadsWhole (rules : Rules) (payload : List ℕ) (found : List TypedFrame) (rest : Reading) : Type 0 where
+  pub reading : Reading
+  pub is : IsReadingOf rules.short_types payload reading
+  pub parts : reported_by rules reading ≡ after_frames found (reported_by rules rest)
+
+pub reads_whole : (rules : Rules) (payload : List ℕ) (found : List TypedFrame) (state : IterState) (rest : Reading)
+    → Lasts → Reads → HasRead rules.short_types payload found state
+    → IsReadingAfter rules.short_types state.last (rest_of state) rest → ReadsWhole rules payload found rest
+reads_whole rules payload found state rest lasts reads h is = elim (none_or_some (rest_of state)) [
   | inl none ↦
       let whole : h.front ≡ payload =
-      sym (h.parts ∙ ap (λ (l : List ℕ). h.front ++ l) none ∙ append-nil h.front) in (
-        Complete found,
-        [],
-        subst (λ (l : List ℕ). IsReadingOf rules.short_types l (Complete found)) whole h.encoded,
-        sym (append-nil found),
-      )
+      sym (h.parts ∙ ap (λ (l : List ℕ). h.front ++ l) none ∙ append-nil h.front) in
+      let nothing = subst (λ (l : List ℕ). IsReadingAfter rules.short_types state.last l rest) none is in
+      let one = reads rules.short_types state.last [] (λ k. omega arith) in
+      let same : rest ≡ Complete [] = one.only rest nothing ∙ sym (one.only (Complete []) refl) in
+      let all : after_frames found (reported_by rules (Complete [])) ≡ reported_by rules (Complete found) =
+      ap (λ (l : List TypedFrame). reported_by rules (Complete l)) (append-nil found) in
+      record {
+        reading = Complete found;
+        is = subst (λ (l : List ℕ). IsReadingOf rules.short_types l (Complete found)) whole h.encoded;
+        parts = sym (ap (λ (r : Reading). after_frames found (reported_by rules r)) same ∙ all);
+      }
   | inr some ↦
-      let after = reads rules.short_types (last_type None found) (rest_of state)
-      (back_bytes h.front (rest_of state) (subst AreBytes h.parts fits)) in (
-        followed_by found after.it,
-        (reported_by rules after.it).frames,
-        subst (λ (l : List ℕ). IsReadingOf rules.short_types l (followed_by found after.it)) (sym h.parts)
-            (lasts rules.short_types found h.front (rest_of state) after.it h.encoded (h.closed some) after.is),
-        frames_followed rules found after.it,
-      )
+      let behind = subst (λ (t : Option ℕ). IsReadingAfter rules.short_types t (rest_of state) rest) h.last is in
+      record {
+        reading = followed_by found rest;
+        is = subst (λ (l : List ℕ). IsReadingOf rules.short_types l (followed_by found rest)) (sym h.parts)
+            (lasts rules.short_types found h.front (rest_of state) rest h.encoded (h.closed some) behind);
+        parts = reported_followed rules found rest;
+      }
 ]
+
+reads_on : (rules : Rules) (payload : List ℕ) (found : List TypedFrame) (state : IterState) → Lasts → Reads
+    → AreBytes payload → HasRead rules.short_types payload found state
+    → (rest : Reading) × ReadsWhole rules payload found rest
+reads_on rules payload found state lasts reads fits h =
+    let after = reads rules.short_types state.last (rest_of state)
+    (back_bytes h.front (rest_of state) (subst AreBytes h.parts fits)) in
+    (after.it, reads_whole rules payload found state after.it lasts reads h after.is)
 
 breaks : (rules : Rules) (payload : List ℕ) (found : List TypedFrame) (state : CheckedState) (reported : Invalid)
     → Lasts → Reads → AreBytes payload → HasReadBy rules payload found state
@@ -123,13 +141,14 @@ breaks rules payload found state reported lasts reads fits w b =
     let f = b.finds in
     let on = reads_on rules payload (found ++ f.found ∷ []) b.next lasts reads fits
     (has_read_more rules.short_types payload found state.place b.next b.frame w.read f) in (
-      on.0,
-      on.2,
+      on.1.reading,
+      on.1.is,
       inr (record {
         broken = f.found;
-        others = on.1;
+        others = (reported_by rules on.0).frames;
         breach = b.breach;
-        parts = on.3 ∙ append_assoc found (f.found ∷ []) on.1;
+        parts = ap (λ (c : Checked). c.frames) on.1.parts
+            ∙ append_assoc found (f.found ∷ []) (reported_by rules on.0).frames;
         kept = w.kept;
         breaks = b.breaks;
         reported = ap (λ (i : Invalid). Some i) b.says;

@@ -12,11 +12,10 @@ use Rattle.quic_frame_fields.specs.declared.frame.fault.Fault.{Fault}
 use Rattle.quic_frame_fields.specs.declared.frame.fault.Fault.TheVariants.{InvalidFrameId, LongType, UnexpectedEnd}
 use Rattle.quic_frame_fields.proofs.Steps.{true_is_not_false}
 use Rattle.quic_frames.specs.Least.{frame_in}
-use Rattle.quic_frames.specs.Rules.{IsCheckedOf, breach_by, breach_of, fault_by, invalid_by, is_of_ack_frequency, is_unknown_by, reported_by}
+use Rattle.quic_frames.specs.Rules.{Checked, IsCheckedOf, breach_by, breach_of, fault_by, invalid_by, is_of_ack_frequency, is_unknown_by, reported_by}
 use Rattle.quic_frames.specs.declared.frame.rules.Breach.{Breach}
 use Rattle.quic_frames.specs.declared.frame.rules.Breach.TheVariants as breaches
-use Rattle.quic_frames.specs.declared.frame.rules.Rules.{Rules}
-use Rattle.quic_frames.proofs.CheckedTurns.{Lasts, Reads}
+use Rattle.quic_frames.proofs.CheckedTurns.{Lasts, Reads, reported_followed}
 use Rattle.quic_wire.specs.Rfc.{AreAllowed, IsAllowed, IsKnown, IsRfcError, IsRfcFault, IsUnknown, cut_type, field, long_type, not_allowed, reason_for, rfc_rules, unknown_type, with_error}
 use Rattle.quic_wire.proofs.Allowed.{all_keep, is_allowed}
 use Rattle.quic_wire.proofs.FirstFaults.{ends_there, kept_reason, last_known, name_of_extension, reason_is, some_left, unknown_reason, unread_reason}
@@ -51,11 +50,6 @@ at_no_frame negotiated frames payload front back type reason other b none said =
 
 -- ---- a frame that isn't allowed
 
-frames_followed : (rules : Rules) (found : List TypedFrame) (rest : Reading)
-    → (reported_by rules (followed_by found rest)).frames ≡ found ++ (reported_by rules rest).frames
-frames_followed rules found (Complete others) = refl
-frames_followed rules found (FailsAfter others type reason) = refl
-
 -- a frame that breaks a rule comes after them
 at_breach : (negotiated : Bool) (frames : List TypedFrame) (payload front back : List ℕ) (found : TypedFrame)
     (others : List TypedFrame) (breach : Breach) (rest : Reading) → Lasts → Before negotiated frames payload front back
@@ -71,7 +65,8 @@ at_breach negotiated frames payload front back found others breach rest lasts b 
     broken = found;
     others = others;
     breach = breach;
-    parts = frames_followed (rfc_rules negotiated) frames rest ∙ ap (λ (l : List TypedFrame). frames ++ l) begins;
+    parts = ap (λ (c : Checked). c.frames) (reported_followed (rfc_rules negotiated) frames rest)
+        ∙ ap (λ (l : List TypedFrame). frames ++ l) begins;
     kept = all_keep negotiated frames b.allowed;
     breaks = breaks;
     reported = refl;

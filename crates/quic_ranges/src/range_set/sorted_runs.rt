@@ -102,7 +102,7 @@ pub(crate) fn place(runs: &[Range<u64>], at: usize) -> usize
     requires { at ≤ length runs.now }
     ensures { result ≡ at }
 {
-    at % (1 << 63)
+    at % (usize::MAX / 2 + 1)
 }
 
 // A change of a list of runs: those from `from` to before `to` are replaced by `by`.

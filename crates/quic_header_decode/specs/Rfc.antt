@@ -1,7 +1,7 @@
 -- Which packet RFC 9000 allows at the front of a datagram (section 17), by the bytes before protection is removed, and
 -- why there is none. Known versions may be those of RFC 9000 and RFC 9369, whose types have other numbers. That the
--- fixed bit may be clear (RFC 9287) is an extension, and no part of this. Nor is what a packet has behind its header:
--- whoever removes its protection rejects one too short for a number and the bytes that protection samples (RFC 9001,
+-- fixed bit may be clear (RFC 9287) is an extension, and no part of this. Nor is what follows a packet's header: a
+-- packet too short for a number and the bytes that protection samples is rejected when protection is removed (RFC 9001,
 -- section 5.4.2).
 use Rattle.std.specs.Prelude.{◌≡◌, ℕ, ◌+◌, ◌≤◌, ◌⊎◌, ⊤, true, false, Bool, List, ◌∷◌, length, slice_index, take, Result, Ok, Err, codes}
 use Rattle.quic_base.specs.Number.{has_bit, num}

@@ -8,6 +8,7 @@
 //! assert_eq!(VarInt::from_u32(1025).size(), 2);
 //! ```
 use crate::WriteError;
+use crate::coding::Codec;
 use crate::proved::quic_base::varint::{split_var, var_size};
 use bytes::BufMut;
 
@@ -15,6 +16,8 @@ pub use crate::proved::quic_base::varint::{VarInt, VarIntBoundsExceeded};
 
 /// The greatest number, 2^62 - 1.
 pub const MAX: u64 = VarInt::MAX.into_inner();
+
+const TOO_LARGE: WriteError = WriteError::OutOfRange("a varint is 2^62 or more");
 
 /// The number at the front of the bytes, and how many bytes it has: 1, 2, 4 or 8. `None` if they end within it.
 ///
@@ -52,7 +55,12 @@ pub const fn len(value: u64) -> Option<usize> {
 /// If it is above [`MAX`], or there is too little room. Nothing is written then.
 #[inline]
 pub fn write<B: BufMut>(value: u64, out: &mut B) -> Result<usize, WriteError> {
-    write_in(value, len(value).unwrap_or(8), out)
+    let value = VarInt::from_u64(value).map_err(|_| TOO_LARGE)?;
+    if out.remaining_mut() < value.size() {
+        return Err(WriteError::NoRoom);
+    }
+    value.encode(out)?;
+    Ok(value.size())
 }
 
 /// Appends a number in 1, 2, 4 or 8 bytes, as for a length that is known last, and returns how many they are. It is
@@ -70,7 +78,7 @@ pub fn write<B: BufMut>(value: u64, out: &mut B) -> Result<usize, WriteError> {
 ///
 /// If it doesn't fit in `width` bytes, there is no such width, or there is too little room. Nothing is written then.
 pub fn write_in<B: BufMut>(value: u64, width: usize, out: &mut B) -> Result<usize, WriteError> {
-    let shortest = len(value).ok_or(WriteError::OutOfRange("a varint is 2^62 or more"))?;
+    let shortest = len(value).ok_or(TOO_LARGE)?;
     // The two highest bits say how many bytes there are.
     let tag = match width {
         1 => 0,

@@ -72,7 +72,10 @@ fn refused_numbers(rt: HostRuntime) -> Result<(), Fail> {
     checks.same(read::<u32>(cut), (Err(UnexpectedEnd), 3));
     checks.same(VarInt::from_u64(1 << 62), Err(VarIntBoundsExceeded));
     checks.same(VarInt::try_from(1u64 << 62), Err(VarIntBoundsExceeded));
-    checks.same(VarInt::try_from(usize::MAX).is_err(), usize::MAX as u64 >= 1 << 62);
+    checks.same(
+        VarInt::try_from(usize::MAX).is_err(),
+        usize::MAX as u64 >= 1 << 62,
+    );
     checks.same(VarInt::try_from(1u128 << 64), Err(VarIntBoundsExceeded));
     checks.verdict()
 }

@@ -108,7 +108,10 @@ fn beginnings_of_what_says_its_end(rt: HostRuntime) -> Result<(), Fail> {
     for &(number, frame) in ENDED {
         let ty = Some(FrameType::of(u64::from(number)));
         for k in 1..frame.len() {
-            checks.holds_at(format_args!("{k} bytes of type {number:x}"), is_cut(&frame[..k], &ty));
+            checks.holds_at(
+                format_args!("{k} bytes of type {number:x}"),
+                is_cut(&frame[..k], &ty),
+            );
         }
         checks.holds_at(number, is_whole(true, frame));
     }

@@ -7,7 +7,9 @@ use quic_wire::packet::DEFAULT_SUPPORTED_VERSIONS;
 /// What the bytes are, and the mode for it.
 pub fn other_mode(mode: &Mode, bytes: &[u8]) -> Option<(&'static str, &'static str)> {
     match mode {
-        Mode::Frames(_) | Mode::Canon(_) | Mode::Params { .. } if is_datagram(bytes) => Some(("a datagram", "datagram")),
+        Mode::Frames(_) | Mode::Canon(_) | Mode::Params { .. } if is_datagram(bytes) => {
+            Some(("a datagram", "datagram"))
+        }
         Mode::Datagram(how) => is_payload(bytes, how.reading.rules()).then_some(("a payload", "frames")),
         _ => None,
     }

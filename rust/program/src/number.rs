@@ -7,12 +7,7 @@ use quic_wire::varint;
 use std::io::{self, Write};
 
 /// Prints the varints in the bytes, or the packet number that ends with them, given the largest received one.
-pub fn show(
-    bytes: &[u8],
-    largest: Option<u64>,
-    reading: Reading,
-    output: &mut Output<impl Write>,
-) -> io::Result<()> {
+pub fn show(bytes: &[u8], largest: Option<u64>, reading: Reading, output: &mut Output<impl Write>) -> io::Result<()> {
     match largest {
         Some(largest) => show_packet_number(bytes, largest, reading, output),
         None => show_numbers(bytes, output),
@@ -34,12 +29,7 @@ fn show_numbers(bytes: &[u8], output: &mut Output<impl Write>) -> io::Result<()>
     Ok(())
 }
 
-fn show_packet_number(
-    bytes: &[u8],
-    largest: u64,
-    reading: Reading,
-    output: &mut Output<impl Write>,
-) -> io::Result<()> {
+fn show_packet_number(bytes: &[u8], largest: u64, reading: Reading, output: &mut Output<impl Write>) -> io::Result<()> {
     let number = match *bytes {
         [_] | [_, _] | [_, _, _] | [_, _, _, _] => PacketNumber::decode(bytes.len(), &mut &bytes[..]).ok(),
         _ => None,

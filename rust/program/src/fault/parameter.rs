@@ -117,13 +117,7 @@ fn is_repeated(list: &[u8], options: ReadOptions, entry: &Entry) -> bool {
         && entries(&list[..entry.place.start]).any(|other| other.id == entry.id)
 }
 
-fn of_entry(
-    list: &[u8],
-    side: Side,
-    options: ReadOptions,
-    entry: &Entry,
-    known: &Parameter,
-) -> Vec<Field<'static>> {
+fn of_entry(list: &[u8], side: Side, options: ReadOptions, entry: &Entry, known: &Parameter) -> Vec<Field<'static>> {
     let value = &list[entry.value.clone()];
     let is_long = matches!(varint::read(value), Some((number, len))
         if len == value.len() && varint::len(number) != Some(len));

@@ -18,7 +18,7 @@ pub fn other_mode(mode: &Mode, bytes: &[u8]) -> Option<(&'static str, &'static s
 // A long header of a known version is neither a frame's type nor a parameter's id. Short headers and version
 // negotiations may be both.
 fn is_datagram(bytes: &[u8]) -> bool {
-    match HeaderPlaces::read_with(bytes, 0, &DEFAULT_SUPPORTED_VERSIONS, HeaderChecks::RFC) {
+    match HeaderPlaces::read_with(bytes, 0, DEFAULT_SUPPORTED_VERSIONS, HeaderChecks::RFC) {
         Ok(header) | Err(HeaderError::CutOff(header)) => header.version() != 0,
         Err(_) => false,
     }

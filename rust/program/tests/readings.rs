@@ -112,8 +112,8 @@ fn a_frame_that_the_rfc_forbids_is_an_error() {
         let len = payload.len() / 2;
         differ(&["frames"], payload, &[&error(0)], &[&format!("0..{len} {frame}")]);
         // The frames before it are read.
-        let both = [&*format!("0..3 PADDING count=3"), &format!("3..{} {frame}", len + 3)];
-        differ(&["frames"], &format!("000000{payload}"), &[both[0], &error(3)], &both);
+        let (before, after) = ("0..3 PADDING count=3", format!("3..{} {frame}", len + 3));
+        differ(&["frames"], &format!("000000{payload}"), &[before, &error(3)], &[before, &after]);
         assert_eq!(lines(&["canon"], payload), [format!("1: {}", error(0))]);
         assert!(lines(&["canon", "--quinn"], payload)[0].starts_with(&format!("1: 0..{len} SHORTEST ")));
     }

@@ -4,9 +4,9 @@ program that answers lines as a driver does.
 
 quic_wire.py [--rfc] QUIC_WIRE CALLS
 
-With --rfc the program reads as RFC 9000 asks, as it does by default, and answers tests of shortest payloads too. It
-skips what it isn't told: which packet a payload is from, and that a longer type or the ACK frequency extension is
-accepted."""
+With --rfc the program reads as RFC 9000 requires, as it does by default, and answers tests of shortest payloads too. It
+has no option for what these tests need, which are skipped: the packet that a payload is from, a longer type that is
+accepted, the ACK frequency extension."""
 import ipaddress
 import json
 import subprocess
@@ -99,7 +99,7 @@ def frame(item):
     return out
 
 
-def is_untold(error, context):
+def needs_option(error, context):
     """Whether a test accepts what the program rejects, as it has no option for that."""
     is_long, is_of_extension = "shortest" in error["error"], "negotiated" in error.get("why", "")
     return IS_RFC and (is_long and "strict" not in context or is_of_extension and "without" not in context)
@@ -110,7 +110,7 @@ def frames(items, context):
     error = next((item for item in items if "error" in item), None)
     if not error:
         return "skip" if IS_RFC and {"packet", "side"} & context.keys() else "valid " + json.dumps(read)
-    if is_untold(error, context):
+    if needs_option(error, context):
         return "skip"
     if "offset" not in error:
         return "skip"  # what looks like a packet with IP headers, which the program rejects as a payload
@@ -122,7 +122,7 @@ def frames(items, context):
 def shortest(items, context):
     (item,) = items
     if "error" in item:
-        return "skip" if is_untold(item, context) else f"invalid {item['close_name']}"
+        return "skip" if needs_option(item, context) else f"invalid {item['close_name']}"
     return "valid " + json.dumps(item["data"])
 
 

@@ -288,6 +288,15 @@ class Hints(unittest.TestCase):
         both = [run("datagram", *words, given=b"0700")[1] for words in ([], ["--quinn"])]
         self.assertEqual(both, ["", hint], "by the same reading")
 
+    def test_a_hint_changes_neither_output_nor_status(self):
+        text, _, status = run("frames", given=f"{INITIAL}\n01\n".encode())
+        command = f"{sys.executable} -m quic_wire frames"
+        for ending in ("2>/dev/null", "2>&-", *(["2>/dev/full"] if sys.platform == "linux" else [])):
+            with self.subTest(ending):
+                done = subprocess.run(["sh", "-c", f"{command} {ending}"], input=f"{INITIAL}\n01\n".encode(),
+                                      stdout=subprocess.PIPE)  # fmt: skip
+                self.assertEqual((done.stdout.decode(), done.returncode), (text, status))
+
     def test_there_is_no_hint_in_doubt(self):
         rows = [
             ("frames", "01"),

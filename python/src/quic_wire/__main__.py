@@ -22,7 +22,14 @@ _WHOLE_PACKET = "an IP packet, not a QUIC payload; use the mode datagram"
 
 
 def _say(what: object) -> None:
-    print(f"quic-wire: {what}", file=sys.stderr)
+    """Prints a line on standard error. If that fails, or it is closed, nothing can be done."""
+    if sys.stderr is None:
+        return
+    try:
+        print(f"quic-wire: {what}", file=sys.stderr, flush=True)
+    except OSError:
+        # What is left in the buffer isn't written again when the interpreter ends.
+        os.dup2(os.open(os.devnull, os.O_WRONLY), sys.stderr.fileno())
 
 
 def _show_piece(args: Args, data: bytes, ids: Ids, output: Output) -> None:

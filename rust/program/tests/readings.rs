@@ -240,6 +240,20 @@ fn a_hint_names_the_mode_of_the_bytes() {
     assert_eq!([run(&["datagram"], b"0700").1, run(&["datagram", "--quinn"], b"0700").1], ["", hint]);
 }
 
+#[cfg(unix)]
+#[test]
+fn a_hint_changes_neither_output_nor_status() {
+    let (text, _, status) = run(&["frames"], INITIAL.as_bytes());
+    let script = format!("echo {INITIAL} | \"$0\" frames");
+    for ending in ["2>/dev/null", "2>&-"] {
+        let mut shell = std::process::Command::new("sh");
+        let output =
+            shell.args(["-c", &format!("{script} {ending}"), env!("CARGO_BIN_EXE_quic-wire")]).output().unwrap();
+        assert_eq!((String::from_utf8(output.stdout).unwrap(), output.status.code()), (text.clone(), Some(status)));
+        assert_eq!(output.stderr, b"");
+    }
+}
+
 #[test]
 fn a_hint_names_its_file() {
     let path = std::env::temp_dir().join(format!("quic-wire-hint-{}", std::process::id()));

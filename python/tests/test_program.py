@@ -244,9 +244,10 @@ class Readings(unittest.TestCase):
     def test_headers_are_those_of_the_rfc(self):
         rows = [(TAG, "Retry Token", f"token=- tag={TAG}"), ("", "Retry Integrity Tag", "rest=-")]
         for rest, field, fields in rows:
-            error = f'error at 0: Retry without a token or a tag field="{field}" field_at=15 then="the packet is dropped"'
+            then = 'then="the packet is dropped" section="RFC 9000, section 17.2.5.2"'
+            error = f'error at 0: Retry without a token or a tag field="{field}" field_at=15 {then}'
             retry = f"0..{15 + len(rest) // 2} retry {RETRY_IDS} {fields}"
-            self.check(["datagram"], RETRY + rest, f'{error} section="RFC 9000, section 17.2.5.2"', retry)
+            self.check(["datagram"], RETRY + rest, error, retry)
         whole = f"0..36 retry {RETRY_IDS} token=746f6b656e tag={TAG}"
         self.check(["datagram"], f"{RETRY}746f6b656e{TAG}", whole, whole)
         negotiation = "800000000000088394c8f03e51570800000001"
@@ -255,11 +256,17 @@ class Readings(unittest.TestCase):
         other = "error at 0: unsupported version 1a2a3a4a dst=8394c8f03e515708 src=c0c1c2c3"
         self.check(["datagram"], "801a2a3a4a088394c8f03e51570804c0c1c2c35a", f"{other} field=",
                    f"{other} fixed_bit=false field=")  # fmt: skip
+        self.check(["datagram"], "b61a2a3a", 'error at 0: unexpected end of packet field="Version"',
+                   'error at 0: fixed bit unset field="Fixed Bit"')  # fmt: skip
 
     # Sections 7.4 and 16.
     def test_parameters_are_those_of_the_rfc(self):
         wide = "error at 0: malformed parameter=max_idle_timeout id=1 value=400a why="
         self.check(["params"], "0102400a", "max_idle_timeout=10", wide)
+        exponent = "parameter=ack_delay_exponent id=10 value=4015"
+        wanted = 'wanted="a number of at most 20" why="its value is invalid"'
+        self.check(["params"], "0a024015", f"error at 0: illegal value {exponent} {wanted}",
+                   f'error at 0: malformed {exponent} why="its integer')  # fmt: skip
         twice = 'error at 3: malformed parameter=grease_quic_bit id=10930 value=- why="it occurs twice" close_code=8'
         self.check(["params"], "6ab2006ab200", twice, "grease_quic_bit=true")
         delays = "c0000000ff04de1b0105c0000000ff04de1b0106"
@@ -301,6 +308,7 @@ class Hints(unittest.TestCase):
         rows = [
             ("frames", "01"),
             ("datagram", INITIAL),
+            ("params", "c000000001000000024000"),
             ("frames", "c0 0"),
             ("number", "c000"),
             ("frames", "c000000000000001"),

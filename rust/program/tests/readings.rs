@@ -1,5 +1,5 @@
-//! Where the readings of `quic-wire` differ, by default that of RFC 9000 and with `--quinn` that of quinn-proto. There is
-//! a row, or more, for each departure of docs/DIFFERENCES.md that a flag turns off; bytes are those of the tests in
+//! Where the readings of `quic-wire` differ, by default that of RFC 9000 and with `--quinn` that of quinn-proto. There
+//! is a row, or more, for each departure of docs/DIFFERENCES.md that a flag turns off; bytes are those of the tests in
 //! vectors/ that it names.
 mod common;
 
@@ -138,9 +138,9 @@ fn programs_read_which_rule_is_broken() {
     assert_eq!(lines(&["frames", "--json"], "0700"), [error]);
 }
 
-// Sections 17.2.1 and 17.2.5.2; RFC 8999, section 5.1; RFC 9001, appendix A.4.
+// Section 17.2.5.2; RFC 9001, appendix A.4.
 #[test]
-fn headers_are_those_of_the_rfc() {
+fn a_retry_is_whole() {
     let (front, ids) = ("ff000000010008f067a5502a4262b5", "dst=- src=f067a5502a4262b5 version=00000001");
     let tag = "04a265ba2eff4d829058fb3f0f2496ba";
     let whole = format!("0..36 retry {ids} token=746f6b656e tag={tag}");
@@ -157,8 +157,14 @@ fn headers_are_those_of_the_rfc() {
         let quinn = format!("0..{} retry {ids} {fields}", 15 + rest.len() / 2);
         differ(&["datagram"], &format!("{front}{rest}"), &[&error(field)], &[&quinn]);
     }
+}
+
+// Section 17.2.1; RFC 8999, section 5.1.
+#[test]
+fn the_fixed_bit_is_that_of_known_versions() {
     let negotiation = "0..19 version-negotiation dst=- src=8394c8f03e515708 versions=00000001";
-    let note = "fixed_bit=false note=\"RFC 9000, section 17.2.1, leaves this bit unused; quinn-proto 0.11 rejects the packet\"";
+    let note = "fixed_bit=false note=\"RFC 9000, section 17.2.1, leaves this bit unused; quinn-proto 0.11 rejects the \
+                packet\"";
     let line = "8000000000 00 08 8394c8f03e515708 00000001";
     differ(&["datagram"], line, &[negotiation], &[&format!("{negotiation} {note}")]);
     let other = |bit| {
@@ -169,6 +175,10 @@ fn headers_are_those_of_the_rfc() {
     };
     let line = "801a2a3a4a 08 8394c8f03e515708 04 c0c1c2c3 5a5a";
     differ(&["datagram"], line, &[&other("")], &[&other("fixed_bit=false ")]);
+    let then = "then=\"the packet is dropped\" section=\"RFC 9000, section";
+    let cut = format!("error at 0: unexpected end of packet field=\"Version\" field_at=1 {then} 12.2\"");
+    let unset = format!("error at 0: fixed bit unset field=\"Fixed Bit\" field_at=0 {then} 17.2\"");
+    differ(&["datagram"], "b61a2a3a", &[&cut], &[&unset]);
     // The bit counts in versions that are read, and in short headers.
     for line in ["8000000001 00 00 00 01 aa", "21aabb"] {
         let error = &lines(&["datagram", "--quinn"], line)[..];
@@ -189,6 +199,15 @@ fn parameters_are_those_of_the_rfc() {
         );
         differ(&["params"], line, &["max_idle_timeout=10", "order=1"], &[&quinn]);
     }
+    let [rfc, quinn] = [
+        ("illegal value", "wanted=\"a number of at most 20\" why=\"its value is invalid\"".into()),
+        ("malformed", format!("why=\"{wide}\"")),
+    ]
+    .map(|(what, why)| {
+        let parameter = "parameter=ack_delay_exponent id=10 value=4015";
+        format!("error at 0: {what} {parameter} {why} {closed}\"RFC 9000, section 18.2\"")
+    });
+    differ(&["params"], "0a024015", &[&rfc], &[&quinn]);
     for (line, at, parameter, read) in [
         ("6ab200 6ab200", 3, "grease_quic_bit id=10930 value=-", ["grease_quic_bit=true", "order=10930,10930"]),
         (
@@ -230,8 +249,9 @@ fn a_hint_names_the_mode_of_the_bytes() {
         let hint = "quic-wire: hint: line 2 reads as a datagram; use the mode datagram\n";
         assert_eq!((&*said, status), (hint, 1), "{mode}");
     }
-    // A part of a datagram, whose packet is cut off.
-    assert!(!run(&["frames"], &input.as_bytes()[..input.len() - 4]).1.is_empty());
+    // A packet that is cut off.
+    let (_, said, _) = run(&["frames"], &INITIAL.as_bytes()[..INITIAL.len() - 4]);
+    assert_eq!(said, "quic-wire: hint: line 1 reads as a datagram; use the mode datagram\n");
     let hint = "quic-wire: hint: line 1 reads as a payload; use the mode frames\n";
     let error = "1: error at 0: fixed bit unset field=\"Fixed Bit\" field_at=0 then=\"the packet is dropped\" \
                  section=\"RFC 9000, section 17.3.1\"\n";
@@ -270,6 +290,8 @@ fn there_is_no_hint_in_doubt() {
         // What is accepted, what isn't bytes, and modes whose bytes have no other.
         (&["frames"][..], "01"),
         (&["datagram"], INITIAL),
+        (&["datagram", "--grease"], "010a000161"),
+        (&["params"], "c000000001000000 02 4000"),
         (&["frames"], "c0 0"),
         (&["number"], "c000"),
         // A version negotiation, a type or an id in eight bytes.

@@ -2,9 +2,11 @@
 
 import { Beside } from "./beside.js";
 import { fromBase64, fromHex, toHex } from "./bytes.js";
+import { copied, sayOn } from "./copied.js";
 import { entriesOf, readText } from "./entries.js";
 import { EXAMPLES } from "./examples.js";
 import { Form } from "./form.js";
+import { otherMode } from "./hint.js";
 import { inspect } from "./inspector.js";
 import { Library } from "./library.js";
 import { DEFAULT_STATE, fragmentOf, isLinked, stateOf } from "./link.js";
@@ -23,7 +25,6 @@ import { count } from "./walk.js";
 
 // In milliseconds.
 const LINK_DELAY = 300;
-const SHOWN_FOR = 3000;
 // In how many inputs, and in how many packets of each, connection IDs are searched for.
 const MOST_LOOKED_AT = 32;
 // A text of more characters than this is read in steps, between which the browser does its other work.
@@ -33,23 +34,6 @@ const NOT_COPIED = "Not copied; it is in the address bar";
 const byId = (id) => document.getElementById(id);
 const narrow = window.matchMedia("(max-width: 60rem)");
 const columns = () => (narrow.matches ? 8 : 16);
-
-// Whether a text can be put on the clipboard, which browsers forbid to a page from a server without TLS.
-async function copied(text) {
-  try {
-    await navigator.clipboard.writeText(text);
-    return true;
-  } catch {
-    return false;
-  }
-}
-
-// Shows a text on a button for a while.
-function sayOn(button, text) {
-  button.dataset.name ??= button.textContent;
-  button.textContent = text;
-  setTimeout(() => { button.textContent = button.dataset.name; }, SHOWN_FOR);
-}
 
 // The module's bytes: those in the page, or else the file beside it.
 async function moduleBytes() {
@@ -65,6 +49,7 @@ class Page {
   constructor([library, besideLibrary, listLibrary, payloadLibrary]) {
     this.library = library;
     this.besideLibrary = besideLibrary;
+    this.listLibrary = listLibrary;
     this.form = new Form(byId("form"), byId("other-input"), byId("held"), byId("first-id"));
     this.reading = null;
     const inspector = byId("inspector");
@@ -140,6 +125,12 @@ class Page {
     this.form.state = state;
     this.update();
     byId("input").scrollTop = 0;
+  }
+
+  change(mode) {
+    this.take({ ...this.form.state, mode });
+    // The button that was pressed is gone.
+    byId("form").querySelector("[name=mode]:checked").focus();
   }
 
   // Takes the state from a link that was followed while the page is open.
@@ -275,7 +266,10 @@ class Page {
     byId("views").hidden = reading === null || reading.bytes.length === 0;
     byId("keys").hidden = byId("views").hidden;
     byId("text").hidden = reading === null;
-    showStatus(byId("status"), reading, this.found, this.form.at, (place) => this.goTo(place));
+    showStatus(byId("status"), reading, this.found, this.form.at, {
+      go: (place) => this.goTo(place), other: reading && otherMode(this.listLibrary, reading, this.chosen),
+      change: (mode) => this.change(mode),
+    });
     if (reading) {
       byId("items-title").textContent = { frame: "Frames", packet: "Packets", parameter: "Parameters" }[reading.unit];
       this.views.show(reading, columns());

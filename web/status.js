@@ -36,8 +36,18 @@ export function showReading(box, characters) {
   box.replaceChildren(`Reading ${characters} characters …`);
 }
 
-// |reading| is null if the chosen input isn't bytes; |go| goes to an offset.
-export function showStatus(box, reading, found, at, go) {
+function plainButton(text, click) {
+  const button = element("button", "plain", text);
+  button.type = "button";
+  button.addEventListener("click", click);
+  return button;
+}
+
+const OTHERS = { frames: "a payload", datagram: "a datagram" };
+
+// |reading| is null if the chosen input isn't bytes; |go| goes to an offset, |change| to the mode |other| that reads
+// what is rejected, if there is one.
+export function showStatus(box, reading, found, at, { go, other, change }) {
   const { fault, form } = found.entries[at];
   box.className = `status ${fault || reading.error ? "bad" : "good"}`;
   const which = whichText(found, at);
@@ -61,10 +71,10 @@ export function showStatus(box, reading, found, at, go) {
   const before = ` ${items} before it, in ${bytes}${from}.${which} `;
   const parts = [...errorText(reading.error), before];
   if (reading.bytes.length > 0) {
-    const button = element("button", "plain", "Show it");
-    button.type = "button";
-    button.addEventListener("click", () => go(reading.error.place));
-    parts.push(button);
+    parts.push(plainButton("Show it", () => go(reading.error.place)));
+  }
+  if (other) {
+    parts.push(" ", plainButton(`Read it as ${OTHERS[other]}`, () => change(other)));
   }
   box.replaceChildren(...parts);
 }

@@ -44,7 +44,7 @@ class Modes(unittest.TestCase):
             ("306869", "0..3 DATAGRAM len=2 data=6869"),
             ("0", "error an odd number of digits, 1, in column 1"),
         ]
-        found = lines("frames", given="".join(f"{row[0]}\n" for row in rows))
+        found = lines("frames", "--quinn", given="".join(f"{row[0]}\n" for row in rows))
         self.assertEqual(found, [f"{i}: {row[1]}" for i, row in enumerate(rows, 1)])
 
     # Four bytes that are no link header, then what could be an IPv6 packet with a payload of six bytes.
@@ -57,7 +57,8 @@ class Modes(unittest.TestCase):
     # RFC 9000, sections 12.4, 16 and 19.3, appendices A.1 and A.3; RFC 9001, A.2.
     def test_other_modes(self):
         rows = [
-            (["canon"], "40000a000161", ["1: 0..6 SHORTEST len=4 data=00080061"]),
+            (["canon", "--quinn"], "40000a000161", ["1: 0..6 SHORTEST len=4 data=00080061"]),
+            (["canon"], "0e0400016101", ["1: 0..6 SHORTEST len=5 data=0a04016101"]),
             (
                 ["number"],
                 "7bbd 25",
@@ -117,6 +118,8 @@ class Modes(unittest.TestCase):
             (["frame"], b"", 2),
             (["frames", "--cid-len", "3"], b"", 2),
             (["datagram", "--cid-len", "21"], b"", 2),
+            (["frames", "--rfc", "--quinn"], b"", 2),
+            (["ranges", "--quinn"], b"", 2),
             (["frames", "/nonexistent"], b"", 3),
             (["capture", "/nonexistent"], b"", 3),
             (["capture", str(HERE / "show.py")], b"", 3),
@@ -130,6 +133,9 @@ class Modes(unittest.TestCase):
         self.assertEqual(
             run("frames", "--cid-len", "3")[1].splitlines()[0],
             "quic-wire: --cid-len is an option of datagram, not of frames",
+        )
+        self.assertEqual(
+            run("--quinn", "frames", "--rfc")[1].splitlines()[0], "quic-wire: --rfc and --quinn exclude each other"
         )
         self.assertRegex(run("--version")[0], r"^quic-wire \d+\.\d+\.\d+\n$")
 
@@ -182,6 +188,142 @@ class Modes(unittest.TestCase):
         self.assertEqual((text, status), ((folder / "capture.txt").read_text(), 0))
         first = json.loads(run("capture", "--json", str(folder / "capture.pcap"))[0].splitlines()[0])
         self.assertEqual((first["packet"], first["sender"], first["number"]), ("initial", "client", 1))
+
+
+EXTENSION = "the ACK frequency extension wasn't negotiated"
+DATA, STREAMS, TOKEN = "the data end past 2^62 - 1", "it is greater than 2^60", "the token is empty"
+LONG_DATA = "offset=4611686018427387903 fin=false len=1 data=61"
+LONG_LIMIT = "1152921504606846977"
+RETRY, RETRY_IDS = "ff000000010008f067a5502a4262b5", "dst=- src=f067a5502a4262b5 version=00000001"
+TAG = "04a265ba2eff4d829058fb3f0f2496ba"
+NEGOTIATION = "version-negotiation dst=- src=8394c8f03e515708 versions=00000001"
+# An Initial with the ids of the server's in RFC 9001, appendix A.3, and a shorter payload.
+INITIAL = "c0000000010008f067a5502a4262b5000501aabbccdd"
+
+
+class Readings(unittest.TestCase):
+    """The reading of RFC 9000, the default, and that of quinn-proto. There is a row, or more, for each departure of
+    docs/DIFFERENCES.md that a flag turns off; bytes are those of the tests in vectors/ that it names."""
+
+    def check(self, words, given, rfc, quinn):
+        """Whether the first line begins so, by default and with --rfc, and with --quinn."""
+        for reading, wanted in (([], rfc), (["--rfc"], rfc), (["--quinn"], quinn)):
+            with self.subTest(words + reading), self.subTest(given):
+                self.assertEqual(lines(*words, *reading, given=given)[0][: len(wanted) + 3], f"1: {wanted}")
+
+    def test_a_frame_that_the_rfc_forbids_is_an_error(self):
+        long_type = "frame type not in shortest form in PING"
+        rows = [
+            ("4001", long_type, "Frame Type", 0, None, "12.4", "PING"),
+            ("1f", "invalid frame ID in IMMEDIATE_ACK", "Frame Type", 0, EXTENSION, "12.4", "IMMEDIATE_ACK"),
+            ("40af2a148000c35001", "invalid frame ID in ACK_FREQUENCY", "Frame Type", 0, EXTENSION, "12.4",
+             "ACK_FREQUENCY sequence=42 "),
+            ("0700", "malformed in NEW_TOKEN", "Token Length", 1, TOKEN, "19.7", "NEW_TOKEN token=-"),
+            ("074000", "malformed in NEW_TOKEN", "Token Length", 1, TOKEN, "19.7", "NEW_TOKEN token=-"),
+            ("06ffffffffffffffff01aa", "limit exceeded in CRYPTO", "Length", 9, DATA, "19.6",
+             "CRYPTO offset=4611686018427387903 len=1 data=aa"),
+            ("0e00ffffffffffffffff0161", "limit exceeded in STREAM", "Length", 10, DATA, "19.8",
+             f"STREAM id=0 {LONG_DATA}"),
+            ("0c00ffffffffffffffff61", "limit exceeded in STREAM", "Offset", 2, DATA, "19.8",
+             f"STREAM id=0 {LONG_DATA}"),
+            ("12d000000000000001", "limit exceeded in MAX_STREAMS_BIDI", "Maximum Streams", 1, STREAMS, "19.11",
+             f"MAX_STREAMS_BIDI dir=bidirectional count={LONG_LIMIT}"),
+            ("17d000000000000001", "limit exceeded in STREAMS_BLOCKED_UNI", "Maximum Streams", 1, STREAMS, "19.14",
+             f"STREAMS_BLOCKED_UNI dir=unidirectional limit={LONG_LIMIT}"),
+        ]  # fmt: skip
+        for payload, what, field, field_at, why, section, quinn in rows:
+            told = "" if why is None else f' why="{why}"'
+            code = "10 close_name=PROTOCOL_VIOLATION" if why is None else "7 close_name=FRAME_ENCODING_ERROR"
+            close = f'close_code={code} section="RFC 9000, section {section}"'
+            error = f'error at 0: {what} field="{field}" field_at={field_at}{told} {close}'
+            size = len(payload) // 2
+            self.check(["frames"], payload, error, f"0..{size} {quinn}")
+            self.check(["canon"], payload, error, f"0..{size} SHORTEST ")
+
+    # Sections 17.2.1 and 17.2.5.2; RFC 8999, section 5.1; RFC 9001, appendix A.4.
+    def test_headers_are_those_of_the_rfc(self):
+        rows = [(TAG, "Retry Token", f"token=- tag={TAG}"), ("", "Retry Integrity Tag", "rest=-")]
+        for rest, field, fields in rows:
+            then = 'then="the packet is dropped" section="RFC 9000, section 17.2.5.2"'
+            error = f'error at 0: Retry without a token or a tag field="{field}" field_at=15 {then}'
+            retry = f"0..{15 + len(rest) // 2} retry {RETRY_IDS} {fields}"
+            self.check(["datagram"], RETRY + rest, error, retry)
+        whole = f"0..36 retry {RETRY_IDS} token=746f6b656e tag={TAG}"
+        self.check(["datagram"], f"{RETRY}746f6b656e{TAG}", whole, whole)
+        negotiation = "800000000000088394c8f03e51570800000001"
+        self.check(["datagram"], negotiation, f"0..19 {NEGOTIATION}", f"0..19 {NEGOTIATION} fixed_bit=false note=")
+        self.assertEqual(lines("datagram", given=negotiation), [f"1: 0..19 {NEGOTIATION}"])
+        other = "error at 0: unsupported version 1a2a3a4a dst=8394c8f03e515708 src=c0c1c2c3"
+        self.check(["datagram"], "801a2a3a4a088394c8f03e51570804c0c1c2c35a", f"{other} field=",
+                   f"{other} fixed_bit=false field=")  # fmt: skip
+        self.check(["datagram"], "b61a2a3a", 'error at 0: unexpected end of packet field="Version"',
+                   'error at 0: fixed bit unset field="Fixed Bit"')  # fmt: skip
+
+    # Sections 7.4 and 16.
+    def test_parameters_are_those_of_the_rfc(self):
+        wide = "error at 0: malformed parameter=max_idle_timeout id=1 value=400a why="
+        self.check(["params"], "0102400a", "max_idle_timeout=10", wide)
+        exponent = "parameter=ack_delay_exponent id=10 value=4015"
+        wanted = 'wanted="a number of at most 20" why="its value is invalid"'
+        self.check(["params"], "0a024015", f"error at 0: illegal value {exponent} {wanted}",
+                   f'error at 0: malformed {exponent} why="its integer')  # fmt: skip
+        twice = 'error at 3: malformed parameter=grease_quic_bit id=10930 value=- why="it occurs twice" close_code=8'
+        self.check(["params"], "6ab2006ab200", twice, "grease_quic_bit=true")
+        delays = "c0000000ff04de1b0105c0000000ff04de1b0106"
+        twice = 'error at 10: malformed parameter=min_ack_delay id=4278509083 value=06 why="it occurs twice"'
+        self.check(["params"], delays, twice, "min_ack_delay=6")
+
+    # Appendix A.3.
+    def test_packet_numbers_are_below_2_to_the_62(self):
+        rows = [("10", 0x3FFFFFFFFFFFFF10, 1 << 62 | 0x10), ("00000001", 0x3FFFFFFF00000001, 1 << 62 | 1)]
+        for given, rfc, quinn in rows:
+            begin = f"0..{len(given) // 2} PACKET_NUMBER value="
+            self.check(["number", "--largest", "0x3ffffffffffffffe"], given, f"{begin}{rfc} ", f"{begin}{quinn} ")
+
+
+class Hints(unittest.TestCase):
+    def test_a_hint_names_the_mode_of_the_bytes(self):
+        hint = "quic-wire: hint: line 2 reads as a datagram; use the mode datagram\n"
+        for mode in ("frames", "canon", "params"):
+            _, said, status = run(mode, given=f"01\n{INITIAL}\n{INITIAL}\n".encode())
+            self.assertEqual((said, status), (hint, 1))
+        self.assertIn("reads as a datagram", run("frames", given=INITIAL[:-4].encode())[1])
+        hint = "quic-wire: hint: line 1 reads as a payload; use the mode frames\n"
+        text, said, status = run("datagram", given=b"010a000161")
+        self.assertTrue(text.startswith("1: error at 0: fixed bit unset "))
+        self.assertEqual((said, status), (hint, 1))
+        both = [run("datagram", *words, given=b"0700")[1] for words in ([], ["--quinn"])]
+        self.assertEqual(both, ["", hint], "by the same reading")
+
+    def test_a_hint_changes_neither_output_nor_status(self):
+        text, _, status = run("frames", given=f"{INITIAL}\n01\n".encode())
+        command = f"{sys.executable} -m quic_wire frames"
+        for ending in ("2>/dev/null", "2>&-", *(["2>/dev/full"] if sys.platform == "linux" else [])):
+            with self.subTest(ending):
+                done = subprocess.run(["sh", "-c", f"{command} {ending}"], input=f"{INITIAL}\n01\n".encode(),
+                                      stdout=subprocess.PIPE)  # fmt: skip
+                self.assertEqual((done.stdout.decode(), done.returncode), (text, status))
+
+    def test_there_is_no_hint_in_doubt(self):
+        rows = [
+            ("frames", "01"),
+            ("datagram", INITIAL),
+            ("params", "c000000001000000024000"),
+            ("frames", "c0 0"),
+            ("number", "c000"),
+            ("frames", "c000000000000001"),
+            ("params", "c000000000000001"),
+            ("frames", "c01a2a3a4a0000"),
+            ("frames", f"80{INITIAL[2:]}"),
+            ("frames", "f000000001000001"),
+            ("frames", "4a010203040506"),
+            ("datagram", "0800616263"),
+            ("datagram", "30616263"),
+            ("datagram", "01060005"),
+        ]
+        for mode, given in rows:
+            with self.subTest(mode), self.subTest(given):
+                self.assertEqual(run(mode, given=given.encode())[1], "")
 
 
 if __name__ == "__main__":

@@ -2,12 +2,18 @@
 """A driver for the Rust crate: its program `quic-wire`, which prints every field as JSON, and for single calls a
 program that answers lines as a driver does.
 
-quic_wire.py QUIC_WIRE CALLS"""
+quic_wire.py [--rfc] QUIC_WIRE CALLS
+
+With --rfc the program reads as RFC 9000 requires, as it does by default, and answers tests of shortest payloads too. It
+has no option for what these tests need, which are skipped: the packet that a payload is from, a longer type that is
+accepted, the ACK frequency extension."""
 import ipaddress
 import json
 import subprocess
 import sys
 from collections import defaultdict
+
+IS_RFC = "--rfc" in sys.argv[1:]
 
 # The RFC's names of a frame's fields, and the program's.
 FRAMES = {
@@ -93,16 +99,31 @@ def frame(item):
     return out
 
 
-def frames(items):
+def needs_option(error, context):
+    """Whether a test accepts what the program rejects, as it has no option for that."""
+    is_long, is_of_extension = "shortest" in error["error"], "negotiated" in error.get("why", "")
+    return IS_RFC and (is_long and "strict" not in context or is_of_extension and "without" not in context)
+
+
+def frames(items, context):
     read = [frame(item) for item in items if "error" not in item]
     error = next((item for item in items if "error" in item), None)
     if not error:
-        return "valid " + json.dumps(read)
+        return "skip" if IS_RFC and {"packet", "side"} & context.keys() else "valid " + json.dumps(read)
+    if needs_option(error, context):
+        return "skip"
     if "offset" not in error:
         return "skip"  # what looks like a packet with IP headers, which the program rejects as a payload
     is_violation = "empty" in error["error"] or "shortest" in error["error"]
     code = "PROTOCOL_VIOLATION" if is_violation else "FRAME_ENCODING_ERROR"
     return f"invalid {code} " + json.dumps({"at": error["offset"], "before": read})
+
+
+def shortest(items, context):
+    (item,) = items
+    if "error" in item:
+        return "skip" if needs_option(item, context) else f"invalid {item['close_name']}"
+    return "valid " + json.dumps(item["data"])
 
 
 def packet(item):
@@ -114,7 +135,7 @@ def packet(item):
     return out
 
 
-def datagram(items):
+def datagram(items, _):
     read, error = [], None
     for item in items:
         # The program uses this field for what `Packets` of the crate rejects.
@@ -131,7 +152,7 @@ def datagram(items):
     return "invalid DROP " + json.dumps({"at": error["offset"], "before": read})
 
 
-def parameters(items):
+def parameters(items, _):
     (item,) = items
     if "error" in item:
         return "invalid TRANSPORT_PARAMETER_ERROR"
@@ -146,18 +167,25 @@ def parameters(items):
     return "valid " + json.dumps((NO_ADDRESS if "preferred_connection_id" in out else {}) | out)
 
 
+def context_of(text):
+    return dict(word.split("=") for word in text.split(",")) if text != "-" else {}
+
+
 def words_of(form, context):
     """The arguments with which quic-wire reads a line, and what makes an answer from its JSON; None for the other
     program."""
-    words = dict(word.split("=") for word in context.split(",")) if context != "-" else {}
-    if form == "payload" and "without" not in words:
-        return ("frames", *["--strict"] * ("strict" in words)), frames
+    more = [] if IS_RFC else ["--quinn"]
+    if form == "payload" and (IS_RFC or "without" not in context):
+        more += ["--strict"] * ("strict" in context)
+        return ("frames", *more), frames
+    if form == "shortest" and IS_RFC:
+        return ("canon",), shortest
     if form == "datagram":
-        versions = words.get("versions", "1,6b3343cf")
-        more = ["--grease"] * ("grease" in words)
-        return ("datagram", "--cid-len", words.get("cid_len", "8"), "--versions", versions, *more), datagram
+        versions = context.get("versions", "1,6b3343cf")
+        more += ["--grease"] * ("grease" in context)
+        return ("datagram", "--cid-len", context.get("cid_len", "8"), "--versions", versions, *more), datagram
     if form == "params":
-        return ("params", "--side", "server" if words.get("from") == "client" else "client"), parameters
+        return ("params", "--side", "server" if context.get("from") == "client" else "client", *more), parameters
     return None, None
 
 
@@ -166,13 +194,15 @@ def lines_of(command, inputs):
 
 
 def main():
-    if len(sys.argv) != 3:
-        sys.exit("usage: quic_wire.py QUIC_WIRE CALLS")
-    quic_wire, calls = sys.argv[1:]
+    programs = [word for word in sys.argv[1:] if word != "--rfc"]
+    if len(programs) != 2:
+        sys.exit("usage: quic_wire.py [--rfc] QUIC_WIRE CALLS")
+    quic_wire, calls = programs
     lines = [line.rstrip("\n") for line in sys.stdin]
+    contexts = [context_of(line.split(" ")[1]) for line in lines]
     kinds, answers = defaultdict(list), ["skip"] * len(lines)
     for index, line in enumerate(lines):
-        kinds[words_of(*line.split(" ")[:2])].append(index)
+        kinds[words_of(line.split(" ")[0], contexts[index])].append(index)
     for (words, answer_of), indices in kinds.items():
         if not words:
             for index, answer in zip(indices, lines_of([calls], [lines[index] + "\n" for index in indices])):
@@ -184,7 +214,7 @@ def main():
             item = json.loads(line)
             items[item["line"]].append(item)
         for number, index in enumerate(indices, 1):
-            answers[index] = answer_of(items[number])
+            answers[index] = answer_of(items[number], contexts[index])
     print("\n".join(answers))
 
 

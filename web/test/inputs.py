@@ -152,6 +152,34 @@ def choices(browser, address):
     return len(CHOICES)
 
 
+# The mode, a line, and the mode that a button offers. The datagrams begin with a long header of a known version, of an
+# unknown one, with a clear fixed bit, with none; then a payload of several frames, and types that any bytes fit after.
+HINTS = [
+    ("frames", "c0000000010008f067a5502a4262b5000501aabbccdd", "datagram"),
+    ("params", "c0000000010008f067a5502a4262b5000501aabbccdd", "datagram"),
+    ("frames", "c01a2a3a4a0000", None), ("frames", "80000000010008f067a5502a4262b5000501aabbccdd", None),
+    ("frames", "c000000000000001", None), ("frames", "4a010203040506", None), ("datagram", "010a000161", "frames"),
+    ("datagram", "0800616263", None), ("datagram", "30616263", None), ("datagram", "01060005", None),
+]
+OFFERED = """return [...document.querySelectorAll("#status button")].map((one) => one.textContent)
+    .filter((text) => text.startsWith("Read it as"));"""
+TEXTS = {"datagram": "Read it as a datagram", "frames": "Read it as a payload"}
+
+
+def hints(browser, address):
+    """What another mode reads has a button, which goes there, unless there is doubt."""
+    browser.go(f"{address}#read=frames")
+    for mode, digits, other in HINTS:
+        set_form(browser, {"mode": mode}, digits)
+        same(browser.run(OFFERED), [TEXTS[other]] if other else [], f"what is offered for {mode} {digits}")
+        if other:
+            browser.run("document.querySelector('#status button:last-child').click()")
+            chosen = "return [document.getElementById('form').elements.mode.value, document.activeElement.value]"
+            same(browser.run(chosen), [other, other], f"the mode for {digits}")
+            same(browser.run(OFFERED), [], f"what is offered for {other} {digits}")
+    return len(HINTS)
+
+
 # ---- links
 
 STATES = [

@@ -79,6 +79,7 @@ def pages(browser, host, words):
     print(f"  {inputs.ways_to_write(browser)} ways to write bytes, and texts that are none")
     print(f"  {inputs.several(browser, address)} texts of several inputs")
     print(f"  {inputs.choices(browser, address)} choices that quic-show lacks, and the strip of an ACK")
+    print(f"  {inputs.hints(browser, address)} lines that another mode may read")
     use.keyboard(browser, address)
     use.all_by_keyboard(browser, address)
     use.pointer(browser, address)

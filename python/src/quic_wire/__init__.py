@@ -1,8 +1,8 @@
 """The wire layer of QUIC, versions 1 and 2: frames, packets, transport parameters and sets of packet numbers.
 
 >>> from quic_wire import read_frames
->>> read_frames(bytes.fromhex("40000a000161"))
-[Padding(count=1), Stream(stream_id=0, offset=0, fin=False, data=b'a')]
+>>> read_frames(bytes.fromhex("010a000161"))
+[Ping(), Stream(stream_id=0, offset=0, fin=False, data=b'a')]
 >>> read_frames(b"\\x06\\x00\\x05a")
 Traceback (most recent call last):
 ...

@@ -9,11 +9,12 @@ import sys
 from typing import BinaryIO
 
 from ._program import args as arguments
-from ._program import captured, link, modes
+from ._program import captured, hint, link, modes
 from ._program.args import Args, WrongCall
 from ._program.datagrams import Ids, show_datagram
 from ._program.output import Look, Output
 from ._program.source import Pieces, Plain
+from .checks import Checks
 
 # A line was rejected; usage error; reading, writing or memory failed; the reader of the output is gone.
 REFUSED, WRONG_CALL, FAILED, UNREAD = 1, 2, 3, 141
@@ -21,37 +22,50 @@ _WHOLE_PACKET = "an IP packet, not a QUIC payload; use the mode datagram"
 
 
 def _say(what: object) -> None:
-    print(f"quic-wire: {what}", file=sys.stderr)
+    """Prints a line on standard error. If that fails, or it is closed, nothing can be done."""
+    if sys.stderr is None:
+        return
+    try:
+        print(f"quic-wire: {what}", file=sys.stderr, flush=True)
+    except OSError:
+        # What is left in the buffer isn't written again when the interpreter ends.
+        os.dup2(os.open(os.devnull, os.O_WRONLY), sys.stderr.fileno())
 
 
 def _show_piece(args: Args, data: bytes, ids: Ids, output: Output) -> None:
     if args.mode in ("frames", "canon") and link.packet(data) is not None:
         output.error(_WHOLE_PACKET)
     elif args.mode == "frames":
-        modes.show_frames(data, args.strict, output)
+        modes.show_frames(data, args.checks | (Checks.SHORT_TYPES if args.strict else Checks.QUINN), output)
     elif args.mode == "canon":
-        modes.show_canon(data, output)
+        modes.show_canon(data, args.checks, output)
     elif args.mode == "datagram":
         show_datagram(data, args, ids, output)
     elif args.mode == "params":
-        modes.show_parameters(data, args.side, output)
+        modes.show_parameters(data, args.side, args.checks, output)
     elif args.mode == "number":
-        modes.show_number(data, args.largest, output)
+        modes.show_number(data, args.largest, args.checks, output)
     else:
         modes.show_ranges(data, output)
 
 
 def _show_all(args: Args, source: BinaryIO, output: Output) -> None:
-    """Prints each piece before it waits for the next one."""
+    """Prints each piece before it waits for the next one, and at most one hint."""
     plain = Plain.DECIMAL if args.mode == "ranges" else Plain.BASE64 if args.base64 else Plain.HEXADECIMAL
-    ids = Ids()
+    ids, has_hint = Ids(), False
     for piece in Pieces(source, plain):
         output.line = piece.line
+        errors = output.errors
         if isinstance(piece.data, str):
             output.error(piece.data)
-        else:
-            _show_piece(args, piece.data, ids, output)
+            _flush()
+            continue
+        _show_piece(args, piece.data, ids, output)
         _flush()
+        other = hint.other_mode(args, piece.data) if output.errors > errors and not has_hint else None
+        if other is not None:
+            _say(f"hint: {output.place} reads as {other.what}; use the mode {other.mode}")
+            has_hint = True
 
 
 class _WriteError(Exception):
@@ -99,7 +113,7 @@ def _show(args: Args) -> int:
             are_read = False
             _say(f"{file}: out of memory")
     _flush()
-    return FAILED if not are_read else 0 if output.is_clean else REFUSED
+    return FAILED if not are_read else REFUSED if output.errors else 0
 
 
 def main() -> int:

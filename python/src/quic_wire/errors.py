@@ -110,6 +110,8 @@ class FrameError(Error):
     # The last type that was read: the program prints it, as quinn-proto does.
     _last_type: Optional[int] = None
     _is_permission = False
+    # Whether only some Checks forbid what is wrong.
+    _breaks_rule = False
 
     def _what(self) -> str:
         if self.frame_type is None:
@@ -193,6 +195,8 @@ def _frame_error(
     is_cut_off = result not in _OF_TYPES and place == _faults.Place(_faults.FRAME_TYPE_FIELD, begin)
     error.frame_type = None if is_cut_off else frame_type
     error._last_type, error.why, error.frames = frame_type, why or _why_unknown(result, frame_type), before
+    is_of_token = result == FRAME_MALFORMED and frame_type == _NEW_TOKEN
+    error._breaks_rule = result == FRAME_LIMIT or is_of_token or _why_unknown(result, frame_type) is not None
     return error
 
 

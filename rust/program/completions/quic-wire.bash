@@ -10,13 +10,14 @@ _quic_wire_words() {
         --versions) echo '1 6b3343cf 1,6b3343cf' ;;
         *)
             case $1 in
-                frames) echo '--base64 --json --color --strict' ;;
-                datagram) echo '--base64 --json --color --cid-len --versions --grease' ;;
-                params) echo '--base64 --json --color --side' ;;
-                number) echo '--base64 --json --color --largest' ;;
-                canon | ranges) echo '--base64 --json --color' ;;
+                frames) echo '--base64 --json --color --rfc --quinn --strict' ;;
+                canon) echo '--base64 --json --color --rfc --quinn' ;;
+                datagram) echo '--base64 --json --color --rfc --quinn --cid-len --versions --grease' ;;
+                params) echo '--base64 --json --color --rfc --quinn --side' ;;
+                number) echo '--base64 --json --color --rfc --quinn --largest' ;;
+                ranges) echo '--base64 --json --color' ;;
                 *)
-                    echo '--base64 --json --color --strict --cid-len --versions --grease --side --largest'
+                    echo '--base64 --json --color --rfc --quinn --strict --cid-len --versions --grease --side --largest'
                     echo '--help --version'
                     ;;
             esac

@@ -2,6 +2,7 @@
 
 set -l no_mode 'not __fish_seen_subcommand_from frames canon datagram params number ranges'
 # An option of one mode may also precede it.
+set -l of_readers 'not __fish_seen_subcommand_from ranges'
 set -l of_frames 'not __fish_seen_subcommand_from canon datagram params number ranges'
 set -l of_datagram 'not __fish_seen_subcommand_from frames canon params number ranges'
 set -l of_params 'not __fish_seen_subcommand_from frames canon datagram number ranges'
@@ -19,7 +20,9 @@ complete -c quic-wire -n $no_mode -s V -l version -d 'Print the version'
 complete -c quic-wire -l base64 -d 'Read lines as base64'
 complete -c quic-wire -l json -d 'Print a JSON object per line'
 complete -c quic-wire -l color -x -a 'always never auto' -d 'When to use colours'
-complete -c quic-wire -n $of_frames -l strict -d 'Reject a frame type not in its shortest encoding'
+complete -c quic-wire -n $of_readers -l rfc -d 'Read as RFC 9000 requires, the default'
+complete -c quic-wire -n $of_readers -l quinn -d 'Read as quinn-proto does'
+complete -c quic-wire -n $of_frames -l strict -d 'With --quinn, reject a frame type not in its shortest encoding'
 complete -c quic-wire -n $of_datagram -l cid-len -x -a '(seq 0 20)' -d 'Bytes of the ids of short headers'
 complete -c quic-wire -n $of_datagram -l versions -x -a '1 6b3343cf 1,6b3343cf' -d 'Versions to read'
 complete -c quic-wire -n $of_datagram -l grease -d 'Accept a clear fixed bit'

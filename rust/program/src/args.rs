@@ -2,7 +2,10 @@
 use crate::colour::When;
 use crate::help::HELP;
 use crate::input::Plain;
+use quic_wire::datagram::HeaderChecks;
+use quic_wire::frame::Rules;
 use quic_wire::packet::DEFAULT_SUPPORTED_VERSIONS;
+use quic_wire::transport_parameters::ReadOptions;
 use quic_wire::{MAX_CID_SIZE, Side, varint};
 use std::ffi::{OsStr, OsString};
 
@@ -20,12 +23,36 @@ pub struct Args {
 }
 
 pub enum Mode {
-    Frames { strict: bool },
-    Canon,
+    Frames(Rules),
+    Canon(Rules),
     Datagram(Datagrams),
-    Params { side: Side },
-    Number { largest: Option<u64> },
+    Params { side: Side, options: ReadOptions },
+    Number { largest: Option<u64>, reading: Reading },
     Ranges,
+}
+
+/// Whose rules bytes are read by.
+#[derive(Clone, Copy, Default, PartialEq)]
+pub enum Reading {
+    #[default]
+    Rfc,
+    Quinn,
+}
+
+impl Reading {
+    pub fn rules(self) -> Rules {
+        match self {
+            Reading::Rfc => Rules::RFC,
+            Reading::Quinn => Rules::default(),
+        }
+    }
+
+    fn options(self) -> ReadOptions {
+        match self {
+            Reading::Rfc => ReadOptions::RFC,
+            Reading::Quinn => ReadOptions::QUINN,
+        }
+    }
 }
 
 pub struct Datagrams {
@@ -33,33 +60,46 @@ pub struct Datagrams {
     pub cid_len: Option<usize>,
     pub versions: Vec<u32>,
     pub grease: bool,
+    pub reading: Reading,
+}
+
+impl Datagrams {
+    /// What is checked of a header, except what only quinn-proto rejects.
+    pub fn checks(&self) -> HeaderChecks {
+        let whole_retry = self.reading == Reading::Rfc;
+        HeaderChecks { grease_quic_bit: self.grease, whole_retry, ..HeaderChecks::RFC }
+    }
 }
 
 const MODES: [&str; 6] = ["frames", "canon", "datagram", "params", "number", "ranges"];
+// Those that read by rules.
+const READERS: &[&str] = &["frames", "canon", "datagram", "params", "number"];
 
-// An option: what its value is, if it has one, and the only mode that accepts it.
+// An option: what its value is, if it has one, and which modes accept it; none are all.
 struct Known {
     name: &'static str,
     value: Option<&'static str>,
-    mode: Option<&'static str>,
+    modes: &'static [&'static str],
 }
 
-const fn known(name: &'static str, value: Option<&'static str>, mode: Option<&'static str>) -> Known {
-    Known { name, value, mode }
+const fn known(name: &'static str, value: Option<&'static str>, modes: &'static [&'static str]) -> Known {
+    Known { name, value, modes }
 }
 
-const OPTIONS: [Known; 11] = [
-    known("--help", None, None),
-    known("--version", None, None),
-    known("--json", None, None),
-    known("--base64", None, None),
-    known("--color", Some("always, never or auto"), None),
-    known("--strict", None, Some("frames")),
-    known("--cid-len", Some("how many bytes an id has, 0 to 20"), Some("datagram")),
-    known("--versions", Some("versions in hexadecimal, with commas between them"), Some("datagram")),
-    known("--grease", None, Some("datagram")),
-    known("--side", Some("client or server"), Some("params")),
-    known("--largest", Some("the largest packet number that was received"), Some("number")),
+const OPTIONS: [Known; 13] = [
+    known("--help", None, &[]),
+    known("--version", None, &[]),
+    known("--json", None, &[]),
+    known("--base64", None, &[]),
+    known("--color", Some("always, never or auto"), &[]),
+    known("--rfc", None, READERS),
+    known("--quinn", None, READERS),
+    known("--strict", None, &["frames"]),
+    known("--cid-len", Some("how many bytes an id has, 0 to 20"), &["datagram"]),
+    known("--versions", Some("versions in hexadecimal, with commas between them"), &["datagram"]),
+    known("--grease", None, &["datagram"]),
+    known("--side", Some("client or server"), &["params"]),
+    known("--largest", Some("the largest packet number that was received"), &["number"]),
 ];
 
 // What options say.
@@ -68,13 +108,15 @@ struct Options {
     json: bool,
     base64: bool,
     colours: When,
+    rfc: bool,
+    quinn: bool,
     strict: bool,
     grease: bool,
     cid_len: Option<usize>,
     versions: Option<Vec<u32>>,
     side: Option<Side>,
     largest: Option<u64>,
-    // Those of one mode.
+    // Those that not all modes accept.
     of_modes: Vec<&'static Known>,
 }
 
@@ -118,7 +160,7 @@ impl Options {
         let Some(option) = OPTIONS.iter().find(|option| option.name == name) else {
             return Err(format!("unknown option {name}{}", nearest(name, OPTIONS.iter().map(|option| option.name))));
         };
-        if option.mode.is_some() {
+        if !option.modes.is_empty() {
             self.of_modes.push(option);
         }
         let value = match (option.value, given) {
@@ -137,6 +179,8 @@ impl Options {
         match name {
             "--json" => self.json = true,
             "--base64" => self.base64 = true,
+            "--rfc" => self.rfc = true,
+            "--quinn" => self.quinn = true,
             "--strict" => self.strict = true,
             "--grease" => self.grease = true,
             "--color" => self.colours = when(value)?,
@@ -149,24 +193,35 @@ impl Options {
     }
 
     fn mode(self, name: &OsStr) -> Result<Mode, String> {
-        let text = name.to_string_lossy();
-        if let Some(other) = self.of_modes.iter().find(|option| option.mode != Some(&*text) && MODES.contains(&&*text))
-        {
-            return Err(format!("{} is an option of {}, not of {text}", other.name, other.mode.unwrap_or_default()));
+        let text = &*name.to_string_lossy();
+        let other = self.of_modes.iter().find(|option| !option.modes.contains(&text));
+        if let Some(other) = other.filter(|_| MODES.contains(&text)) {
+            return Err(format!("{} is an option of {}, not of {text}", other.name, other.modes.join(", ")));
         }
-        Ok(match &*text {
-            "frames" => Mode::Frames { strict: self.strict },
-            "canon" => Mode::Canon,
+        let reading = self.reading()?;
+        Ok(match text {
+            "frames" if self.strict => Mode::Frames(Rules { short_types: true, ..reading.rules() }),
+            "frames" => Mode::Frames(reading.rules()),
+            "canon" => Mode::Canon(reading.rules()),
             "datagram" => Mode::Datagram(Datagrams {
                 cid_len: self.cid_len,
                 versions: self.versions.unwrap_or_else(|| DEFAULT_SUPPORTED_VERSIONS.to_vec()),
                 grease: self.grease,
+                reading,
             }),
-            "params" => Mode::Params { side: self.side.unwrap_or(Side::Client) },
-            "number" => Mode::Number { largest: self.largest },
+            "params" => Mode::Params { side: self.side.unwrap_or(Side::Client), options: reading.options() },
+            "number" => Mode::Number { largest: self.largest, reading },
             "ranges" => Mode::Ranges,
-            _ => return Err(format!("unknown mode {text:?}{}", nearest(&text, MODES))),
+            _ => return Err(format!("unknown mode {text:?}{}", nearest(text, MODES))),
         })
+    }
+
+    fn reading(&self) -> Result<Reading, String> {
+        match (self.rfc, self.quinn) {
+            (true, true) => Err("--rfc and --quinn exclude each other".into()),
+            (_, true) => Ok(Reading::Quinn),
+            _ => Ok(Reading::Rfc),
+        }
     }
 }
 

@@ -1,6 +1,6 @@
 //! The packets of datagrams.
-use crate::args::Datagrams;
-use crate::fault;
+use crate::args::{Datagrams, Reading};
+use crate::fault::{self, FIXED_BIT};
 use crate::link::{self, Packet};
 use crate::output::{Field, Output, Value};
 use Value::{Flag, Number, Version, Versions};
@@ -59,20 +59,20 @@ fn show_packets(
     loop {
         let rest = &datagram[begin..];
         let cid_len = how.cid_len.unwrap_or_else(|| ids.len_in(rest, before));
-        let is_clear = !how.grease && rest.first().is_some_and(|first| first & 0x40 == 0);
-        let places = match HeaderPlaces::read(rest, cid_len, &how.versions) {
-            Err(error) if !is_clear || is_negotiation(rest) || matches!(error, HeaderError::UnsupportedVersion(_)) => {
+        let is_noted = lacks_bit_of_quinn(rest, how);
+        let places = match read(rest, cid_len, how) {
+            Ok(places) => places,
+            Err(error) => {
                 let fault = fault::of_header(rest, begin, cid_len, &error);
-                let fixed_bit = is_clear.then_some(("fixed_bit", Flag(false)));
+                let is_noted = is_noted && error != HeaderError::InvalidHeader(FIXED_BIT);
+                let fixed_bit = is_noted.then_some(("fixed_bit", Flag(false)));
                 let fields = [&reported(&error, rest, begin), fixed_bit.as_slice(), &fault].concat();
                 return output.error(&error.to_string(), Some(begin), &fields);
             }
-            Ok(places) if !is_clear || is_negotiation(rest) => places,
-            _ => return output.error("fixed bit unset", Some(begin), &fault::of_fixed_bit(rest, begin)),
         };
         let end = begin + places.end();
         let (name, mut fields) = fields(&places, &datagram[begin..end], begin);
-        if is_clear {
+        if is_noted {
             fields.extend([("fixed_bit", Flag(false)), ("note", Value::sentence(NEGOTIATION))]);
         }
         let first = [("first", Number(places.first().into()))];
@@ -86,6 +86,22 @@ fn show_packets(
         }
         begin = end;
     }
+}
+
+// The header of the packet at the front. quinn-proto rejects a clear fixed bit in any version; here such a packet is
+// read if it is a version negotiation, or if at least the ids can be read.
+fn read(rest: &[u8], cid_len: usize, how: &Datagrams) -> Result<HeaderPlaces, HeaderError> {
+    match HeaderPlaces::read_with(rest, cid_len, &how.versions, how.checks()) {
+        Err(HeaderError::InvalidHeader(_)) if lacks_bit_of_quinn(rest, how) && !is_negotiation(rest) => {
+            Err(HeaderError::InvalidHeader(FIXED_BIT))
+        }
+        read => read,
+    }
+}
+
+// Whether quinn-proto rejects the packet for its fixed bit.
+fn lacks_bit_of_quinn(packet: &[u8], how: &Datagrams) -> bool {
+    how.reading == Reading::Quinn && !how.grease && packet.first().is_some_and(|first| first & 0x40 == 0)
 }
 
 fn is_negotiation(packet: &[u8]) -> bool {

@@ -5,7 +5,7 @@ mod parameter;
 
 use crate::output::{Field, Value};
 pub use frame::{of_empty_payload, of_frame};
-pub use packet::{of_fixed_bit, of_header};
+pub use packet::{FIXED_BIT, of_header};
 pub use parameter::of_parameters;
 use quic_wire::transport_error::Code;
 use quic_wire::varint;
@@ -49,11 +49,13 @@ fn closed(code: Code, section: &'static str) -> [Field<'static>; 3] {
 struct Walk<'a> {
     bytes: &'a [u8],
     at: usize,
+    /// The last number that was read.
+    last: Option<Place>,
 }
 
 impl<'a> Walk<'a> {
     fn new(bytes: &'a [u8]) -> Self {
-        Walk { bytes, at: 0 }
+        Walk { bytes, at: 0, last: None }
     }
 
     fn place(&self, field: &'static str) -> Place {
@@ -62,8 +64,10 @@ impl<'a> Walk<'a> {
 
     /// A varint (RFC 9000, section 16).
     fn number(&mut self, field: &'static str) -> Result<u64, Place> {
-        let (number, len) = varint::read(&self.bytes[self.at..]).ok_or(self.place(field))?;
+        let place = self.place(field);
+        let (number, len) = varint::read(&self.bytes[self.at..]).ok_or(place)?;
         self.at += len;
+        self.last = Some(place);
         Ok(number)
     }
 

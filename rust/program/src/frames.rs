@@ -2,15 +2,14 @@
 use crate::fault;
 use crate::output::{Field, Output, Value};
 use Value::{Flag, Number, Ranges, Text};
-use quic_wire::frame::{Ack, ApplicationClose, Close, ConnectionClose, Frame, Iter, NewConnectionId};
+use quic_wire::frame::{Ack, ApplicationClose, Close, ConnectionClose, Frame, Iter, NewConnectionId, Rules};
 use quic_wire::varint;
 use std::io::{self, Write};
 use std::ops::Range;
 
 /// Prints the frames of a payload, a run of PADDING as one.
-pub fn show(payload: &[u8], strict: bool, output: &mut Output<impl Write>) -> io::Result<()> {
-    let begun = if strict { Iter::strict(payload) } else { Iter::new(payload) };
-    let mut frames = match begun {
+pub fn show(payload: &[u8], rules: Rules, output: &mut Output<impl Write>) -> io::Result<()> {
+    let mut frames = match Iter::with_rules(payload, rules) {
         Ok(frames) => frames,
         Err(empty) => return output.error(empty.reason.as_str(), Some(0), &fault::of_empty_payload()),
     };

@@ -21,6 +21,8 @@ Output:
   order=4,17                 the ids of all parameters of a list, in its order
   error at 3: ..             the byte at which what is rejected begins. field_at is where the field at fault begins,
                              close_code the code to close the connection with, section the RFC's section
+If what is rejected is a datagram in another mode, or a payload in the mode datagram, a hint on standard error says so,
+once for each FILE.
 
 Without FILE, and for -, read standard input. A line is hexadecimal, which may contain spaces, tabs, commas, colons,
 quotes, 0x and \\x, or base64 (--base64). Lists as in C, Rust, Python and JSON may have several lines; b'..' is read as
@@ -42,7 +44,9 @@ options:
   --base64             read lines as base64
   --color WHEN         always, never or auto: on a terminal, unless NO_COLOR is set or TERM is dumb; default auto
   --json               print a JSON object per line, without colours
-  --strict             frames: reject a frame type not in its shortest encoding
+  --rfc                read as RFC 9000 requires, without the ACK frequency extension; the default
+  --quinn              read as the Rust crate quinn-proto does. The manual page, READINGS, lists the differences
+  --strict             frames, with --quinn: reject a frame type not in its shortest encoding
   --cid-len N          datagram: length of the ids of short headers in bytes, 0 to 20; default: that of the matching
                        id in an earlier long header of the same input, or else 0
   --versions LIST      datagram: versions to read, in hexadecimal, separated by commas;

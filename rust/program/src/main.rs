@@ -8,6 +8,7 @@ mod dump;
 mod fault;
 mod frames;
 mod help;
+mod hint;
 mod input;
 mod link;
 mod number;
@@ -67,11 +68,11 @@ fn show(args: &Args) -> ExitCode {
                 are_read = false;
                 say(format_args!("{}: {error}", file.to_string_lossy()));
             }
-            Err(Failure::Writing(error)) => return status(Err(error), output.is_clean()),
+            Err(Failure::Writing(error)) => return status(Err(error), output.errors() == 0),
             Ok(()) => {}
         }
     }
-    if are_read { status(Ok(()), output.is_clean()) } else { ExitCode::from(FAILED) }
+    if are_read { status(Ok(()), output.errors() == 0) } else { ExitCode::from(FAILED) }
 }
 
 fn look(args: &Args) -> Look {
@@ -95,30 +96,41 @@ fn show_file(args: &Args, file: &OsStr, output: &mut Output<impl Write>) -> Resu
     show_all(args, BufReader::new(File::open(file).map_err(Failure::Reading)?), output)
 }
 
-// Prints the result of each piece before it waits for the next.
+// Prints the result of each piece before it waits for the next, and at most one hint.
 fn show_all(args: &Args, source: impl BufRead, output: &mut Output<impl Write>) -> Result<(), Failure> {
     let mut ids = Ids::default();
+    let mut has_hint = false;
     for piece in Pieces::new(source, args.plain) {
         let Piece { line, bytes } = piece.map_err(Failure::Reading)?;
         output.set_line(line);
-        let written = match (&args.mode, bytes) {
-            (_, Err(what)) => output.error(&what, None, &[]),
-            (Mode::Frames { .. } | Mode::Canon, Ok(bytes)) if link::packet(&bytes).is_some() => {
-                output.error(WHOLE_PACKET, None, &[])
-            }
-            (Mode::Frames { strict }, Ok(bytes)) => frames::show(&bytes, *strict, output),
-            (Mode::Canon, Ok(bytes)) => canon::show(&bytes, output),
-            (Mode::Datagram(how), Ok(bytes)) => datagram::show(&bytes, how, &mut ids, output),
-            (Mode::Params { side }, Ok(bytes)) => params::show(&bytes, *side, output),
-            (Mode::Number { largest }, Ok(bytes)) => number::show(&bytes, *largest, output),
-            (Mode::Ranges, Ok(line)) => ranges::show(&line, output),
+        let errors = output.errors();
+        let written = match &bytes {
+            Ok(bytes) => show_piece(&args.mode, bytes, &mut ids, output),
+            Err(what) => output.error(what, None, &[]),
         };
         written.and_then(|()| output.flush()).map_err(|error| match error.kind() {
             ErrorKind::OutOfMemory => Failure::Reading(error),
             _ => Failure::Writing(error),
         })?;
+        let rejected = bytes.ok().filter(|_| !has_hint && output.errors() > errors);
+        if let Some((what, mode)) = rejected.and_then(|bytes| hint::other_mode(&args.mode, &bytes)) {
+            say(format_args!("hint: {} reads as {what}; use the mode {mode}", output.place()));
+            has_hint = true;
+        }
     }
     Ok(())
+}
+
+fn show_piece(mode: &Mode, bytes: &[u8], ids: &mut Ids, output: &mut Output<impl Write>) -> io::Result<()> {
+    match mode {
+        Mode::Frames(_) | Mode::Canon(_) if link::packet(bytes).is_some() => output.error(WHOLE_PACKET, None, &[]),
+        Mode::Frames(rules) => frames::show(bytes, *rules, output),
+        Mode::Canon(rules) => canon::show(bytes, *rules, output),
+        Mode::Datagram(how) => datagram::show(bytes, how, ids, output),
+        Mode::Params { side, options } => params::show(bytes, *side, *options, output),
+        Mode::Number { largest, reading } => number::show(bytes, *largest, *reading, output),
+        Mode::Ranges => ranges::show(bytes, output),
+    }
 }
 
 fn status(written: io::Result<()>, is_clean: bool) -> ExitCode {

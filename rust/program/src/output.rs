@@ -22,12 +22,12 @@ pub struct Output<W> {
     look: Look,
     file: Option<String>,
     line: usize,
-    is_clean: bool,
+    errors: usize,
 }
 
 impl<W: Write> Output<W> {
     pub fn new(out: W, look: Look) -> Self {
-        Output { out, look, file: None, line: 0, is_clean: true }
+        Output { out, look, file: None, line: 0, errors: 0 }
     }
 
     pub fn set_file(&mut self, file: String) {
@@ -38,9 +38,17 @@ impl<W: Write> Output<W> {
         self.line = line;
     }
 
-    /// Whether no error was printed.
-    pub fn is_clean(&self) -> bool {
-        self.is_clean
+    /// How many errors were printed.
+    pub fn errors(&self) -> usize {
+        self.errors
+    }
+
+    /// The line of input, for a message.
+    pub fn place(&self) -> String {
+        match &self.file {
+            Some(file) => format!("{file}:{}", self.line),
+            None => format!("line {}", self.line),
+        }
     }
 
     pub fn flush(&mut self) -> io::Result<()> {
@@ -79,7 +87,7 @@ impl<W: Write> Output<W> {
 
     /// An error at a byte, with what was read before it and what is known about it.
     pub fn error(&mut self, what: &str, at: Option<usize>, fields: &[Field<'_>]) -> io::Result<()> {
-        self.is_clean = false;
+        self.errors += 1;
         if self.look == Look::Json {
             let at = at.map(|at| ("offset", Value::Number(at as u64)));
             return self.object(&[at.as_slice(), &[("error", Value::Word(what.into()))], fields]);

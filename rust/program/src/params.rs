@@ -6,12 +6,12 @@ use quic_wire::transport_parameters::{Error, PreferredAddress, ReadOptions, Tran
 use quic_wire::{ConnectionId, Side};
 use std::io::{self, Write};
 
-pub fn show(list: &[u8], side: Side, output: &mut Output<impl Write>) -> io::Result<()> {
-    let read = match TransportParameters::read_list(side, ReadOptions::QUINN, list) {
+pub fn show(list: &[u8], side: Side, options: ReadOptions, output: &mut Output<impl Write>) -> io::Result<()> {
+    let read = match TransportParameters::read_list(side, options, list) {
         Ok(read) => read,
         Err(refusal) => {
             let what = if refusal.error == Error::IllegalValue { "illegal value" } else { "malformed" };
-            let (at, fields) = fault::of_parameters(list, side, refusal);
+            let (at, fields) = fault::of_parameters(list, side, options, refusal);
             return output.error(what, at, &fields);
         }
     };

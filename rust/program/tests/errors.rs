@@ -41,11 +41,7 @@ fn an_error_of_a_packet_names_its_field() {
     let dropped = |section| format!("then=\"the packet is dropped\" section=\"RFC 9000, section {section}\"");
     let rows = [
         ("21aabb", "fixed bit unset field=\"Fixed Bit\" field_at=0", dropped("17.3.1")),
-        (
-            "80000000001500",
-            "malformed cid fixed_bit=false field=\"Destination Connection ID Length\" field_at=5",
-            dropped("17.2"),
-        ),
+        ("80000000001500", "malformed cid field=\"Destination Connection ID Length\" field_at=5", dropped("17.2")),
         ("8000000001 00 00 00 01 aa", "fixed bit unset field=\"Fixed Bit\" field_at=0", dropped("17.2")),
         ("c00000", "unexpected end of packet field=\"Version\" field_at=1", dropped("12.2")),
         ("c000000001 15", "malformed cid field=\"Destination Connection ID Length\" field_at=5", dropped("17.2")),

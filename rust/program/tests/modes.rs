@@ -13,10 +13,11 @@ fn the_shortest_form_of_a_payload_is_printed() {
         ("01", "0..1 SHORTEST len=1 data=01"),
     ];
     for (line, answer) in rows {
-        assert_eq!(lines(&["canon"], line), [format!("1: {answer}")], "{line}");
+        assert_eq!(lines(&["canon", "--quinn"], line), [format!("1: {answer}")], "{line}");
     }
+    assert_eq!(lines(&["canon"], "0e04000161 01"), ["1: 0..6 SHORTEST len=5 data=0a04016101"]);
     assert_eq!(
-        lines(&["canon", "--json"], "4001"),
+        lines(&["canon", "--quinn", "--json"], "4001"),
         [r#"{"line":1,"start":0,"end":2,"form":"SHORTEST","len":1,"data":"01"}"#]
     );
     let refused = lines(&["canon"], "01 10\n\n");
@@ -95,13 +96,17 @@ fn a_version_negotiation_needs_no_fixed_bit() {
     let negotiation = "800000000004010203040405060708000000016b3343cf";
     let versions = "0..23 version-negotiation dst=01020304 src=05060708 versions=00000001,6b3343cf";
     let note = "note=\"RFC 9000, section 17.2.1, leaves this bit unused; quinn-proto 0.11 rejects the packet\"";
-    assert_eq!(lines(&["datagram"], negotiation), [format!("1: {versions} fixed_bit=false {note}")]);
-    assert_eq!(lines(&["datagram", "--grease"], negotiation), [format!("1: {versions}")]);
+    assert_eq!(lines(&["datagram", "--quinn"], negotiation), [format!("1: {versions} fixed_bit=false {note}")]);
+    for options in [&["datagram"][..], &["datagram", "--grease"], &["datagram", "--quinn", "--grease"]] {
+        assert_eq!(lines(options, negotiation), [format!("1: {versions}")]);
+    }
     let with_bit = negotiation.replacen('8', "c", 1);
-    assert_eq!(lines(&["datagram"], &with_bit), [format!("1: {versions}")]);
+    assert_eq!(lines(&["datagram", "--quinn"], &with_bit), [format!("1: {versions}")]);
     // In another version the bit means what that says (RFC 8999, section 5.1).
-    let other = "1: error at 0: unsupported version 9 dst=aa src=- fixed_bit=false field=\"Version\" field_at=1 ";
-    assert!(lines(&["datagram"], "8000000009 01aa 00 00")[0].starts_with(other));
+    let other =
+        |bit: &str| format!("1: error at 0: unsupported version 9 dst=aa src=- {bit}field=\"Version\" field_at=1 ");
+    assert!(lines(&["datagram"], "8000000009 01aa 00 00")[0].starts_with(&other("")));
+    assert!(lines(&["datagram", "--quinn"], "8000000009 01aa 00 00")[0].starts_with(&other("fixed_bit=false ")));
 }
 
 // A request for more memory than there is ends with a message and status 3.

@@ -50,7 +50,7 @@ fn every_field_of_a_frame_is_printed() {
     ];
     let input: String = rows.iter().map(|(line, _)| format!("{line}\n")).collect();
     let all: Vec<_> = rows.iter().enumerate().map(|(i, (_, answer))| format!("{}: {answer}", i + 1)).collect();
-    assert_eq!(lines(&["frames"], &input), all);
+    assert_eq!(lines(&["frames", "--quinn"], &input), all);
 }
 
 #[test]
@@ -91,12 +91,12 @@ fn every_field_of_a_packet_is_printed() {
     ];
     let input: String = rows.iter().map(|(line, _)| format!("{line}\n")).collect();
     let all: Vec<_> = rows.iter().enumerate().map(|(i, (_, answer))| format!("{}: {answer}", i + 1)).collect();
-    assert_eq!(lines(&["datagram"], &input), all);
+    assert_eq!(lines(&["datagram", "--quinn"], &input), all);
     assert_eq!(
         lines(&["datagram", "--grease", "--cid-len", "2"], "21aabb"),
         ["1: 0..3 short dst=aabb spin=true number_at=3"]
     );
-    let reported = lines(&["datagram", "--versions", "0x9,1"], "f000000009020102020405ff");
+    let reported = lines(&["datagram", "--quinn", "--versions", "0x9,1"], "f000000009020102020405ff");
     assert_eq!(reported, ["1: 0..12 retry dst=0102 src=0405 version=00000009 rest=ff"]);
 }
 
@@ -110,6 +110,9 @@ fn calls_end_with_their_status() {
         (&["frames", "--grease"], "--grease is an option of datagram, not of frames"),
         (&["params", "--cid-len=1"], "--cid-len is an option of datagram, not of params"),
         (&["canon", "--strict"], "--strict is an option of frames, not of canon"),
+        (&["ranges", "--rfc"], "--rfc is an option of frames, canon, datagram, params, number, not of ranges"),
+        (&["frames", "--rfc", "--quinn"], "--rfc and --quinn exclude each other"),
+        (&["params", "--quinn=1"], "--quinn takes no value"),
         (&["datagram", "--cid-len", "21"], "--cid-len: an id has 0 to 20 bytes, not \"21\""),
         (&["datagram", "--cid-len", "+1"], "--cid-len: an id has 0 to 20 bytes, not \"+1\""),
         (&["datagram", "--cid-len"], "--cid-len needs a value: how many bytes an id has, 0 to 20"),
@@ -413,7 +416,7 @@ fn lists_are_read_as_quic_show_reads_them() {
         let read = |end: &str| fs::read(format!("{folder}/{list}.{end}"));
         let (Ok(input), Ok(wanted)) = (read("in"), read("out")) else { continue };
         let input = String::from_utf8_lossy(&input).into_owned();
-        let (answer, _, status) = run(&arguments, input.as_bytes());
+        let (answer, _, status) = run(&[&arguments[..], &["--quinn"]].concat(), input.as_bytes());
         let shown = as_shown(mode, &input, &answer);
         let wanted = String::from_utf8(wanted).unwrap();
         for (i, (one, other)) in shown.lines().zip(wanted.lines()).enumerate() {

@@ -10,11 +10,14 @@ from dataclasses import dataclass, field
 from typing import NamedTuple, Optional, Union
 
 from .. import __version__
+from ..checks import Checks
 from ..parameters import Side
 from .plain import spelled
 
 USAGE = "usage: python -m quic_wire frames|canon|datagram|params|number|ranges|capture [OPTION..] [FILE..]"
 MODES = ("frames", "canon", "datagram", "params", "number", "ranges", "capture")
+# Those that read by rules.
+READERS = ("frames", "canon", "datagram", "params", "number", "capture")
 USUAL_VERSIONS = (0x00000001, *range(0xFF00001D, 0xFF000023), 0x6B3343CF)
 _VARINT_MAX = (1 << 62) - 1
 _MAX_CID_LEN = 20
@@ -25,10 +28,10 @@ class WrongCall(Exception):
 
 
 class Known(NamedTuple):
-    """An option: what its value is, if it has one, and the only mode that has it."""
+    """An option: what its value is, if it has one, and which modes accept it; none are all."""
 
     value: Optional[str] = None
-    mode: Optional[str] = None
+    modes: tuple[str, ...] = ()
 
 
 OPTIONS = {
@@ -37,13 +40,15 @@ OPTIONS = {
     "--json": Known(),
     "--base64": Known(),
     "--color": Known("always, never or auto"),
-    "--strict": Known(mode="frames"),
-    "--cid-len": Known("how many bytes an id has, 0 to 20", "datagram"),
-    "--versions": Known("versions in hexadecimal, with commas between them", "datagram"),
-    "--grease": Known(mode="datagram"),
-    "--side": Known("client or server", "params"),
-    "--largest": Known("the largest packet number that was received", "number"),
-    "--keylog": Known("a key log file", "capture"),
+    "--rfc": Known(modes=READERS),
+    "--quinn": Known(modes=READERS),
+    "--strict": Known(modes=("frames",)),
+    "--cid-len": Known("how many bytes an id has, 0 to 20", ("datagram",)),
+    "--versions": Known("versions in hexadecimal, with commas between them", ("datagram",)),
+    "--grease": Known(modes=("datagram",)),
+    "--side": Known("client or server", ("params",)),
+    "--largest": Known("the largest packet number that was received", ("number",)),
+    "--keylog": Known("a key log file", ("capture",)),
 }
 
 
@@ -56,6 +61,8 @@ class Args:
     json: bool = False
     base64: bool = False
     color: str = "auto"
+    rfc: bool = False
+    quinn: bool = False
     strict: bool = False
     grease: bool = False
     cid_len: Optional[int] = None
@@ -63,6 +70,11 @@ class Args:
     side: Side = Side.CLIENT
     largest: Optional[int] = None
     keylog: Optional[str] = None
+
+    @property
+    def checks(self) -> Checks:
+        """By which rules bytes are read."""
+        return Checks.QUINN if self.quinn else Checks.RFC
 
     @property
     def has_colours(self) -> bool:
@@ -94,8 +106,10 @@ def parse(words: Iterable[str]) -> Union[Args, str]:
     if mode is None:
         raise WrongCall(f"missing MODE: {', '.join(MODES)}")
     for name in of_modes:
-        if mode in MODES and OPTIONS[name].mode != mode:
-            raise WrongCall(f"{name} is an option of {OPTIONS[name].mode}, not of {mode}")
+        if mode in MODES and mode not in OPTIONS[name].modes:
+            raise WrongCall(f"{name} is an option of {', '.join(OPTIONS[name].modes)}, not of {mode}")
+    if args.rfc and args.quinn:
+        raise WrongCall("--rfc and --quinn exclude each other")
     if mode not in MODES:
         raise WrongCall(f"unknown mode {_debug(mode)}{_nearest(mode, MODES)}")
     args.mode, args.files = mode, args.files or ["-"]
@@ -103,7 +117,7 @@ def parse(words: Iterable[str]) -> Union[Args, str]:
 
 
 def _take(args: Args, text: str, rest: Iterator[str]) -> list[str]:
-    """Takes an option and its value; returns its name, if only one mode has it."""
+    """Takes an option and its value; returns its name, if not all modes accept it."""
     name, equals, value = text.partition("=")
     known = OPTIONS.get(name)
     if known is None:
@@ -116,7 +130,7 @@ def _take(args: Args, text: str, rest: Iterator[str]) -> list[str]:
             raise WrongCall(f"{name} needs a value: {known.value}")
         value = given
     _set(args, name, value)
-    return [name] if known.mode else []
+    return [name] if known.modes else []
 
 
 def _set(args: Args, name: str, value: str) -> None:
@@ -217,6 +231,8 @@ Output:
   order=4,17                 the ids of all parameters of a list, in its order
   error at 3: ..             the byte at which what is rejected begins. field_at is where the field at fault begins,
                              close_code the code to close the connection with, section the RFC's section
+If what is rejected is a datagram in another mode, or a payload in the mode datagram, a hint on standard error says so,
+once for each FILE.
 
 Without FILE, and for -, read standard input. A line is hexadecimal, which may contain spaces, tabs, commas, colons,
 quotes, 0x and \\x, or base64 (--base64). Lists as in C, Rust, Python and JSON may have several lines; b'..' is read as
@@ -238,7 +254,10 @@ options:
   --base64             read lines as base64
   --color WHEN         always, never or auto: on a terminal, unless NO_COLOR is set or TERM is dumb; default auto
   --json               print a JSON object per line, without colours
-  --strict             frames: reject a frame type not in its shortest encoding
+  --rfc                read as RFC 9000 requires, without the ACK frequency extension; the default
+  --quinn              read as the Rust crate quinn-proto does. The manual page of quic-wire,
+                       READINGS, lists the differences
+  --strict             frames, with --quinn: reject a frame type not in its shortest encoding
   --cid-len N          datagram: length of the ids of short headers in bytes, 0 to 20; default: that of the matching
                        id in an earlier long header of the same input, or else 0
   --versions LIST      datagram: versions to read, in hexadecimal, separated by commas;

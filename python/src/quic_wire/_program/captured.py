@@ -25,11 +25,11 @@ def show(args: Args, file: str, output: Output, write: Callable[[str], None]) ->
     """Prints the packets of a capture file. Raises CaptureError and OSError."""
     keylog = _keylog(args.keylog) if args.keylog is not None else None
     before = None
-    for captured in packets("/dev/stdin" if file == "-" else file, keylog):
+    for captured in packets("/dev/stdin" if file == "-" else file, keylog, checks=args.checks):
         if before is not None and before.datagram is not captured.datagram:
             _show_lost(before, args, write)
         before = captured
-        output.is_clean &= captured.error is None and captured.packet is not None
+        output.errors += captured.error is not None or captured.packet is None
         if args.json:
             output.line = captured.datagram.frame
             _show_objects(captured, output)
@@ -133,5 +133,6 @@ def _show_objects(captured: Captured, output: Output) -> None:
     for frame in captured.frames or ():
         output.item(frame.begin, frame.end, ("type", frame_name(frame.kind)), modes.fields_of(frame, payload))
     if captured.error is not None:
-        fields = [*modes.place_of(captured.error), *modes.closed_by(captured.error)]
-        output.error(captured.error.reason, captured.error.offset, fields)
+        error = captured.error
+        fields = [*modes.place_of(error), *modes.rule_of(error), *modes.closed_by(error)]
+        output.error(error.reason, error.offset, fields)

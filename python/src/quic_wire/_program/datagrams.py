@@ -62,16 +62,16 @@ def _show_packets(datagram: bytes, begin: int, args: Args, ids: Ids, output: Out
     while True:
         rest = datagram[begin:]
         cid_len = ids.len_in(rest, before) if args.cid_len is None else args.cid_len
-        is_clear = not args.grease and len(rest) > 0 and not rest[0] & _FIXED_BIT
+        is_noted = _lacks_bit_of_quinn(rest, args)
         read = _read(datagram, begin, cid_len, args)
         if isinstance(read, PacketError):
-            _show_error(read, is_clear and _is_negotiation(rest), output)
+            _show_error(read, is_noted and _is_negotiation(rest), output)
             return
         if isinstance(read, UnknownVersion):
-            _show_unknown_version(read, is_clear, output)
+            _show_unknown_version(read, is_noted, output)
             return
         name, fields = fields_of(read)
-        if is_clear:
+        if is_noted:
             fields += [("fixed_bit", out.flag(False)), ("note", out.sentence(_NEGOTIATION))]
         output.item(read.begin, read.end, ("packet", name), fields, [("first", out.number(read.first))])
         if not isinstance(read, OneRtt):
@@ -83,14 +83,15 @@ def _show_packets(datagram: bytes, begin: int, args: Args, ids: Ids, output: Out
 
 
 def _read(datagram: bytes, begin: int, cid_len: int, args: Args) -> Union[Packet, PacketError]:
-    is_any = args.grease or _is_negotiation(datagram[begin:])
-    checks = Checks.GREASED_BIT if is_any else Checks.ANY_VERSION
+    """The packet that begins there. quinn-proto rejects a clear fixed bit in any version; here such a packet is read if
+    it is a version negotiation, or if at least the ids can be read."""
+    checks = args.checks | Checks.ANY_VERSION | (Checks.GREASED_BIT if args.grease else Checks.QUINN)
     try:
         read = read_packet(datagram, cid_len, begin, args.versions, checks=checks)
     except PacketError as error:
-        if is_any or all(first & _FIXED_BIT for first in datagram[begin : begin + 1]):
+        rest = datagram[begin:]
+        if not _lacks_bit_of_quinn(rest, args) or _is_negotiation(rest):
             return error
-        # Only versions that aren't read may have it clear, if their ids are there.
         return _packet_error(PACKET_FIXED_BIT, "fixed bit unset", datagram, begin, cid_len, None, None)
     if isinstance(read, VersionNegotiation) and max(len(read.dcid), len(read.scid)) > _MAX_CID_LEN:
         # quinn-proto rejects these ids, as the Rust crate does.
@@ -98,21 +99,26 @@ def _read(datagram: bytes, begin: int, cid_len: int, args: Args) -> Union[Packet
     return read
 
 
+def _lacks_bit_of_quinn(packet: bytes, args: Args) -> bool:
+    """Whether quinn-proto rejects the packet for its fixed bit."""
+    return args.quinn and not args.grease and len(packet) > 0 and not packet[0] & _FIXED_BIT
+
+
 def _is_negotiation(packet: bytes) -> bool:
     return packet[1:5] == bytes(4) and packet[0] >= 0x80
 
 
-def _show_error(error: PacketError, is_clear: bool, output: Output) -> None:
+def _show_error(error: PacketError, is_noted: bool, output: Output) -> None:
     fields = fields_of(error.packet)[1] if error.packet is not None else []
-    if is_clear:
+    if is_noted:
         fields.append(("fixed_bit", out.flag(False)))
     fields += [*place_of(error), ("then", out.sentence(_DROPPED)), ("section", out.sentence(error.section))]
     output.error(error.reason, error.offset, fields)
 
 
-def _show_unknown_version(packet: UnknownVersion, is_clear: bool, output: Output) -> None:
+def _show_unknown_version(packet: UnknownVersion, is_noted: bool, output: Output) -> None:
     fields = [("dst", out.data(packet.dcid)), ("src", out.data(packet.scid))]
-    if is_clear:
+    if is_noted:
         fields.append(("fixed_bit", out.flag(False)))
     fields += [
         ("field", out.sentence("Version")),

@@ -26,10 +26,10 @@ _VALUE_MOST = 64  # bytes of a parameter's value that are shown
 # ---- Frames
 
 
-def show_frames(payload: bytes, strict: bool, output: Output) -> None:
+def show_frames(payload: bytes, checks: Checks, output: Output) -> None:
     """Prints the frames of a payload."""
     try:
-        for frame in frames(payload, checks=Checks.SHORT_TYPES if strict else Checks.QUINN):
+        for frame in frames(payload, checks=checks):
             raw_type, _ = read_varint(payload, frame.begin)
             more = [("raw_type", out.number(raw_type))]
             output.item(frame.begin, frame.end, ("type", frame_name(frame.kind)), fields_of(frame, payload), more)
@@ -40,7 +40,7 @@ def show_frames(payload: bytes, strict: bool, output: Output) -> None:
 def show_error(error: FrameError, output: Output) -> None:
     """Prints why a payload is rejected, with the last type that was read, as quic-wire does."""
     what = error.reason if error._last_type is None else f"{error.reason} in {frame_name(error._last_type)}"
-    output.error(what, error.offset, [*place_of(error), *closed_by(error)])
+    output.error(what, error.offset, [*place_of(error), *rule_of(error), *closed_by(error)])
 
 
 def place_of(error: Error) -> list[Field]:
@@ -48,6 +48,13 @@ def place_of(error: Error) -> list[Field]:
     if error.field is None or error.field_offset is None:
         return []
     return [("field", out.sentence(error.field)), ("field_at", out.number(error.field_offset))]
+
+
+def rule_of(error: Error) -> list[Field]:
+    """What is wrong with a frame that quinn-proto accepts and RFC 9000 forbids."""
+    if not isinstance(error, FrameError) or not error._breaks_rule or error.why is None:
+        return []
+    return [("why", out.sentence(error.why))]
 
 
 def closed_by(error: Error) -> list[Field]:
@@ -155,10 +162,10 @@ def _close_fields(close: ConnectionClose | ApplicationClose) -> list[Field]:
 # ---- Other modes
 
 
-def show_canon(payload: bytes, output: Output) -> None:
+def show_canon(payload: bytes, checks: Checks, output: Output) -> None:
     """Prints the one shortest payload with the same frames."""
     try:
-        shortest = canonical(payload)
+        shortest = canonical(payload, checks=checks)
     except FrameError as error:
         show_error(error, output)
         return
@@ -166,11 +173,11 @@ def show_canon(payload: bytes, output: Output) -> None:
     output.item(0, len(payload), ("form", "SHORTEST"), fields)
 
 
-def show_number(data: bytes, largest: Optional[int], output: Output) -> None:
+def show_number(data: bytes, largest: Optional[int], checks: Checks, output: Output) -> None:
     """Prints the numbers that bytes encode, or the packet number of which they are the end, given the largest received
     one."""
     if largest is not None:
-        _show_packet_number(data, largest, output)
+        _show_packet_number(data, largest, checks, output)
         return
     at = 0
     while at < len(data):
@@ -185,14 +192,17 @@ def show_number(data: bytes, largest: Optional[int], output: Output) -> None:
         at = end
 
 
-def _show_packet_number(data: bytes, largest: int, output: Output) -> None:
+def _show_packet_number(data: bytes, largest: int, checks: Checks, output: Output) -> None:
     if not 1 <= len(data) <= 4:
         section = [("section", out.sentence("RFC 9000, section 17.1"))]
         output.error("a packet number has 1 to 4 bytes", 0, section)
         return
     written = int.from_bytes(data, "big")
-    fields = [("value", out.number(expand_packet_number(written, len(data), largest + 1))),
-              ("written", out.number(written))]  # fmt: skip
+    value = expand_packet_number(written, len(data), largest + 1)
+    if value > _VARINT_MAX and checks != Checks.QUINN:
+        # RFC 9000, appendix A.3, adds no window that leads beyond the greatest number.
+        value -= 1 << 8 * len(data)
+    fields = [("value", out.number(value)), ("written", out.number(written))]
     output.item(0, len(data), ("kind", "PACKET_NUMBER"), fields)
 
 
@@ -246,10 +256,10 @@ _SHORT_WANTED = {NUMBER: "a number of variable length"}  # as quic-wire prints i
 _PREFERRED = "preferred_address"
 
 
-def show_parameters(data: bytes, side: Side, output: Output) -> None:
+def show_parameters(data: bytes, side: Side, checks: Checks, output: Output) -> None:
     """Prints a list of transport parameters."""
     try:
-        read = TransportParameters.read(side, data)
+        read = TransportParameters.read(side, data, checks=checks)
     except ParameterError as error:
         output.error(error.reason, error.offset, [*_parameter_at_fault(error), *closed_by(error)])
         return

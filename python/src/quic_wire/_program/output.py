@@ -111,8 +111,8 @@ class Output:
         self._write, self._look = write, look
         self.file: Optional[str] = None
         self.line = 0
-        self.is_clean = True
-        """Whether no error was printed."""
+        self.errors = 0
+        """How many errors were printed."""
 
     def item(
         self, begin: int, end: int, kind: tuple[str, str], fields: Sequence[Field] = (), more: Sequence[Field] = ()
@@ -135,7 +135,7 @@ class Output:
 
     def error(self, what: str, at: Optional[int] = None, fields: Sequence[Field] = ()) -> None:
         """An error at a byte, with what was read before it and what is known about it."""
-        self.is_clean = False
+        self.errors += 1
         if self._look is Look.JSON:
             place = [] if at is None else [("offset", number(at))]
             self._object([*place, ("error", word(what)), *fields])
@@ -145,6 +145,11 @@ class Output:
 
     def _paint(self, part: str, shown: str) -> str:
         return f"\x1b[{_CODES[part]}m{shown}\x1b[0m" if self._look is Look.COLOURED else shown
+
+    @property
+    def place(self) -> str:
+        """The line of input, for a message."""
+        return f"line {self.line}" if self.file is None else f"{self.file}:{self.line}"
 
     def _source(self) -> str:
         """How a line begins."""

@@ -1,6 +1,6 @@
 //! Frames: RFC 9000, section 19; RFC 9221, section 4; the ACK frequency extension.
 use super::{Place, Walk, closed};
-use crate::output::Field;
+use crate::output::{Field, Value};
 use quic_wire::MAX_CID_SIZE;
 use quic_wire::frame::{FrameType, InvalidFrame};
 use quic_wire::transport_error::Code;
@@ -8,6 +8,9 @@ use quic_wire::transport_error::Code;
 // The reasons of errors that are of a frame's type.
 const INVALID_TYPE: &str = "invalid frame ID";
 const LONG_TYPE: &str = "frame type not in shortest form";
+const MALFORMED: &str = "malformed";
+// Of a frame that quinn-proto accepts.
+const LIMIT: &str = "limit exceeded";
 
 /// What is known about a payload without frames.
 pub fn of_empty_payload() -> Vec<Field<'static>> {
@@ -16,19 +19,47 @@ pub fn of_empty_payload() -> Vec<Field<'static>> {
 
 /// What is known about an invalid frame that begins at an offset of the payload.
 pub fn of_frame(payload: &[u8], begin: usize, invalid: &InvalidFrame) -> Vec<Field<'static>> {
-    let is_of_type = invalid.reason == INVALID_TYPE || invalid.reason == LONG_TYPE;
-    let section = match invalid.reason {
-        _ if is_of_type => "RFC 9000, section 12.4",
-        "malformed" if invalid.ty == Some(FrameType::NEW_CONNECTION_ID) => "RFC 9000, section 19.15",
-        "malformed" => "RFC 9000, section 19.3.1",
+    let broken = broken_rule(invalid);
+    let section = match (broken, invalid.reason) {
+        (Some((_, section)), _) => section,
+        (None, INVALID_TYPE | LONG_TYPE) => "RFC 9000, section 12.4",
+        (None, MALFORMED) if invalid.ty == Some(FrameType::NEW_CONNECTION_ID) => "RFC 9000, section 19.15",
+        (None, MALFORMED) => "RFC 9000, section 19.3.1",
         _ => "RFC 9000, section 20.1",
     };
     let place = match invalid.reason {
-        _ if is_of_type => Some(Place { field: "Frame Type", at: 0 }),
+        INVALID_TYPE | LONG_TYPE => Some(Place { field: "Frame Type", at: 0 }),
+        _ if broken.is_some() => last_number(&payload[begin..]),
         _ => place(&payload[begin..]),
     };
     let place = place.map(|place| place.fields(begin));
-    [place.as_slice().as_flattened(), &closed(invalid.to_error().code, section)].concat()
+    let why = broken.map(|(why, _)| ("why", Value::sentence(why)));
+    [place.as_slice().as_flattened(), why.as_slice(), &closed(invalid.to_error().code, section)].concat()
+}
+
+// What is wrong with a frame that quinn-proto accepts and RFC 9000 forbids, and the section that does.
+fn broken_rule(invalid: &InvalidFrame) -> Option<(&'static str, &'static str)> {
+    const STREAMS: &str = "it is greater than 2^60";
+    const DATA: &str = "the data end past 2^62 - 1";
+    match (invalid.reason, u64::from(invalid.ty?)) {
+        (INVALID_TYPE, 0x1f | 0xaf) => {
+            Some(("the ACK frequency extension wasn't negotiated", "RFC 9000, section 12.4"))
+        }
+        (MALFORMED, 0x07) => Some(("the token is empty", "RFC 9000, section 19.7")),
+        (LIMIT, 0x12 | 0x13) => Some((STREAMS, "RFC 9000, section 19.11")),
+        (LIMIT, 0x16 | 0x17) => Some((STREAMS, "RFC 9000, section 19.14")),
+        (LIMIT, 0x06) => Some((DATA, "RFC 9000, section 19.6")),
+        (LIMIT, _) => Some((DATA, "RFC 9000, section 19.8")),
+        _ => None,
+    }
+}
+
+// The last number in a whole frame: it is at fault if the frame breaks a rule.
+fn last_number(frame: &[u8]) -> Option<Place> {
+    let mut walk = Walk::new(frame);
+    let ty = walk.number("Frame Type").ok()?;
+    fields(&mut walk, ty).ok()?;
+    walk.last
 }
 
 // The first field of a frame that is cut off or has an invalid value.

@@ -2,7 +2,7 @@
 use super::{Walk, closed};
 use crate::output::{Field, Value};
 use quic_wire::transport_error::Code;
-use quic_wire::transport_parameters::Refusal;
+use quic_wire::transport_parameters::{ReadOptions, Refusal};
 use quic_wire::{Side, varint};
 use std::ops::Range;
 
@@ -57,7 +57,7 @@ const MIN_ACK_DELAY: u64 = 0xff04_de1b;
 const MOST: usize = 64;
 // Those that a client must not send.
 const OF_SERVERS: [u64; 4] = [0x00, 0x02, 0x0d, 0x10];
-// Numbers with a default: malformed for `quinn-proto`, and so here, unless in their shortest encoding.
+// Numbers with a default: malformed for `quinn-proto`, unless in their shortest encoding.
 const SHORTEST: [u64; 11] = [0x01, 0x03, 0x04, 0x05, 0x06, 0x07, 0x08, 0x09, 0x0a, 0x0b, 0x0e];
 
 // An entry of a list: its id, its offset and that of its value.
@@ -85,11 +85,16 @@ fn known(id: u64) -> Option<&'static Parameter> {
 }
 
 /// Where the parameter is for which a list is rejected, and what is known about it.
-pub fn of_parameters(list: &[u8], side: Side, refusal: Refusal) -> (Option<usize>, Vec<Field<'static>>) {
+pub fn of_parameters(
+    list: &[u8],
+    side: Side,
+    options: ReadOptions,
+    refusal: Refusal,
+) -> (Option<usize>, Vec<Field<'static>>) {
     let at = refusal.offset;
     let fields = match entries(list).find(|entry| entry.place.start == at) {
         Some(entry) => match known(entry.id) {
-            Some(known) => of_entry(list, side, &entry, known),
+            Some(known) => of_entry(list, side, options, &entry, known),
             None => closed(Code::TRANSPORT_PARAMETER_ERROR, REPEATED).to_vec(),
         },
         None => of_cut_off(refusal.id),
@@ -107,12 +112,12 @@ fn of_cut_off(id: Option<u64>) -> Vec<Field<'static>> {
 }
 
 // Whether it is a repeat that is rejected: quinn-proto accepts two parameters more than once.
-fn is_repeated(list: &[u8], entry: &Entry) -> bool {
-    ![GREASE_QUIC_BIT, MIN_ACK_DELAY].contains(&entry.id)
+fn is_repeated(list: &[u8], options: ReadOptions, entry: &Entry) -> bool {
+    (options.no_repeats || ![GREASE_QUIC_BIT, MIN_ACK_DELAY].contains(&entry.id))
         && entries(&list[..entry.place.start]).any(|other| other.id == entry.id)
 }
 
-fn of_entry(list: &[u8], side: Side, entry: &Entry, known: &Parameter) -> Vec<Field<'static>> {
+fn of_entry(list: &[u8], side: Side, options: ReadOptions, entry: &Entry, known: &Parameter) -> Vec<Field<'static>> {
     let value = &list[entry.value.clone()];
     let is_long = matches!(varint::read(value), Some((number, len))
         if len == value.len() && varint::len(number) != Some(len));
@@ -122,12 +127,12 @@ fn of_entry(list: &[u8], side: Side, entry: &Entry, known: &Parameter) -> Vec<Fi
         ("value", Value::few(&value[..value.len().min(MOST)])),
     ];
     let mut section = known.section;
-    let why = if is_repeated(list, entry) {
+    let why = if is_repeated(list, options, entry) {
         section = REPEATED;
         "it occurs twice"
     } else if side == Side::Server && OF_SERVERS.contains(&entry.id) {
         "a client must not send it"
-    } else if is_long && SHORTEST.contains(&entry.id) {
+    } else if is_long && !options.any_width && SHORTEST.contains(&entry.id) {
         "its integer isn't in its shortest encoding, which RFC 9000, section 16, allows and quinn-proto rejects"
     } else {
         fields.push(("wanted", Value::sentence(known.wanted)));

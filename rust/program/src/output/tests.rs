@@ -27,9 +27,9 @@ fn items_are_lines_and_objects() {
 fn errors_are_remembered() {
     let mut bytes = Vec::new();
     let mut output = Output::new(&mut bytes, Look::Plain);
-    assert!(output.is_clean());
+    assert_eq!(output.errors(), 0);
     output.set_file("list".into());
     output.error("cut off", Some(3), &[("version", Value::Version(9))]).unwrap();
-    assert!(!output.is_clean());
+    assert_eq!(output.errors(), 1);
     assert_eq!(bytes, b"list:0: error at 3: cut off version=00000009\n");
 }

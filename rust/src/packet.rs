@@ -200,6 +200,7 @@ impl PartialEncode {
     /// If the packet ends before its header and the tag, or has fewer than four bytes and the sample from its number
     /// on; if the header has a length and there are 2^14 bytes or more from the number on; or if the number doesn't
     /// come after a first byte, and after the length. Such a header isn't written.
+    #[inline]
     pub fn finish<H: HeaderKey + ?Sized, P: PacketKey + ?Sized>(
         self,
         buf: &mut [u8],

@@ -1,6 +1,6 @@
 //! What quinn-proto's readers make of lists of hexadecimal lines, and what its writers make of what was read, a line
-//! for each: from files in the folder `LISTS`, into files in the folder `SHOWN`. Both trees have it; with the library a
-//! payload is borrowed (run).
+//! for each: from files in the folder `LISTS`, into files in the folder `SHOWN`. All trees have it; drivers.edits has
+//! what differs if packets are read by the library (run).
 use std::panic::{RefUnwindSafe, catch_unwind};
 
 use bytes::{Bytes, BytesMut};

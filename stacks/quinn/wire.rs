@@ -1,18 +1,17 @@
-//! The glue to `quic_wire`: converts between its frames and those of quinn-proto.
-use bytes::{Bytes, BufMut};
+//! Frames of `quic_wire`, and how they become those of this crate
+use bytes::{BufMut, Bytes};
 pub(crate) use quic_wire::frame::Frame;
-use quic_wire::frame as theirs;
-use quic_wire::ids;
-use quic_wire::varint::VarInt as Number;
+use quic_wire::{VarInt as Number, frame as theirs, ids};
 
-use crate::{Dir, StreamId, TransportErrorCode, VarInt, frame};
+use crate::{ConnectionId, Dir, StreamId, TransportErrorCode, VarInt, frame};
 
+/// Write a frame that isn't the last of its packet
 #[inline]
 pub(crate) fn put<W: BufMut>(buf: &mut W, x: &Frame<'_>) {
     x.encode(false, buf).expect("room");
 }
 
-/// A varint, which this crate keeps below 2^62
+/// A `VarInt`, which this crate keeps below 2^62
 #[inline]
 pub(crate) fn number(x: VarInt) -> Number {
     Number::from_u64(x.into_inner()).expect("below 2^62")
@@ -50,8 +49,8 @@ fn own_dir(x: ids::Dir) -> Dir {
 fn close(payload: &Bytes, x: theirs::Close<'_>) -> frame::Close {
     match x {
         theirs::Close::Connection(x) => frame::Close::Connection(frame::ConnectionClose {
-            error_code: TransportErrorCode::of(x.error_code.into()),
-            frame_type: x.frame_type.map(|t| frame::FrameType::of(t.into_inner())),
+            error_code: TransportErrorCode::of(x.error_code),
+            frame_type: x.frame_type.map(frame::FrameType::of),
             reason: payload.slice_ref(x.reason),
         }),
         theirs::Close::Application(x) => frame::Close::Application(frame::ApplicationClose {
@@ -61,7 +60,7 @@ fn close(payload: &Bytes, x: theirs::Close<'_>) -> frame::Close {
     }
 }
 
-/// The frame with its data located in `payload`, from which it was read.
+/// A frame whose data is a part of `payload`, from which it was read
 #[inline(always)]
 pub(crate) fn owned(payload: &Bytes, frame: Frame<'_>) -> frame::Frame {
     use frame::Frame as Ours;
@@ -99,7 +98,7 @@ pub(crate) fn owned(payload: &Bytes, frame: Frame<'_>) -> frame::Frame {
         Frame::NewConnectionId(x) => Ours::NewConnectionId(frame::NewConnectionId {
             sequence: x.sequence,
             retire_prior_to: x.retire_prior_to,
-            id: x.id,
+            id: ConnectionId::new(&x.id),
             reset_token: <[u8; 16]>::from(x.reset_token).into(),
         }),
         Frame::RetireConnectionId { sequence } => Ours::RetireConnectionId { sequence },

@@ -8,6 +8,7 @@ isn't the one that the edits were made for.
 apply.py --make ORIGINAL CHANGED FILE.. writes such a list for these files to standard output.
 """
 
+import collections
 import hashlib
 import pathlib
 import re
@@ -41,34 +42,34 @@ class Part:
             yield (first, first, new) if command == "a" else (first - 1, last, new)
 
 
-def edited(text, edits):
+def edited(path, text, edits):
     """The text after edits, which go from its end to its beginning."""
     lines = text.splitlines(keepends=True)
     end = len(lines)
     for first, last, new in edits:
         if last > end:
-            sys.exit(f"apply: two lists change line {last}")
+            sys.exit(f"apply: two lists change line {last} of {path}")
         lines[first:last] = new
         end = first
     return "".join(lines)
 
 
 def edited_by(path, text, parts):
-    """The text after the edits of several lists that were made for it; None if one removes the file."""
-    for part in parts:
-        if part.after != "-" and digest(edited(text, part.edits)) != part.after:
-            sys.exit(f"apply: {path} didn't become what it should")
-    if any(part.after == "-" for part in parts):
+    """The text after the edits of several lists that were made for it; None if the only one removes the file."""
+    if [part.after for part in parts] == ["-"]:
         return None
+    for part in parts:
+        if digest(edited(path, text, part.edits)) != part.after:
+            sys.exit(f"apply: {path} didn't become what it should")
     edits = [edit for part in reversed(parts) for edit in part.edits]
-    return edited(text, sorted(edits, key=lambda edit: edit[:2], reverse=True))
+    return edited(path, text, sorted(edits, key=lambda edit: edit[:2], reverse=True))
 
 
 def changed_by(path, parts):
     """The file's text after all edits."""
     text = path.read_text()
     while parts:
-        now = [part for part in parts if part.before == digest(text)]
+        now = [part for part in parts if text is not None and part.before == digest(text)]
         if not now:
             sys.exit(f"apply: {path} is not the file that the edits were made for")
         text = edited_by(path, text, now)
@@ -78,9 +79,11 @@ def changed_by(path, parts):
 
 def apply(lists, tree):
     """Writes the files that the edits change, once all of them are known to be the right ones."""
-    parts = [Part(part) for edits in lists for part in re.split(r"(?m)^= ", edits)[1:]]
-    names = {part.name: tree / part.name for part in parts}
-    changed = {path: changed_by(path, [part for part in parts if part.name == name]) for name, path in names.items()}
+    parts = collections.defaultdict(list)
+    for edits in lists:
+        for part in map(Part, re.split(r"(?m)^= ", edits)[1:]):
+            parts[tree / part.name].append(part)
+    changed = {path: changed_by(path, parts[path]) for path in parts}
     for path, text in changed.items():
         if text is None:
             path.unlink()

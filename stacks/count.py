@@ -1,10 +1,12 @@
-"""count.py TITLE UNIT PARTS PROFILE..: what parts of a program cost, from profiles of callgrind.
+"""count.py [--whole] TITLE UNIT PARTS PROFILE..: what parts of a program cost, from profiles of callgrind.
 
 A line of the file PARTS is `name calls functions`, with two regular expressions: a function belongs to the first part
 whose `functions` match `file:function` (the file is that of the line, so inlined code counts for the file that contains
 it), and a part is called as often as the functions that `calls` matches. If a function of a part calls one that the
 line `helpers - functions` names, the cost of that counts for the part. Prints rows of tab-separated fields: the cost of
 each part per its calls, of all parts per the calls of the one named UNIT, and of the whole; one field for each profile.
+With --whole it prints one row: the cost of all parts per UNIT in the first profile, and in another one that cost less
+what the whole program takes less. So it also counts code that the compiler puts into functions of no part.
 """
 
 import collections
@@ -84,10 +86,21 @@ def count(parts, path):
     return cost, calls, profile.total
 
 
+def print_whole(title, unit, counted):
+    costs, calls, total = counted[0]
+    parts = sum(cost for name, cost in costs.items() if name)
+    fields = [f"{(parts - total + whole) / calls[unit]:.0f}" for _, _, whole in counted]
+    print(f"{title}: instructions for each of '{unit.replace('_', ' ')}'", *fields, sep="\t")
+
+
 def main():
-    title, unit = sys.argv[1:3]
-    parts = read_parts(sys.argv[3])
-    counted = [count(parts, path) for path in sys.argv[4:]]
+    is_whole = sys.argv[1] == "--whole"
+    title, unit, path, *profiles = sys.argv[1 + is_whole :]
+    parts = read_parts(path)
+    counted = [count(parts, path) for path in profiles]
+    if is_whole:
+        print_whole(title, unit, counted)
+        return
     for name, _, _ in parts:
         if any(cost[name] for cost, _, _ in counted) and all(calls[name] for _, calls, _ in counted):
             fields = [f"{cost[name] / calls[name]:.1f} ({calls[name]} calls)" for cost, calls, _ in counted]

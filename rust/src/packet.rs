@@ -200,6 +200,7 @@ impl PartialEncode {
     /// If the packet ends before its header and the tag, or has fewer than four bytes and the sample from its number
     /// on; if the header has a length and there are 2^14 bytes or more from the number on; or if the number doesn't
     /// come after a first byte, and after the length. Such a header isn't written.
+    #[inline(always)]
     pub fn finish<H: HeaderKey + ?Sized, P: PacketKey + ?Sized>(
         self,
         buf: &mut [u8],
@@ -207,15 +208,17 @@ impl PartialEncode {
         crypto: Option<(u64, &P)>,
     ) {
         if let Some((pn_len, has_len)) = self.pn {
-            let (front, most) = if has_len { (3, (1 << 14) - 1) } else { (1, usize::MAX) };
-            let is_header = pn_len <= 4 && pn_len + front <= self.header_len && self.header_len <= buf.len();
+            let is_header = pn_len <= 4 && pn_len < self.header_len && self.header_len <= buf.len();
             assert!(is_header, "a packet has its whole header, whose number comes after other fields");
             let behind = buf.len() - self.header_len;
+            let len = behind + pn_len;
+            if has_len {
+                assert!(pn_len + 2 < self.header_len, "a packet's length comes after a first byte, before its number");
+                assert!(len < 1 << 14, "a packet fits in its length field");
+            }
             let tag = crypto.as_ref().map_or(0, |(_, key)| key.tag_len());
             assert!(tag <= behind, "a packet has room for its tag");
-            let len = behind + pn_len;
-            let has_sample = len >= 4 && header_key.sample_size() <= len - 4;
-            assert!(has_sample && len <= most, "a packet has a sample, and fits in its length field");
+            assert!(len >= 4 && header_key.sample_size() <= len - 4, "a packet has a sample");
         }
         let crypto = crypto.as_ref().map(|(number, key)| (*number, key));
         self.proved_finish(buf, &header_key, crypto);

@@ -1,6 +1,6 @@
 //! What quinn-proto's readers make of lists of hexadecimal lines, and what its writers make of what was read, a line
-//! for each: from files in the folder `LISTS`, into files in the folder `SHOWN`. Both trees have it; with the library a
-//! payload is borrowed (run).
+//! for each: from files in the folder `LISTS`, into files in the folder `SHOWN`. All trees have it; drivers.edits has
+//! what differs if packets are read by the library (run).
 use std::panic::{RefUnwindSafe, catch_unwind};
 
 use bytes::{Bytes, BytesMut};
@@ -57,8 +57,9 @@ fn packets(datagram: Vec<u8>, id_len: usize, grease: bool) -> String {
         let parser = FixedLengthConnectionIdParser::new(id_len);
         match PartialDecode::new(datagram, &parser, DEFAULT_SUPPORTED_VERSIONS, grease) {
             Ok((packet, rest)) => {
-                let (space, is_0rtt, len) = (packet.space(), packet.is_0rtt(), packet.len());
-                shown += &format!("{packet:?} {space:?} {is_0rtt} {len}; ");
+                let (space, initial, bytes) = (packet.space(), packet.initial_header(), packet.data());
+                let (is_long, is_0rtt, id) = (packet.has_long_header(), packet.is_0rtt(), packet.dst_cid());
+                shown += &format!("{space:?} {is_long} {is_0rtt} {id} {initial:?} {bytes:02x?}; ");
                 left = rest;
             }
             Err(e) => return shown + &format!("{e:?} refused"),

@@ -1,31 +1,36 @@
-//! The glue to `quic_wire`: converts between its frames and those of quinn-proto.
-use bytes::{Bytes, BufMut};
+//! Frames of `quic_wire`, and how they become those of this crate
+use bytes::{BufMut, Bytes};
 pub(crate) use quic_wire::frame::Frame;
-use quic_wire::frame as theirs;
-use quic_wire::ids;
-use quic_wire::varint::VarInt as Number;
+use quic_wire::{VarInt as Number, frame as theirs, ids};
 
-use crate::{Dir, StreamId, TransportErrorCode, VarInt, frame};
+use crate::frame::{self, Frame as Own};
+use crate::{ConnectionId, Dir, StreamId, TransportErrorCode, VarInt};
 
+/// Write a frame that isn't the last of its packet
 #[inline]
 pub(crate) fn put<W: BufMut>(buf: &mut W, x: &Frame<'_>) {
     x.encode(false, buf).expect("room");
 }
 
-/// A varint, which this crate keeps below 2^62
+/// A `VarInt`, which this crate keeps below 2^62
 #[inline]
 pub(crate) fn number(x: VarInt) -> Number {
     Number::from_u64(x.into_inner()).expect("below 2^62")
 }
 
 #[inline]
-fn var(x: Number) -> VarInt {
+fn own_number(x: Number) -> VarInt {
     VarInt(x.into_inner())
 }
 
 #[inline]
 pub(crate) fn id(x: StreamId) -> ids::StreamId {
     Number::from_u64(x.0).expect("below 2^62").into()
+}
+
+#[inline]
+pub(crate) fn own_id(x: ids::StreamId) -> StreamId {
+    StreamId(x.into())
 }
 
 pub(crate) fn dir(x: Dir) -> ids::Dir {
@@ -35,11 +40,6 @@ pub(crate) fn dir(x: Dir) -> ids::Dir {
     }
 }
 
-#[inline]
-fn own_id(x: ids::StreamId) -> StreamId {
-    StreamId(x.into())
-}
-
 fn own_dir(x: ids::Dir) -> Dir {
     match x {
         ids::Dir::Bi => Dir::Bi,
@@ -47,73 +47,117 @@ fn own_dir(x: ids::Dir) -> Dir {
     }
 }
 
-fn close(payload: &Bytes, x: theirs::Close<'_>) -> frame::Close {
-    match x {
-        theirs::Close::Connection(x) => frame::Close::Connection(frame::ConnectionClose {
-            error_code: TransportErrorCode::of(x.error_code.into()),
-            frame_type: x.frame_type.map(|t| frame::FrameType::of(t.into_inner())),
-            reason: payload.slice_ref(x.reason),
-        }),
-        theirs::Close::Application(x) => frame::Close::Application(frame::ApplicationClose {
-            error_code: var(x.error_code),
-            reason: payload.slice_ref(x.reason),
+fn ack(payload: &Bytes, x: theirs::Ack<'_>) -> frame::Ack {
+    frame::Ack {
+        largest: x.largest(),
+        delay: x.delay(),
+        additional: payload.slice_ref(x.additional()),
+        ecn: x.ecn().map(|x| frame::EcnCounts {
+            ect0: x.ect0,
+            ect1: x.ect1,
+            ce: x.ce,
         }),
     }
 }
 
-/// The frame with its data located in `payload`, from which it was read.
+fn close(payload: &Bytes, x: theirs::Close<'_>) -> frame::Close {
+    let reason = payload.slice_ref(x.reason());
+    match x {
+        theirs::Close::Connection(x) => frame::Close::Connection(frame::ConnectionClose {
+            error_code: TransportErrorCode::of(x.error_code),
+            frame_type: x.frame_type.map(frame::FrameType::of),
+            reason,
+        }),
+        theirs::Close::Application(x) => frame::Close::Application(frame::ApplicationClose {
+            error_code: own_number(x.error_code),
+            reason,
+        }),
+    }
+}
+
+fn reset_stream(x: theirs::ResetStream) -> frame::ResetStream {
+    frame::ResetStream {
+        id: own_id(x.id),
+        error_code: own_number(x.error_code),
+        final_offset: own_number(x.final_offset),
+    }
+}
+
+fn stop_sending(x: theirs::StopSending) -> frame::StopSending {
+    frame::StopSending {
+        id: own_id(x.id),
+        error_code: own_number(x.error_code),
+    }
+}
+
+fn new_connection_id(x: theirs::NewConnectionId) -> frame::NewConnectionId {
+    frame::NewConnectionId {
+        sequence: x.sequence,
+        retire_prior_to: x.retire_prior_to,
+        id: ConnectionId::new(&x.id),
+        reset_token: <[u8; 16]>::from(x.reset_token).into(),
+    }
+}
+
+fn ack_frequency(x: theirs::AckFrequency) -> frame::AckFrequency {
+    frame::AckFrequency {
+        sequence: own_number(x.sequence),
+        ack_eliciting_threshold: own_number(x.ack_eliciting_threshold),
+        request_max_ack_delay: own_number(x.request_max_ack_delay),
+        reordering_threshold: own_number(x.reordering_threshold),
+    }
+}
+
+/// A frame whose data is a part of `payload`, from which it was read
 #[inline(always)]
-pub(crate) fn owned(payload: &Bytes, frame: Frame<'_>) -> frame::Frame {
-    use frame::Frame as Ours;
-    match frame {
-        Frame::Padding => Ours::Padding,
-        Frame::Ping => Ours::Ping,
-        Frame::Ack(ack) => Ours::Ack(frame::Ack {
-            largest: ack.largest(),
-            delay: ack.delay(),
-            additional: payload.slice_ref(ack.additional()),
-            ecn: ack.ecn().map(|e| frame::EcnCounts { ect0: e.ect0, ect1: e.ect1, ce: e.ce }),
+pub(crate) fn owned(payload: &Bytes, x: Frame<'_>) -> Own {
+    match x {
+        Frame::Padding => Own::Padding,
+        Frame::Ping => Own::Ping,
+        Frame::Ack(x) => Own::Ack(ack(payload, x)),
+        Frame::ResetStream(x) => Own::ResetStream(reset_stream(x)),
+        Frame::StopSending(x) => Own::StopSending(stop_sending(x)),
+        Frame::Crypto(x) => Own::Crypto(frame::Crypto {
+            offset: x.offset,
+            data: payload.slice_ref(x.bytes),
         }),
-        Frame::ResetStream(x) => Ours::ResetStream(frame::ResetStream {
-            id: own_id(x.id),
-            error_code: var(x.error_code),
-            final_offset: var(x.final_offset),
+        Frame::NewToken(x) => Own::NewToken(frame::NewToken {
+            token: payload.slice_ref(x.token),
         }),
-        Frame::StopSending(x) => {
-            Ours::StopSending(frame::StopSending { id: own_id(x.id), error_code: var(x.error_code) })
-        }
-        Frame::Crypto(x) => Ours::Crypto(frame::Crypto { offset: x.offset, data: payload.slice_ref(x.bytes) }),
-        Frame::NewToken(x) => Ours::NewToken(frame::NewToken { token: payload.slice_ref(x.token) }),
-        Frame::Stream(x) => Ours::Stream(frame::Stream {
+        Frame::Stream(x) => Own::Stream(frame::Stream {
             id: own_id(x.id),
             offset: x.offset,
             fin: x.fin,
             data: payload.slice_ref(x.bytes),
         }),
-        Frame::MaxData(x) => Ours::MaxData(var(x)),
-        Frame::MaxStreamData { id: x, offset } => Ours::MaxStreamData { id: own_id(x), offset },
-        Frame::MaxStreams { dir: x, count } => Ours::MaxStreams { dir: own_dir(x), count },
-        Frame::DataBlocked { offset } => Ours::DataBlocked { offset },
-        Frame::StreamDataBlocked { id: x, offset } => Ours::StreamDataBlocked { id: own_id(x), offset },
-        Frame::StreamsBlocked { dir: x, limit } => Ours::StreamsBlocked { dir: own_dir(x), limit },
-        Frame::NewConnectionId(x) => Ours::NewConnectionId(frame::NewConnectionId {
-            sequence: x.sequence,
-            retire_prior_to: x.retire_prior_to,
-            id: x.id,
-            reset_token: <[u8; 16]>::from(x.reset_token).into(),
+        Frame::MaxData(x) => Own::MaxData(own_number(x)),
+        Frame::MaxStreamData { id, offset } => {
+            let id = own_id(id);
+            Own::MaxStreamData { id, offset }
+        }
+        Frame::MaxStreams { dir, count } => {
+            let dir = own_dir(dir);
+            Own::MaxStreams { dir, count }
+        }
+        Frame::DataBlocked { offset } => Own::DataBlocked { offset },
+        Frame::StreamDataBlocked { id, offset } => {
+            let id = own_id(id);
+            Own::StreamDataBlocked { id, offset }
+        }
+        Frame::StreamsBlocked { dir, limit } => {
+            let dir = own_dir(dir);
+            Own::StreamsBlocked { dir, limit }
+        }
+        Frame::NewConnectionId(x) => Own::NewConnectionId(new_connection_id(x)),
+        Frame::RetireConnectionId { sequence } => Own::RetireConnectionId { sequence },
+        Frame::PathChallenge(x) => Own::PathChallenge(x),
+        Frame::PathResponse(x) => Own::PathResponse(x),
+        Frame::Close(x) => Own::Close(close(payload, x)),
+        Frame::Datagram(x) => Own::Datagram(frame::Datagram {
+            data: payload.slice_ref(x.bytes),
         }),
-        Frame::RetireConnectionId { sequence } => Ours::RetireConnectionId { sequence },
-        Frame::PathChallenge(x) => Ours::PathChallenge(x),
-        Frame::PathResponse(x) => Ours::PathResponse(x),
-        Frame::Close(x) => Ours::Close(close(payload, x)),
-        Frame::Datagram(x) => Ours::Datagram(frame::Datagram { data: payload.slice_ref(x.bytes) }),
-        Frame::HandshakeDone => Ours::HandshakeDone,
-        Frame::AckFrequency(x) => Ours::AckFrequency(frame::AckFrequency {
-            sequence: var(x.sequence),
-            ack_eliciting_threshold: var(x.ack_eliciting_threshold),
-            request_max_ack_delay: var(x.request_max_ack_delay),
-            reordering_threshold: var(x.reordering_threshold),
-        }),
-        Frame::ImmediateAck => Ours::ImmediateAck,
+        Frame::HandshakeDone => Own::HandshakeDone,
+        Frame::AckFrequency(x) => Own::AckFrequency(ack_frequency(x)),
+        Frame::ImmediateAck => Own::ImmediateAck,
     }
 }

@@ -1,4 +1,6 @@
 //! The arguments of callers on which calls panic, as the README lists them.
+#![cfg(panic = "unwind")]
+
 use bytes::BytesMut;
 use quic_wire::coding::{BufMut, Cursor};
 use quic_wire::crypto::{CryptoError, HeaderKey, PacketKey};

@@ -1,4 +1,6 @@
-//! Each program prints its stored output, byte for byte, and ends with its stored status.
+//! Each program prints its stored output, byte for byte, and ends with its stored status. `QUIC_WIRE_RUN` is how a
+//! program of another target is run: words, in which `{}` is its name.
+use std::env;
 use std::fs::{self, File};
 use std::path::{Path, PathBuf};
 use std::process::{Command, Stdio};
@@ -8,13 +10,22 @@ fn folder(name: &str) -> PathBuf {
     Path::new(env!("CARGO_MANIFEST_DIR")).join("../../crates").join(name)
 }
 
+// The command that runs a program, which cargo built here.
+fn command(name: &str, built: &str) -> Command {
+    let run = env::var("QUIC_WIRE_RUN").unwrap_or_else(|_| built.to_string()).replace("{}", name);
+    let mut words = run.split_whitespace();
+    let mut command = Command::new(words.next().expect("a program"));
+    command.args(words);
+    command
+}
+
 // Runs a program as the gate does, with its arguments and input, in the folder of its files.
 fn prints_what_is_stored(name: &str, program: &str) {
     let at = folder(name);
     let data = at.join("data");
     let args = fs::read_to_string(at.join("args")).unwrap_or_default();
     let input = File::open(at.join("stdin")).map_or_else(|_| Stdio::null(), Stdio::from);
-    let ran = Command::new(program)
+    let ran = command(name, program)
         .args(args.lines())
         .stdin(input)
         .current_dir(if data.exists() { &data } else { &at })

@@ -37,6 +37,7 @@ impl ConnectionId {
     /// # Panics
     ///
     /// If they are more than 20.
+    #[doc = include_str!("proved/contracts/ConnectionId.new.md")]
     #[inline(always)]
     pub fn new(bytes: &[u8]) -> ConnectionId {
         assert!(bytes.len() <= MAX_CID_SIZE, "a connection id has at most 20 bytes");
@@ -48,6 +49,7 @@ impl ConnectionId {
     /// # Panics
     ///
     /// If `len` is above 20, or fewer bytes remain.
+    #[doc = include_str!("proved/contracts/ConnectionId.from_buf.md")]
     #[inline]
     pub fn from_buf(buf: &mut (impl Buf + ?Sized), len: usize) -> ConnectionId {
         assert!(len <= MAX_CID_SIZE, "a connection id has at most 20 bytes");
@@ -107,6 +109,7 @@ impl StreamId {
     /// # Panics
     ///
     /// If `index` is 2^60 or more: there are no more streams (RFC 9000, section 2.1).
+    #[doc = include_str!("proved/contracts/StreamId.new.md")]
     #[inline]
     pub fn new(initiator: Side, dir: Dir, index: u64) -> StreamId {
         assert!(index < MAX_STREAM_COUNT, "there are at most 2^60 streams of an initiator and direction");

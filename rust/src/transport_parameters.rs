@@ -49,6 +49,7 @@ impl ReservedTransportParameter {
     /// assert!(ReservedTransportParameter::new(0, b"any").is_some());
     /// assert!(ReservedTransportParameter::new(1 << 58, b"any").is_none());
     /// ```
+    #[doc = include_str!("proved/contracts/ReservedTransportParameter.new.md")]
     pub fn new(n: u64, payload: &[u8]) -> Option<ReservedTransportParameter> {
         let number = n.checked_mul(31)?.checked_add(27)?;
         let is_written = number <= varint::MAX && payload.len() <= MAX_PAYLOAD_SIZE;
@@ -109,6 +110,7 @@ impl Entry<'_> {
     ///
     /// If its number is 2^62 or more: nothing is written then. If there is too little room: a prefix may be written
     /// then.
+    #[doc = include_str!("proved/contracts/write_entry.md")]
     pub fn write<B: BufMut>(&self, out: &mut B) -> Result<(), WriteError> {
         if self.id > varint::MAX || self.value.len() as u64 > varint::MAX {
             return Err(WriteError::OutOfRange("a number of a parameter is 2^62 or more"));

@@ -17,6 +17,7 @@ fn files_of(folder: &Path, found: &mut Vec<PathBuf>) {
 fn sources(folder: &str) -> Vec<(PathBuf, String)> {
     let mut found = vec![];
     files_of(&Path::new(env!("CARGO_MANIFEST_DIR")).join("src").join(folder), &mut found);
+    found.retain(|path| path.extension().is_some_and(|kind| kind == "rs"));
     found.into_iter().map(|path| (path.clone(), fs::read_to_string(path).unwrap())).collect()
 }
 
@@ -61,5 +62,21 @@ fn what_is_reexported_is_named() {
         for line in text.lines().filter(|line| !is_proved && line.trim_start().starts_with("pub use")) {
             assert!(!line.contains('*') && !line.contains("BufMutExt") && !line.contains("StoredId"), "{line}");
         }
+    }
+}
+
+// A public function that checks what a proved one requires shows its contract.
+#[test]
+fn contracts_are_shown() {
+    let mut files = vec![];
+    files_of(&Path::new(env!("CARGO_MANIFEST_DIR")).join("src/proved/contracts"), &mut files);
+    assert_eq!(files.len(), 38);
+    let layer: String = sources("").into_iter().map(|(_, text)| text).collect();
+    for file in files {
+        let name = file.file_name().unwrap().to_str().unwrap();
+        let (ty, function) = name.split_once('.').unwrap();
+        let is_close = matches!(ty, "Close" | "ApplicationClose" | "ConnectionClose");
+        let shown = if is_close { format!("$contracts, \".{function}") } else { format!("proved/contracts/{name}") };
+        assert!(layer.contains(&format!("{shown}\")")), "{name}");
     }
 }

@@ -118,6 +118,14 @@ CALLED = {
 }
 # Lists of names with functions that users may not call, and methods that they need not.
 HIDDEN = r"\b(?:open_datagram|open_packet|seal_packet|write_(?:number_)?entry(?:_header)?(?:_into)?)\b"
+# Those that the crate has under the same names, or as a method; and what stands before a contract in its documentation.
+WRAPPED = ("open_datagram", "open_packet", "seal_packet", "write_entry")
+BEFORE_CONTRACT = """
+# What is proved
+
+It checks what is required, and calls a proved function with this contract:
+
+"""
 UNNEEDED = ("numbers", "of_flags", "type_bounds")
 # The traits that types have in Rust beside those of the sources.
 DERIVED = {
@@ -217,7 +225,7 @@ class File:
         joined = re.sub(r"§all(\w+)", lambda m: others(m[1]), by_rules(joined, RULES))
         joined = joined.replace("§own", own).replace("§kit", kit)
         self.wanted = [line.replace("::", " :: ").split() for line in joined.split("\n")]
-        self.heads = {}
+        self.heads, self.shown = {}, {}
         for line in clauses:
             self.add_head(line)
         self.restrict()
@@ -259,6 +267,9 @@ class File:
             requires = any(re.match(r" *requires\b", one) for one in self.lines[at + 1 : end + 1] if clause != at)
             if ty and name in GUARDED.get(ty, "").split():
                 wanted[wanted.index(name)] = PREFIX + name
+                self.shown[f"{ty}.{name}"] = self.contract(at, end, clause)
+            elif not ty and name in WRAPPED and m[1]:
+                self.shown[name] = self.contract(at, end, clause)
             if m[1] and (requires or ty and name in UNNEEDED):
                 wanted[wanted.index("pub")] = "pub ( crate )"
         self.wanted = [" ".join(line).split() for line in self.wanted]
@@ -349,6 +360,21 @@ def files(kind, folder):
             yield File(file, crates[name] / to, kit, own, others)
 
 
+def faults_of_contracts(all_files, folder):
+    """What is wrong with the contracts that the documentation of the crate's own functions has."""
+    wanted = {}
+    for file in all_files:
+        wanted.update(file.shown)
+    there = {path.stem: path for path in folder.glob("*")}
+    for name in sorted(wanted.keys() ^ there.keys()):
+        yield f"{folder / name}: {'made from no source' if name in there else 'missing'}"
+    for name in sorted(wanted.keys() & there.keys()):
+        head, _, text = there[name].read_text(encoding="utf-8").partition("```text\n")
+        said = [line.strip() for line in text.split("\n")]
+        if head != BEFORE_CONTRACT or [one for one in said if one] != [one for one in wanted[name] if one] + ["```"]:
+            yield f"{there[name]}: another contract"
+
+
 def mutant(text, chance):
     """The text with one token or comment less, twice, or in another's place."""
     places = list(TOKEN.finditer(text))
@@ -379,6 +405,10 @@ def main():
     for file in all_files:
         lines += len(file.lines)
         for fault in file.faults(file.rust.read_text(encoding="utf-8")):
+            wrong += 1
+            print(fault)
+    if args.kind == "library":
+        for fault in faults_of_contracts(all_files, args.folder / "contracts"):
             wrong += 1
             print(fault)
     print(f"check_erased: {args.kind}: {len(all_files)} files, {lines} lines: {wrong} faults")

@@ -44,6 +44,13 @@ impl Eraser<'_> {
         if text.contains(FENCE) {
             return self.source.fail(first, "a clause that would end its section of the documentation");
         }
+        if let Some(name) = self.guarded(at) {
+            let indent = self.indent_of(first);
+            let all = self.prefixed(lines.0, lines.1, indent, "");
+            let text = all.split('\n').map(|line| line.get(indent.len() + 1..).unwrap_or(""));
+            let text = text.collect::<Vec<_>>().join("\n");
+            self.contracts.insert(name, text);
+        }
         match (self.is_public(at), has_body) {
             (true, true) => self.document_inside(first, next, lines),
             (true, false) => self.document_before(at, first, next, lines)?,

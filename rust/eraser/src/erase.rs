@@ -33,6 +33,9 @@ pub struct Erased {
     pub text: String,
     /// How often each rule was used.
     pub counts: Counts,
+    /// The clauses of functions that the crate calls by functions of its own, by the names of these, such as
+    /// `Frame.encode`.
+    pub contracts: BTreeMap<String, String>,
 }
 
 /// Words of the prover and of Rattle's allocators. None may be left in Rust code.
@@ -72,7 +75,14 @@ const OF_CHECKS: [&str; 8] =
 /// The first place that no rule knows.
 pub fn erase(text: &str, paths: &Paths) -> Result<Erased> {
     let source = Source::new(text)?;
-    let mut eraser = Eraser { source, paths, clauses: BTreeMap::new(), edits: Vec::new(), counts: Counts::new() };
+    let mut eraser = Eraser {
+        source,
+        paths,
+        clauses: BTreeMap::new(),
+        contracts: BTreeMap::new(),
+        edits: Vec::new(),
+        counts: Counts::new(),
+    };
     (0..eraser.source.len()).try_for_each(|at| eraser.means_the_same(at))?;
     eraser.prelude()?;
     let mut at = 0;
@@ -90,7 +100,7 @@ pub fn erase(text: &str, paths: &Paths) -> Result<Erased> {
         let line = text[..left.at].matches('\n').count();
         Refusal { at: eraser.source.line_start(line), ..left }
     })?;
-    Ok(Erased { text, counts: eraser.counts })
+    Ok(Erased { text, counts: eraser.counts, contracts: eraser.contracts })
 }
 
 // Reads the result again: nothing of the prover's may be left in it.
@@ -115,6 +125,8 @@ pub struct Eraser<'a> {
     pub paths: &'a Paths,
     /// The clauses of each function whose signature was seen: the first one's token, and the token behind the last.
     pub clauses: BTreeMap<usize, usize>,
+    /// Those of functions that the crate guards, as they are written, by their names.
+    pub contracts: BTreeMap<String, String>,
     // Byte ranges, and what replaces them.
     edits: Vec<(usize, usize, String)>,
     counts: Counts,

@@ -51,6 +51,9 @@ const CALLS: [(&str, &str, &str); 17] = [
     ("quic_wire/src/calls.rt", "]", "encode"),
 ];
 
+/// Those that the crate has under the same names, or as a method.
+const WRAPPED: [&str; 4] = ["open_datagram", "open_packet", "seal_packet", "write_entry"];
+
 /// Functions with a `requires` in lists of names that a module reexports.
 const REEXPORTED: [&str; 7] = [
     "open_datagram",
@@ -142,6 +145,16 @@ impl<'a> Eraser<'a> {
             self.edit(end, end, "(crate)".to_string());
         }
         Ok(())
+    }
+
+    /// What the crate's own function for that at `at` is named after, if there is one: `Type.name` or `name`.
+    pub fn guarded(&self, at: usize) -> Option<String> {
+        let (name, ty) = (self.source.word(at + 1), self.type_of(at));
+        match ty {
+            Some(ty) if is_renamed(ty, name) => Some(format!("{ty}.{name}")),
+            None if WRAPPED.contains(&name) && self.is_pub(at) => Some(name.to_string()),
+            _ => None,
+        }
     }
 
     // The type whose inherent function begins at `at`.

@@ -33,6 +33,15 @@ fn a_private_function_keeps_its_clauses_as_comments() {
 }
 
 #[test]
+fn what_the_crate_guards_has_its_contract() {
+    let source = "impl StreamId {\n    pub fn new(n: u64)\n        requires { n\n            < 2 }\n    {\n    }\n\n    \
+                  pub fn f()\n        ensures { \u{22a4} }\n    {\n    }\n}\n";
+    let Ok(erased) = erase(source, &paths()) else { panic!("{source}") };
+    let wanted = BTreeMap::from([("StreamId.new".to_string(), "requires { n\n    < 2 }".to_string())]);
+    assert_eq!(erased.contracts, wanted);
+}
+
+#[test]
 fn a_public_function_documents_its_clauses() {
     assert_eq!(
         erased("/// Doc.\npub fn f(n: u64)\n    requires { n < 2 }\n\n    // Why.\n    ensures { ⊤ }\n{\n    n\n}\n"),

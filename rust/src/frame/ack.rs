@@ -37,6 +37,7 @@ impl<'a> Ack<'a> {
     /// # Errors
     ///
     /// Why the blocks aren't such; [`AckError::Malformed`] also if the greatest number or the delay is 2^62 or more.
+    #[doc = include_str!("../proved/contracts/Ack.from_parts.md")]
     pub fn from_parts(largest: u64, delay: u64, blocks: &'a [u8], ecn: Option<EcnCounts>) -> Result<Ack<'a>, AckError> {
         if largest >= END || delay >= END {
             return Err(AckError::Malformed);
@@ -97,6 +98,7 @@ impl<'a> Ack<'a> {
     ///
     /// If the set is empty, or a number in it, the delay or a count is 2^62 or more; nothing is written then. If there
     /// is too little room: a prefix of the frame may be written then.
+    #[doc = include_str!("../proved/contracts/Ack.encode.md")]
     pub fn encode<B: BufMut>(
         delay: u64,
         ranges: &ArrayRangeSet,
@@ -112,6 +114,7 @@ impl<'a> Ack<'a> {
     /// # Errors
     ///
     /// As [`Ack::encode`].
+    #[doc = include_str!("../proved/contracts/Ack.encode_from.md")]
     pub fn encode_from<B: BufMut>(
         delay: u64,
         set: &RangeSet,
@@ -129,6 +132,7 @@ impl EcnCounts {
     /// # Errors
     ///
     /// If a count is 2^62 or more; or if there is too little room: a prefix may be written then.
+    #[doc = include_str!("../proved/contracts/EcnCounts.encode.md")]
     pub fn encode<B: BufMut>(&self, out: &mut B) -> Result<(), WriteError> {
         if !are_counts(Some(self)) {
             return Err(WriteError::OutOfRange("an ECN count is 2^62 or more"));

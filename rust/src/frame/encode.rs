@@ -67,6 +67,7 @@ impl Frame<'_> {
     ///
     /// If the frame isn't in range ([`Frame::in_range`]): nothing is written then. If there is too little room: a
     /// prefix of the frame may be written then.
+    #[doc = include_str!("../proved/contracts/Frame.encode.md")]
     #[inline]
     pub fn encode<B: BufMut>(&self, last: bool, out: &mut B) -> Result {
         self.check(last)?;
@@ -85,6 +86,7 @@ impl Frame<'_> {
     /// # Errors
     ///
     /// If the frame isn't in range, or the slice is shorter than [`Frame::encoded_len`]. Nothing changes then.
+    #[doc = include_str!("../proved/contracts/Frame.encode_into.md")]
     #[inline]
     pub fn encode_into(&self, last: bool, dest: &mut [u8]) -> Result<usize> {
         self.check(last)?;
@@ -102,6 +104,7 @@ impl Frame<'_> {
     /// # Errors
     ///
     /// If the frame isn't in range.
+    #[doc = include_str!("../proved/contracts/Frame.encoded_len.md")]
     #[inline]
     pub fn encoded_len(&self, last: bool) -> Result<usize> {
         self.check(last)?;
@@ -115,6 +118,7 @@ impl Crypto<'_> {
     /// # Errors
     ///
     /// As [`Frame::encode`].
+    #[doc = include_str!("../proved/contracts/Crypto.encode.md")]
     pub fn encode<B: BufMut>(&self, out: &mut B) -> Result {
         require(is_varint(self.offset) && is_len(self.bytes))?;
         Ok(self.proved_encode(out)?)
@@ -127,6 +131,7 @@ impl NewToken<'_> {
     /// # Errors
     ///
     /// As [`Frame::encode`].
+    #[doc = include_str!("../proved/contracts/NewToken.encode.md")]
     pub fn encode<B: BufMut>(&self, out: &mut B) -> Result {
         require(is_len(self.token))?;
         Ok(self.proved_encode(out)?)
@@ -137,6 +142,7 @@ impl NewToken<'_> {
     /// # Panics
     ///
     /// If the token has 2^62 bytes or more.
+    #[doc = include_str!("../proved/contracts/NewToken.size.md")]
     pub fn size(&self) -> usize {
         assert!(is_len(self.token), "a token has fewer than 2^62 bytes");
         self.proved_size()
@@ -149,6 +155,7 @@ impl NewConnectionId {
     /// # Errors
     ///
     /// As [`Frame::encode`].
+    #[doc = include_str!("../proved/contracts/NewConnectionId.encode.md")]
     pub fn encode<B: BufMut>(&self, out: &mut B) -> Result {
         Frame::NewConnectionId(*self).check(false)?;
         Ok(self.proved_encode(out)?)
@@ -162,6 +169,7 @@ impl Datagram<'_> {
     /// # Errors
     ///
     /// If the data has 2^62 bytes or more and its length is written, or there is no memory. Nothing is written then.
+    #[doc = include_str!("../proved/contracts/Datagram.encode.md")]
     pub fn encode(&self, with_length: bool, out: &mut Vec<u8>) -> Result {
         require(!with_length || is_len(self.bytes))?;
         Ok(self.proved_encode(with_length, out)?)
@@ -172,6 +180,7 @@ impl Datagram<'_> {
     /// # Panics
     ///
     /// If the data has 2^62 bytes or more and its length is written.
+    #[doc = include_str!("../proved/contracts/Datagram.size.md")]
     pub fn size(&self, with_length: bool) -> usize {
         assert!(!with_length || is_len(self.bytes), "a datagram has fewer than 2^62 bytes");
         self.proved_size(with_length)
@@ -195,6 +204,7 @@ impl StreamMeta {
     ///
     /// If the offsets are reversed, or the first one or the length is 2^62 or more: nothing is written then. If there
     /// is too little room: a prefix may be written then.
+    #[doc = include_str!("../proved/contracts/StreamMeta.encode.md")]
     pub fn encode<B: BufMut>(&self, with_length: bool, out: &mut B) -> Result {
         let Some(len) = self.offsets.end.checked_sub(self.offsets.start) else {
             return Err(WriteError::OutOfRange("the offsets of a STREAM are reversed"));
@@ -206,13 +216,14 @@ impl StreamMeta {
 
 // The three kinds of closes have the same functions.
 macro_rules! closes {
-    ($($name:ty: $reason:ident;)*) => {
+    ($($name:ty: $reason:ident, $contracts:literal;)*) => {
         $(impl $name {
             /// The least `max_len` with which `encode` writes the frame, in bytes.
             ///
             /// # Panics
             ///
             /// If the reason has 2^62 bytes or more.
+            #[doc = include_str!(concat!("../proved/contracts/", $contracts, ".min_len.md"))]
             pub fn min_len(&self) -> usize {
                 assert!(is_len($reason(self)), "a reason has fewer than 2^62 bytes");
                 self.proved_min_len()
@@ -224,6 +235,7 @@ macro_rules! closes {
             ///
             /// If `max_len` is below `min_len`, or the reason has 2^62 bytes or more: nothing is written then. If there
             /// is too little room: a prefix of the frame may be written then.
+            #[doc = include_str!(concat!("../proved/contracts/", $contracts, ".encode.md"))]
             pub fn encode<B: BufMut>(&self, out: &mut B, max_len: usize) -> Result {
                 require(is_len($reason(self)))?;
                 if max_len < self.proved_min_len() {
@@ -248,7 +260,7 @@ fn of_application<'a>(close: &ApplicationClose<'a>) -> &'a [u8] {
 }
 
 closes! {
-    Close<'_>: reason_of;
-    ConnectionClose<'_>: of_transport;
-    ApplicationClose<'_>: of_application;
+    Close<'_>: reason_of, "Close";
+    ConnectionClose<'_>: of_transport, "ConnectionClose";
+    ApplicationClose<'_>: of_application, "ApplicationClose";
 }

@@ -56,6 +56,7 @@ impl PacketNumber {
     /// # Panics
     ///
     /// If `largest_acked` is above `n`, or 2^31 or more below it.
+    #[doc = include_str!("proved/contracts/PacketNumber.new.md")]
     #[inline]
     pub fn new(n: u64, largest_acked: u64) -> PacketNumber {
         let is_near = n >= largest_acked && n - largest_acked < 1 << 31;
@@ -91,6 +92,7 @@ impl PacketNumber {
     /// # Errors
     ///
     /// If a `U24` is 2^24 or more, or there is too little room. Nothing is written then.
+    #[doc = include_str!("proved/contracts/PacketNumber.encode.md")]
     pub fn encode<W: BufMut>(self, w: &mut W) -> Result<(), WriteError> {
         if !self.in_range() {
             return Err(WriteError::OutOfRange("a packet number of three bytes is 2^24 or more"));
@@ -107,6 +109,7 @@ impl PacketNumber {
     /// # Panics
     ///
     /// If `len` isn't 1 to 4.
+    #[doc = include_str!("proved/contracts/PacketNumber.decode.md")]
     pub fn decode<R: Buf>(len: usize, r: &mut R) -> Result<PacketNumber, UnexpectedEnd> {
         assert!((1..=4).contains(&len), "a packet number has 1 to 4 bytes");
         PacketNumber::proved_decode(len, r)
@@ -123,6 +126,7 @@ impl PacketNumber {
     /// # Panics
     ///
     /// If `expected` is 2^62 or more, or a `U24` is 2^24 or more.
+    #[doc = include_str!("proved/contracts/PacketNumber.expand.md")]
     #[inline]
     pub fn expand(self, expected: u64) -> u64 {
         assert!(expected <= varint::MAX, "an expected packet number is below 2^62");
@@ -137,6 +141,7 @@ impl FixedLengthConnectionIdParser {
     /// # Panics
     ///
     /// If that is above 20.
+    #[doc = include_str!("proved/contracts/FixedLengthConnectionIdParser.new.md")]
     #[inline]
     pub fn new(expected_len: usize) -> FixedLengthConnectionIdParser {
         assert!(expected_len <= crate::MAX_CID_SIZE, "a connection id has at most 20 bytes");
@@ -173,6 +178,7 @@ impl Header {
     /// # Panics
     ///
     /// If its packet number is a `U24` of 2^24 or more, or its token has 2^62 bytes or more.
+    #[doc = include_str!("proved/contracts/Header.encode.md")]
     #[inline]
     pub fn encode(&self, w: &mut Vec<u8>) -> PartialEncode {
         self.assert_writable();
@@ -184,6 +190,7 @@ impl Header {
     /// # Panics
     ///
     /// As [`Header::encode`].
+    #[doc = include_str!("proved/contracts/Header.encoded_len.md")]
     pub fn encoded_len(&self) -> usize {
         self.assert_writable();
         self.proved_encoded_len()
@@ -194,6 +201,7 @@ impl PartialEncode {
     /// Finishes the packet `buf` (RFC 9001, sections 5.3 and 5.4): fills in the length, if the header has one; seals
     /// the payload with the packet number and the key of `crypto`, if given; and protects the header with `header_key`.
     /// The payload's last bytes are room for the tag. Retry and version negotiation don't change.
+    #[doc = include_str!("proved/contracts/PartialEncode.finish.md")]
     ///
     /// # Panics
     ///
@@ -237,6 +245,7 @@ impl PartialDecode {
     /// # Panics
     ///
     /// If there is no key for a packet that has protection, which are those with a [`PartialDecode::space`].
+    #[doc = include_str!("proved/contracts/PartialDecode.finish.md")]
     #[inline]
     pub fn finish<H: HeaderKey + ?Sized>(self, header_key: Option<&H>) -> Result<Packet, PacketDecodeError> {
         if header_key.is_none() {
@@ -266,6 +275,7 @@ impl Expected {
 /// # Panics
 ///
 /// If an expected number is 2^62 or more.
+#[doc = include_str!("proved/contracts/open_packet.md")]
 pub fn open_packet<C: ConnectionIdParser, H: HeaderKey, P: PacketKey>(
     bytes: BytesMut,
     parser: &C,
@@ -288,6 +298,7 @@ pub fn open_packet<C: ConnectionIdParser, H: HeaderKey, P: PacketKey>(
 /// # Panics
 ///
 /// As [`open_packet`].
+#[doc = include_str!("proved/contracts/open_datagram.md")]
 pub fn open_datagram<C: ConnectionIdParser, H: HeaderKey, P: PacketKey>(
     bytes: BytesMut,
     parser: &C,
@@ -309,6 +320,7 @@ impl Packets {
     /// # Panics
     ///
     /// As [`open_packet`].
+    #[doc = include_str!("proved/contracts/Packets.open_next.md")]
     pub fn open_next<C: ConnectionIdParser, H: HeaderKey, P: PacketKey>(
         &mut self,
         options: &DecodeOptions<'_, C>,
@@ -328,6 +340,7 @@ impl Packets {
 ///
 /// [`Error::Write`] if the header can't be written or has another number, if there is no frame, or if one isn't in
 /// range; [`Error::Seal`] if the packet is too short for a sample, or too long for its length, or memory runs out.
+#[doc = include_str!("proved/contracts/seal_packet.md")]
 pub fn seal_packet<H: HeaderKey, P: PacketKey>(
     header: &Header,
     number: u64,

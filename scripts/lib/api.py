@@ -1,8 +1,8 @@
 #!/usr/bin/env python3
 """Prints what users of a Rust crate can name and call, from the JSON that rustdoc makes of it: one item a line, sorted,
 with its signature, and with the path that has the fewest parts; `use` is each other path. Of std's items only the names
-are printed, of other crates' items the crate too; `_` stands before what no user can name. `impl` includes what is derived, and what a type lacks of Send and
-Sync.
+are printed, of other crates' items the crate too; `_` stands before what no user can name. `impl` includes what is
+derived, and what a type lacks of Send and Sync.
 
 scripts/lib/api.py FILE.json
 """

@@ -1,6 +1,6 @@
-//! abuse [ROUNDS [SEED [PAYLOADS DATAGRAMS LISTS]]]: every call with random and damaged bytes and fields. Different calls
-//! must agree: from the front or resumed, in borrowed bytes or with packets that own theirs, written and read. Inputs
-//! in files, one a line in hexadecimal, are changed.
+//! abuse [ROUNDS [SEED [PAYLOADS DATAGRAMS LISTS]]]: every call with random and damaged bytes and fields. Different
+//! calls must agree: from the front or resumed, in borrowed bytes or with packets that own theirs, written and read.
+//! Inputs in files, one a line in hexadecimal, are changed.
 mod lists;
 mod opening;
 mod packets;

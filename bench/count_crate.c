@@ -1,4 +1,4 @@
-// count_crate WORK ROUNDS [FILE [KIND]]: count's work, done by the Rust crate: frames, ranges, encode, copy, decode,
+// count_crate WORK ROUNDS [FILE [KIND]]: count's work, done by quinn-proto: frames, ranges, encode, copy, decode,
 // cut, read, write, numbers, headers and sets. Prints a sum.
 #include "crate.h"
 #include "work.h"

@@ -1,4 +1,4 @@
-// times ROUNDS FOLDER: the time that the same work takes with this library and, if they are linked, with the Rust crate
+// times ROUNDS FOLDER: the time that the same work takes with this library and, if they are linked, with quinn-proto
 // (QUINN) and ngtcp2 (NGTCP2). They run in turn in one process, and the best of ROUNDS counts. The lists of FOLDER are
 // datagrams.hex, params.hex, and payloads in all other files. Prints a line for each kind of work: nanoseconds per
 // item, and the ratios to the other libraries. The times depend on the machine and the hour; only ratios within one run

@@ -1,6 +1,6 @@
-// Compares what the page reads with the cases in rust/program/tests/dumps, which have the pieces of a text, and with its own of
-// texts that it reads in other ways than the programs. It uses a copy of web/'s modules, since node takes *.js files
-// for modules only if a package.json says so.
+// Compares what the page reads with the cases in rust/program/tests/dumps, which have the pieces of a text, and with
+// its own of texts that it reads in other ways than the programs. It uses a copy of web/'s modules, since node takes
+// *.js files for modules only if a package.json says so.
 //
 // node web/test/dumps.mjs TOP
 import { cpSync, mkdtempSync, readFileSync, readdirSync, rmSync, writeFileSync } from "node:fs";

@@ -1,5 +1,6 @@
 """opens.py PAGE: opens a page as a file in each installed browser. It must read its first input without a message in
 the console."""
+import re
 import shutil
 import sys
 
@@ -13,7 +14,7 @@ def opens(kind, page):
         browser.go(f"file://{page}")
         status = browser.run(STATUS)
         errors = browser.errors()
-        if errors or "frames in" not in status:
+        if errors or not re.match(r"\d+ frames .*in \d+ bytes", status):
             raise Failed(f"{browser.name} with the page as a file: {status!r} {errors}")
         print(f"{browser.name} {browser.version}: {status}")
     finally:

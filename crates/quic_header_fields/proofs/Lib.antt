@@ -1,1 +1,3 @@
 mod Fewer
+mod Seeing
+mod WalkSteps

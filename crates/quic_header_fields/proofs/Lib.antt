@@ -1,3 +1,6 @@
 mod Fewer
 mod Seeing
 mod WalkSteps
+mod FieldsIn
+mod Walks
+mod Whole

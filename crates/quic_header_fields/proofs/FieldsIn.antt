@@ -8,7 +8,7 @@ use Rattle.quic_base.specs.Reading.{◌>>=◌}
 use Rattle.quic_header_decode.specs.Grammar.{HeaderField, HeaderValue, Number, Bytes, Version, DestinationId, SourceId, Supported, TokenLength, Token, Length, ShortId, IsHeaderField, IsRefusal}
 use Rattle.quic_header_decode.specs.Reading.{DecodeOptions, TakesWithin, bad_id, wide_id_at}
 use Rattle.quic_header_decode.specs.Refusal.{Refusal}
-use Rattle.quic_header_decode.proofs.Rows.{Taken, same_ok, field_at, field_again, field_found, field_reported}
+use Rattle.quic_header_decode.proofs.Rows.{Taken, field_at, field_again, field_found, field_reported}
 use Rattle.quic_header_decode.proofs.Steps.{bind_ok, bind_err, option_ok, then_ok, some_of, err_ok, ok_err, ok_pair, step}
 use Rattle.quic_header_decode.proofs.Wide.{wide_found, wide_again}
 use Rattle.quic_header_fields.specs.Spans.{IsFieldIn, StopsAt}
@@ -16,11 +16,14 @@ use Rattle.quic_header_fields.specs.Walk.{field_in, any_id_next}
 
 -- ---- a field that comes first is read
 
+same_ok : (a c : List HeaderValue) (b : List ℕ) → a ≡ c → (let r : Result Taken Refusal = Ok (a, b) in r) ≡ Ok (c, b)
+same_ok a c b e = ap (λ (x : List HeaderValue). let r : Result Taken Refusal = Ok (x, b) in r) e
+
 any_id_again : (values : List HeaderValue) (front rest id : List ℕ) → values ≡ Bytes id ∷ [] → front ≡ long_id id
     → any_id_next (front ++ rest) ≡ Ok (values, rest)
 any_id_again values front rest id is text =
     then_ok _ _ (id, rest) _ (some_of _ bad_id _ (ap (λ (xs : List ℕ). wide_id_at (xs ++ rest)) text ∙ wide_again id rest))
-    (same_ok (Bytes id ∷ []) values rest rest (sym is) refl)
+    (same_ok (Bytes id ∷ []) values rest (sym is))
 
 pub in_again : (known : Bool) (options : DecodeOptions) (field : HeaderField) (before values : List HeaderValue)
     (front rest : List ℕ) → IsFieldIn known options field before values front rest

@@ -4,3 +4,5 @@ mod WalkSteps
 mod FieldsIn
 mod Walks
 mod Whole
+mod Readings
+mod HeaderLaws

@@ -89,26 +89,25 @@ walk_stops_again known options index start (field ∷ fields) before spans bytes
 -- ---- what can't be read
 
 stop_one : (known : Bool) (options : DecodeOptions) (index start : ℕ) (field : HeaderField) (fields : List HeaderField)
-    (before : List HeaderValue) (bytes : List ℕ) (e : Refusal) (r : Result Taken Refusal) → AreBytes bytes
+    (before : List HeaderValue) (bytes : List ℕ) (e : Refusal) (at : ℕ) (r : Result Taken Refusal) → AreBytes bytes
     → TakesWithin options → field_in known options field before bytes ≡ r
     → ((end : ℕ) (seen : List HeaderValue) (left : List ℕ) → AreBytes left
+    → at ≡ index + 1 + length (walk_at known options (index + 1) end fields seen left).0
     → (walk_at known options (index + 1) end fields seen left).1 ≡ Err e
     → StopsWithinAt known options (index + 1) end fields seen (walk_at known options (index + 1) end fields seen left).0 left
-    (index + 1 + length (walk_at known options (index + 1) end fields seen left).0) e)
+    at e)
+    → at ≡ index + length (after_field index start field (length bytes) (others_of known options index fields before) r).0
     → (after_field index start field (length bytes) (others_of known options index fields before) r).1 ≡ Err e
     → StopsWithinAt known options index start (field ∷ fields) before
-    (after_field index start field (length bytes) (others_of known options index fields before) r).0 bytes
-    (index + length (after_field index start field (length bytes) (others_of known options index fields before) r).0) e
-stop_one known options index start field fields before bytes e (Err d) fits takes h others failed =
-    let same : d ≡ e = cc in
-    inl (refl, omega arith, in_stops known options field before bytes e (h ∙ failed))
-stop_one known options index start field fields before bytes e (Ok y) fits takes h others failed =
+    (after_field index start field (length bytes) (others_of known options index fields before) r).0 bytes at e
+stop_one known options index start field fields before bytes e at (Err d) fits takes h others here failed =
+    inl (refl, omega (arith, here), in_stops known options field before bytes e (h ∙ failed))
+stop_one known options index start field fields before bytes e at (Ok y) fits takes h others here failed =
     let t = in_found known options field before y.0 bytes y.1 fits takes h in
     let wide = front_width bytes t.front y.1 t.split in
     let n = length bytes - length y.1 in
     let w = walk_at known options (index + 1) (start + n) fields (before ++ y.0) y.1 in
-    let u = others (start + n) (before ++ y.0) y.1 (back_fits bytes t.front y.1 fits t.split) failed in
-    let at : index + 1 + length w.0 ≡ index + (1 + length w.0) = omega arith in
+    let u = others (start + n) (before ++ y.0) y.1 (back_fits bytes t.front y.1 fits t.split) (omega (arith, here)) failed in
     inr (
       y.0,
       t.front,
@@ -117,20 +116,20 @@ stop_one known options index start field fields before bytes e (Ok y) fits takes
       t.split,
       t.is,
       ap (λ (k : ℕ). span index start field y.0 k ∷ w.0) wide,
-      subst (λ (k : ℕ). StopsWithinAt known options (index + 1) (start + k) fields (before ++ y.0) w.0 y.1
-          (index + (1 + length w.0)) e) wide
-          (subst (λ (k : ℕ). StopsWithinAt known options (index + 1) (start + n) fields (before ++ y.0) w.0 y.1 k e) at u),
+      subst (λ (k : ℕ). StopsWithinAt known options (index + 1) (start + k) fields (before ++ y.0) w.0 y.1 at e) wide u,
     )
 
 pub walk_stops : (known : Bool) (options : DecodeOptions) (index start : ℕ) (fields : List HeaderField)
-    (before : List HeaderValue) (bytes : List ℕ) (e : Refusal) → AreBytes bytes → TakesWithin options
+    (before : List HeaderValue) (bytes : List ℕ) (e : Refusal) (at : ℕ) → AreBytes bytes → TakesWithin options
+    → at ≡ index + length (walk_at known options index start fields before bytes).0
     → (walk_at known options index start fields before bytes).1 ≡ Err e
     → StopsWithinAt known options index start fields before (walk_at known options index start fields before bytes).0 bytes
-    (index + length (walk_at known options index start fields before bytes).0) e
-walk_stops known options index start [] before bytes e fits takes h = absurd cc
-walk_stops known options index start (field ∷ fields) before bytes e fits takes h =
-    stop_one known options index start field fields before bytes e (field_in known options field before bytes) fits takes refl
-    (λ end seen left. λ left_fits failed. walk_stops known options (index + 1) end fields seen left e left_fits takes failed) h
+    at e
+walk_stops known options index start [] before bytes e at fits takes here h = absurd cc
+walk_stops known options index start (field ∷ fields) before bytes e at fits takes here h =
+    stop_one known options index start field fields before bytes e at (field_in known options field before bytes) fits takes refl
+    (λ end seen left left_fits there failed. walk_stops known options (index + 1) end fields seen left e at left_fits takes there failed)
+    here h
 
 -- ---- spans in a row
 

@@ -217,3 +217,67 @@ lacks_header id_len versions bytes old new count end e fits answer there counted
       stop = subst (λ (spans : List Span). AreInRow 0 spans end) same
           (subst (AreInRow 0 (header_walk options bytes).0) (sym ended) (header_walk_row options bytes));
     }
+
+-- ---- one field at fault
+
+none_with : (id_len : ℕ) (versions bytes : List ℕ) → Either (any_fixed id_len versions) bytes
+    → ((h : ProtectedHeader) (rest : List ℕ) → HeaderAt (any_fixed id_len versions) (length bytes) bytes h rest → ⊥)
+    → (spans : List Span) × (at : ℕ) × (e : Refusal) × IsNoHeaderAt (any_fixed id_len versions) bytes spans at e
+none_with id_len versions bytes (header h spans rest s) missing =
+    absurd (missing h rest (header_without id_len versions (length bytes) bytes h spans rest s))
+none_with id_len versions bytes (none spans at e s) missing = (spans, at, e, s)
+
+pub no_header_somewhere : (id_len : ℕ) (versions bytes : List ℕ) → AreBytes bytes
+    → ((h : ProtectedHeader) (rest : List ℕ) → HeaderAt (any_fixed id_len versions) (length bytes) bytes h rest → ⊥)
+    → (spans : List Span) × (at : ℕ) × (e : Refusal) × IsNoHeaderAt (any_fixed id_len versions) bytes spans at e
+no_header_somewhere id_len versions bytes fits missing = none_with id_len versions bytes (either id_len versions bytes fits) missing
+
+pub never_both : (id_len : ℕ) (versions bytes : List ℕ) (whole : ℕ) (h : ProtectedHeader) (rest : List ℕ)
+    (spans : List Span) (at : ℕ) (e : Refusal) → AreBytes bytes
+    → HeaderAt (any_fixed id_len versions) whole bytes h rest
+    → IsNoHeaderAt (any_fixed id_len versions) bytes spans at e → ⊥
+never_both id_len versions bytes whole h rest spans at e fits s t =
+    let options = any_fixed id_len versions in
+    let with_spans = header_with_spans options whole bytes h rest s in
+    let a = header_walk_again options whole bytes h with_spans.0 rest with_spans.1 in
+    let b = no_header_again options bytes spans at e fits (takes id_len versions) t in
+    let clash : (let r : Result Taken Refusal = Ok (a.0, rest) in r) ≡ Err e = ap (λ (w : Walked). w.1) (sym a.1 ∙ b.0) in
+    cc
+
+-- the error is the grammar's, or that of a version that isn't known
+abbrev pub IsSame : DecodeOptions → List ℕ → Refusal → Refusal → Type 0
+IsSame options bytes e d =
+    (d ≡ e) ⊎ ((version : ℕ) × (dst src : List ℕ) × (d ≡ Unsupported src dst version)
+    × IsUnknownVersion options bytes version dst src)
+
+same_with : (id_len : ℕ) (versions bytes : List ℕ) (e d : Refusal) → AreBytes bytes
+    → Refused (any_fixed id_len versions) bytes e → ReadAnswer (any_fixed id_len versions) bytes (Err d)
+    → IsSame (any_fixed id_len versions) bytes e d
+same_with id_len versions bytes e (Unsupported src dst version) fits refused answer =
+    inr (version, dst, src, refl, answer)
+same_with id_len versions bytes e (Invalid text) fits refused answer =
+    let options = any_fixed id_len versions in
+    let one : header_at options (length bytes) bytes ≡ Err e = refused_again options (length bytes) bytes e fits refused in
+    let two : header_at options (length bytes) bytes ≡ Err (Invalid text) =
+    refused_again options (length bytes) bytes (Invalid text) fits answer.0 in
+    let same : (let r : Read = Err (Invalid text) in r) ≡ Err e = sym two ∙ one in
+    inl cc
+same_with id_len versions bytes e NoMemory fits refused answer =
+    let options = any_fixed id_len versions in
+    let one : header_at options (length bytes) bytes ≡ Err e = refused_again options (length bytes) bytes e fits refused in
+    let two : header_at options (length bytes) bytes ≡ Err NoMemory =
+    refused_again options (length bytes) bytes NoMemory fits answer.0 in
+    let same : (let r : Read = Err NoMemory in r) ≡ Err e = sym two ∙ one in
+    inl cc
+
+pub refused_somewhere : (id_len : ℕ) (versions bytes : List ℕ) (e : Refusal) → AreBytes bytes
+    → Refused (any_fixed id_len versions) bytes e
+    → (spans : List Span) × (at : ℕ) × (d : Refusal) × IsNoHeaderAt (any_fixed id_len versions) bytes spans at d
+    × IsSame (any_fixed id_len versions) bytes e d
+refused_somewhere id_len versions bytes e fits refused =
+    let options = any_fixed id_len versions in
+    let none : (h : ProtectedHeader) (rest : List ℕ) → HeaderAt options (length bytes) bytes h rest → ⊥ =
+    λ h rest at. (let clash : (let r : Read = Ok (h, rest) in r) ≡ Err e =
+    sym (header_again options (length bytes) bytes h rest at) ∙ refused_again options (length bytes) bytes e fits refused in cc) in
+    let s = no_header_somewhere id_len versions bytes fits none in
+    (s.0, s.1, s.2, s.3, same_with id_len versions bytes e s.2 fits refused (no_header_read id_len versions bytes s.0 s.1 s.2 fits s.3))

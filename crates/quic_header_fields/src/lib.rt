@@ -3,4 +3,5 @@
 
 pub mod field;
 pub mod header;
+pub mod laws;
 pub mod row;

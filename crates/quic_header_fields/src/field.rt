@@ -300,6 +300,8 @@ pub(crate) fn walk(
     ensures count { (before : List HeaderValue) → seen ≡ seen_of before
         → result.0 ≡ index + length (walk_at given.known (any_fixed given.id_len versions.now) index start
         (map (field_of given.version) kinds.now) before bytes.now).0 }
+    ensures few { result.0 ≤ index + length kinds.now }
+    ensures within { result.1 ≤ start + length bytes.now }
     ensures end { (before : List HeaderValue) → seen ≡ seen_of before
         → result.1 ≡ last_end start (walk_at given.known (any_fixed given.id_len versions.now) index start
         (map (field_of given.version) kinds.now) before bytes.now).0 }

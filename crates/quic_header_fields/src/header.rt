@@ -1,7 +1,7 @@
 //! Where each field of a header is.
 ghost use Rattle.std.specs.Prelude.{◌≡◌, ◌≤◌, length, None, IfSome};
 ghost use Rattle.quic_fields.specs.Walk.{stored, last_end};
-ghost use Rattle.quic_header_decode.specs.Places.{any_fixed, refusal_in};
+ghost use Rattle.quic_header_decode.specs.Places.{any_fixed, refusal_in, IsSeen};
 ghost use Rattle.quic_header_fields.specs.Walk.{header_walk, HasHeader, LacksHeader};
 
 use crate::field::{Given, Seen, is_known, put, walk, word};
@@ -32,6 +32,8 @@ fn walk_header(
     ensures spans { room.new ≡ stored 0 (header_walk (any_fixed id_len versions.now) bytes.now).0 room.old }
     ensures count { result.0 ≡ length (header_walk (any_fixed id_len versions.now) bytes.now).0 }
     ensures end { result.1 ≡ last_end 0 (header_walk (any_fixed id_len versions.now) bytes.now).0 }
+    ensures few { result.0 ≤ 8 }
+    ensures within { result.1 ≤ length bytes.now }
 {
     let Some((first, text)) = bytes.split_first() else {
         return (0, 0);
@@ -86,6 +88,9 @@ pub fn header_spans(
         → HasHeader (any_fixed id_len versions.now) bytes.now room.old room.new result.count result.end }
     ensures err { IfSome result.fault (λ reason. LacksHeader (any_fixed id_len versions.now) bytes.now room.old room.new
         result.count result.end (refusal_in bytes.now reason)) }
+    ensures seen { IfSome result.fault (λ reason. IsSeen (Err reason) (length bytes.now)) }
+    ensures few { result.count ≤ 8 }
+    ensures within { result.end ≤ length bytes.now }
 {
     let read = read_header(bytes, id_len, versions);
     let (count, end) = walk_header(bytes, id_len, versions, room);

@@ -1,15 +1,13 @@
 -- A field of a known version, or of another one: it is read exactly when it is there.
-use Rattle.std.specs.Prelude.{codes}
-use Rattle.std.proofs.Common.{◌≡◌, ℕ, Bool, true, false, List, [], ◌∷◌, ◌++◌, length, Ok, Err, Result, refl, sym, ap, subst, ◌∙◌, inl, inr}
+use Rattle.std.proofs.Common.{◌≡◌, ℕ, Bool, true, false, List, [], ◌∷◌, ◌++◌, Ok, Err, Result, refl, sym, ap, ◌∙◌, inl, inr}
 use Rattle.std.specs.Option.{ok_or}
 use Rattle.quic_base.specs.ConnectionId.{long_id}
 use Rattle.quic_base.specs.Number.{AreBytes}
-use Rattle.quic_base.specs.Reading.{◌>>=◌}
-use Rattle.quic_header_decode.specs.Grammar.{HeaderField, HeaderValue, Number, Bytes, Version, DestinationId, SourceId, Supported, TokenLength, Token, Length, ShortId, IsHeaderField, IsRefusal}
+use Rattle.quic_header_decode.specs.Grammar.{HeaderField, HeaderValue, Bytes, Version, DestinationId, SourceId, Supported, TokenLength, Token, Length, ShortId, IsHeaderField, IsRefusal}
 use Rattle.quic_header_decode.specs.Reading.{DecodeOptions, TakesWithin, bad_id, wide_id_at}
 use Rattle.quic_header_decode.specs.Refusal.{Refusal}
-use Rattle.quic_header_decode.proofs.Rows.{Taken, field_at, field_again, field_found, field_reported}
-use Rattle.quic_header_decode.proofs.Steps.{bind_ok, bind_err, option_ok, then_ok, some_of, err_ok, ok_err, ok_pair, step}
+use Rattle.quic_header_decode.proofs.Rows.{Taken, field_again, field_found, field_reported}
+use Rattle.quic_header_decode.proofs.Steps.{bind_ok, option_ok, then_ok, some_of, err_ok, ok_err, ok_pair, step}
 use Rattle.quic_header_decode.proofs.Wide.{wide_found, wide_again}
 use Rattle.quic_header_fields.specs.Spans.{IsFieldIn, StopsAt}
 use Rattle.quic_header_fields.specs.Walk.{field_in, any_id_next}

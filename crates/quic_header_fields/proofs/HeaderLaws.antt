@@ -1,6 +1,6 @@
 -- Headers with the spans of their fields, and bytes with one field at fault.
-use Rattle.std.specs.Prelude.{codes, ◌⊎◌, IfSome, Option, Some, None}
-use Rattle.std.proofs.Common.{◌≡◌, ℕ, ◌+◌, ◌≤◌, Bool, true, false, List, [], ◌∷◌, ◌++◌, length, take, Ok, Err, Result, suc, refl, sym, ap, subst, ◌∙◌, inl, inr, length-append, arith}
+use Rattle.std.specs.Prelude.{◌⊎◌}
+use Rattle.std.proofs.Common.{◌≡◌, ℕ, ◌+◌, true, List, [], ◌∷◌, ◌++◌, length, take, Ok, Err, Result, suc, refl, sym, ap, subst, ◌∙◌, inl, inr, length-append, arith}
 use Rattle.quic_base.specs.Number.{AreBytes, num}
 use Rattle.quic_fields.specs.declared.field.Span.{Span}
 use Rattle.quic_fields.specs.Spans.{AreInRow, AreNumbered}
@@ -62,8 +62,7 @@ one_list id_len versions whole bytes h other spans others rest left s t =
     let one = header_again options whole bytes h rest (header_without id_len versions whole bytes h spans rest s) in
     let two = header_again options whole bytes other left (header_without id_len versions whole bytes other others left t) in
     let same : (let r : Read = Ok (h, rest) in r) ≡ Ok (other, left) = sym one ∙ two in
-    let pair : (let p : ProtectedHeader × List ℕ = (h, rest) in p) ≡ (other, left) = cc in
-    (
+    let pair : (let p : ProtectedHeader × List ℕ = (h, rest) in p) ≡ (other, left) = cc in (
       ap (λ (w : Walked). w.0) (sym a.1 ∙ b.1),
       ap (λ (p : ProtectedHeader × List ℕ). p.0) pair,
       ap (λ (p : ProtectedHeader × List ℕ). p.1) pair,
@@ -90,8 +89,7 @@ no_header_again options [] spans at e fits takes s = (rw (s.0, s.2) refl, rw (s.
 no_header_again options (first ∷ text) spans at e fits takes s =
     let version = num (take 4 text) in
     let again = walk_stops_again (is_known options version) options 1 1 (header_row_of first version) [] s.0 text at e
-    (λ i. fits (suc i)) takes s.2 in
-    (
+    (λ i. fits (suc i)) takes s.2 in (
       rw (s.1) (ap (λ (w : Walked). (first_span first ∷ w.0, w.1)) again.0),
       omega (arith, again.1, ap length s.1),
     )

@@ -1,6 +1,6 @@
 -- The walk over a header says what reading returns.
-use Rattle.std.specs.Prelude.{nat_lt, nat_eq, not, ◌||◌, ◌&&◌, ◌≢◌, Contains}
-use Rattle.std.proofs.Common.{◌≡◌, ℕ, ◌+◌, Bool, true, false, List, [], ◌∷◌, ◌++◌, length, take, Ok, Err, Result, refl, sym, ap, subst, cond, ◌∙◌, inl, inr, arith}
+use Rattle.std.specs.Prelude.{nat_lt, nat_eq, not, ◌||◌, ◌&&◌}
+use Rattle.std.proofs.Common.{◌≡◌, ℕ, ◌+◌, Bool, true, false, List, [], ◌∷◌, ◌++◌, length, take, Ok, Err, Result, refl, sym, ap, ◌∙◌, inl, inr, arith}
 use Rattle.std.specs.List.{list_any}
 use Rattle.std.specs.Option.{ok_or}
 use Rattle.std.proofs.lemmas.Bool.Decides.{nat_tests}
@@ -10,15 +10,15 @@ use Rattle.quic_base.specs.Reading.{◌>>=◌}
 use Rattle.quic_header_encode.specs.Types.{long_type}
 use Rattle.quic_header_decode.specs.declared.protected.ProtectedHeader.{ProtectedHeader}
 use Rattle.quic_header_decode.specs.Grammar.{HeaderField, HeaderValue, Number, Bytes, Version, DestinationId, SourceId, Supported, ShortId, typed_row, header_row_of, is_long}
-use Rattle.quic_header_decode.specs.Places.{any_fixed, IsUnknownVersion, ReadAnswer}
-use Rattle.quic_header_decode.specs.Reading.{DecodeOptions, at_end, bad_id, header_at, typed_at, wide_at, wide_header_at, wide_id_at, word_at}
+use Rattle.quic_header_decode.specs.Places.{any_fixed, IsUnknownVersion}
+use Rattle.quic_header_decode.specs.Reading.{DecodeOptions, at_end, bad_id, header_at, wide_at, wide_header_at, wide_id_at, word_at}
 use Rattle.quic_header_decode.specs.Refusal.{Refusal, Unsupported, Invalid, NoMemory}
 use Rattle.quic_header_decode.proofs.Headers.{by_rows, finish, made, reassoc, word_says}
 use Rattle.quic_header_decode.proofs.Rows.{Taken, row_at, known_at}
 use Rattle.quic_header_decode.proofs.Steps.{option_ok, otherwise, taken, bool_cases, take_front}
 use Rattle.quic_header_decode.proofs.Wide.{Agrees, Read, header_agrees, unknown_found}
 use Rattle.quic_header_fields.specs.Spans.{is_known}
-use Rattle.quic_header_fields.specs.Walk.{Walked, after_field, field_in, walk_at, header_walk}
+use Rattle.quic_header_fields.specs.Walk.{after_field, field_in, walk_at, header_walk}
 use Rattle.quic_header_fields.proofs.WalkSteps.{others_of}
 
 -- ---- rows

@@ -1,10 +1,10 @@
 -- What reading one field finds, and what later fields need of the values before them.
-use Rattle.std.proofs.Common.{◌≡◌, ℕ, ◌+◌, ◌-◌, ◌≤◌, Bool, true, false, List, [], ◌∷◌, ◌++◌, length, take, drop, Some, None, refl, sym, ap, ◌∙◌, append-nil, length-take, length-drop, arith}
+use Rattle.std.proofs.Common.{◌≡◌, ℕ, ◌-◌, ◌≤◌, Bool, true, false, List, [], ◌∷◌, ◌++◌, length, take, drop, Some, None, refl, append-nil, length-take, length-drop, arith}
 use Rattle.std.specs.Prelude.{nat_lt, ◌==◌}
 use Rattle.std.specs.List.{list_any}
 use Rattle.std.proofs.lemmas.Bool.Decides.{nat_tests}
 use Rattle.quic_base.specs.Reading.{number_at}
-use Rattle.quic_header_decode.specs.Grammar.{HeaderField, HeaderValue, Number, Bytes, Version, DestinationId, SourceId, Supported, TokenLength, Token, Length, ShortId, token_length_of}
+use Rattle.quic_header_decode.specs.Grammar.{HeaderValue, Number, Bytes, Version, DestinationId, SourceId, Supported, TokenLength, Token, Length, ShortId, token_length_of}
 use Rattle.quic_header_decode.specs.Places.{any_fixed}
 use Rattle.quic_header_decode.specs.Reading.{DecodeOptions, word_at, wide_id_at, long_id_at}
 use Rattle.quic_header_fields.specs.Walk.{field_in, seen_of, with_value, seen_after}

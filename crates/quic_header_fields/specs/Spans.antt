@@ -5,7 +5,7 @@ use Rattle.quic_base.specs.ConnectionId.{long_id}
 use Rattle.quic_base.specs.Number.{num}
 use Rattle.quic_fields.specs.declared.field.Span.{Span}
 use Rattle.quic_header_decode.specs.declared.protected.ProtectedHeader.{ProtectedHeader}
-use Rattle.quic_header_decode.specs.Grammar.{HeaderField, Version, DestinationId, SourceId, Supported, TokenLength, Token, Length, ShortId, HeaderValue, Number, Bytes, header_row_of, IsHeaderField, IsRefusal, IsHeader}
+use Rattle.quic_header_decode.specs.Grammar.{HeaderField, DestinationId, SourceId, Token, HeaderValue, Number, Bytes, header_row_of, IsHeaderField, IsRefusal, IsHeader}
 use Rattle.quic_header_decode.specs.Reading.{DecodeOptions}
 use Rattle.quic_header_decode.specs.Refusal.{Refusal, Invalid}
 

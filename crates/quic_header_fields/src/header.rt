@@ -23,12 +23,7 @@ pub struct Walked {
 }
 
 // Reads the header at the front from left to right. Returns how many fields were read, and where the last one ends.
-fn walk_header(
-    bytes: &[u8],
-    id_len: usize,
-    versions: &[u32],
-    room: &mut [Span],
-) -> (usize, usize)
+fn walk_header(bytes: &[u8], id_len: usize, versions: &[u32], room: &mut [Span]) -> (usize, usize)
     ensures spans { room.new ≡ stored 0 (header_walk (any_fixed id_len versions.now) bytes.now).0 room.old }
     ensures count { result.0 ≡ length (header_walk (any_fixed id_len versions.now) bytes.now).0 }
     ensures end { result.1 ≡ last_end 0 (header_walk (any_fixed id_len versions.now) bytes.now).0 }
@@ -55,7 +50,16 @@ fn walk_header(
             known: true,
             id_len,
         };
-        return walk(row(first, 0), given, versions, 1, 1, Seen::Nothing, text, room);
+        return walk(
+            row(first, 0),
+            given,
+            versions,
+            1,
+            1,
+            Seen::Nothing,
+            text,
+            room,
+        );
     }
     let Some((version, _)) = word(text) else {
         return (1, 1);
@@ -66,7 +70,16 @@ fn walk_header(
         known,
         id_len,
     };
-    walk(row(first, version), given, versions, 1, 1, Seen::Nothing, text, room)
+    walk(
+        row(first, version),
+        given,
+        versions,
+        1,
+        1,
+        Seen::Nothing,
+        text,
+        room,
+    )
 }
 
 /// Stores where the fields of the header at the front are, as far as `room` reaches: its first byte, and then the fields
@@ -77,12 +90,7 @@ fn walk_header(
 /// of `read_header`. Ids of short headers have `id_len` bytes; the caller must ensure that this is at most 20. For
 /// versions other than `versions` only the ids are read, which have up to 255 bytes (RFC 8999, section 5.1). The fixed
 /// bit isn't checked. It doesn't allocate.
-pub fn header_spans(
-    bytes: &[u8],
-    id_len: usize,
-    versions: &[u32],
-    room: &mut [Span],
-) -> Walked
+pub fn header_spans(bytes: &[u8], id_len: usize, versions: &[u32], room: &mut [Span]) -> Walked
     requires { id_len ≤ MAX_CID_SIZE }
     ensures ok { result.fault ≡ None
         → HasHeader (any_fixed id_len versions.now) bytes.now room.old room.new result.count result.end }

@@ -1,4 +1,4 @@
-use Rattle.std.proofs.Common.{ℕ, List, ◌≡◌, ◌-◌, ◌+◌, ◌∷◌, length, map, sym, subst}
+use Rattle.std.proofs.Common.{List, ◌≡◌, ◌+◌, length, map, sym, subst}
 use Rattle.quic_fields.specs.Walk.{stored, last_end}
 use Rattle.quic_header_decode.specs.Places.{any_fixed}
 use Rattle.quic_header_fields.specs.declared.row.Kind.{Kind}

@@ -1,10 +1,9 @@
-use Rattle.std.specs.Prelude.{nat_lt, nat_le}
-use Rattle.std.proofs.Common.{ℕ, List, ◌≡◌, ◌∷◌, [], false, map, refl, sym, ap, ◌∙◌, arith}
+use Rattle.std.proofs.Common.{ℕ, ◌≡◌, [], false, map, refl, arith}
 use Rattle.std.proofs.lemmas.Bool.Decides.{nat_tests}
 use Rattle.quic_header_decode.specs.Grammar.{is_long}
 use Rattle.quic_header_decode.specs.Places.{any_fixed}
 use Rattle.quic_header_fields.specs.Kinds.{field_of}
-use Rattle.quic_header_fields.specs.Walk.{walk_at, header_walk}
+use Rattle.quic_header_fields.specs.Walk.{header_walk}
 use Rattle.quic_header_fields.proofs.Whole.{short_whole, long_whole, whole_stored, whole_counted, whole_ended}
 use Rattle.quic_header_fields.proofs.header.walk_header.Goals as goal
 

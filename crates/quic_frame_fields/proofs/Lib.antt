@@ -17,3 +17,6 @@ mod ShortBlocks
 mod ShortRanges
 mod WideRanges
 pub mod Putting
+pub mod Eights
+pub mod Fields
+pub mod Rows

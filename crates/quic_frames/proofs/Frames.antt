@@ -16,8 +16,8 @@ use Rattle.quic_frame_fields.specs.Payload.{Meaning, TypedFrame, IsType, IsFrame
 use Rattle.quic_frame_fields.specs.Reading.{varint_at, fields_at, row_at, in_row, frame_at, Invalid, invalid, after_type, is_long_type, at_type, found_at}
 use Rattle.quic_frame_fields.proofs.Steps.{bind_ok, mapped_err, err_of, ok_is, true_is_not_false}
 use Rattle.quic_frame_fields.proofs.Varints.{varint_takes, varint_again, varint_fails}
-use Rattle.quic_frames.proofs.Fields.{TakesAll, fields_take, fields_again, fields_stop, fields_stop_again}
-use Rattle.quic_frames.proofs.Rows.{row_is_well}
+use Rattle.quic_frame_fields.proofs.Fields.{TakesAll, fields_take, fields_again, fields_stop, fields_stop_again}
+use Rattle.quic_frame_fields.proofs.Rows.{row_is_well}
 
 -- ---- the width of a type
 

@@ -14,7 +14,7 @@ use Rattle.quic_base.specs.Reading.{◌>>=◌}
 use Rattle.quic_frame_fields.specs.Reading.{id_at, field_at, of_ranges}
 use Rattle.quic_frame_fields.proofs.Steps.{true_is_not_false}
 use Rattle.quic_frame_fields.proofs.Blocks.{blocks_stop}
-use Rattle.quic_frames.proofs.Fields.{field_fails, field_stops, stops_again}
+use Rattle.quic_frame_fields.proofs.Fields.{field_fails, field_stops, stops_again}
 use Rattle.quic_frames.proofs.Readings.{one_reading}
 
 -- ---- a field that stops

@@ -1,6 +1,3 @@
-mod Eights
-mod Fields
-mod Rows
 mod Frames
 pub mod Items
 pub mod Readings

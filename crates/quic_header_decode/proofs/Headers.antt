@@ -107,15 +107,15 @@ version_is text version dst src left ids =
 
 -- ---- the header that values make
 
-abbrev other_header : ProtectedHeader
+abbrev pub other_header : ProtectedHeader
 other_header = protected.Short false []
 
-abbrev long_made : LongHeaderType → List ℕ → List ℕ → ℕ → ℕ → ProtectedHeader
+abbrev pub long_made : LongHeaderType → List ℕ → List ℕ → ℕ → ℕ → ProtectedHeader
 long_made kind.Initial dst src len version = other_header
 long_made (kind.Standard ty) dst src len version = protected.Long ty dst src len version
 long_made kind.Retry dst src len version = other_header
 
-abbrev made : ℕ → ℕ → List HeaderValue → ProtectedHeader
+abbrev pub made : ℕ → ℕ → List HeaderValue → ProtectedHeader
 made whole first (Bytes dst ∷ []) = protected.Short (has_bit 0x20 first) dst
 made whole first (Number version ∷ Bytes dst ∷ Bytes src ∷ []) =
     cond (nat_eq version 0) (protected.VersionNegotiate (first - 128) dst src) (protected.Retry dst src version)
@@ -245,10 +245,10 @@ row_is options whole first text rest values room true is d =
 
 -- ---- the reader, by rows
 
-abbrev finish : ℕ → ℕ → List HeaderValue → List ℕ → Result (ProtectedHeader × List ℕ) Refusal
+abbrev pub finish : ℕ → ℕ → List HeaderValue → List ℕ → Result (ProtectedHeader × List ℕ) Refusal
 finish whole first values rest = Ok (made whole first values, rest)
 
-reassoc : {A B : Type 0} (r : Result A Refusal) (f : A → Taken) (k : Taken → Result B Refusal) (g : A → Result B Refusal)
+pub reassoc : {A B : Type 0} (r : Result A Refusal) (f : A → Taken) (k : Taken → Result B Refusal) (g : A → Result B Refusal)
     → ((x : A) → r ≡ Ok x → g x ≡ k (f x)) → (r >>= g) ≡ ((r >>= λ x. Ok (f x)) >>= k)
 reassoc (Ok x) f k g same = same x refl
 reassoc (Err e) f k g same = refl
@@ -303,7 +303,7 @@ behind_same options whole first version dst src left false is =
     cond_bind (not (list_any (λ known. nat_eq known version) options.versions)) (Unsupported src dst version) ([], left) _ _
     (λ known. typed_same options whole first version dst src left is (long_type version first) refl)
 
-word_says : (text : List ℕ) (x : ℕ × List ℕ) → word_at text ≡ Some x → num (take 4 text) ≡ x.0
+pub word_says : (text : List ℕ) (x : ℕ × List ℕ) → word_at text ≡ Some x → num (take 4 text) ≡ x.0
 word_says text x e = elim (chosen (nat_lt (length text) 4) _ _ (Some x) e) [
   | inl short ↦ absurd (none_some x short.1)
   | inr long ↦ ap (λ (p : ℕ × List ℕ). p.0) (some_same long.1)
@@ -344,7 +344,7 @@ turned true false x y e = refl
 turned false true x y e = refl
 turned false false x y e = absurd cc
 
-by_rows : (options : DecodeOptions) (whole first : ℕ) (text : List ℕ)
+pub by_rows : (options : DecodeOptions) (whole first : ℕ) (text : List ℕ)
     → header_at options whole (first ∷ text)
     ≡ cond (is_fixed options first) (row_at options (header_row_of first (num (take 4 text))) [] text (finish whole first)) (Err (Invalid (codes "fixed bit unset")))
 unfolding header_at

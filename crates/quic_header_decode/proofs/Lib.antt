@@ -3,7 +3,7 @@ pub mod CutAnswers
 pub mod Datagrams
 mod Ended
 mod Ends
-mod FieldLaws
+pub mod FieldLaws
 mod Finishes
 pub mod Headers
 pub mod Made
@@ -11,4 +11,4 @@ pub mod RfcPackets
 pub mod Rows
 mod Scans
 pub mod Steps
-mod Wide
+pub mod Wide

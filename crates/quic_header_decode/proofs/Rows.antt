@@ -100,7 +100,7 @@ id_next_again values front rest id is short text =
     then_ok _ _ (id, rest) _ (some_of _ bad_id _ (ap (λ (xs : List ℕ). long_id_at (xs ++ rest)) text
     ∙ id_again id rest short)) (same_ok _ values rest rest (sym is) refl)
 
-field_again : (options : DecodeOptions) (field : HeaderField) (before values : List HeaderValue) (front rest : List ℕ)
+pub field_again : (options : DecodeOptions) (field : HeaderField) (before values : List HeaderValue) (front rest : List ℕ)
     → IsHeaderField options field before values front rest
     → field_at options field before (front ++ rest) ≡ Ok (values, rest)
 field_again options Version before values front rest d =
@@ -126,7 +126,7 @@ field_again options ShortId before values front rest d =
 
 -- and a field that is read comes first
 
-field_found : (options : DecodeOptions) (field : HeaderField) (before values : List HeaderValue) (bytes rest : List ℕ)
+pub field_found : (options : DecodeOptions) (field : HeaderField) (before values : List HeaderValue) (bytes rest : List ℕ)
     → AreBytes bytes → (field ≡ ShortId → TakesWithin options)
     → field_at options field before bytes ≡ Ok (values, rest) → BeginsWithField options field before values bytes rest
 field_found options Version before values bytes rest fits takes e =
@@ -189,7 +189,7 @@ field_found options ShortId before values bytes rest fits takes e =
     )
 
 -- a field that can't be read has this error
-field_reported : (options : DecodeOptions) (field : HeaderField) (before : List HeaderValue) (bytes : List ℕ) (e : Refusal)
+pub field_reported : (options : DecodeOptions) (field : HeaderField) (before : List HeaderValue) (bytes : List ℕ) (e : Refusal)
     → field_at options field before bytes ≡ Err e → IsRefusal options field before bytes e
 field_reported options Version before bytes e h = elim (step (word_at bytes) at_end _ e h) [
   | inl bad ↦ sym bad.1
@@ -226,7 +226,7 @@ field_reported options ShortId before bytes e h = elim (bind_err (options.parsed
   | inr good ↦ absurd (ok_err _ e good.2)
 ]
 
-field_stops : (options : DecodeOptions) (field : HeaderField) (before : List HeaderValue) (bytes : List ℕ) (e : Refusal)
+pub field_stops : (options : DecodeOptions) (field : HeaderField) (before : List HeaderValue) (bytes : List ℕ) (e : Refusal)
     → field_at options field before bytes ≡ Err e → StopsAtField options field before bytes e
 field_stops options field before bytes e h = record {
   none = λ values rest (front, split, is). err_ok e (values, rest)

@@ -73,7 +73,7 @@ narrowed (n ∷ rest) = elim (bool_cases (nat_lt (length rest) n)) [
       ]
 ]
 
-wide_found : (bytes id rest : List ℕ) → wide_id_at bytes ≡ Some (id, rest) → bytes ≡ long_id id ++ rest
+pub wide_found : (bytes id rest : List ℕ) → wide_id_at bytes ≡ Some (id, rest) → bytes ≡ long_id id ++ rest
 wide_found [] id rest e = absurd cc
 wide_found (n ∷ bytes) id rest e =
     elim (chosen {A = Option (List ℕ × List ℕ)} (nat_lt (length bytes) n) None (Some (take n bytes, drop n bytes)) (Some (id, rest)) e) [
@@ -88,7 +88,7 @@ wide_found (n ∷ bytes) id rest e =
           ∙ ap (λ (xs : List ℕ). length id ∷ (id ++ xs)) parts.1
     ]
 
-wide_again : (id rest : List ℕ) → wide_id_at (long_id id ++ rest) ≡ Some (id, rest)
+pub wide_again : (id rest : List ℕ) → wide_id_at (long_id id ++ rest) ≡ Some (id, rest)
 wide_again id rest =
     let long : length (id ++ rest) ≡ length id + length rest = length-append id rest in
     let test : nat_lt (length (id ++ rest)) (length id) ≡ false = grind (arith, nat_tests) in
@@ -178,7 +178,7 @@ agree_first : (b : Bool) (short wide long : Read) → Agrees wide long → Agree
 agree_first true short wide long h = agrees_self short
 agree_first false short wide long h = h
 
-header_agrees : (id_len : ℕ) (versions : List ℕ) (whole : ℕ) (bytes : List ℕ)
+pub header_agrees : (id_len : ℕ) (versions : List ℕ) (whole : ℕ) (bytes : List ℕ)
     → Agrees (wide_header_at id_len versions whole bytes) (header_at (any_fixed id_len versions) whole bytes)
 unfolding wide_header_at header_at
 header_agrees id_len versions whole [] = refl
@@ -316,7 +316,7 @@ long_first first e = grind (arith, nat_tests)
 not_short : (first : ℕ) → is_long first ≡ true → nat_lt first 128 ≡ false
 not_short first e = grind (arith, nat_tests)
 
-unknown_found : (id_len : ℕ) (versions : List ℕ) (whole : ℕ) (bytes src dst : List ℕ) (version : ℕ) → AreBytes bytes
+pub unknown_found : (id_len : ℕ) (versions : List ℕ) (whole : ℕ) (bytes src dst : List ℕ) (version : ℕ) → AreBytes bytes
     → wide_header_at id_len versions whole bytes ≡ Err (Unsupported src dst version)
     → IsUnknownVersion (any_fixed id_len versions) bytes version dst src
 unfolding wide_header_at
@@ -339,7 +339,7 @@ unknown_type id_len versions whole bytes src dst version (rest, (first, number, 
     (unknown_again versions whole first (number ++ (long_id dst ++ (long_id src ++ rest))) src dst version
     (number, rest, refl, is, some, none))
 
-takes : (id_len : ℕ) (versions : List ℕ) → TakesWithin (any_fixed id_len versions)
+pub takes : (id_len : ℕ) (versions : List ℕ) → TakesWithin (any_fixed id_len versions)
 takes id_len versions text id n e =
     match_ok (λ x. x.1 ≤ length text) (λ r. r ≡ NoMemory → ⊥) (fixed_parsed id_len text) (id, n) (fixed_lawful id_len text) e
 

@@ -1,7 +1,7 @@
 use Rattle.std.proofs.Common.{◌≤◌, ◌<◌, arith, sym, ap, subst}
 use Rattle.quic_frame_fields.specs.Reading.{frame_at, in_row, row_at}
 use Rattle.quic_frames.specs.Found.{GivesFrame}
-use Rattle.quic_frames.proofs.Rows.{row_of_stream}
+use Rattle.quic_frame_fields.proofs.Rows.{row_of_stream}
 use Rattle.std.proofs.lemmas.Grind.{common_steps}
 use Rattle.quic_frames.proofs.frame.reading.read_frame.Goals as goal
 

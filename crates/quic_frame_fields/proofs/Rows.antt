@@ -3,7 +3,7 @@ use Rattle.std.proofs.Common.{◌≡◌, ℕ, zero, suc, ◌+◌, ◌-◌, ◌<�
 use Rattle.std.specs.Prelude.{not, ◌&&◌, ◌⊎◌}
 use Rattle.std.specs.Map.{lookup}
 use Rattle.quic_frame_fields.specs.Table.{Row, rows, row_of, stream_row}
-use Rattle.quic_frames.proofs.Fields.{is_well}
+use Rattle.quic_frame_fields.proofs.Fields.{is_well}
 
 cases_bool : (b : Bool) → (b ≡ true) ⊎ (b ≡ false)
 cases_bool true = inl refl

@@ -1,0 +1,7 @@
+mod Seeing
+mod Counts
+mod Fewer
+mod SpanLaws
+mod FrameWalks
+mod Entries
+mod Stopping

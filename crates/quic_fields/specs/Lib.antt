@@ -1,0 +1,6 @@
+pub mod Kinds
+pub mod Spans
+pub mod Inside
+pub mod Walk
+pub mod Entry
+pub mod Stopping

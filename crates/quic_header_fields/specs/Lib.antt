@@ -1,0 +1,3 @@
+pub mod Kinds
+pub mod Spans
+pub mod Walk

@@ -1,0 +1,64 @@
+//! Laws of headers' spans, which no single call states. The functions do nothing at run time.
+ghost use Rattle.std.specs.Prelude.{◌≡◌, ◌≢◌, ◌⊎◌, ◌++◌, ℕ, List, [], length, Ok, Err};
+ghost use Rattle.quic_base.specs.Number.{AreBytes};
+ghost use Rattle.quic_fields.specs.declared.field.Span.{Span};
+ghost use Rattle.quic_fields.specs.Spans.{AreInRow, AreNumbered};
+ghost use Rattle.quic_header_decode.specs.declared.protected.ProtectedHeader.{ProtectedHeader};
+ghost use Rattle.quic_header_decode.specs.Grammar.{HeaderAt, Refused};
+ghost use Rattle.quic_header_decode.specs.Places.{any_fixed, IsUnknownVersion, ReadAnswer};
+ghost use Rattle.quic_header_decode.specs.Refusal.{Refusal, Unsupported};
+ghost use Rattle.quic_header_fields.specs.Spans.{IsHeaderAt, IsNoHeaderAt};
+
+/// A header has exactly one list of spans: it has one, only headers have one, and no bytes have a second one. Together
+/// the spans are all bytes of the header, one after another, and their indices count from 0.
+pub fn one_list_of_spans()
+    ensures exists { (id_len : ℕ) (versions : List ℕ) (whole : ℕ) (bytes : List ℕ) (h : ProtectedHeader) (rest : List ℕ)
+        → HeaderAt (any_fixed id_len versions) whole bytes h rest
+        → (spans : List Span) × IsHeaderAt (any_fixed id_len versions) whole bytes h spans rest }
+    ensures headers { (id_len : ℕ) (versions : List ℕ) (whole : ℕ) (bytes : List ℕ) (h : ProtectedHeader)
+        (spans : List Span) (rest : List ℕ)
+        → IsHeaderAt (any_fixed id_len versions) whole bytes h spans rest
+        → HeaderAt (any_fixed id_len versions) whole bytes h rest }
+    ensures one { (id_len : ℕ) (versions : List ℕ) (whole : ℕ) (bytes : List ℕ) (h other : ProtectedHeader)
+        (spans others : List Span) (rest left : List ℕ)
+        → IsHeaderAt (any_fixed id_len versions) whole bytes h spans rest
+        → IsHeaderAt (any_fixed id_len versions) whole bytes other others left
+        → (spans ≡ others) × (h ≡ other) × (rest ≡ left) }
+    ensures row { (id_len : ℕ) (versions : List ℕ) (whole : ℕ) (bytes : List ℕ) (h : ProtectedHeader)
+        (spans : List Span) (rest : List ℕ)
+        → IsHeaderAt (any_fixed id_len versions) whole bytes h spans rest
+        → (front : List ℕ) × (bytes ≡ front ++ rest) × AreInRow 0 spans (length front) × AreNumbered 0 spans }
+{}
+
+/// Bytes that begin with no header have exactly one field at fault: there is one, and there is no second one. Bytes
+/// that begin with a header have none.
+pub fn one_field_at_fault()
+    ensures exists { (id_len : ℕ) (versions bytes : List ℕ) → AreBytes bytes
+        → ((h : ProtectedHeader) (rest : List ℕ) → HeaderAt (any_fixed id_len versions) (length bytes) bytes h rest → ⊥)
+        → (spans : List Span) × (at : ℕ) × (e : Refusal) × IsNoHeaderAt (any_fixed id_len versions) bytes spans at e }
+    ensures none { (id_len : ℕ) (versions bytes : List ℕ) (whole : ℕ) (h : ProtectedHeader) (rest : List ℕ)
+        (spans : List Span) (at : ℕ) (e : Refusal) → AreBytes bytes
+        → HeaderAt (any_fixed id_len versions) whole bytes h rest
+        → IsNoHeaderAt (any_fixed id_len versions) bytes spans at e → ⊥ }
+    ensures one { (id_len : ℕ) (versions bytes : List ℕ) (spans others : List Span) (at other : ℕ) (e d : Refusal)
+        → AreBytes bytes → IsNoHeaderAt (any_fixed id_len versions) bytes spans at e
+        → IsNoHeaderAt (any_fixed id_len versions) bytes others other d
+        → (spans ≡ others) × (at ≡ other) × (e ≡ d) }
+{}
+
+/// The error of the field at fault is the one that reading reports, and the grammar's. Only in a version that isn't
+/// known may the grammar's be another one, since it limits ids to 20 bytes there too: reading reports the version, if
+/// both ids are there.
+pub fn one_error()
+    ensures read { (id_len : ℕ) (versions bytes : List ℕ) (e : Refusal) → AreBytes bytes
+        → ReadAnswer (any_fixed id_len versions) bytes (Err e)
+        → (spans : List Span) × (at : ℕ) × IsNoHeaderAt (any_fixed id_len versions) bytes spans at e }
+    ensures reported { (id_len : ℕ) (versions bytes : List ℕ) (spans : List Span) (at : ℕ) (e : Refusal)
+        → AreBytes bytes → IsNoHeaderAt (any_fixed id_len versions) bytes spans at e
+        → ReadAnswer (any_fixed id_len versions) bytes (Err e) }
+    ensures refused { (id_len : ℕ) (versions bytes : List ℕ) (e : Refusal) → AreBytes bytes
+        → Refused (any_fixed id_len versions) bytes e
+        → (spans : List Span) × (at : ℕ) × (d : Refusal) × IsNoHeaderAt (any_fixed id_len versions) bytes spans at d
+        × ((d ≡ e) ⊎ ((version : ℕ) × (dst src : List ℕ) × (d ≡ Unsupported src dst version)
+        × IsUnknownVersion (any_fixed id_len versions) bytes version dst src)) }
+{}

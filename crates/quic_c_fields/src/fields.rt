@@ -27,8 +27,10 @@ pub struct CFields {
     pub numbers: u64,
 }
 
-// The size that it must have in C.
+// The sizes that they must have in C.
 const _: () = prove!(std::mem::size_of::<CFields>() == 32);
+
+const _: () = prove!(std::mem::size_of::<Span>() == 32);
 
 /// Stores where the fields of the frame at the front are, as far as `fields` reaches, and returns 1. If no frame is
 /// there, it stores the fields before the one at fault and returns why.

@@ -25,9 +25,6 @@ pub struct Span {
     pub number: u64,
 }
 
-// The size that it must have in C.
-const _: () = prove!(std::mem::size_of::<Span>() == 32);
-
 /// What later fields need of those that were read: the first number of an ACK, and the two of a NEW_CONNECTION_ID.
 #[derive(Clone, Copy, Debug, PartialEq, Eq)]
 pub enum Seen {

@@ -6,7 +6,7 @@ use crate::lex::{Kind, Result};
 const OF_THE_PROVER: [&str; 2] = ["tactic", "cycle"];
 
 /// Attributes that are as in Rust.
-const ATTRIBUTES: [&str; 8] = ["inline", "error", "allow", "test", "cfg", "must_use", "cold", "from"];
+const ATTRIBUTES: [&str; 9] = ["inline", "error", "allow", "test", "cfg", "must_use", "cold", "from", "repr"];
 
 impl Eraser<'_> {
     /// Makes the tokens from `from` up to `to` a comment. If code stands in the same line, they are removed.

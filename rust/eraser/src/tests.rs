@@ -257,7 +257,7 @@ const OTHERS: [(&str, &str); 25] = [
     ("fn f() { /* ghost */ }", "a block comment"),
     ("fn f() { ( }", "a bracket without its partner"),
     ("fn f() { }}", "a bracket without its partner"),
-    ("#[repr(C)] struct X;", "an attribute that isn't known"),
+    ("#[deprecated] struct X;", "an attribute that isn't known"),
     ("# fn f() {}", "a `#` without an attribute"),
     ("impl Drop for X { fn drop(self) {} }", "a `Drop` that is no bound"),
     ("fn f() -> Box<Global> {}", "`Global` would be left"),

@@ -39,7 +39,7 @@ header_without id_len versions whole bytes h spans rest (first, text, values, ot
   is,
 )
 
-header_walk_again : (options : DecodeOptions) (whole : ℕ) (bytes : List ℕ) (h : ProtectedHeader) (spans : List Span)
+pub header_walk_again : (options : DecodeOptions) (whole : ℕ) (bytes : List ℕ) (h : ProtectedHeader) (spans : List Span)
     (rest : List ℕ) → IsHeaderAt options whole bytes h spans rest
     → (values : List HeaderValue) × (header_walk options bytes ≡ (spans, Ok (values, rest)))
 header_walk_again options whole bytes h spans rest (first, text, values, others, split, all, fields, is) =

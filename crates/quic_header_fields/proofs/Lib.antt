@@ -6,3 +6,4 @@ mod Walks
 mod Whole
 mod Readings
 mod HeaderLaws
+mod After

@@ -1,3 +1,4 @@
 pub mod Kinds
 pub mod Spans
 pub mod Walk
+pub mod After

@@ -4,4 +4,5 @@
 pub mod field;
 pub mod header;
 pub mod laws;
+pub mod packet;
 pub mod row;

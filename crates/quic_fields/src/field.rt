@@ -126,7 +126,7 @@ fn id(bytes: &[u8]) -> Result<(&[u8], &[u8]), Fault>
 }
 
 // A number of eight bytes, the highest one first.
-#[tactic(auto, using(crate::proofs::Eights::eights, crate::proofs::Fewer::takes_fewer))]
+#[tactic(auto, using(quic_frame_fields::proofs::Eights::eights, crate::proofs::Fewer::takes_fewer))]
 fn eight(bytes: &[u8]) -> Result<(u64, &[u8]), Fault>
     ensures gives { Gives (λ x. (x.0, x.1.now)) result (eight_at bytes.now) }
     ensures fewer { IfOk result (λ x. length x.1.now ≤ length bytes.now) }

@@ -4,7 +4,7 @@ ghost use Rattle.quic_fields.specs.Entry.{HasEntry, LacksEntry, stop_in_entry, e
 ghost use Rattle.quic_fields.specs.Inside.{stop_at};
 ghost use Rattle.quic_fields.specs.Kinds.{field_of};
 
-use crate::field::{Span, Seen, Walked, walk};
+use crate::field::{Seen, Span, Walked, walk};
 use crate::row::Kind;
 
 static ENTRY: [Kind; 2] = [Kind::Varint, Kind::Counted];

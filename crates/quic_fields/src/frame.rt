@@ -3,7 +3,7 @@ ghost use Rattle.std.specs.Prelude.{◌≡◌, length, None, IfSome};
 ghost use Rattle.quic_fields.specs.Inside.{stop_in_frame};
 ghost use Rattle.quic_fields.specs.Walk.{frame_walk, stored, last_end, EndsAs, HasSpans, LacksSpans};
 
-use crate::field::{Span, Seen, Walked, number, put, walk};
+use crate::field::{Seen, Span, Walked, number, put, walk};
 use crate::row::row;
 use quic_frame_fields::frame::fault::Fault;
 

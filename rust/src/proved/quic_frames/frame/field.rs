@@ -122,7 +122,7 @@ pub(super) fn reset_token(bytes: &[u8]) -> Result<([u8; RESET_TOKEN_SIZE], &[u8]
 /// A number of eight bytes, the highest one first, and what follows it. It is read by a call, since few frames have
 /// one.
 #[inline(never)]
-// #[tactic(auto, using(crate::proofs::Eights::eights))]
+// #[tactic(auto, using(quic_frame_fields::proofs::Eights::eights))]
 pub(super) fn eight(bytes: &[u8]) -> Result<(u64, &[u8]), Fault>
     // ensures { Gives (λ x. (x.0, x.1.now)) result (eight_at bytes.now) }
 {

@@ -12,6 +12,7 @@
 //! ```
 use crate::{VarInt, WriteError};
 
+pub use crate::kit::alloc::AllocError;
 pub use crate::kit::bytes::BufMut;
 pub use crate::proved::quic_base::coding::{BufExt, Codec, Cursor, NoRoom, Result, UnexpectedEnd};
 

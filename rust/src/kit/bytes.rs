@@ -5,9 +5,11 @@ use std::ops::RangeBounds;
 
 pub use ::bytes::{Buf, Bytes, BytesMut};
 
-/// A buffer to whose end bytes are written. A write is whole, or an error that leaves the bytes as they were.
+/// A buffer to whose end bytes are written, as every `BufMut` of the crate `bytes` is. A write is whole, or an error that
+/// leaves the bytes as they were.
 pub trait BufMut {
     /// Makes room for `additional` more bytes. An error if there can't be as many.
+    #[doc(hidden)]
     fn kit_make_room(&mut self, additional: usize) -> Result<(), AllocError>;
 
     /// Appends bytes.

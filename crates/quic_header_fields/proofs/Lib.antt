@@ -7,3 +7,4 @@ mod Whole
 mod Readings
 mod HeaderLaws
 mod After
+mod EachKind

@@ -8,7 +8,7 @@ ghost use Rattle.quic_header_decode.specs.Grammar.{HeaderAt, Refused};
 ghost use Rattle.quic_header_decode.specs.Places.{any_fixed, IsUnknownVersion, ReadAnswer};
 ghost use Rattle.quic_header_decode.specs.Refusal.{Refusal, Unsupported};
 ghost use Rattle.quic_header_fields.specs.After.{AreAfter};
-ghost use Rattle.quic_header_fields.specs.Headers.{spans_in};
+ghost use Rattle.quic_header_fields.specs.Headers.{spans_in, long_spans};
 ghost use Rattle.quic_header_fields.specs.Spans.{IsHeaderAt, IsNoHeaderAt};
 
 /// A header has exactly one list of spans: it has one, only headers have one, and no bytes have a second one. Together
@@ -77,10 +77,15 @@ pub fn one_list_after_a_header()
         → (spans ≡ []) ⊎ (AreInRow start spans (start + length rest) × AreNumbered index spans) }
 {}
 
-/// The spans of each kind of header, in numbers.
+/// The spans of each kind of header, in numbers; and of a version that isn't known, where the field at fault is the one
+/// that stands for it.
 pub fn spans_of_each_kind()
-    ensures { (id_len : ℕ) (versions bytes : List ℕ) (h : ProtectedHeader) (rest : List ℕ)
+    ensures headers { (id_len : ℕ) (versions bytes : List ℕ) (h : ProtectedHeader) (rest : List ℕ)
         → HeaderAt (any_fixed id_len versions) (length bytes) bytes h rest
         → IsHeaderAt (any_fixed id_len versions) (length bytes) bytes h
         (spans_in (slice_index bytes 0) (length bytes - length rest) h) rest }
+    ensures unknown { (id_len : ℕ) (versions bytes : List ℕ) (version : ℕ) (dst src : List ℕ)
+        → IsUnknownVersion (any_fixed id_len versions) bytes version dst src
+        → IsNoHeaderAt (any_fixed id_len versions) bytes (long_spans (slice_index bytes 0) version dst src []) 4
+        (Unsupported src dst version) }
 {}

@@ -1,9 +1,8 @@
 -- The fields after a header.
 use Rattle.std.specs.Prelude.{nat_eq, nat_lt, ◌⊎◌, ◌%◌, ◌/◌, ◌<◌}
-use Rattle.std.proofs.Common.{◌≡◌, ℕ, ◌+◌, ◌-◌, ◌*◌, Bool, true, false, List, [], ◌∷◌, ◌++◌, length, take, drop, slice_set, refl, sym, ap, subst, ◌∙◌, inl, inr, length-append, length-take, length-drop, arith}
+use Rattle.std.proofs.Common.{◌≡◌, ℕ, ◌+◌, ◌-◌, ◌*◌, true, List, [], ◌∷◌, ◌++◌, length, take, drop, slice_set, refl, sym, ap, subst, ◌∙◌, inl, inr, length-append, length-take, length-drop, arith}
 use Rattle.std.proofs.lemmas.Bool.Decides.{nat_tests}
 use Rattle.std.proofs.lemmas.List.{take-append-drop}
-use Rattle.quic_base.specs.Number.{AreBytes}
 use Rattle.quic_fields.specs.declared.field.Span.{Span}
 use Rattle.quic_fields.specs.Spans.{AreInRow, AreNumbered}
 use Rattle.quic_fields.specs.Walk.{stored, last_end}

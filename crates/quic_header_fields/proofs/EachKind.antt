@@ -1,23 +1,22 @@
 -- The spans of each kind of header.
 use Rattle.std.specs.Prelude.{nat_eq, nat_lt, slice_index, ◌≢◌, Contains}
-use Rattle.std.proofs.Common.{◌≡◌, ℕ, ◌+◌, ◌-◌, ◌≤◌, Bool, true, false, List, [], ◌∷◌, ◌++◌, length, take, Ok, Err, Result, refl, sym, ap, subst, cond, ◌∙◌, inl, inr, length-append, length-take, append-nil, arith}
+use Rattle.std.proofs.Common.{◌≡◌, ℕ, ◌+◌, ◌-◌, ◌≤◌, Bool, true, false, List, [], ◌∷◌, ◌++◌, length, take, Ok, Err, Result, refl, sym, ap, subst, cond, ◌∙◌, inl, inr, length-append, length-take, arith}
 use Rattle.std.proofs.lemmas.Bool.Decides.{nat_tests}
 use Rattle.quic_base.specs.ConnectionId.{long_id}
-use Rattle.quic_base.specs.Number.{AreBytes, IsNumber, num}
+use Rattle.quic_base.specs.Number.{IsNumber, num}
 use Rattle.quic_fields.specs.declared.field.Span.{Span}
 use Rattle.quic_header_encode.specs.declared.long_type.LongHeaderType.{LongHeaderType}
 use Rattle.quic_header_encode.specs.declared.long_type.LongHeaderType.TheVariants as kind
 use Rattle.quic_header_encode.specs.Types.{long_type}
 use Rattle.quic_header_decode.specs.declared.protected.ProtectedHeader.{ProtectedHeader}
 use Rattle.quic_header_decode.specs.declared.protected.ProtectedHeader.TheVariants as protected
-use Rattle.quic_header_decode.specs.Grammar.{HeaderField, HeaderValue, Number, Bytes, Version, DestinationId, SourceId, Supported, TokenLength, Token, Length, ShortId, token_length_of, typed_row, header_row_of, is_long, IsHeader, HeaderAt}
-use Rattle.quic_header_decode.specs.Parsers.{fixed_parsed}
+use Rattle.quic_header_decode.specs.Grammar.{HeaderField, HeaderValue, Number, Bytes, Version, DestinationId, SourceId, Supported, ShortId, token_length_of, typed_row, header_row_of, is_long, IsHeader, HeaderAt}
 use Rattle.quic_header_decode.specs.Places.{any_fixed, IsUnknownVersion}
 use Rattle.quic_header_decode.specs.Reading.{DecodeOptions}
 use Rattle.quic_header_decode.specs.Refusal.{Refusal, Unsupported}
 use Rattle.quic_header_decode.proofs.Headers.{Ids, id_values, long_row, version_is}
 use Rattle.quic_header_decode.proofs.Steps.{take_front}
-use Rattle.quic_header_fields.specs.Headers.{from_to, ids_end, long_spans, typed_spans, spans_in}
+use Rattle.quic_header_fields.specs.Headers.{from_to, ids_end, long_spans, spans_in}
 use Rattle.quic_header_fields.specs.Spans.{span, first_span, AreFieldsAt, StopsWithinAt, IsHeaderAt, IsNoHeaderAt}
 use Rattle.quic_header_fields.proofs.HeaderLaws.{header_with_spans, header_in_row}
 use Rattle.quic_header_fields.proofs.Readings.{not_unknown}

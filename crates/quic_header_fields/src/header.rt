@@ -23,7 +23,12 @@ pub struct Walked {
 }
 
 // Reads the header at the front from left to right. Returns how many fields were read, and where the last one ends.
-pub(crate) fn walk_header(bytes: &[u8], id_len: usize, versions: &[u32], room: &mut [Span]) -> (usize, usize)
+pub(crate) fn walk_header(
+    bytes: &[u8],
+    id_len: usize,
+    versions: &[u32],
+    room: &mut [Span],
+) -> (usize, usize)
     ensures spans { room.new ≡ stored 0 (header_walk (any_fixed id_len versions.now) bytes.now).0 room.old }
     ensures count { result.0 ≡ length (header_walk (any_fixed id_len versions.now) bytes.now).0 }
     ensures end { result.1 ≡ last_end 0 (header_walk (any_fixed id_len versions.now) bytes.now).0 }

@@ -8,3 +8,4 @@ mod Readings
 mod HeaderLaws
 mod After
 mod EachKind
+mod Stopping

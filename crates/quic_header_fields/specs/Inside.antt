@@ -1,6 +1,6 @@
 -- Where reading stops inside a field that can't be read: how many of its bytes come before the number or the bytes at
 -- fault, and how many numbers these are. Only an id has a number before its bytes, its length.
-use Rattle.std.specs.Prelude.{◌≡◌, ℕ, ◌+◌, ◌<◌, ◌≤◌, ◌⊎◌, Bool, true, false, List, [], ◌∷◌, ◌++◌, length, take, Result, Ok, Err, nat_lt, ◌&&◌, if◌then◌else◌}
+use Rattle.std.specs.Prelude.{◌≡◌, ℕ, ◌<◌, ◌≤◌, ◌⊎◌, Bool, true, List, [], ◌∷◌, ◌++◌, length, take, Result, Ok, Err, nat_lt, ◌&&◌, if◌then◌else◌}
 use Rattle.quic_base.specs.Number.{num}
 use Rattle.quic_header_decode.proofs.Rows.{Taken}
 use Rattle.quic_header_decode.specs.Grammar.{HeaderField, DestinationId, SourceId, HeaderValue, header_row_of}

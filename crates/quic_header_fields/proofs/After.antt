@@ -1,11 +1,10 @@
 -- The fields after a header.
 use Rattle.std.specs.Prelude.{nat_eq, nat_lt, ◌⊎◌, ◌%◌, ◌/◌, ◌<◌}
-use Rattle.std.proofs.Common.{◌≡◌, ℕ, ◌+◌, ◌-◌, ◌*◌, Bool, true, false, List, [], ◌∷◌, ◌++◌, length, take, drop, slice_set, refl, sym, ap, subst, ◌∙◌, inl, inr, length-append, length-take, length-drop, arith}
+use Rattle.std.proofs.Common.{◌≡◌, ℕ, ◌+◌, ◌-◌, ◌*◌, true, List, [], ◌∷◌, ◌++◌, length, take, drop, slice_set, refl, sym, ap, subst, ◌∙◌, inl, inr, length-append, length-take, length-drop, arith}
 use Rattle.std.proofs.lemmas.Bool.Decides.{nat_tests}
 use Rattle.std.proofs.lemmas.List.{take-append-drop}
-use Rattle.quic_base.specs.Number.{AreBytes}
 use Rattle.quic_fields.specs.declared.field.Span.{Span}
-use Rattle.quic_fields.specs.Spans.{AreInRow}
+use Rattle.quic_fields.specs.Spans.{AreInRow, AreNumbered}
 use Rattle.quic_fields.specs.Walk.{stored, last_end}
 use Rattle.quic_header_encode.specs.declared.long_type.HeaderKind.{HeaderKind}
 use Rattle.quic_header_encode.specs.declared.long_type.HeaderKind.TheVariants as kind
@@ -159,3 +158,29 @@ has_fields options bytes old mid new count end all last k first dst src token le
       stop = in_row_both 0 end last s.0 others (subst (AreInRow 0 s.0) (sym end_is) row.2)
           (subst (AreInRow end others) (sym others_ended) (after_in_row k count end (length bytes - end)));
     }
+
+-- ---- laws
+
+pub some_after : (h : ProtectedHeader) (index start : ℕ) (rest : List ℕ)
+    → (spans : List Span) × AreAfter h index start rest spans
+some_after (protected.VersionNegotiate random dst src) index start rest =
+    (after_at kind.VersionNegotiate index start (length rest), negotiation_is random dst src index start rest)
+some_after (protected.Retry dst src version) index start rest =
+    (after_at kind.Retry index start (length rest), retry_is dst src version index start rest)
+some_after (protected.Initial h) index start rest = ([], refl)
+some_after (protected.Long ty dst src len version) index start rest = ([], refl)
+some_after (protected.Short spin dst) index start rest = ([], refl)
+
+pub row_after : (h : ProtectedHeader) (index start : ℕ) (rest : List ℕ) (spans : List Span)
+    → AreAfter h index start rest spans
+    → (spans ≡ []) ⊎ (AreInRow start spans (start + length rest) × AreNumbered index spans)
+row_after (protected.VersionNegotiate random dst src) index start rest spans (inl a) =
+    rw (a.2) (inr ((refl, omega arith, refl), (refl, tt)))
+row_after (protected.VersionNegotiate random dst src) index start rest spans (inr a) = inl a.1
+row_after (protected.Retry dst src version) index start rest spans (inl a) =
+    let end : start + length a.0 + 16 ≡ start + length rest = omega (arith, ap length a.2, length-append a.0 a.1, a.3) in
+    rw (a.4) (inr ((refl, omega arith, (refl, omega arith, end)), (refl, (refl, tt))))
+row_after (protected.Retry dst src version) index start rest spans (inr a) = inl a.1
+row_after (protected.Initial h) index start rest spans a = inl a
+row_after (protected.Long ty dst src len version) index start rest spans a = inl a
+row_after (protected.Short spin dst) index start rest spans a = inl a

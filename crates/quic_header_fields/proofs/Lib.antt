@@ -7,3 +7,5 @@ mod Whole
 mod Readings
 mod HeaderLaws
 mod After
+mod EachKind
+mod Stopping

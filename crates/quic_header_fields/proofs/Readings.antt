@@ -73,7 +73,7 @@ same_read (Err (Invalid text)) other agrees none = agrees
 same_read (Err NoMemory) other agrees none = agrees
 
 -- the version that an unknown version's header says is the one by which its row is chosen
-not_unknown : (id_len : ℕ) (versions : List ℕ) (first : ℕ) (text : List ℕ) (version : ℕ) (dst src : List ℕ)
+pub not_unknown : (id_len : ℕ) (versions : List ℕ) (first : ℕ) (text : List ℕ) (version : ℕ) (dst src : List ℕ)
     → IsUnknownVersion (any_fixed id_len versions) (first ∷ text) version dst src
     → (is_long first ≡ true) × (is_known (any_fixed id_len versions) (num (take 4 text)) ≡ false)
 not_unknown id_len versions first text version dst src (rest, (f, number, split, long, is), some, none) =

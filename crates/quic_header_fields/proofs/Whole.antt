@@ -6,6 +6,7 @@ use Rattle.quic_fields.specs.Walk.{stored, last_end}
 use Rattle.quic_header_decode.specs.Grammar.{HeaderField, ShortId, header_row_of, is_long}
 use Rattle.quic_header_decode.specs.Reading.{DecodeOptions, word_at}
 use Rattle.quic_header_decode.proofs.Headers.{word_says}
+use Rattle.quic_header_fields.specs.Inside.{stop_at, stop_in_header}
 use Rattle.quic_header_fields.specs.Spans.{first_span, is_known}
 use Rattle.quic_header_fields.specs.Walk.{Walked, header_walk, walk_at}
 
@@ -48,3 +49,28 @@ whole_counted first spans walked count whole counted = omega (arith, ap length w
 pub whole_ended : (first : ℕ) (spans walked : List Span) (end : ℕ) → walked ≡ first_span first ∷ spans
     → end ≡ last_end 1 spans → end ≡ last_end 0 walked
 whole_ended first spans walked end whole ended = rw (whole) ended
+
+-- ---- where reading stops inside a field
+
+short_stop_known : (known : Bool) (options : DecodeOptions) (text : List ℕ)
+    → stop_at known options (ShortId ∷ []) [] text ≡ stop_at true options (ShortId ∷ []) [] text
+short_stop_known true options text = refl
+short_stop_known false options text = refl
+
+pub short_stop : (options : DecodeOptions) (first : ℕ) (text bytes : List ℕ) (fields : List HeaderField)
+    → bytes ≡ first ∷ text → is_long first ≡ false → fields ≡ header_row_of first 0
+    → stop_in_header options bytes ≡ stop_at true options fields [] text
+short_stop options first text bytes fields split short row =
+    let known = is_known options (num (take 4 text)) in
+    let same : stop_at known options (ShortId ∷ []) [] text ≡ stop_at true options (ShortId ∷ []) [] text =
+    short_stop_known known options text in
+    rw (split, row, short) same
+
+pub long_stop : (options : DecodeOptions) (first version : ℕ) (known : Bool) (text rest bytes : List ℕ)
+    (fields : List HeaderField)
+    → bytes ≡ first ∷ text → word_at text ≡ Some (version, rest) → known ≡ is_known options version
+    → fields ≡ header_row_of first version
+    → stop_in_header options bytes ≡ stop_at known options fields [] text
+long_stop options first version known text rest bytes fields split word is row =
+    let same : num (take 4 text) ≡ version = word_says text (version, rest) word in
+    rw (split, same, is, row) refl

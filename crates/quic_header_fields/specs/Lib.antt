@@ -1,4 +1,6 @@
 pub mod Kinds
 pub mod Spans
 pub mod Walk
+pub mod Inside
 pub mod After
+pub mod Headers

@@ -7,6 +7,7 @@ ghost use Rattle.quic_header_decode.specs.Grammar.{HeaderValue, Version, Destina
 ghost use Rattle.quic_header_decode.specs.Places.{any_fixed};
 ghost use Rattle.quic_header_decode.specs.Reading.{DecodeOptions, word_at, wide_id_at, long_id_at};
 ghost use Rattle.quic_header_fields.specs.Kinds.{field_of};
+ghost use Rattle.quic_header_fields.specs.Inside.{inside, inside_id, stop_at};
 ghost use Rattle.quic_header_fields.specs.Spans.{is_known};
 ghost use Rattle.quic_header_fields.specs.Walk.{FindsIn, field_in, seen_after, seen_of, with_value, walk_at};
 
@@ -271,6 +272,30 @@ fn read_field<'a>(
     }
 }
 
+// Where reading stops in an id that can't be read: at its length, or at the bytes after it.
+fn in_id(known: bool, bytes: &[u8]) -> (usize, u64)
+    ensures { result ≡ inside_id known bytes.now }
+{
+    let Some((n, _)) = bytes.split_first() else {
+        return (0, 0);
+    };
+    if known && usize::from(*n) > MAX_CID_SIZE {
+        return (0, 0);
+    }
+    (1, 1)
+}
+
+// The same of a field of any kind.
+fn stop_in(kind: Kind, known: bool, bytes: &[u8]) -> (usize, u64)
+    ensures { (version : ℕ) → result ≡ inside known (field_of version kind) bytes.now }
+{
+    match kind {
+        Kind::DestinationId => in_id(known, bytes),
+        Kind::SourceId => in_id(known, bytes),
+        _ => (0, 0),
+    }
+}
+
 // Stores a span, if there is room for it.
 pub(crate) fn put(room: &mut [Span], index: usize, span: Span)
     ensures { room.new ≡ slice_set room.old index span }
@@ -281,7 +306,8 @@ pub(crate) fn put(room: &mut [Span], index: usize, span: Span)
 }
 
 // Reads the fields in a row, of which the first has this index and begins at this offset, and stores their spans from
-// that index on. Returns how many fields were read with those before them, and where the last one ends.
+// that index on. Returns how many fields were read with those before them, where the last one ends, and where reading
+// stops inside the next one, if that can't be read.
 pub(crate) fn walk(
     kinds: &[Kind],
     given: Given,
@@ -291,7 +317,7 @@ pub(crate) fn walk(
     seen: Seen,
     bytes: &[u8],
     room: &mut [Span],
-) -> (usize, usize)
+) -> (usize, usize, usize, u64)
     requires fits { start + length bytes.now < 2 ^ 63 }
     requires few { index + length kinds.now < 2 ^ 32 }
     ensures spans { (before : List HeaderValue) → seen ≡ seen_of before
@@ -302,15 +328,19 @@ pub(crate) fn walk(
         (map (field_of given.version) kinds.now) before bytes.now).0 }
     ensures few { result.0 ≤ index + length kinds.now }
     ensures within { result.1 ≤ start + length bytes.now }
+    ensures inside { (before : List HeaderValue) → seen ≡ seen_of before
+        → (result.2, result.3) ≡ stop_at given.known (any_fixed given.id_len versions.now)
+        (map (field_of given.version) kinds.now) before bytes.now }
     ensures end { (before : List HeaderValue) → seen ≡ seen_of before
         → result.1 ≡ last_end start (walk_at given.known (any_fixed given.id_len versions.now) index start
         (map (field_of given.version) kinds.now) before bytes.now).0 }
 {
     let Some((kind, others)) = kinds.split_first() else {
-        return (index, start);
+        return (index, start, 0, 0);
     };
     let Some((number, seen, rest)) = read_field(*kind, given, versions, seen, bytes) else {
-        return (index, start);
+        let (inside, numbers) = stop_in(*kind, given.known, bytes);
+        return (index, start, inside, numbers);
     };
     let end = start + bytes.len().saturating_sub(rest.len());
     put(

@@ -2,6 +2,7 @@
 ghost use Rattle.std.specs.Prelude.{◌≡◌, ◌≤◌, length, None, IfSome};
 ghost use Rattle.quic_fields.specs.Walk.{stored, last_end};
 ghost use Rattle.quic_header_decode.specs.Places.{any_fixed, refusal_in, IsSeen};
+ghost use Rattle.quic_header_fields.specs.Inside.{stop_in_header};
 ghost use Rattle.quic_header_fields.specs.Walk.{header_walk, HasHeader, LacksHeader};
 
 use crate::field::{Given, Seen, is_known, put, walk, word};
@@ -20,23 +21,30 @@ pub struct Walked {
     pub end: usize,
     /// Why the next field can't be read; `None` if all were.
     pub fault: Option<ReadError>,
+    /// How many bytes of the field at fault come before the number or the bytes that can't be read: 1 in an id whose
+    /// length can be read.
+    pub inside: usize,
+    /// How many numbers these are.
+    pub numbers: u64,
 }
 
-// Reads the header at the front from left to right. Returns how many fields were read, and where the last one ends.
+// Reads the header at the front from left to right. Returns how many fields were read, where the last one
+// ends, and where reading stops inside the next one, if that can't be read.
 pub(crate) fn walk_header(
     bytes: &[u8],
     id_len: usize,
     versions: &[u32],
     room: &mut [Span],
-) -> (usize, usize)
+) -> (usize, usize, usize, u64)
     ensures spans { room.new ≡ stored 0 (header_walk (any_fixed id_len versions.now) bytes.now).0 room.old }
     ensures count { result.0 ≡ length (header_walk (any_fixed id_len versions.now) bytes.now).0 }
     ensures end { result.1 ≡ last_end 0 (header_walk (any_fixed id_len versions.now) bytes.now).0 }
+    ensures inside { (result.2, result.3) ≡ stop_in_header (any_fixed id_len versions.now) bytes.now }
     ensures few { result.0 ≤ 8 }
     ensures within { result.1 ≤ length bytes.now }
 {
     let Some((first, text)) = bytes.split_first() else {
-        return (0, 0);
+        return (0, 0, 0, 0);
     };
     let first = *first;
     put(
@@ -67,7 +75,7 @@ pub(crate) fn walk_header(
         );
     }
     let Some((version, _)) = word(text) else {
-        return (1, 1);
+        return (1, 1, 0, 0);
     };
     let known = is_known(version, versions);
     let given = Given {
@@ -102,14 +110,21 @@ pub fn header_spans(bytes: &[u8], id_len: usize, versions: &[u32], room: &mut [S
     ensures err { IfSome result.fault (λ reason. LacksHeader (any_fixed id_len versions.now) bytes.now room.old room.new
         result.count result.end (refusal_in bytes.now reason)) }
     ensures seen { IfSome result.fault (λ reason. IsSeen (Err reason) (length bytes.now)) }
+    ensures inside { (result.inside, result.numbers) ≡ stop_in_header (any_fixed id_len versions.now) bytes.now }
     ensures few { result.count ≤ 8 }
     ensures within { result.end ≤ length bytes.now }
 {
     let read = read_header(bytes, id_len, versions);
-    let (count, end) = walk_header(bytes, id_len, versions, room);
+    let (count, end, inside, numbers) = walk_header(bytes, id_len, versions, room);
     let fault = match read {
         Ok(_) => None,
         Err(e) => Some(e),
     };
-    Walked { count, end, fault }
+    Walked {
+        count,
+        end,
+        fault,
+        inside,
+        numbers,
+    }
 }

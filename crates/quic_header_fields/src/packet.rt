@@ -3,6 +3,7 @@ ghost use Rattle.std.specs.Prelude.{◌≡◌, ◌≤◌, ◌-◌, ◌+◌, leng
 ghost use Rattle.quic_fields.specs.Walk.{stored, last_end};
 ghost use Rattle.quic_header_decode.specs.Places.{any_fixed, refusal_in, IsSeen};
 ghost use Rattle.quic_header_fields.specs.After.{after_at, HasFields};
+ghost use Rattle.quic_header_fields.specs.Inside.{stop_in_header};
 ghost use Rattle.quic_header_fields.specs.Walk.{LacksHeader};
 
 use crate::field::put;
@@ -88,11 +89,12 @@ pub fn packet_spans(bytes: &[u8], id_len: usize, versions: &[u32], room: &mut [S
     ensures err { IfSome result.fault (λ reason. LacksHeader (any_fixed id_len versions.now) bytes.now room.old room.new
         result.count result.end (refusal_in bytes.now reason)) }
     ensures seen { IfSome result.fault (λ reason. IsSeen (Err reason) (length bytes.now)) }
+    ensures inside { (result.inside, result.numbers) ≡ stop_in_header (any_fixed id_len versions.now) bytes.now }
     ensures few { result.count ≤ 10 }
     ensures within { result.end ≤ length bytes.now }
 {
     let read = read_header(bytes, id_len, versions);
-    let (count, end) = walk_header(bytes, id_len, versions, room);
+    let (count, end, inside, numbers) = walk_header(bytes, id_len, versions, room);
     match read {
         Ok(x) => {
             let (all, last) = put_after(x.kind, count, end, bytes.len(), room);
@@ -100,12 +102,16 @@ pub fn packet_spans(bytes: &[u8], id_len: usize, versions: &[u32], room: &mut [S
                 count: all,
                 end: last,
                 fault: None,
+                inside,
+                numbers,
             }
         }
         Err(e) => Walked {
             count,
             end,
             fault: Some(e),
+            inside,
+            numbers,
         },
     }
 }

@@ -179,19 +179,35 @@ fn spans(rt: HostRuntime) -> Result<(), Fail> {
     checks.verdict()
 }
 
-// How many bytes ids of short headers have; bytes; the index of the field at fault, where it begins, and why.
-const REFUSED: &[(usize, &[u8], usize, usize, ReadError)] = &[
-    (0, b"", 0, 0, ReadError::UnexpectedEnd),
-    (0, b"\xc0\0\0", 1, 1, ReadError::UnexpectedEnd),
-    (0, b"\xc0\0\0\0\x01", 2, 5, ReadError::MalformedCid),
-    (0, b"\xc0\0\0\0\x01\x02\x01", 2, 5, ReadError::MalformedCid),
-    (0, b"\xc0\0\0\0\x01\x01\xaa", 3, 7, ReadError::MalformedCid),
+// How many bytes ids of short headers have; bytes; the index of the field at fault, where it begins, how many of its
+// bytes come before what is at fault, and why.
+const REFUSED: &[(usize, &[u8], usize, usize, usize, ReadError)] = &[
+    (0, b"", 0, 0, 0, ReadError::UnexpectedEnd),
+    (0, b"\xc0\0\0", 1, 1, 0, ReadError::UnexpectedEnd),
+    (0, b"\xc0\0\0\0\x01", 2, 5, 0, ReadError::MalformedCid),
+    (
+        0,
+        b"\xc0\0\0\0\x01\x02\x01",
+        2,
+        5,
+        1,
+        ReadError::MalformedCid,
+    ),
+    (
+        0,
+        b"\xc0\0\0\0\x01\x01\xaa",
+        3,
+        7,
+        0,
+        ReadError::MalformedCid,
+    ),
     // an id of 21 bytes, of a known version, of a version negotiation and of another version
     (
         0,
         b"\xc0\0\0\0\x01\x15\0\x01\x02\x03\x04\x05\x06\x07\x08\x09\x0a\x0b\x0c\x0d\x0e\x0f\x10\x11\x12\x13\x14\0\0\0",
         2,
         5,
+        0,
         ReadError::MalformedCid,
     ),
     (
@@ -199,6 +215,7 @@ const REFUSED: &[(usize, &[u8], usize, usize, ReadError)] = &[
         b"\xc0\0\0\0\0\0\x15\0\x01\x02\x03\x04\x05\x06\x07\x08\x09\x0a\x0b\x0c\x0d\x0e\x0f\x10\x11\x12\x13\x14\0\0\0",
         3,
         6,
+        0,
         ReadError::MalformedCid,
     ),
     (
@@ -206,6 +223,7 @@ const REFUSED: &[(usize, &[u8], usize, usize, ReadError)] = &[
         b"\xc0\0\0\0\x0a\x15\0\x01\x02\x03\x04\x05\x06\x07\x08\x09\x0a\x0b\x0c\x0d\x0e\x0f\x10\x11\x12\x13\x14\x01\xbb",
         4,
         29,
+        0,
         ReadError::UnsupportedVersion {
             version: 10,
             dst_len: 21,
@@ -218,14 +236,16 @@ const REFUSED: &[(usize, &[u8], usize, usize, ReadError)] = &[
         b"\xc0\0\0\0\x0a\x15\0\x01\x02\x03\x04\x05\x06\x07\x08\x09\x0a\x0b\x0c\x0d\x0e\x0f\x10\x11\x12\x13\x14\x01",
         3,
         27,
+        1,
         ReadError::MalformedCid,
     ),
-    (0, b"\xc0\0\0\0\x01\0\0", 5, 7, ReadError::UnexpectedEnd),
+    (0, b"\xc0\0\0\0\x01\0\0", 5, 7, 0, ReadError::UnexpectedEnd),
     (
         0,
         b"\xc0\0\0\0\x01\0\0\x05\x01",
         6,
         8,
+        0,
         ReadError::TokenOutOfBounds,
     ),
     (
@@ -233,16 +253,24 @@ const REFUSED: &[(usize, &[u8], usize, usize, ReadError)] = &[
         b"\xc0\0\0\0\x01\0\0\x01\xaa",
         7,
         9,
+        0,
         ReadError::UnexpectedEnd,
     ),
-    (0, b"\xe0\0\0\0\x01\0\0\x40", 5, 7, ReadError::UnexpectedEnd),
-    (4, b"\x40\x01\x02\x03", 1, 1, ReadError::SmallPacket),
+    (
+        0,
+        b"\xe0\0\0\0\x01\0\0\x40",
+        5,
+        7,
+        0,
+        ReadError::UnexpectedEnd,
+    ),
+    (4, b"\x40\x01\x02\x03", 1, 1, 0, ReadError::SmallPacket),
 ];
 
 #[test]
 fn faults(rt: HostRuntime) -> Result<(), Fail> {
     let mut checks = Checks::new(rt.alloc());
-    for (id_len, bytes, field, start, reason) in REFUSED {
+    for (id_len, bytes, field, start, inside, reason) in REFUSED {
         if *id_len > 20 {
             continue;
         }
@@ -251,6 +279,8 @@ fn faults(rt: HostRuntime) -> Result<(), Fail> {
         checks.same_at(bytes.len(), walked.fault, Some(*reason));
         checks.same_at(bytes.len(), walked.count, *field);
         checks.same_at(bytes.len(), walked.end, *start);
+        checks.same_at(bytes.len(), walked.inside, *inside);
+        checks.same_at(bytes.len(), walked.numbers, *inside as u64);
     }
     checks.verdict()
 }

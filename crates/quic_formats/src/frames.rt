@@ -1,0 +1,185 @@
+//! The types of frames.
+use crate::frame_names::{FRAMES, GREATEST, Label, Names, RANGES};
+use crate::line::Line;
+use quic_base::coding::{BufMutExt, Codec};
+use quic_base::ids::Side;
+use quic_base::varint::VarInt;
+use quic_fields::row::{Kind, row};
+use quic_frames::frame::{Frame, FrameType, Iter, Rules};
+use quic_permitted::permitted::{PacketType, Part, Permission};
+use std::alloc::{AllocError, Global};
+use std::test::Fail;
+
+const PACKETS: [(PacketType, &str); 4] = [
+    (PacketType::Initial, "Initial"),
+    (PacketType::Handshake, "Handshake"),
+    (PacketType::ZeroRtt, "0-RTT"),
+    (PacketType::OneRtt, "1-RTT"),
+];
+
+/// A line for each type.
+pub(crate) fn lines(alloc: Global) -> Result<Vec<Line>, Fail> {
+    let mut lines = Vec::new(alloc);
+    for names in FRAMES {
+        let (first, last) = names.types;
+        for ty in first..=last {
+            lines.push(line(alloc, ty, names)?)?;
+        }
+    }
+    if lines.len() != count_of_rows() {
+        return Err("a type of frames has no names".into());
+    }
+    Ok(lines)
+}
+
+// How many types have a row.
+fn count_of_rows() -> usize {
+    (0..=u16::MAX).filter(|ty| row(u64::from(*ty)).is_some()).count()
+}
+
+fn line(alloc: Global, ty: u16, names: &Names) -> Result<Line, Fail> {
+    let number = u64::from(ty);
+    let Some(kinds) = row(number) else {
+        return Err("no frame has a type that has names".into());
+    };
+    if kinds.len() != names.fields.len() {
+        return Err("a row has other fields than names".into());
+    }
+    let mut line = Line::new(alloc)?;
+    line.number("type", number)?;
+    line.text("name", names.name)?;
+    let alias = FrameType::of(number).to_string(alloc)?;
+    if alias.as_str() != names.name {
+        line.text("quinn_proto", alias.as_str())?;
+    }
+    line.text("section", names.section)?;
+    write_permission(&mut line, number)?;
+    write_spec(&mut line, alloc, ty, kinds, names.spec)?;
+    line.open("fields", "[")?;
+    write_fields(&mut line, ty, kinds, names.fields)?;
+    line.close("]}")?;
+    Ok(line)
+}
+
+// Where a frame may be.
+fn write_permission(line: &mut Line, ty: u64) -> Result<(), Fail> {
+    let Some(permission) = Permission::of_type(ty, Rules::default()) else {
+        return Err("a type has no row of packets".into());
+    };
+    line.open("packets", "[")?;
+    for (packet, name) in PACKETS {
+        if packet.may_carry(permission.packets) {
+            line.word(name)?;
+        }
+    }
+    line.close("]")?;
+    line.open("senders", "[")?;
+    for (side, name) in [(Side::Client, "client"), (Side::Server, "server")] {
+        if permission.may_send(side) {
+            line.word(name)?;
+        }
+    }
+    line.close("]")?;
+    match permission.part {
+        Part::None => {}
+        Part::SendsData => line.text("stream", "sends data")?,
+        Part::ReceivesData => line.text("stream", "receives data")?,
+    }
+    if Permission::of_type(ty, Rules::RFC).is_none() {
+        line.text("extension", "ack-frequency")?;
+    }
+    Ok(())
+}
+
+// The rules of table 3. N is compared with what is proved of a frame of the type.
+fn write_spec(
+    line: &mut Line,
+    alloc: Global,
+    ty: u16,
+    kinds: &[Kind],
+    spec: &str,
+) -> Result<(), Fail> {
+    let bytes = sample(alloc, ty, kinds, 0, 0)?;
+    let (eliciting, _) = read(bytes.as_slice())?;
+    if eliciting == spec.contains('N') {
+        return Err("table 3 has another N".into());
+    }
+    line.text("spec", spec)?;
+    line.flag("ack_eliciting", eliciting)?;
+    line.flag("in_flight", eliciting || ty == 0x00)?;
+    line.flag("probing", spec.contains('P'))?;
+    line.flag("flow_controlled", spec.contains('F'))?;
+    Ok(())
+}
+
+// A frame of a type, whose numbers are 0 except for the field with an index.
+fn sample(
+    alloc: Global,
+    ty: u16,
+    kinds: &[Kind],
+    index: usize,
+    number: u64,
+) -> Result<Vec<u8>, Fail> {
+    let mut bytes = Vec::new(alloc);
+    bytes.write(VarInt::from_u64(u64::from(ty))?)?;
+    for (at, kind) in kinds.iter().enumerate() {
+        match kind {
+            Kind::Varint if at + 1 == index => bytes.write(VarInt::from_u64(number)?)?,
+            Kind::Varint | Kind::Counted => bytes.push(0)?,
+            Kind::Id => bytes.extend_from_slice(&[1, 0])?,
+            Kind::Uint64 => bytes.extend_from_slice(&[0; 8])?,
+            Kind::Bytes16 => bytes.extend_from_slice(&[0; 16])?,
+            Kind::Blocks => bytes.extend_from_slice(&[0, 0])?,
+            Kind::Rest | Kind::Implied(_) | Kind::Ordered => {}
+        }
+    }
+    Ok(bytes)
+}
+
+// Whether the frame of a payload is ack-eliciting, and whether it keeps RFC 9000's rules.
+fn read(payload: &[u8]) -> Result<(bool, bool), Fail> {
+    let Ok(mut frames) = Iter::new(payload) else {
+        return Err("a sample is empty".into());
+    };
+    let Some(Ok(frame)) = frames.next() else {
+        return Err("a sample is no frame".into());
+    };
+    Ok((frame.is_ack_eliciting(), Rules::RFC.breach(&frame).is_none()))
+}
+
+fn write_fields(line: &mut Line, ty: u16, kinds: &[Kind], labels: &[Label]) -> Result<(), Fail> {
+    line.item()?;
+    line.number("index", 0)?;
+    line.text("kind", "number")?;
+    line.named("Type")?;
+    line.text("unit", "frame type")?;
+    line.close("}")?;
+    for (at, (kind, label)) in kinds.iter().zip(labels).enumerate() {
+        write_field(line, at as u64 + 1, *kind, label)?;
+        line.close("}")?;
+    }
+    Ok(())
+}
+
+fn write_field(line: &mut Line, index: u64, kind: Kind, label: &Label) -> Result<(), Fail> {
+    line.item()?;
+    line.number("index", index)?;
+    line.text("kind", kind_name(kind))?;
+    line.named(label.0)?;
+    line.text_if_any("unit", label.1)?;
+    Ok(())
+}
+
+fn kind_name(kind: Kind) -> &'static str {
+    match kind {
+        Kind::Varint => "number",
+        Kind::Counted => "counted",
+        Kind::Id => "id",
+        Kind::Uint64 => "uint64",
+        Kind::Bytes16 => "bytes",
+        Kind::Blocks => "ranges",
+        Kind::Rest => "rest",
+        Kind::Implied(_) => "implied",
+        Kind::Ordered => "ordered",
+    }
+}

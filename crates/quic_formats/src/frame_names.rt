@@ -36,6 +36,9 @@ pub(crate) const RANGES: [Label; 4] = [
     Label("ACK Range Length", "packets", ""),
 ];
 
+// A rule on the fields before it.
+const NO_BYTES: Label = Label("", "", "");
+
 const STREAM_ID: Label = Label("Stream ID", "stream id", "");
 
 const APPLICATION_CODE: Label = Label(
@@ -108,7 +111,11 @@ pub(crate) const FRAMES: &[Names] = &[
         name: "RESET_STREAM",
         section: "RFC 9000, section 19.4",
         spec: "",
-        fields: &[STREAM_ID, APPLICATION_CODE, Label("Final Size", "bytes", "")],
+        fields: &[
+            STREAM_ID,
+            APPLICATION_CODE,
+            Label("Final Size", "bytes", ""),
+        ],
     },
     Names {
         types: (0x05, 0x05),
@@ -193,7 +200,7 @@ pub(crate) const FRAMES: &[Names] = &[
         fields: &[
             SEQUENCE_NUMBER,
             Label("Retire Prior To", "sequence number", ""),
-            Label("Retire Prior To", "", ""),
+            NO_BYTES,
             Label("Connection ID", "", "Length"),
             Label("Stateless Reset Token", "", ""),
         ],

@@ -1,13 +1,13 @@
 //! The types of frames.
 use crate::frame_names::{FRAMES, GREATEST, Label, Names, RANGES};
 use crate::line::Line;
-use quic_base::coding::{BufMutExt, Codec};
+use quic_base::coding::BufMutExt;
 use quic_base::ids::Side;
 use quic_base::varint::VarInt;
 use quic_fields::row::{Kind, row};
-use quic_frames::frame::{Frame, FrameType, Iter, Rules};
+use quic_frames::frame::{FrameType, Iter, Rules};
 use quic_permitted::permitted::{PacketType, Part, Permission};
-use std::alloc::{AllocError, Global};
+use std::alloc::Global;
 use std::test::Fail;
 
 const PACKETS: [(PacketType, &str); 4] = [
@@ -32,9 +32,11 @@ pub(crate) fn lines(alloc: Global) -> Result<Vec<Line>, Fail> {
     Ok(lines)
 }
 
-// How many types have a row.
+// How many types of one or two bytes have a row.
 fn count_of_rows() -> usize {
-    (0..=u16::MAX).filter(|ty| row(u64::from(*ty)).is_some()).count()
+    (0..0x4000u16)
+        .filter(|ty| row(u64::from(*ty)).is_some())
+        .count()
 }
 
 fn line(alloc: Global, ty: u16, names: &Names) -> Result<Line, Fail> {
@@ -48,7 +50,8 @@ fn line(alloc: Global, ty: u16, names: &Names) -> Result<Line, Fail> {
     let mut line = Line::new(alloc)?;
     line.number("type", number)?;
     line.text("name", names.name)?;
-    let alias = FrameType::of(number).to_string(alloc)?;
+    let ty_name = FrameType::of(number);
+    let alias = format!(in alloc; "{ty_name}")?;
     if alias.as_str() != names.name {
         line.text("quinn_proto", alias.as_str())?;
     }
@@ -56,7 +59,7 @@ fn line(alloc: Global, ty: u16, names: &Names) -> Result<Line, Fail> {
     write_permission(&mut line, number)?;
     write_spec(&mut line, alloc, ty, kinds, names.spec)?;
     line.open("fields", "[")?;
-    write_fields(&mut line, ty, kinds, names.fields)?;
+    write_fields(&mut line, alloc, ty, kinds, names.fields)?;
     line.close("]}")?;
     Ok(line)
 }
@@ -124,7 +127,9 @@ fn sample(
     bytes.write(VarInt::from_u64(u64::from(ty))?)?;
     for (at, kind) in kinds.iter().enumerate() {
         match kind {
-            Kind::Varint if at + 1 == index => bytes.write(VarInt::from_u64(number)?)?,
+            Kind::Varint if at.saturating_add(1) == index => bytes.write(VarInt::from_u64(
+                number,
+            )?)?,
             Kind::Varint | Kind::Counted => bytes.push(0)?,
             Kind::Id => bytes.extend_from_slice(&[1, 0])?,
             Kind::Uint64 => bytes.extend_from_slice(&[0; 8])?,
@@ -144,33 +149,86 @@ fn read(payload: &[u8]) -> Result<(bool, bool), Fail> {
     let Some(Ok(frame)) = frames.next() else {
         return Err("a sample is no frame".into());
     };
-    Ok((frame.is_ack_eliciting(), Rules::RFC.breach(&frame).is_none()))
+    Ok((
+        frame.is_ack_eliciting(),
+        Rules::RFC.breach(&frame).is_none(),
+    ))
 }
 
-fn write_fields(line: &mut Line, ty: u16, kinds: &[Kind], labels: &[Label]) -> Result<(), Fail> {
-    line.item()?;
-    line.number("index", 0)?;
-    line.text("kind", "number")?;
+fn write_fields(
+    line: &mut Line,
+    alloc: Global,
+    ty: u16,
+    kinds: &[Kind],
+    labels: &[Label],
+) -> Result<(), Fail> {
+    line.field(0, "number")?;
     line.named("Type")?;
     line.text("unit", "frame type")?;
     line.close("}")?;
-    for (at, (kind, label)) in kinds.iter().zip(labels).enumerate() {
-        write_field(line, at as u64 + 1, *kind, label)?;
+    let mut index: usize = 0;
+    for (kind, label) in kinds.iter().zip(labels) {
+        index = index.saturating_add(1);
+        write_field(line, index, *kind, *label)?;
+        if let Some(most) = greatest(alloc, ty, kinds, index)? {
+            line.number("max", most)?;
+        }
         line.close("}")?;
     }
     Ok(())
 }
 
-fn write_field(line: &mut Line, index: u64, kind: Kind, label: &Label) -> Result<(), Fail> {
-    line.item()?;
-    line.number("index", index)?;
-    line.text("kind", kind_name(kind))?;
+// The field, except for its end.
+fn write_field(line: &mut Line, index: usize, kind: Kind, label: Label) -> Result<(), Fail> {
+    line.field(index, name_of(kind))?;
+    if kind == Kind::Ordered {
+        line.open("at_most", "{")?;
+        line.number("field", index.saturating_sub(1) as u64)?;
+        line.number("of", index.saturating_sub(2) as u64)?;
+        line.close("}")?;
+        return Ok(());
+    }
+    write_label(line, label)?;
+    match kind {
+        Kind::Counted => write_length(line, label.2)?,
+        Kind::Id => {
+            write_length(line, label.2)?;
+            line.bytes(1, 20)?;
+        }
+        Kind::Uint64 => line.bytes(8, 8)?,
+        Kind::Bytes16 => line.bytes(16, 16)?,
+        Kind::Implied(value) => line.number("value", value)?,
+        Kind::Blocks => write_ranges(line)?,
+        Kind::Varint | Kind::Rest | Kind::Ordered => {}
+    }
+    Ok(())
+}
+
+fn write_label(line: &mut Line, label: Label) -> Result<(), Fail> {
     line.named(label.0)?;
     line.text_if_any("unit", label.1)?;
     Ok(())
 }
 
-fn kind_name(kind: Kind) -> &'static str {
+fn write_length(line: &mut Line, name: &str) -> Result<(), Fail> {
+    line.open("length", "{")?;
+    line.named(name)?;
+    line.close("}")?;
+    Ok(())
+}
+
+fn write_ranges(line: &mut Line) -> Result<(), Fail> {
+    line.open("numbers", "[")?;
+    for label in RANGES {
+        line.item()?;
+        write_label(line, label)?;
+        line.close("}")?;
+    }
+    line.close("]")?;
+    Ok(())
+}
+
+fn name_of(kind: Kind) -> &'static str {
     match kind {
         Kind::Varint => "number",
         Kind::Counted => "counted",
@@ -182,4 +240,25 @@ fn kind_name(kind: Kind) -> &'static str {
         Kind::Implied(_) => "implied",
         Kind::Ordered => "ordered",
     }
+}
+
+// The greatest number of a field, if RFC 9000 limits it. It is compared with what is proved of the rules.
+fn greatest(alloc: Global, ty: u16, kinds: &[Kind], index: usize) -> Result<Option<u64>, Fail> {
+    for (limited, field, most) in GREATEST {
+        if limited == ty && field == index {
+            let (_, keeps) = read(sample(alloc, ty, kinds, index, most)?.as_slice())?;
+            let (_, keeps_more) = read(sample(
+                alloc,
+                ty,
+                kinds,
+                index,
+                most.saturating_add(1),
+            )?.as_slice())?;
+            if !keeps || keeps_more {
+                return Err("a field has another greatest number".into());
+            }
+            return Ok(Some(most));
+        }
+    }
+    Ok(None)
 }

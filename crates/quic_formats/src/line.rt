@@ -39,6 +39,13 @@ impl Line {
         self.text.push_str(bracket)
     }
 
+    /// Begins a field in a list.
+    pub(crate) fn field(&mut self, index: usize, kind: &str) -> Result<(), AllocError> {
+        self.item()?;
+        self.number("index", index as u64)?;
+        self.text("kind", kind)
+    }
+
     /// Begins an object in a list.
     pub(crate) fn item(&mut self) -> Result<(), AllocError> {
         self.separate()?;
@@ -94,13 +101,23 @@ impl Line {
         write!(self.text, "\"{value}\"")
     }
 
+    /// A number in a list.
+    pub(crate) fn value(&mut self, value: u64) -> Result<(), AllocError> {
+        self.separate()?;
+        write!(self.text, "{value}")
+    }
+
     /// The members `name`, a name in an RFC, and `key`, the same in small letters with underscores.
     pub(crate) fn named(&mut self, name: &str) -> Result<(), AllocError> {
         self.text("name", name)?;
         self.name("key")?;
         self.text.push_str("\"")?;
         for c in name.chars() {
-            let c = if c.is_ascii_alphanumeric() { c.to_ascii_lowercase() } else { '_' };
+            let c = if c.is_ascii_alphanumeric() {
+                c.to_ascii_lowercase()
+            } else {
+                '_'
+            };
             self.text.push(c)?;
         }
         self.text.push_str("\"")

@@ -190,9 +190,9 @@ fn write_field(line: &mut Line, index: usize, kind: Kind, label: Label) -> Resul
     }
     write_label(line, label)?;
     match kind {
-        Kind::Counted => write_length(line, label.2)?,
+        Kind::Counted => line.length_if_any(label.2)?,
         Kind::Id => {
-            write_length(line, label.2)?;
+            line.length_if_any(label.2)?;
             line.bytes(1, 20)?;
         }
         Kind::Uint64 => line.bytes(8, 8)?,
@@ -207,13 +207,6 @@ fn write_field(line: &mut Line, index: usize, kind: Kind, label: Label) -> Resul
 fn write_label(line: &mut Line, label: Label) -> Result<(), Fail> {
     line.named(label.0)?;
     line.text_if_any("unit", label.1)?;
-    Ok(())
-}
-
-fn write_length(line: &mut Line, name: &str) -> Result<(), Fail> {
-    line.open("length", "{")?;
-    line.named(name)?;
-    line.close("}")?;
     Ok(())
 }
 

@@ -77,16 +77,34 @@ pub(crate) const ONE_RTT: Names = Names {
     after: &[NUMBER, PAYLOAD],
 };
 
-/// The kind of a field, its name, the least and the most bytes; 0 at most if these are open.
-pub(crate) fn field_of(kind: Kind) -> (&'static str, &'static str, u64, u64) {
+/// A field: its kind, its name, the name of its length, the least and the most bytes; 0 at most if these are open.
+pub(crate) struct Field(
+    pub &'static str,
+    pub &'static str,
+    pub &'static str,
+    pub u64,
+    pub u64,
+);
+
+/// What the fields of a header's row are.
+pub(crate) fn field_of(kind: Kind) -> Field {
+    let destination = "Destination Connection ID";
     match kind {
-        Kind::Version => ("uint32", "Version", 4, 4),
-        Kind::DestinationId => ("id", "Destination Connection ID", 0, 20),
-        Kind::SourceId => ("id", "Source Connection ID", 0, 20),
-        Kind::Supported => ("supported", "Version", 0, 0),
-        Kind::TokenLength => ("number", "Token Length", 0, 0),
-        Kind::Token => ("token", "Token", 0, 0),
-        Kind::Length => ("number", "Length", 0, 0),
-        Kind::ShortId => ("short_id", "Destination Connection ID", 0, 20),
+        Kind::Version => Field("uint32", "Version", "", 4, 4),
+        Kind::DestinationId => Field("id", destination, "Destination Connection ID Length", 0, 20),
+        Kind::SourceId => {
+            Field(
+                "id",
+                "Source Connection ID",
+                "Source Connection ID Length",
+                0,
+                20,
+            )
+        }
+        Kind::Supported => Field("supported", "Version", "", 0, 0),
+        Kind::TokenLength => Field("number", "Token Length", "", 0, 0),
+        Kind::Token => Field("token", "Token", "", 0, 0),
+        Kind::Length => Field("number", "Length", "", 0, 0),
+        Kind::ShortId => Field("short_id", destination, "", 0, 20),
     }
 }

@@ -1,6 +1,6 @@
 //! The headers of packets.
 use crate::header_names::{
-    Bits, HANDSHAKE, INITIAL, NEGOTIATION, Names, ONE_RTT, RETRY, ZERO_RTT, field_of,
+    Bits, Field, HANDSHAKE, INITIAL, NEGOTIATION, Names, ONE_RTT, RETRY, ZERO_RTT, field_of,
 };
 use crate::line::Line;
 use quic_header_encode::long_type::{
@@ -106,9 +106,10 @@ fn write_fields(line: &mut Line, kinds: &[Kind]) -> Result<(), Fail> {
     let mut index: usize = 0;
     for kind in kinds {
         index = index.saturating_add(1);
-        let (kind, name, least, most) = field_of(*kind);
+        let Field(kind, name, length, least, most) = field_of(*kind);
         line.field(index, kind)?;
         line.named(name)?;
+        line.length_if_any(length)?;
         write_bytes(line, least, most)?;
         line.close("}")?;
     }

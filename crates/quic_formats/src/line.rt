@@ -101,10 +101,14 @@ impl Line {
         write!(self.text, "\"{value}\"")
     }
 
-    /// A number in a list.
-    pub(crate) fn value(&mut self, value: u64) -> Result<(), AllocError> {
-        self.separate()?;
-        write!(self.text, "{value}")
+    /// The member `length`, if a field's length has a name.
+    pub(crate) fn length_if_any(&mut self, name: &str) -> Result<(), AllocError> {
+        if name.is_empty() {
+            return Ok(());
+        }
+        self.open("length", "{")?;
+        self.named(name)?;
+        self.close("}")
     }
 
     /// The members `name`, a name in an RFC, and `key`, the same in small letters with underscores.

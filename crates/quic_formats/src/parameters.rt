@@ -133,9 +133,9 @@ fn write_number(line: &mut Line, alloc: Global, names: &Names, number: VarInt) -
             most
         }
         Most::Times(times) => {
-            line.open("max", "{")?;
+            line.open("max_of", "{")?;
             line.number("times", times)?;
-            line.text("of", "max_ack_delay")?;
+            line.text("parameter", "max_ack_delay")?;
             line.close("}")?;
             let delay = TransportParameters::default().max_ack_delay.into_inner();
             times.saturating_mul(delay)
@@ -220,9 +220,7 @@ pub(crate) fn address_lines(alloc: Global) -> Result<Vec<Line>, Fail> {
         line.named(name)?;
         if least < most {
             line.text("kind", "id")?;
-            line.open("length", "{")?;
-            line.named("Connection ID Length")?;
-            line.close("}")?;
+            line.length_if_any("Connection ID Length")?;
         } else {
             line.text("kind", "bytes")?;
         }

@@ -108,10 +108,8 @@ pub(crate) fn code_lines(alloc: Global) -> Result<Vec<Line>, Fail> {
     }
     let (first, last) = (Code::crypto(0), Code::crypto(u8::MAX));
     let mut line = Line::new(alloc)?;
-    line.open("codes", "[")?;
-    line.value(u64::from(first))?;
-    line.value(u64::from(last))?;
-    line.close("]")?;
+    line.number("code", u64::from(first))?;
+    line.number("last", u64::from(last))?;
     line.text("name", "CRYPTO_ERROR")?;
     line.text("section", "RFC 9001, section 4.8")?;
     line.close("}")?;

@@ -59,10 +59,11 @@ struct Sample {
 
 // The first of several values that the reader accepts.
 fn sample(alloc: Global, names: &Names) -> Result<Sample, Fail> {
-    let ones: Vec<u8> = vec![in alloc; 1; address_size()]?;
-    let ones = ones.as_slice();
-    let token = ones.get(..16).unwrap_or_default();
-    let values: [&[u8]; 5] = [&[], &[7], &[0x47, 0xff], token, ones];
+    let ones = [1u8; 64];
+    let (Some(token), Some(address)) = (ones.get(..16), ones.get(..address_size())) else {
+        return Err("a preferred address is longer".into());
+    };
+    let values: [&[u8]; 5] = [&[], &[7], &[0x47, 0xff], token, address];
     for value in values {
         let entry = entry_of(alloc, names.number, value)?;
         if let Ok(read) = read(Side::Client, entry.as_slice()) {

@@ -17,6 +17,11 @@ const PACKETS: [(PacketType, &str); 4] = [
     (PacketType::OneRtt, "1-RTT"),
 ];
 
+// The least and the most bytes of an id in a frame.
+const LEAST_ID: u64 = 1;
+
+const MOST_ID: u64 = 20;
+
 /// A line for each type.
 pub(crate) fn lines(alloc: Global) -> Result<Vec<Line>, Fail> {
     let mut lines = Vec::new(alloc);
@@ -103,7 +108,9 @@ fn write_spec(
     spec: &str,
 ) -> Result<(), Fail> {
     let bytes = sample(alloc, ty, kinds, 0, 0)?;
-    let (eliciting, _) = read(bytes.as_slice())?;
+    let Some((eliciting, _)) = read(bytes.as_slice()) else {
+        return Err("a row isn't that of a frame".into());
+    };
     if eliciting == spec.contains('N') {
         return Err("table 3 has another N".into());
     }
@@ -131,7 +138,8 @@ fn sample(
                 number,
             )?)?,
             Kind::Varint | Kind::Counted => bytes.push(0)?,
-            Kind::Id => bytes.extend_from_slice(&[1, 0])?,
+            Kind::Id if at.saturating_add(1) == index => write_id(&mut bytes, number)?,
+            Kind::Id => write_id(&mut bytes, LEAST_ID)?,
             Kind::Uint64 => bytes.extend_from_slice(&[0; 8])?,
             Kind::Bytes16 => bytes.extend_from_slice(&[0; 16])?,
             Kind::Blocks => bytes.extend_from_slice(&[0, 0])?,
@@ -141,15 +149,25 @@ fn sample(
     Ok(bytes)
 }
 
-// Whether the frame of a payload is ack-eliciting, and whether it keeps RFC 9000's rules.
-fn read(payload: &[u8]) -> Result<(bool, bool), Fail> {
+// An id of so many bytes.
+fn write_id(bytes: &mut Vec<u8>, len: u64) -> Result<(), Fail> {
+    bytes.write(VarInt::from_u64(len)?)?;
+    for _ in 0..len {
+        bytes.push(0)?;
+    }
+    Ok(())
+}
+
+// Whether the frame of a payload, which has no other, is ack-eliciting, and whether it keeps RFC 9000's rules. `None`
+// if the payload isn't one frame.
+fn read(payload: &[u8]) -> Option<(bool, bool)> {
     let Ok(mut frames) = Iter::new(payload) else {
-        return Err("a sample is empty".into());
+        return None;
     };
-    let Some(Ok(frame)) = frames.next() else {
-        return Err("a sample is no frame".into());
+    let (Some(Ok(frame)), None) = (frames.next(), frames.next()) else {
+        return None;
     };
-    Ok((
+    Some((
         frame.is_ack_eliciting(),
         Rules::RFC.breach(&frame).is_none(),
     ))
@@ -169,6 +187,9 @@ fn write_fields(
     let mut index: usize = 0;
     for (kind, label) in kinds.iter().zip(labels) {
         index = index.saturating_add(1);
+        if *kind == Kind::Id {
+            check_id(alloc, ty, kinds, index)?;
+        }
         write_field(line, index, *kind, *label)?;
         if let Some(most) = greatest(alloc, ty, kinds, index)? {
             line.number("max", most)?;
@@ -193,13 +214,24 @@ fn write_field(line: &mut Line, index: usize, kind: Kind, label: Label) -> Resul
         Kind::Counted => line.length_if_any(label.2)?,
         Kind::Id => {
             line.length_if_any(label.2)?;
-            line.bytes(1, 20)?;
+            line.bytes(LEAST_ID, MOST_ID)?;
         }
         Kind::Uint64 => line.bytes(8, 8)?,
         Kind::Bytes16 => line.bytes(16, 16)?,
         Kind::Implied(value) => line.number("value", value)?,
         Kind::Blocks => write_ranges(line)?,
         Kind::Varint | Kind::Rest | Kind::Ordered => {}
+    }
+    Ok(())
+}
+
+// Compares the bounds of an id's length with what is read.
+fn check_id(alloc: Global, ty: u16, kinds: &[Kind], index: usize) -> Result<(), Fail> {
+    for len in LEAST_ID - 1..=MOST_ID + 1 {
+        let is_read = read(sample(alloc, ty, kinds, index, len)?.as_slice()).is_some();
+        if is_read != (LEAST_ID <= len && len <= MOST_ID) {
+            return Err("an id has other bounds".into());
+        }
     }
     Ok(())
 }
@@ -239,17 +271,12 @@ fn name_of(kind: Kind) -> &'static str {
 fn greatest(alloc: Global, ty: u16, kinds: &[Kind], index: usize) -> Result<Option<u64>, Fail> {
     for (limited, field, most) in GREATEST {
         if limited == ty && field == index {
-            let (_, keeps) = read(sample(alloc, ty, kinds, index, most)?.as_slice())?;
-            let (_, keeps_more) = read(sample(
-                alloc,
-                ty,
-                kinds,
-                index,
-                most.saturating_add(1),
-            )?.as_slice())?;
-            if !keeps || keeps_more {
+            let at_most = sample(alloc, ty, kinds, index, most)?;
+            let above = sample(alloc, ty, kinds, index, most.saturating_add(1))?;
+            let readings = (read(at_most.as_slice()), read(above.as_slice()));
+            let (Some((_, true)), Some((_, false))) = readings else {
                 return Err("a field has another greatest number".into());
-            }
+            };
             return Ok(Some(most));
         }
     }

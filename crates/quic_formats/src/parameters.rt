@@ -14,6 +14,9 @@ use std::test::Fail;
 // The greatest number (RFC 9000, section 16).
 const GREATEST: u64 = (1 << 62) - 1;
 
+// More bytes than a value has.
+const ONES: [u8; 64] = [1; 64];
+
 /// A line for each parameter.
 pub(crate) fn lines(alloc: Global) -> Result<Vec<Line>, Fail> {
     let mut lines = Vec::new(alloc);
@@ -59,8 +62,7 @@ struct Sample {
 
 // The first of several values that the reader accepts.
 fn sample(alloc: Global, names: &Names) -> Result<Sample, Fail> {
-    let ones = [1u8; 64];
-    let (Some(token), Some(address)) = (ones.get(..16), ones.get(..address_size())) else {
+    let (Some(token), Some(address)) = (ONES.get(..16), ONES.get(..address_size())) else {
         return Err("a preferred address is longer".into());
     };
     let values: [&[u8]; 5] = [&[], &[7], &[0x47, 0xff], token, address];
@@ -104,18 +106,38 @@ fn write_value(line: &mut Line, alloc: Global, names: &Names, value: Value) -> R
         }
         Value::Flag => {
             line.text("kind", "flag")?;
-            line.bytes(0, 0)?;
+            write_bytes(line, alloc, names, 0, 0)?;
         }
         Value::Token(_) => {
             line.text("kind", "bytes")?;
-            line.bytes(16, 16)?;
+            write_bytes(line, alloc, names, 16, 16)?;
         }
         Value::Id(_) => {
             line.text("kind", "id")?;
-            line.bytes(0, 20)?;
+            write_bytes(line, alloc, names, 0, 20)?;
         }
         Value::Address(_) => line.text("kind", "preferred_address")?,
     }
+    Ok(())
+}
+
+// The least and the most bytes of a value, which are compared with what is accepted.
+fn write_bytes(
+    line: &mut Line,
+    alloc: Global,
+    names: &Names,
+    least: usize,
+    most: usize,
+) -> Result<(), Fail> {
+    for len in 0..=64usize {
+        let value = ONES.get(..len).unwrap_or_default();
+        let entry = entry_of(alloc, names.number, value)?;
+        let is_accepted = read(Side::Client, entry.as_slice()).is_ok();
+        if is_accepted != (least <= len && len <= most) {
+            return Err("a transport parameter has other bounds".into());
+        }
+    }
+    line.bytes(least as u64, most as u64)?;
     Ok(())
 }
 

@@ -53,7 +53,7 @@ NAMES = {
     "data_offset": "Offset",
     "ecn_ce_count": "ECN-CE Count",
     "ack_eliciting_threshold": "Ack-Eliciting Threshold",
-    "request_max_ack_delay": "Request Max Ack Delay",
+    "request_max_ack_delay": "Requested Max Ack Delay",
 }
 LENGTHS = {"Token": "Token Length", "Reason Phrase": "Reason Phrase Length"}
 COUNTS = ["ECT0 Count (i)", "ECT1 Count (i)", "ECN-CE Count (i)"]

@@ -67,6 +67,7 @@ macro_rules! programs {
 
 programs! {
     quic_example
+    quic_formats
     quic_replay
     quic_replay_calls
     quic_replay_packets

@@ -39,9 +39,13 @@ pub(crate) fn lines(alloc: Global) -> Result<Vec<Line>, Fail> {
 
 // How many types of one or two bytes have a row.
 fn count_of_rows() -> usize {
-    (0..0x4000u16)
-        .filter(|ty| row(u64::from(*ty)).is_some())
-        .count()
+    let mut count: usize = 0;
+    for ty in 0..0x4000u16 {
+        if row(u64::from(ty)).is_some() {
+            count = count.saturating_add(1);
+        }
+    }
+    count
 }
 
 fn line(alloc: Global, ty: u16, names: &Names) -> Result<Line, Fail> {

@@ -38,19 +38,27 @@ fn line(alloc: Global, names: &Names) -> Result<Line, Fail> {
     line.text("name", names.name)?;
     line.text_if_any("quinn_proto", names.alias)?;
     line.text("section", names.section)?;
-    let found = sample(alloc, names)?;
-    match found.value {
+    let Sample { entry, value } = accepted(alloc, names)?;
+    match value {
         Some(value) => write_value(&mut line, alloc, names, value)?,
         None => line.text("kind", "skipped")?,
     }
-    write_rules(&mut line, alloc, found.entry.as_slice())?;
-    let order = TransportParameterId::SUPPORTED
-        .iter()
-        .take_while(|id| **id != names.id)
-        .count();
-    line.number("order", order as u64)?;
+    write_rules(&mut line, alloc, entry.as_slice())?;
+    line.number("order", order_of(names.id))?;
     line.close("}")?;
     Ok(line)
+}
+
+// How many parameters are written before one.
+fn order_of(id: TransportParameterId) -> u64 {
+    let mut order: u64 = 0;
+    for other in TransportParameterId::SUPPORTED {
+        if other == id {
+            return order;
+        }
+        order = order.saturating_add(1);
+    }
+    order
 }
 
 // An entry that is accepted from a server, and its value; `None` if it is skipped.
@@ -61,7 +69,7 @@ struct Sample {
 }
 
 // The first of several values that the reader accepts.
-fn sample(alloc: Global, names: &Names) -> Result<Sample, Fail> {
+fn accepted(alloc: Global, names: &Names) -> Result<Sample, Fail> {
     let (Some(token), Some(address)) = (ONES.get(..16), ONES.get(..address_size())) else {
         return Err("a preferred address is longer".into());
     };

@@ -98,7 +98,8 @@ const REASONS: [(Failure, &str, &str); 27] = [
 /// A line for each code, the last for those of TLS alerts.
 pub(crate) fn code_lines(alloc: Global) -> Result<Vec<Line>, Fail> {
     let mut lines = Vec::new(alloc);
-    for number in 0..=0xffu64 {
+    for number in 0..=u8::MAX {
+        let number = u64::from(number);
         let code = Code::of(number);
         let name = format!(in alloc; "{code:?}")?;
         if !name.as_str().starts_with("Code") {

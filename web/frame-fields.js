@@ -143,7 +143,7 @@ function closeFields(walk, hasType) {
 function ackFrequencyFields(walk) {
   walk.varint("Sequence Number");
   walk.varint("Ack-Eliciting Threshold");
-  walk.varint("Request Max Ack Delay", (delay) => `${delay} µs`);
+  walk.varint("Requested Max Ack Delay", (delay) => `${delay} µs`);
   walk.varint("Reordering Threshold");
 }
 

@@ -16,8 +16,7 @@ const SPIN = 0x20;
 const RESERVED = { long: 0x0c, short: 0x18 };
 // The page's names for fields that the tests name differently.
 const NAMES = {
-  request_max_ack_delay: "requested_max_ack_delay", destination_connection_id: "dcid", source_connection_id: "scid",
-  supported_version: "supported_versions",
+  destination_connection_id: "dcid", source_connection_id: "scid", supported_version: "supported_versions",
 };
 // Fields that only say where others end.
 const LENGTHS = /^(type|first_byte|.*length|ack_range.*|first_ack_range|gap|packet_number_and_.*|retry_token_and_.*)$/;

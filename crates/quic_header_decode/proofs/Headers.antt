@@ -19,7 +19,8 @@ use Rattle.quic_header_decode.specs.Grammar.{is_long, is_fixed, HeaderField, Ver
 use Rattle.quic_header_decode.specs.Reading.{DecodeOptions, TakesWithin, header_at, long_at, typed_at, at_end, bad_id}
 use Rattle.quic_header_decode.proofs.Rows.{row_behind_ids}
 use Rattle.quic_header_decode.proofs.Steps.{chosen, otherwise, taken, option_ok, ok_pair, ok_err, err_ok, err_same, bool_cases, some_same, none_some, take_front}
-use Rattle.quic_header_decode.proofs.Rows.{Taken, row_at, row_again, row_found, row_refused, row_stops, row_room}
+use Rattle.quic_header_decode.specs.Fields.{Taken}
+use Rattle.quic_header_decode.proofs.Rows.{row_at, row_again, row_found, row_refused, row_stops, row_room}
 
 -- ---- the parts of a long header
 

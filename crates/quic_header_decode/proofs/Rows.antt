@@ -12,6 +12,7 @@ use Rattle.quic_base.proofs.PublicLaws as law
 use Rattle.quic_header_decode.specs.Refusal.{Refusal, Invalid}
 use Rattle.quic_header_decode.specs.Reading.{word_at, long_id_at}
 use Rattle.quic_header_encode.specs.Types.{long_type}
+use Rattle.quic_header_decode.specs.Fields.{Taken, number_next, id_next, field_at}
 use Rattle.quic_header_decode.specs.Grammar.{typed_row, HeaderField, Version, DestinationId, SourceId, Supported, TokenLength, Token, Length, ShortId, HeaderValue, Number, Bytes, token_length_of, IsHeaderField, refusal_at, IsRefusal, BeginsWithField, StopsAtField, AreHeaderFields, StopsWithinRow}
 use Rattle.quic_header_decode.specs.Reading.{DecodeOptions, TakesWithin, at_end, bad_id}
 use Rattle.quic_header_decode.proofs.Steps.{bind_ok, bind_err, option_ok, chosen, then_ok, then_err, otherwise, some_of, drop_front, step, err_same, ok_err, err_ok, ok_pair}
@@ -62,29 +63,6 @@ known_found versions version e =
     known_at versions version (not_false (list_any (λ known. nat_eq known version) versions) e)
 
 -- ---- a field
-
--- the values of a field and what is left after it
-abbrev pub Taken : Type 0
-Taken = List HeaderValue × List ℕ
-
-abbrev pub number_next : List ℕ → Result Taken Refusal
-number_next bytes = ok_or (number_at bytes) at_end >>= λ x. Ok (Number x.0 ∷ [], x.1)
-
-abbrev pub id_next : List ℕ → Result Taken Refusal
-id_next bytes = ok_or (long_id_at bytes) bad_id >>= λ x. Ok (Bytes x.0 ∷ [], x.1)
-
-abbrev pub field_at : DecodeOptions → HeaderField → List HeaderValue → List ℕ → Result Taken Refusal
-field_at options Version before bytes = ok_or (word_at bytes) at_end >>= λ x. Ok (Number x.0 ∷ [], x.1)
-field_at options DestinationId before bytes = id_next bytes
-field_at options SourceId before bytes = id_next bytes
-field_at options (Supported version) before bytes =
-    cond (not (list_any (λ known. nat_eq known version) options.versions)) (Err (refusal_at (Supported version) before)) (Ok ([], bytes))
-field_at options TokenLength before bytes = number_next bytes
-field_at options Token before bytes =
-    let count = token_length_of before in
-    cond (nat_lt (length bytes) count) (Err (Invalid (codes "token out of bounds"))) (Ok (Number (length (drop count bytes)) ∷ [], drop count bytes))
-field_at options Length before bytes = number_next bytes
-field_at options ShortId before bytes = options.parsed bytes >>= λ id. Ok (Bytes id.0 ∷ [], drop id.1 bytes)
 
 same_ok : (a c : List HeaderValue) (b d : List ℕ) → a ≡ c → b ≡ d
     → (let r : Result Taken Refusal = Ok (a, b) in r) ≡ Ok (c, d)

@@ -1,4 +1,5 @@
 pub mod Datagram
+pub mod Fields
 pub mod Grammar
 pub mod Headers
 pub mod Parsers

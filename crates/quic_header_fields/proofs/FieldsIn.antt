@@ -6,7 +6,8 @@ use Rattle.quic_base.specs.Number.{AreBytes}
 use Rattle.quic_header_decode.specs.Grammar.{HeaderField, HeaderValue, Bytes, Version, DestinationId, SourceId, Supported, TokenLength, Token, Length, ShortId, IsHeaderField, IsRefusal}
 use Rattle.quic_header_decode.specs.Reading.{DecodeOptions, TakesWithin, bad_id, wide_id_at}
 use Rattle.quic_header_decode.specs.Refusal.{Refusal}
-use Rattle.quic_header_decode.proofs.Rows.{Taken, field_again, field_found, field_reported}
+use Rattle.quic_header_decode.specs.Fields.{Taken}
+use Rattle.quic_header_decode.proofs.Rows.{field_again, field_found, field_reported}
 use Rattle.quic_header_decode.proofs.Steps.{bind_ok, option_ok, then_ok, some_of, err_ok, ok_err, ok_pair, step}
 use Rattle.quic_header_decode.proofs.Wide.{wide_found, wide_again}
 use Rattle.quic_header_fields.specs.Spans.{IsFieldIn, StopsAt}

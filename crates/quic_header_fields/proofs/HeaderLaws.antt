@@ -11,7 +11,7 @@ use Rattle.quic_header_decode.specs.Places.{any_fixed, IsUnknownVersion, ReadAns
 use Rattle.quic_header_decode.specs.Reading.{DecodeOptions, TakesWithin, header_at}
 use Rattle.quic_header_decode.specs.Refusal.{Refusal, Unsupported, Invalid, NoMemory}
 use Rattle.quic_header_decode.proofs.Headers.{header_again, refused_again}
-use Rattle.quic_header_decode.proofs.Rows.{Taken}
+use Rattle.quic_header_decode.specs.Fields.{Taken}
 use Rattle.quic_header_decode.proofs.Wide.{Read, read_answer, read_sole, takes}
 use Rattle.quic_header_fields.specs.Spans.{first_span, is_known, IsHeaderAt, IsNoHeaderAt}
 use Rattle.quic_header_fields.specs.Walk.{Walked, header_walk, walk_at, HasHeader, LacksHeader}

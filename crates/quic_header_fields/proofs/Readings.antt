@@ -14,7 +14,8 @@ use Rattle.quic_header_decode.specs.Places.{any_fixed, IsUnknownVersion}
 use Rattle.quic_header_decode.specs.Reading.{DecodeOptions, at_end, bad_id, header_at, wide_at, wide_header_at, wide_id_at, word_at}
 use Rattle.quic_header_decode.specs.Refusal.{Refusal, Unsupported, Invalid, NoMemory}
 use Rattle.quic_header_decode.proofs.Headers.{by_rows, finish, made, reassoc, word_says}
-use Rattle.quic_header_decode.proofs.Rows.{Taken, row_at, known_at}
+use Rattle.quic_header_decode.specs.Fields.{Taken}
+use Rattle.quic_header_decode.proofs.Rows.{row_at, known_at}
 use Rattle.quic_header_decode.proofs.Steps.{option_ok, otherwise, taken, bool_cases, take_front}
 use Rattle.quic_header_decode.proofs.Wide.{Agrees, Read, header_agrees, unknown_found}
 use Rattle.quic_header_fields.specs.Spans.{is_known}

@@ -1,6 +1,6 @@
 -- A field that is read is the first of a walk.
 use Rattle.std.proofs.Common.{◌≡◌, ℕ, ◌+◌, ◌-◌, Bool, List, [], ◌∷◌, ◌++◌, length, slice_set, Ok, Err, Result, Some, None, refl, sym, ap, subst, arith}
-use Rattle.quic_header_decode.proofs.Rows.{Taken}
+use Rattle.quic_header_decode.specs.Fields.{Taken}
 use Rattle.quic_header_decode.proofs.Steps.{some_same}
 use Rattle.quic_header_decode.specs.Grammar.{HeaderField, HeaderValue}
 use Rattle.quic_header_decode.specs.Reading.{DecodeOptions}

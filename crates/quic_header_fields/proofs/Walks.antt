@@ -8,7 +8,7 @@ use Rattle.quic_header_decode.specs.Grammar.{HeaderField, HeaderValue, AreHeader
 use Rattle.quic_header_decode.specs.Reading.{DecodeOptions, TakesWithin}
 use Rattle.quic_header_decode.specs.Refusal.{Refusal}
 use Rattle.quic_header_decode.proofs.FieldLaws.{back_fits}
-use Rattle.quic_header_decode.proofs.Rows.{Taken}
+use Rattle.quic_header_decode.specs.Fields.{Taken}
 use Rattle.quic_header_fields.specs.Spans.{span, AreFieldsAt, StopsWithinAt}
 use Rattle.quic_header_fields.specs.Walk.{after_field, field_in, walk_at}
 use Rattle.quic_header_fields.proofs.FieldsIn.{in_again, in_any, in_found, in_stops, in_refused}

@@ -2,7 +2,7 @@
 -- fault, and how many numbers these are. Only an id has a number before its bytes, its length.
 use Rattle.std.specs.Prelude.{◌≡◌, ℕ, ◌<◌, ◌≤◌, ◌⊎◌, Bool, true, List, [], ◌∷◌, ◌++◌, length, take, Result, Ok, Err, nat_lt, ◌&&◌, if◌then◌else◌}
 use Rattle.quic_base.specs.Number.{num}
-use Rattle.quic_header_decode.proofs.Rows.{Taken}
+use Rattle.quic_header_decode.specs.Fields.{Taken}
 use Rattle.quic_header_decode.specs.Grammar.{HeaderField, DestinationId, SourceId, HeaderValue, header_row_of}
 use Rattle.quic_header_decode.specs.Reading.{DecodeOptions}
 use Rattle.quic_header_decode.specs.Refusal.{Refusal}

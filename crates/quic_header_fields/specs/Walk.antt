@@ -10,7 +10,7 @@ use Rattle.quic_header_decode.specs.declared.protected.ProtectedHeader.{Protecte
 use Rattle.quic_header_decode.specs.Grammar.{HeaderField, DestinationId, SourceId, HeaderValue, Number, Bytes, header_row_of}
 use Rattle.quic_header_decode.specs.Reading.{DecodeOptions, at_end, bad_id, wide_id_at}
 use Rattle.quic_header_decode.specs.Refusal.{Refusal}
-use Rattle.quic_header_decode.proofs.Rows.{Taken, field_at}
+use Rattle.quic_header_decode.specs.Fields.{Taken, field_at}
 use Rattle.quic_header_fields.specs.declared.field.Seen.{Seen}
 use Rattle.quic_header_fields.specs.declared.field.Seen.TheVariants as seen
 use Rattle.quic_header_fields.specs.Spans.{span, first_span, number_of, is_known, IsHeaderAt, IsNoHeaderAt}

@@ -45,6 +45,7 @@ pub mod coding;
 pub mod crypto;
 pub mod datagram;
 mod error;
+pub mod fields;
 pub mod frame;
 pub mod ids;
 mod kit;

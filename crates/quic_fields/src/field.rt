@@ -13,15 +13,18 @@ use quic_base::varint::split_var;
 use quic_frame_fields::frame::fault::Fault;
 use quic_frame_fields::frame::field::blocks;
 
-/// A field: its index, which is 0 for the type and 1 for the first field after it; where it begins and ends; and its
-/// number. Of bytes the number is how many there are, which end where the field ends; of an ACK's ranges how many are
-/// below the first.
+/// A field and where it is.
 #[repr(C)]
 #[derive(Clone, Copy, Debug, PartialEq, Eq)]
 pub struct Span {
+    /// Its index: 0 for the type, 1 for the first field after it.
     pub field: usize,
+    /// Where it begins.
     pub start: usize,
+    /// Where it ends.
     pub end: usize,
+    /// Its number. Of bytes it is how many there are, which end where the field ends; of an ACK's ranges it is how many
+    /// are below the first.
     pub number: u64,
 }
 

@@ -6,8 +6,8 @@ use std::collections::{BTreeMap, BTreeSet};
 use std::path::{Path, PathBuf};
 use std::{fs, io};
 
-/// The crate above all others that users call.
-const TOP_OF_LIBRARY: &str = "quic_wire";
+/// The crates that users call, which no other of the library uses.
+const TOPS_OF_LIBRARY: [&str; 3] = ["quic_wire", "quic_fields", "quic_header_fields"];
 
 /// What stands before the modules of the library. Only ghost code uses some names of the sources, whose style isn't
 /// Rust's everywhere.
@@ -122,9 +122,9 @@ fn crates(top: &Path) -> Result<BTreeMap<String, Vec<String>>, String> {
     Ok(all)
 }
 
-// The library's crates: the topmost, and all that it uses.
+// The library's crates: the topmost, and all that they use.
 fn library_of(all: &BTreeMap<String, Vec<String>>) -> BTreeSet<String> {
-    let mut todo = vec![TOP_OF_LIBRARY];
+    let mut todo = TOPS_OF_LIBRARY.to_vec();
     let mut found = BTreeSet::new();
     while let Some(name) = todo.pop() {
         if let Some(uses) = all.get(name).filter(|_| !found.contains(name)) {

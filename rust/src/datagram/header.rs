@@ -76,15 +76,23 @@ impl core::error::Error for HeaderError {}
 
 impl From<ReadError> for HeaderError {
     fn from(error: ReadError) -> HeaderError {
-        HeaderError::InvalidHeader(match error {
+        match error {
             ReadError::UnsupportedVersion { version, dst_len, src_len } => {
-                return HeaderError::UnsupportedVersion(UnsupportedVersion { version, dst_len, src_len });
+                HeaderError::UnsupportedVersion(UnsupportedVersion { version, dst_len, src_len })
             }
-            ReadError::UnexpectedEnd => "unexpected end of packet",
-            ReadError::SmallPacket => "packet too small",
-            ReadError::MalformedCid => "malformed cid",
-            ReadError::TokenOutOfBounds => "token out of bounds",
-        })
+            error => HeaderError::InvalidHeader(reason_of(error)),
+        }
+    }
+}
+
+// quinn-proto's text of an error.
+pub(crate) fn reason_of(error: ReadError) -> &'static str {
+    match error {
+        ReadError::UnsupportedVersion { .. } => "unsupported version",
+        ReadError::UnexpectedEnd => "unexpected end of packet",
+        ReadError::SmallPacket => "packet too small",
+        ReadError::MalformedCid => "malformed cid",
+        ReadError::TokenOutOfBounds => "token out of bounds",
     }
 }
 

@@ -39,6 +39,7 @@ mod protection;
 
 pub use crate::proved::quic_header_encode::long_type::HeaderKind;
 pub use encode::{Header, PartialEncode};
+pub(crate) use header::reason_of;
 pub use header::{HeaderChecks, HeaderError, HeaderPlaces, UnsupportedVersion, receiver_id};
 pub use negotiation::{VersionNegotiation, Versions};
 pub use opening::{OpenedPacket, PacketMut};

@@ -1,0 +1,129 @@
+//! Where each field of a frame, of a packet or of a transport parameter is in its bytes, and which field is at fault in
+//! bytes that are rejected: for tools that show bytes, and for messages about bytes from a peer. It is slower than the
+//! readers.
+//!
+//! Fields have indices. Index 0 of a frame is its type, and then come the fields that RFC 9000, section 19, lists. The
+//! repository's docs/formats.json has their names.
+//!
+//! ```
+//! use quic_wire::fields;
+//! // STREAM with an offset and a length: type, FIN, Stream ID, Offset, and Stream Data with its length.
+//! let frame = fields::of_frame(&[0x0e, 0x04, 0x40, 0x10, 0x02, b'h', b'i']);
+//! assert!(frame.fault().is_none());
+//! let offset = frame.spans()[3];
+//! assert_eq!((offset.start, offset.end, offset.number), (2, 4, 16));
+//! // The same, cut off in its data.
+//! let frame = fields::of_frame(&[0x0e, 0x04, 0x40, 0x10, 0x02, b'h']);
+//! let fault = frame.fault().unwrap();
+//! assert_eq!((fault.field, fault.start, fault.reason), (4, 4, "unexpected end"));
+//! ```
+use crate::datagram::reason_of;
+use crate::ids::MAX_CID_SIZE;
+use crate::proved::quic_fields::{entry::entry_spans, field as frame_field, frame::frame_spans};
+use crate::proved::quic_header_fields::{header::Walked, packet::packet_spans};
+
+pub use crate::proved::quic_fields::field::Span;
+
+// No packet has more fields, with those after its header.
+const MOST: usize = 10;
+const UNSET: Span = Span { field: 0, start: 0, end: 0, number: 0 };
+
+/// The field that can't be read.
+#[derive(Clone, Copy, Debug, PartialEq, Eq, Hash)]
+pub struct Fault {
+    /// Its index.
+    pub field: usize,
+    /// Where it begins.
+    pub start: usize,
+    /// How many of its bytes come before what is at fault: after a length that was read, its data are at fault.
+    pub inside: usize,
+    /// How many numbers these bytes are: 0 if the field's first number, such as its length, is at fault, 1 if it is what
+    /// follows that. In an ACK's ranges 1 is the first range, and then come gaps and lengths in turn.
+    pub numbers: u64,
+    /// Why.
+    pub reason: &'static str,
+}
+
+/// The fields at the front of bytes, in order, up to one at fault. Each span begins where the one before it ends.
+#[derive(Clone, Copy, Debug, PartialEq, Eq)]
+pub struct Fields {
+    spans: [Span; MOST],
+    count: usize,
+    fault: Option<Fault>,
+}
+
+impl Fields {
+    /// The fields that were read.
+    pub fn spans(&self) -> &[Span] {
+        &self.spans[..self.count]
+    }
+
+    /// The field after them, if it can't be read.
+    pub fn fault(&self) -> Option<&Fault> {
+        self.fault.as_ref()
+    }
+
+    /// Where the last field that was read ends.
+    pub fn end(&self) -> usize {
+        self.spans().last().map_or(0, |span| span.end)
+    }
+}
+
+// The result of a walk over a frame or an entry.
+fn of_bytes(walk: impl FnOnce(&mut [Span]) -> frame_field::Walked) -> Fields {
+    let mut spans = [UNSET; MOST];
+    let walked = walk(&mut spans);
+    let fault = walked.fault.map(|fault| Fault {
+        field: walked.count,
+        start: walked.end,
+        inside: walked.inside,
+        numbers: walked.numbers,
+        reason: fault.reason(),
+    });
+    Fields { spans, count: walked.count, fault }
+}
+
+/// The fields of the frame at the front of a payload: its type, and then those of its row (RFC 9000, section 19). The
+/// number of bytes is how many they are; they end where the field does, and in front of them is their length, if they
+/// have one. The number of an ACK's ranges is how many are below the first. A field without bytes has the number that
+/// the type implies. It reads as [`Rules::QUINN`](crate::frame::Rules::QUINN).
+pub fn of_frame(payload: &[u8]) -> Fields {
+    of_bytes(|room| frame_spans(payload, room))
+}
+
+/// The fields of the entry at the front of a list of transport parameters: its id, and its value with the value's length
+/// (RFC 9000, section 18).
+///
+/// ```
+/// use quic_wire::fields;
+/// let entry = fields::of_entry(&[0x04, 0x02, 0x40, 0x64]);
+/// assert_eq!((entry.spans()[0].number, entry.spans()[1].number), (4, 2));
+/// ```
+pub fn of_entry(list: &[u8]) -> Fields {
+    of_bytes(|room| entry_spans(list, room))
+}
+
+/// The fields of the packet at the front of a datagram (RFC 9000, section 17; RFC 8999). Index 0 is the first byte, 1 the
+/// version, 2 and 3 are the ids with their lengths, 4 has no bytes and stands for a version that is known, and then come
+/// the token's length, the token and the length, as far as the type has them. A version negotiation's next field is the
+/// list of versions, a Retry's are the token and the integrity tag. A short header has the first byte and the id, of
+/// `cid_len` bytes. A version that isn't among `versions` is at fault after the ids. The fixed bit isn't checked.
+///
+/// ```
+/// use quic_wire::fields;
+/// // A Handshake packet of 100 bytes, of which one came.
+/// let packet = fields::of_packet(&[0xe0, 0, 0, 0, 1, 1, 0xaa, 0, 0x40, 100, 7], 0, &[1]);
+/// let length = packet.spans()[5];
+/// assert_eq!((length.start, length.end, length.number), (8, 10, 100));
+/// ```
+///
+/// # Panics
+///
+/// If `cid_len` is above 20.
+pub fn of_packet(datagram: &[u8], cid_len: usize, versions: &[u32]) -> Fields {
+    assert!(cid_len <= MAX_CID_SIZE, "the ids of short headers have at most 20 bytes");
+    let mut spans = [UNSET; MOST];
+    let Walked { count, end, fault, inside, numbers } = packet_spans(datagram, cid_len, versions, &mut spans);
+    let fault = fault.map(|fault| Fault { field: count, start: end, inside, numbers, reason: reason_of(fault) });
+    Fields { spans, count, fault }
+}

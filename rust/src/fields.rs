@@ -7,20 +7,24 @@
 //!
 //! ```
 //! use quic_wire::fields;
+//! use quic_wire::frame::Rules;
 //! // STREAM with an offset and a length: type, FIN, Stream ID, Offset, and Stream Data with its length.
-//! let frame = fields::of_frame(&[0x0e, 0x04, 0x40, 0x10, 0x02, b'h', b'i']);
+//! let frame = fields::of_frame(&[0x0e, 0x04, 0x40, 0x10, 0x02, b'h', b'i'], Rules::RFC);
 //! assert!(frame.fault().is_none());
 //! let offset = frame.spans()[3];
 //! assert_eq!((offset.start, offset.end, offset.number), (2, 4, 16));
 //! // The same, cut off in its data.
-//! let frame = fields::of_frame(&[0x0e, 0x04, 0x40, 0x10, 0x02, b'h']);
+//! let frame = fields::of_frame(&[0x0e, 0x04, 0x40, 0x10, 0x02, b'h'], Rules::RFC);
 //! let fault = frame.fault().unwrap();
 //! assert_eq!((fault.field, fault.start, fault.reason), (4, 4, "unexpected end"));
 //! ```
 use crate::datagram::reason_of;
+use crate::frame::Rules;
 use crate::ids::MAX_CID_SIZE;
-use crate::proved::quic_fields::{entry::entry_spans, field as frame_field, frame::frame_spans};
-use crate::proved::quic_header_fields::{header::Walked, packet::packet_spans};
+use crate::proved::quic_fields::entry::entry_spans;
+use crate::proved::quic_fields::field::Reach;
+use crate::proved::quic_fields::rules::{frame_spans_by, reach_of};
+use crate::proved::quic_header_fields::packet::packet_spans;
 
 pub use crate::proved::quic_fields::field::Span;
 
@@ -28,7 +32,7 @@ pub use crate::proved::quic_fields::field::Span;
 const MOST: usize = 10;
 const UNSET: Span = Span { field: 0, start: 0, end: 0, number: 0 };
 
-/// The field that can't be read.
+/// The field that can't be read, or that breaks a rule.
 #[derive(Clone, Copy, Debug, PartialEq, Eq, Hash)]
 pub struct Fault {
     /// Its index.
@@ -69,26 +73,24 @@ impl Fields {
     }
 }
 
-// The result of a walk over a frame or an entry.
-fn of_bytes(walk: impl FnOnce(&mut [Span]) -> frame_field::Walked) -> Fields {
+// What a walk found, which says how far it came and why not further.
+fn found(walk: impl FnOnce(&mut [Span]) -> (Option<&'static str>, Reach)) -> Fields {
     let mut spans = [UNSET; MOST];
-    let walked = walk(&mut spans);
-    let fault = walked.fault.map(|fault| Fault {
-        field: walked.count,
-        start: walked.end,
-        inside: walked.inside,
-        numbers: walked.numbers,
-        reason: fault.reason(),
-    });
-    Fields { spans, count: walked.count, fault }
+    let (reason, Reach { count, end, inside, numbers }) = walk(&mut spans);
+    let fault = reason.map(|reason| Fault { field: count, start: end, inside, numbers, reason });
+    Fields { spans, count, fault }
 }
 
 /// The fields of the frame at the front of a payload: its type, and then those of its row (RFC 9000, section 19). The
 /// number of bytes is how many they are; they end where the field does, and in front of them is their length, if they
 /// have one. The number of an ACK's ranges is how many are below the first. A field without bytes has the number that
-/// the type implies. It reads as [`Rules::QUINN`](crate::frame::Rules::QUINN).
-pub fn of_frame(payload: &[u8]) -> Fields {
-    of_bytes(|room| frame_spans(payload, room))
+/// the type implies. If the frame breaks a rule, the field of that rule is at fault: the type, an empty token's length,
+/// a number of streams, or the last number of a frame whose data end too far.
+pub fn of_frame(payload: &[u8], rules: Rules) -> Fields {
+    found(|room| {
+        let (refusal, reach) = frame_spans_by(rules, payload, room);
+        (refusal.map(|refusal| refusal.reason()), reach)
+    })
 }
 
 /// The fields of the entry at the front of a list of transport parameters: its id, and its value with the value's length
@@ -100,7 +102,10 @@ pub fn of_frame(payload: &[u8]) -> Fields {
 /// assert_eq!((entry.spans()[0].number, entry.spans()[1].number), (4, 2));
 /// ```
 pub fn of_entry(list: &[u8]) -> Fields {
-    of_bytes(|room| entry_spans(list, room))
+    found(|room| {
+        let walked = entry_spans(list, room);
+        (walked.fault.map(|fault| fault.reason()), reach_of(walked))
+    })
 }
 
 /// The fields of the packet at the front of a datagram (RFC 9000, section 17; RFC 8999). Index 0 is the first byte, 1 the
@@ -122,8 +127,9 @@ pub fn of_entry(list: &[u8]) -> Fields {
 /// If `cid_len` is above 20.
 pub fn of_packet(datagram: &[u8], cid_len: usize, versions: &[u32]) -> Fields {
     assert!(cid_len <= MAX_CID_SIZE, "the ids of short headers have at most 20 bytes");
-    let mut spans = [UNSET; MOST];
-    let Walked { count, end, fault, inside, numbers } = packet_spans(datagram, cid_len, versions, &mut spans);
-    let fault = fault.map(|fault| Fault { field: count, start: end, inside, numbers, reason: reason_of(fault) });
-    Fields { spans, count, fault }
+    found(|room| {
+        let walked = packet_spans(datagram, cid_len, versions, room);
+        let reach = Reach { count: walked.count, end: walked.end, inside: walked.inside, numbers: walked.numbers };
+        (walked.fault.map(reason_of), reach)
+    })
 }

@@ -15,7 +15,7 @@ pub fn show(payload: &[u8], rules: Rules, output: &mut Output<impl Write>) -> io
         }
         Err(CanonError::Invalid(invalid)) => {
             let at = end_of_frames(payload, rules);
-            output.error(&invalid.to_string(), Some(at), &fault::of_frame(payload, at, &invalid))
+            output.error(&invalid.to_string(), Some(at), &fault::of_frame(payload, at, rules, &invalid))
         }
         Err(CanonError::OutOfMemory) => Err(io::ErrorKind::OutOfMemory.into()),
         Err(empty) => output.error(&empty.to_string(), Some(0), &fault::of_empty_payload()),

@@ -63,7 +63,7 @@ fn show_packets(
         let places = match read(rest, cid_len, how) {
             Ok(places) => places,
             Err(error) => {
-                let fault = fault::of_header(rest, begin, cid_len, &error);
+                let fault = fault::of_header(rest, begin, cid_len, &how.versions, &error);
                 let is_noted = is_noted && error != HeaderError::InvalidHeader(FIXED_BIT);
                 let fixed_bit = is_noted.then_some(("fixed_bit", Flag(false)));
                 let fields = [&reported(&error, rest, begin), fixed_bit.as_slice(), &fault].concat();

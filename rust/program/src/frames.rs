@@ -29,7 +29,7 @@ pub fn show(payload: &[u8], rules: Rules, output: &mut Output<impl Write>) -> io
             Ok(frame) => show_frame(payload, place, &frame, output)?,
             Err(invalid) => {
                 let at = frames.offset();
-                return output.error(&invalid.to_string(), Some(at), &fault::of_frame(payload, at, &invalid));
+                return output.error(&invalid.to_string(), Some(at), &fault::of_frame(payload, at, rules, &invalid));
             }
         }
     }

@@ -12,9 +12,9 @@ const PARAMETER: &str = "close_code=8 close_name=TRANSPORT_PARAMETER_ERROR";
 fn an_error_of_a_frame_names_its_field() {
     let rows = [
         ("", 0, "packet payload is empty", None, VIOLATION, "12.4"),
-        ("0121", 1, "invalid frame ID in <unknown 21>", Some(("Frame Type", 1)), ENCODING, "12.4"),
-        ("01 4001", 1, "frame type not in shortest form in PING", Some(("Frame Type", 1)), VIOLATION, "12.4"),
-        ("40", 0, "unexpected end", Some(("Frame Type", 0)), ENCODING, "20.1"),
+        ("0121", 1, "invalid frame ID in <unknown 21>", Some(("Type", 1)), ENCODING, "12.4"),
+        ("01 4001", 1, "frame type not in shortest form in PING", Some(("Type", 1)), VIOLATION, "12.4"),
+        ("40", 0, "unexpected end", Some(("Type", 0)), ENCODING, "20.1"),
         ("01 10", 1, "unexpected end in MAX_DATA", Some(("Maximum Data", 2)), ENCODING, "20.1"),
         ("06 00 05 aa", 0, "unexpected end in CRYPTO", Some(("Crypto Data", 3)), ENCODING, "20.1"),
         ("06 00 40", 0, "unexpected end in CRYPTO", Some(("Length", 2)), ENCODING, "20.1"),

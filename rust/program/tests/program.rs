@@ -63,7 +63,7 @@ fn other_programs_read_objects() {
             r#""raw_type":14}"#,
         ),
         concat!(
-            r#"{"line":1,"offset":6,"error":"frame type not in shortest form in PING","field":"Frame Type","#,
+            r#"{"line":1,"offset":6,"error":"frame type not in shortest form in PING","field":"Type","#,
             r#""field_at":6,"close_code":10,"close_name":"PROTOCOL_VIOLATION","section":"RFC 9000, section 12.4"}"#,
         ),
         concat!(

@@ -15,12 +15,12 @@ fn differ(arguments: &[&str], line: &str, rfc: &[&str], quinn: &[&str]) {
 
 // A payload, its error, the field at fault with its offset, what is wrong, the section, and quinn-proto's frame.
 const FRAMES: [(&str, &str, &str, usize, &str, &str, &str); 12] = [
-    ("4001", "frame type not in shortest form in PING", "Frame Type", 0, "", "12.4", "PING"),
-    ("1f", "invalid frame ID in IMMEDIATE_ACK", "Frame Type", 0, EXTENSION, "12.4", "IMMEDIATE_ACK"),
+    ("4001", "frame type not in shortest form in PING", "Type", 0, "", "12.4", "PING"),
+    ("1f", "invalid frame ID in IMMEDIATE_ACK", "Type", 0, EXTENSION, "12.4", "IMMEDIATE_ACK"),
     (
         "40af2a148000c35001",
         "invalid frame ID in ACK_FREQUENCY",
-        "Frame Type",
+        "Type",
         0,
         EXTENSION,
         "12.4",

@@ -1,7 +1,8 @@
 //! Transport parameters: RFC 9000, sections 7.4 and 18.
-use super::{Walk, closed};
+use super::closed;
 use crate::formats::{PARAMETERS, Parameter};
 use crate::output::{Field, Value};
+use quic_wire::fields;
 use quic_wire::transport_error::Code;
 use quic_wire::transport_parameters::{ReadOptions, Refusal};
 use quic_wire::{Side, varint};
@@ -12,6 +13,7 @@ const CUT_OFF: &str = "RFC 9000, section 18";
 
 // How many bytes of a value are printed.
 const MOST: usize = 64;
+
 // An entry of a list: its id, its offset and that of its value.
 struct Entry {
     id: u64,
@@ -21,14 +23,14 @@ struct Entry {
 
 // The entries of a list up to one that is cut off.
 fn entries(list: &[u8]) -> impl Iterator<Item = Entry> + '_ {
-    let mut walk = Walk::new(list);
+    let mut begin = 0;
     std::iter::from_fn(move || {
-        let begin = walk.at;
-        let id = walk.number("Transport Parameter ID").ok()?;
-        let len = walk.number("Transport Parameter Length").ok()?;
-        let from = walk.at;
-        walk.take("Transport Parameter Value", len).ok()?;
-        Some(Entry { id, place: begin..walk.at, value: from..walk.at })
+        let fields = fields::of_entry(&list[begin..]);
+        let &[id, value] = fields.spans() else { return None };
+        let place = begin..begin + value.end;
+        begin = place.end;
+        let len = usize::try_from(value.number).ok()?;
+        Some(Entry { id: id.number, value: begin - len..begin, place })
     })
 }
 

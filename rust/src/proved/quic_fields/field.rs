@@ -14,16 +14,33 @@ use crate::proved::quic_base::varint::split_var;
 use crate::proved::quic_frame_fields::frame::fault::Fault;
 use crate::proved::quic_frame_fields::frame::field::blocks;
 
-/// A field: its index, which is 0 for the type and 1 for the first field after it; where it begins and ends; and its
-/// number. Of bytes the number is how many there are, which end where the field ends; of an ACK's ranges how many are
-/// below the first.
+/// A field and where it is.
 #[repr(C)]
 #[derive(Clone, Copy, Debug, PartialEq, Eq)]
 pub struct Span {
+    /// Its index: 0 for the type, 1 for the first field after it.
     pub field: usize,
+    /// Where it begins.
     pub start: usize,
+    /// Where it ends.
     pub end: usize,
+    /// Its number. Of bytes it is how many there are, which end where the field ends; of an ACK's ranges it is how many
+    /// are below the first.
     pub number: u64,
+}
+
+/// How far fields were read, as libraries for C return it.
+#[repr(C)]
+#[derive(Clone, Copy, Debug, PartialEq, Eq)]
+pub struct Reach {
+    /// How many fields were read. So the field at fault has this index.
+    pub count: usize,
+    /// Where the last of them ends, and the field at fault begins.
+    pub end: usize,
+    /// How many bytes of the field at fault come before the number or the bytes at fault.
+    pub inside: usize,
+    /// How many numbers these are.
+    pub numbers: u64,
 }
 
 /// What later fields need of those that were read: the first number of an ACK, and the two of a NEW_CONNECTION_ID.

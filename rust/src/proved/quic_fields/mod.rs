@@ -8,3 +8,4 @@ pub mod frame;
 mod inside;
 pub mod laws;
 pub mod row;
+pub mod rules;

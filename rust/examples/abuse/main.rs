@@ -43,6 +43,7 @@ fn main() {
         reading::headers(&mut random);
         reading::values(&mut random);
         reading::acks(&mut random);
+        reading::fields(&mut random);
         lists::parameters(&mut random);
         lists::sets(&mut random);
     }

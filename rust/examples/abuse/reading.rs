@@ -3,9 +3,11 @@ use crate::random::{Random, VERSIONS};
 use bytes::Buf;
 use quic_wire::coding::{BufExt, Codec, UnexpectedEnd};
 use quic_wire::datagram::{HeaderChecks, HeaderError, HeaderPlaces, Packets, PacketsMut, receiver_id};
-use quic_wire::frame::{Ack, AckRange, FrameType};
+use quic_wire::fields::{self, Fields};
+use quic_wire::frame::{Ack, AckRange, FrameType, Iter};
 use quic_wire::packet::PacketNumber;
 use quic_wire::transport_error::Code;
+use quic_wire::transport_parameters::entries;
 use quic_wire::{StreamId, VarInt, varint};
 use std::fmt::Debug;
 use std::net::{Ipv4Addr, Ipv6Addr};
@@ -132,5 +134,50 @@ pub fn acks(random: &mut Random) {
     let blocks = begin..begin + random.below(2 + kept.blocks.len() as u64) as usize;
     if let Ok(found) = (AckRange { blocks, ..kept }).ack(&bytes) {
         assert!(found.iter().count() > 0 && found.largest() == ack.largest());
+    }
+}
+
+/// Where each field is: fields follow one another, and what is at fault is what the readers reject.
+pub fn fields(random: &mut Random) {
+    let (payload, rules) = (random.payload(), random.rules());
+    let frame = fields::of_frame(&payload, rules);
+    in_a_row(&frame, payload.len());
+    if let Ok(mut frames) = Iter::with_rules(&payload, rules) {
+        match frames.next().unwrap() {
+            Ok(_) => assert_eq!((frame.fault(), frame.end()), (None, frames.offset())),
+            Err(invalid) => assert_eq!(frame.fault().map(|fault| fault.reason), Some(invalid.reason)),
+        }
+    }
+    let list = random.list();
+    let entry = fields::of_entry(&list);
+    in_a_row(&entry, list.len());
+    match entries(&list).next() {
+        Some(Ok(read)) => assert_eq!(entry.spans().last().map(|value| value.number), Some(read.value.len() as u64)),
+        _ => assert!(entry.fault().is_some()),
+    }
+    let (datagram, cid_len) = (random.datagram(), random.below(21) as usize);
+    let packet = fields::of_packet(&datagram, cid_len, VERSIONS);
+    in_a_row(&packet, datagram.len());
+    let checks = HeaderChecks { grease_quic_bit: true, any_version: true, whole_retry: false };
+    match HeaderPlaces::read_with(&datagram, cid_len, VERSIONS, checks) {
+        Ok(_) | Err(HeaderError::CutOff(_)) => assert_eq!(packet.fault(), None),
+        Err(HeaderError::UnsupportedVersion(_)) => assert_eq!(packet.fault().map(|fault| fault.field), Some(4)),
+        Err(HeaderError::InvalidHeader(reason)) => {
+            assert_eq!(packet.fault().map(|fault| fault.reason), Some(reason));
+        }
+    }
+}
+
+fn in_a_row(fields: &Fields, len: usize) {
+    let mut end = 0;
+    for (index, span) in fields.spans().iter().enumerate() {
+        assert_eq!((span.field, span.start), (index, end));
+        assert!(span.end >= end);
+        end = span.end;
+    }
+    assert!(end == fields.end() && end <= len);
+    if let Some(fault) = fields.fault() {
+        assert_eq!((fault.field, fault.start), (fields.spans().len(), end));
+        assert!(end + fault.inside <= len);
     }
 }

@@ -1,6 +1,7 @@
 """What can't be made from docs/formats.json without losing its comments is compared: with the formats the header for C,
-the texts of c/src/texts.c, and the parameters that python/src/quic_wire/_wire.pyi declares; with the header's structs
-those of the proved crates, in order and widths, and those of web/layout.js."""
+the rules of frames in the proved code for C, the texts of c/src/texts.c, and the parameters that
+python/src/quic_wire/_wire.pyi declares; with the header's structs those of the proved crates, in order and widths, and
+those of web/layout.js."""
 import glob
 import os
 import re
@@ -61,6 +62,24 @@ def rattle_kinds():
     found = re.findall(r"^pub\(crate\) const (\w+): u8 = (\d+);", read(path), re.M)
     names = {"ZERO_RTT": "0RTT", "SHORT": "1RTT"}
     yield from differences(path, {names.get(name, name): int(it) for name, it in found}, constants("PACKET"))
+
+
+def rules(formats):
+    """What the proved code for C says of each kind of frame: the letters of table 3, and the packets as their bits."""
+    path = "crates/quic_c_permitted/src/rules.rt"
+    source, kinds = read(path), packet_kinds()
+    bits = {name: int(number, 16) for name, number in re.findall(r"^const (\w+): u32 = (0x\w+);", source, re.M)}
+    letters = {"N": "NOT_ELICITING", "C": "NOT_COUNTED", "P": "PROBING", "F": "FLOW_CONTROLLED"}
+    found, wanted = {}, {}
+    for numbers, words in re.findall(r"^        (0x[^_]*?) => ([A-Z0-9_ +]+),$", source, re.M):
+        for first, last in re.findall(r"(0x\w+)(?:\.\.=(0x\w+))?", numbers):
+            for kind in range(int(first, 16), int(last or first, 16) + 1):
+                found[kind] = sum(bits[word] for word in words.split(" + "))
+    for frame in formats["frames"]:
+        if frame["type"] in constants("FRAME").values():
+            wanted[frame["type"]] = sum(bits[letters[letter]] for letter in frame["spec"]) + sum(
+                1 << kinds[packet] for packet in frame["packets"])
+    yield from differences(path, found, wanted)
 
 
 def texts(formats):
@@ -178,6 +197,7 @@ def faults(formats):
     """Everything that differs."""
     yield from header_constants(formats)
     yield from rattle_kinds()
+    yield from rules(formats)
     yield from texts(formats)
     yield from structs()
     yield from layout()

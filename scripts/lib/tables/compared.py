@@ -6,7 +6,7 @@ import glob
 import os
 import re
 
-from lib.tables.formats import HEADER, TOP, constants, packet_kinds, read
+from lib.tables.formats import HEADER, TOP, constants, enumeration, packet_kinds, read
 
 TEXTS = "c/src/texts.c"
 STUB = "python/src/quic_wire/_wire.pyi"
@@ -16,8 +16,9 @@ NAMES = {
     "ty": "type", "data_offset": "data", "dst_len": "dcidlen", "src_len": "scidlen", "preferred_id": "preferred_cid",
     "preferred_id_len": "preferred_cidlen",
 }
+STRUCTS = {"Reach": "fields"}
 # Structs of Rattle that the header needn't have.
-UNDECLARED = {"Span", "CFields"}
+UNDECLARED = {"span", "fields"}
 WIDTHS = {
     "uint8_t": 1, "uint16_t": 2, "uint32_t": 4, "uint64_t": 8, "quic_wire_size": 8, "u8": 1, "u16": 2, "u32": 4,
     "u64": 8, "usize": 8,
@@ -41,19 +42,23 @@ def header_constants(formats):
     """The header's kinds of frames and packets, codes and errors, and the order of parameters."""
     frames = {frame.get("quinn_proto", frame["name"]): frame["type"] for frame in reversed(formats["frames"])}
     del frames["ACK_ECN"]
-    yield from differences(f"{HEADER}: kinds of frames", constants("FRAME"), frames)
+    yield from differences(f"{HEADER}: kinds of frames", enumeration("frame_kind", "FRAME"), frames)
     packets = {name.upper().replace("-", "").replace(" ", "_"): kind for name, kind in packet_kinds().items()}
-    yield from differences(
-        f"{HEADER}: kinds of packets", constants("PACKET"), {**packets, "UNKNOWN_VERSION": len(packets)})
+    packets["UNKNOWN_VERSION"] = len(packets)
+    yield from differences(f"{HEADER}: kinds of packets", enumeration("packet_kind", "PACKET"), packets)
     codes = {code["name"]: code["code"] for code in formats["error_codes"]}
-    yield from differences(f"{HEADER}: codes", constants("CODE"), codes)
+    yield from differences(f"{HEADER}: codes", enumeration("code", "CODE"), codes)
     errors = {reason["name"]: reason["number"] for reason in formats["reasons"]}
-    yield from differences(f"{HEADER}: errors", constants("ERR"), {**errors, **OWN_ERRORS})
+    yield from differences(f"{HEADER}: errors", enumeration("result", "ERR"), {**errors, **OWN_ERRORS})
     order = {int(number): name for number, name in re.findall(r"^ \*  - (\d+) (\w+)$", read(HEADER), re.M)}
     wanted = {one["order"]: one["name"] for one in formats["parameters"] if one["kind"] != "skipped"}
     yield from differences(f"{HEADER}: the order of parameters", order, wanted)
-    if constants("PARAM")["ROWS"] != len(formats["parameters"]):
-        yield f"{HEADER}: QUIC_WIRE_PARAM_ROWS isn't {len(formats['parameters'])}"
+    counts = {"PARAM_ROWS": len(formats["parameters"])}
+    for name, list_name in ("FRAME_FIELDS", "frames"), ("PACKET_FIELDS", "headers"):
+        if f"#define QUIC_WIRE_{name} " in read(HEADER):
+            counts[name] = max(len(one["fields"]) for one in formats[list_name])
+    sizes = {name: constants(name.split("_")[0])[name.split("_")[1]] for name in counts}
+    yield from differences(HEADER, sizes, counts)
 
 
 def rattle_kinds():
@@ -61,7 +66,8 @@ def rattle_kinds():
     path = "crates/quic_c_headers/src/words.rt"
     found = re.findall(r"^pub\(crate\) const (\w+): u8 = (\d+);", read(path), re.M)
     names = {"ZERO_RTT": "0RTT", "SHORT": "1RTT"}
-    yield from differences(path, {names.get(name, name): int(it) for name, it in found}, constants("PACKET"))
+    ours = {names.get(name, name): int(it) for name, it in found}
+    yield from differences(path, ours, enumeration("packet_kind", "PACKET"))
 
 
 def rules(formats):
@@ -76,7 +82,7 @@ def rules(formats):
             for kind in range(int(first, 16), int(last or first, 16) + 1):
                 found[kind] = sum(bits[word] for word in words.split(" + "))
     for frame in formats["frames"]:
-        if frame["type"] in constants("FRAME").values():
+        if frame["type"] in enumeration("frame_kind", "FRAME").values():
             wanted[frame["type"]] = sum(bits[letters[letter]] for letter in frame["spec"]) + sum(
                 1 << kinds[packet] for packet in frame["packets"])
     yield from differences(path, found, wanted)
@@ -133,7 +139,7 @@ def rattle_structs():
                 item, count = re.fullmatch(r"\[?(\w+)(?:; (\d+)\])?", kind).groups()
                 fields.append((NAMES.get(of, of), WIDTHS[item], int(count or 1)))
             words = re.sub(r"(?<=[a-z])(?=[A-Z])", "_", re.sub(r"^C(?=[A-Z])", "", name)).lower()
-            yield path, name, words, placed(fields)
+            yield path, name, STRUCTS.get(name, words), placed(fields)
 
 
 def structs():
@@ -142,7 +148,7 @@ def structs():
     yield from differences(f"{HEADER}: frame without QUIC_WIRE_PLAIN", c_structs(2)["frame"], declared["frame"])
     for path, name, words, fields in rattle_structs():
         if words not in declared:
-            if name not in UNDECLARED:
+            if words not in UNDECLARED:
                 yield f"{HEADER}: no quic_wire_{words}, which {path} has"
             continue
         ours = {of.replace("_", ""): it for of, it in fields.items()}
@@ -151,7 +157,7 @@ def structs():
 
 
 def layout():
-    """The layout of structs that the page knows, in bytes."""
+    """The layout in bytes of the structs that the page knows, of their fields those that it reads."""
     declared = c_structs()
     found = re.findall(r"(\w+): \{\s*size: (\d+),\s*fields: \{(.*?)\}", read(LAYOUT), re.S)
     if not found:
@@ -159,7 +165,8 @@ def layout():
     for name, size, body in found:
         ours = {of: (int(at), int(width)) for of, at, width in re.findall(r"(\w+): \[(\d+), (\d+)\]", body)}
         theirs = {of: (at, width * count) for of, (at, width, count) in declared.get(name, {}).items()}
-        yield from differences(f"{LAYOUT}: {name} (offset, bytes)", ours, theirs)
+        read_here = {of: it for of, it in theirs.items() if of in ours}
+        yield from differences(f"{LAYOUT}: {name} (offset, bytes)", ours, read_here)
         end = max((at + width for at, width in theirs.values()), default=0)
         if int(size) != end + -end % 8:
             yield f"{LAYOUT}: {name} has {size} bytes and not {end + -end % 8}"
@@ -186,7 +193,7 @@ def declared_parameters(formats):
 
 def declared_constants():
     """The constants of the module for Python: the header's, without QUIC_WIRE_ and ERR_."""
-    known = {*constants("ERR"), *(f"READ_{name}" for name in constants("READ"))}
+    known = {*enumeration("result", "ERR"), *(f"READ_{name}" for name in constants("READ"))}
     stub = re.search(r"\nLIBRARY_VERSION: str\n((?:\w+: int\n)+)", read(STUB))
     for name in re.findall(r"^(\w+): int", stub[1] if stub else "none: int", re.M):
         if name not in known:

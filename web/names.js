@@ -1,45 +1,27 @@
-// The names that RFC 9000, RFC 9001, RFC 9221, RFC 9287 and RFC 9369 give to numbers.
+// The names that the RFCs give to numbers, of formats.js where that has them, and how the page draws what they name.
 
-// For each kind of frame its name, and the tone that it is drawn in.
-const FRAMES = {
-  0x00: ["PADDING", "padding"],
-  0x01: ["PING", "signal"],
-  0x02: ["ACK", "ack"],
-  0x04: ["RESET_STREAM", "stop"],
-  0x05: ["STOP_SENDING", "stop"],
-  0x06: ["CRYPTO", "crypto"],
-  0x07: ["NEW_TOKEN", "id"],
-  0x08: ["STREAM", "data"],
-  0x10: ["MAX_DATA", "limit"],
-  0x11: ["MAX_STREAM_DATA", "limit"],
-  0x12: ["MAX_STREAMS_BIDI", "limit"],
-  0x13: ["MAX_STREAMS_UNI", "limit"],
-  0x14: ["DATA_BLOCKED", "limit"],
-  0x15: ["STREAM_DATA_BLOCKED", "limit"],
-  0x16: ["STREAMS_BLOCKED_BIDI", "limit"],
-  0x17: ["STREAMS_BLOCKED_UNI", "limit"],
-  0x18: ["NEW_CONNECTION_ID", "id"],
-  0x19: ["RETIRE_CONNECTION_ID", "id"],
-  0x1a: ["PATH_CHALLENGE", "id"],
-  0x1b: ["PATH_RESPONSE", "id"],
-  0x1c: ["CONNECTION_CLOSE", "stop"],
-  0x1d: ["APPLICATION_CLOSE", "stop"],
-  0x1e: ["HANDSHAKE_DONE", "signal"],
-  0x1f: ["IMMEDIATE_ACK", "ack"],
-  0x30: ["DATAGRAM", "data"],
-  0xaf: ["ACK_FREQUENCY", "ack"],
+import { ERROR_CODES, FRAMES, PARAMETERS, REASONS } from "./formats.js";
+
+// For each kind of frame the tone that it is drawn in.
+const FRAME_TONES = {
+  0x00: "padding", 0x01: "signal", 0x02: "ack", 0x04: "stop", 0x05: "stop", 0x06: "crypto", 0x07: "id", 0x08: "data",
+  0x10: "limit", 0x11: "limit", 0x12: "limit", 0x13: "limit", 0x14: "limit", 0x15: "limit", 0x16: "limit",
+  0x17: "limit", 0x18: "id", 0x19: "id", 0x1a: "id", 0x1b: "id", 0x1c: "stop", 0x1d: "stop", 0x1e: "signal",
+  0x1f: "ack", 0x30: "data", 0xaf: "ack",
 };
 
 export const PADDING = 0x00;
 export const ACK = 0x02;
 export const NEW_CONNECTION_ID = 0x18;
 
-export function frameName(kind) {
-  return FRAMES[kind][0];
+// The name that tells the types of one frame apart, which is quinn-proto's: ACK_ECN.
+export function frameName(type) {
+  const { name, quinn_proto: own } = FRAMES.get(type);
+  return own ?? name;
 }
 
 export function frameTone(kind) {
-  return FRAMES[kind][1];
+  return FRAME_TONES[kind];
 }
 
 // The kind of a type on the wire: one for all types of STREAM, of ACK and of DATAGRAM.
@@ -53,16 +35,12 @@ export function kindOfType(type) {
   if (type === 0x31n) {
     return 0x30;
   }
-  return type < 256n && FRAMES[Number(type)] ? Number(type) : null;
+  return FRAMES.has(Number(type)) ? Number(type) : null;
 }
 
 // The name of a type on the wire.
 export function typeName(type) {
-  if (type === 0x03n) {
-    return "ACK_ECN";
-  }
-  const kind = kindOfType(type);
-  return kind === null ? `<unknown ${type.toString(16)}>` : frameName(kind);
+  return FRAMES.has(Number(type)) ? frameName(Number(type)) : `<unknown ${type.toString(16)}>`;
 }
 
 // What calls return for an invalid frame, QUIC_WIRE_ERR_FRAME_END and so on, with the texts.
@@ -70,10 +48,9 @@ export const REASON_END = -21;
 export const REASON_TYPE = -22;
 export const REASON_MALFORMED = -23;
 export const REASON_LONG_TYPE = -24;
-export const FRAME_REASONS = {
-  [REASON_END]: "unexpected end", [REASON_TYPE]: "invalid frame ID", [REASON_MALFORMED]: "malformed",
-  [REASON_LONG_TYPE]: "frame type not in shortest form",
-};
+export const FRAME_REASONS = Object.fromEntries(
+  [REASON_END, REASON_TYPE, REASON_MALFORMED, REASON_LONG_TYPE].map((reason) => [reason, REASONS.get(reason).text]),
+);
 
 // For a list of parameters: QUIC_WIRE_ERR_PARAMS_MALFORMED and QUIC_WIRE_ERR_PARAMS_ILLEGAL.
 export const PARAMS_MALFORMED = -60;
@@ -137,62 +114,38 @@ export function versionName(version) {
   return version >>> 8 === 0xff0000 ? `draft ${version & 0xff}` : "";
 }
 
-const TRANSPORT_ERRORS = [
-  "NO_ERROR", "INTERNAL_ERROR", "CONNECTION_REFUSED", "FLOW_CONTROL_ERROR", "STREAM_LIMIT_ERROR",
-  "STREAM_STATE_ERROR", "FINAL_SIZE_ERROR", "FRAME_ENCODING_ERROR", "TRANSPORT_PARAMETER_ERROR",
-  "CONNECTION_ID_LIMIT_ERROR", "PROTOCOL_VIOLATION", "INVALID_TOKEN", "APPLICATION_ERROR", "CRYPTO_BUFFER_EXCEEDED",
-  "KEY_UPDATE_ERROR", "AEAD_LIMIT_REACHED", "NO_VIABLE_PATH",
-];
+const ALERTS = 0x100n;
 
 // The name of a transport error code (RFC 9000, section 20.1), or nothing.
 export function errorName(code) {
-  if (code >= 0x100n && code < 0x200n) {
-    return `CRYPTO_ERROR, TLS alert ${code - 0x100n}`;
+  const alerts = ERROR_CODES.get(Number(ALERTS));
+  if (code >= ALERTS && code <= alerts.last) {
+    return `${alerts.name}, TLS alert ${code - ALERTS}`;
   }
-  return code < BigInt(TRANSPORT_ERRORS.length) ? TRANSPORT_ERRORS[Number(code)] : "";
+  return ERROR_CODES.get(Number(code))?.name ?? "";
 }
 
-// For each known transport parameter: its name, the kind of its value, its unit, its tone.
-const PARAMETERS = new Map([
-  [0x00n, ["original_destination_connection_id", "id", "", "id"]],
-  [0x01n, ["max_idle_timeout", "number", "ms", "ack"]],
-  [0x02n, ["stateless_reset_token", "bytes", "", "id"]],
-  [0x03n, ["max_udp_payload_size", "number", "bytes", "data"]],
-  [0x04n, ["initial_max_data", "number", "bytes", "limit"]],
-  [0x05n, ["initial_max_stream_data_bidi_local", "number", "bytes", "limit"]],
-  [0x06n, ["initial_max_stream_data_bidi_remote", "number", "bytes", "limit"]],
-  [0x07n, ["initial_max_stream_data_uni", "number", "bytes", "limit"]],
-  [0x08n, ["initial_max_streams_bidi", "number", "streams", "limit"]],
-  [0x09n, ["initial_max_streams_uni", "number", "streams", "limit"]],
-  [0x0an, ["ack_delay_exponent", "number", "", "ack"]],
-  [0x0bn, ["max_ack_delay", "number", "ms", "ack"]],
-  [0x0cn, ["disable_active_migration", "flag", "", "stop"]],
-  [0x0dn, ["preferred_address", "address", "", "id"]],
-  [0x0en, ["active_connection_id_limit", "number", "ids", "id"]],
-  [0x0fn, ["initial_source_connection_id", "id", "", "id"]],
-  [0x10n, ["retry_source_connection_id", "id", "", "id"]],
-  [0x20n, ["max_datagram_frame_size", "number", "bytes", "data"]],
-  [0x2ab2n, ["grease_quic_bit", "flag", "", "signal"]],
-  [0xff04de1bn, ["min_ack_delay", "number", "µs", "ack"]],
-]);
-// The bounds of their values (RFC 9000, section 18.2; for min_ack_delay the ACK frequency extension).
-const ALLOWED = new Map([
-  [0x03n, "1200 or more"], [0x08n, "no more than 2^60"], [0x09n, "no more than 2^60"], [0x0an, "no more than 20"],
-  [0x0bn, "less than 2^14"], [0x0en, "2 or more"], [0xff04de1bn, "no more than max_ack_delay"],
-]);
+// For each known transport parameter its unit as it is written after a number, and its tone.
+const PARAMETER_LOOKS = {
+  0x00: ["", "id"], 0x01: ["ms", "ack"], 0x02: ["", "id"], 0x03: ["bytes", "data"], 0x04: ["bytes", "limit"],
+  0x05: ["bytes", "limit"], 0x06: ["bytes", "limit"], 0x07: ["bytes", "limit"], 0x08: ["streams", "limit"],
+  0x09: ["streams", "limit"], 0x0a: ["", "ack"], 0x0b: ["ms", "ack"], 0x0c: ["", "stop"], 0x0d: ["", "id"],
+  0x0e: ["ids", "id"], 0x0f: ["", "id"], 0x10: ["", "id"], 0x20: ["bytes", "data"], 0x2ab2: ["", "signal"],
+  0xff04de1b: ["µs", "ack"],
+};
 
 // The bounds of a parameter's value, or nothing.
 export function allowedOf(id) {
-  return ALLOWED.get(id) ?? "";
+  return PARAMETERS.get(Number(id))?.bound ?? "";
 }
 
 export const MIN_ACK_DELAY = 0xff04de1bn;
 
 export function parameterOf(id) {
-  const known = PARAMETERS.get(id);
-  if (known) {
-    const [name, kind, unit, tone] = known;
-    return { name, kind, unit, tone };
+  const looks = PARAMETER_LOOKS[id];
+  if (looks) {
+    const { name, kind } = PARAMETERS.get(Number(id));
+    return { name, kind, unit: looks[0], tone: looks[1] };
   }
   const isReserved = id >= 27n && (id - 27n) % 31n === 0n;
   return { name: isReserved ? "reserved parameter" : "unknown parameter", kind: "other", unit: "", tone: "padding" };

@@ -44,7 +44,7 @@ function numberField(walk, unit) {
 function valueFields(walk, { kind, unit }) {
   if (kind === "number") {
     numberField(walk, unit);
-  } else if (kind === "address") {
+  } else if (kind === "preferred_address") {
     addressFields(walk);
     if (!walk.missing && walk.left > 0) {
       walk.rest("after the address", { fault: true });
@@ -91,7 +91,7 @@ export function nextEntry(bytes, begin) {
 export function parameterSummary(walk, id) {
   const { kind } = parameterOf(id);
   const by = (name) => walk.fields.find((field) => field.name === name);
-  if (kind === "address") {
+  if (kind === "preferred_address") {
     return [by("IPv4 Address")?.value, by("IPv6 Address")?.value].filter(Boolean).join(", ");
   }
   if (kind === "flag") {

@@ -110,6 +110,7 @@
  *   Frames (RFC 9000, section 19)
  *   Packets (RFC 9000, section 17)
  *   Transport parameters (RFC 9000, section 18)
+ *   Fields of what is read
  *
  * Functions follow:
  *
@@ -124,6 +125,7 @@
  *   Writing packet headers
  *   Reading and writing transport parameters
  *   Sets of packet numbers, and ACKs of them
+ *   Where each field is
  *   Texts
  */
 #ifndef QUIC_WIRE_H
@@ -673,6 +675,44 @@ typedef struct quic_wire_refusal {
  * ones are those of the parameters of quic_wire_params. */
 #define QUIC_WIRE_PARAM_ROWS 21
 
+/* ---- Fields of what is read */
+
+/** A field of a frame, of a packet or of an entry of transport parameters:
+ * where it is in the bytes that were read.  Each begins where the one before it
+ * ends.  docs/formats.json has the names of the fields by their indices. */
+typedef struct quic_wire_span {
+  quic_wire_size field; /* its index: 0 is the frame's type, the packet's first
+                           byte or the parameter's id, 1 what follows it */
+  quic_wire_size start, end; /* the offsets at which it begins and ends, in
+                                bytes; equal for a field without bytes, which
+                                the type implies */
+  uint64_t number; /* its value.  Of bytes how many there are: without the
+                      length that comes before them in the field, so that they
+                      begin at |end| - |number|.  Of an ACK's ranges how many
+                      are below the first; of versions how many there are */
+} QUIC_WIRE_ALIGNED quic_wire_span;
+
+/** How far fields were read (not quic_wire_header_fields, which is for
+ * writing). */
+typedef struct quic_wire_fields {
+  quic_wire_size count;  /* how many were read; on error the index of the field
+                            at fault */
+  quic_wire_size end;    /* where the last of them ends; on error where the
+                            field at fault begins */
+  quic_wire_size inside; /* on error: how many bytes of the field at fault come
+                            before what is wrong with it, which begins at
+                            |end| + |inside| */
+  uint64_t numbers; /* on error: how many numbers these are.  0: the field's
+                       first number or its bytes are at fault.  1: the bytes
+                       after its length.  In an ACK's ranges 0 is their count,
+                       1 the first range, then in turn a gap and a length */
+} QUIC_WIRE_ALIGNED quic_wire_fields;
+
+/** How many fields there are at most, as array sizes. */
+#define QUIC_WIRE_FRAME_FIELDS 7
+#define QUIC_WIRE_PACKET_FIELDS 8
+#define QUIC_WIRE_PARAM_FIELDS 2
+
 /* ---- The linked library */
 
 /* The layout of the structs, on which the library relies. */
@@ -718,6 +758,12 @@ QUIC_WIRE_ASSERT(sizeof(quic_wire_param) == 24, "64-bit words");
 QUIC_WIRE_ASSERT(offsetof(quic_wire_param, value) == 8, "64-bit words");
 QUIC_WIRE_ASSERT(sizeof(quic_wire_refusal) == 16, "64-bit words");
 QUIC_WIRE_ASSERT(offsetof(quic_wire_refusal, offset) == 8, "64-bit words");
+QUIC_WIRE_ASSERT(sizeof(quic_wire_span) == 32, "64-bit words");
+QUIC_WIRE_ASSERT(offsetof(quic_wire_span, end) == 16, "64-bit words");
+QUIC_WIRE_ASSERT(offsetof(quic_wire_span, number) == 24, "64-bit words");
+QUIC_WIRE_ASSERT(sizeof(quic_wire_fields) == 32, "64-bit words");
+QUIC_WIRE_ASSERT(offsetof(quic_wire_fields, inside) == 16, "64-bit words");
+QUIC_WIRE_ASSERT(offsetof(quic_wire_fields, numbers) == 24, "64-bit words");
 #undef QUIC_WIRE_ASSERT
 #endif
 
@@ -1626,6 +1672,70 @@ QUIC_WIRE_CHECKED QUIC_WIRE_API int
 quic_wire_ack_write(uint64_t delay, const quic_wire_range *runs, size_t count,
                     const uint64_t *counts, uint8_t *dest, size_t destlen,
                     size_t *written);
+
+/* ---- Where each field is.  These calls store the fields of what is at the
+ * front of the bytes, in their order, as many as |fields| has room for:
+ * |nfields| of them.  The others of |fields| don't change.  |read| says how
+ * many fields there are, which may be more than there is room for.  On error
+ * the fields before the one at fault are stored, and |read| says which one it
+ * is and where.  They are meant for messages to people, and read the bytes
+ * again */
+
+/**
+ * Where the fields of the frame at the front of |payload| are.  |flags| are
+ * QUIC_WIRE_READ_...; those for packets and parameters are ignored.
+ *
+ * Returns:
+ *  - QUIC_WIRE_ITEM, with all fields, if a frame is there: |read->end| is where
+ *    it ends.  In a run of PADDING each byte is a frame
+ *  - the error that quic_wire_frames_next returns for it.  If a frame is there
+ *    and a flag rejects it, the field at fault is its type
+ *    (QUIC_WIRE_READ_SHORT_TYPES, QUIC_WIRE_READ_NO_ACK_FREQUENCY), the length
+ *    of its token (QUIC_WIRE_READ_TOKENS), the number of streams
+ *    (QUIC_WIRE_READ_STREAM_LIMIT), or the length of its data, or their offset
+ *    if they have no length (QUIC_WIRE_READ_DATA_LIMIT)
+ *  - QUIC_WIRE_ERR_PAYLOAD_EMPTY for no bytes
+ *  - QUIC_WIRE_ERR_ARGUMENT for NULL; nothing changes then
+ */
+QUIC_WIRE_CHECKED QUIC_WIRE_API int
+quic_wire_frame_fields(const uint8_t *payload, size_t payloadlen,
+                       uint32_t flags, quic_wire_span *fields, size_t nfields,
+                       quic_wire_fields *read);
+
+/**
+ * Where the fields of the header at the front of |bytes| are.  Those of a
+ * version negotiation go on with its versions, and those of a Retry with its
+ * token and its tag, as far as these are whole.  Except in a version negotiation
+ * index 4 of a long header has no bytes: it stands for a version that is known,
+ * and is at fault if it isn't.  The arguments are those of quic_wire_header_read.
+ *
+ * Returns:
+ *  - QUIC_WIRE_ITEM, with all fields, if that returns where the packet ends:
+ *    |read->end| is where the last field ends
+ *  - the error that it returns.  The field at fault of a packet that is cut off
+ *    is its Length; of a Retry without a token that, of one without a tag the
+ *    tag; of a packet whose fixed bit is clear the first byte
+ *  - QUIC_WIRE_ERR_ARGUMENT for NULL; nothing changes then
+ */
+QUIC_WIRE_CHECKED QUIC_WIRE_API int
+quic_wire_packet_fields(const uint8_t *bytes, size_t len, size_t cidlen,
+                        const uint32_t *versions, size_t nversions,
+                        uint32_t flags, quic_wire_span *fields, size_t nfields,
+                        quic_wire_fields *read);
+
+/**
+ * Where the fields of the entry at the front of a list of transport parameters
+ * are: its id, and its value with the value's length (RFC 9000, section 18).
+ *
+ * Returns:
+ *  - QUIC_WIRE_ITEM, with both fields: |read->end| is where the entry ends
+ *  - QUIC_WIRE_ERR_PARAMS_MALFORMED if it is cut off
+ *  - QUIC_WIRE_ERR_ARGUMENT for NULL; nothing changes then
+ */
+QUIC_WIRE_CHECKED QUIC_WIRE_API int
+quic_wire_param_fields(const uint8_t *list, size_t listlen,
+                       quic_wire_span *fields, size_t nfields,
+                       quic_wire_fields *read);
 
 /* ---- Texts */
 

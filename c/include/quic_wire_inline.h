@@ -111,6 +111,13 @@ int32_t quic_wire_set_contains_(const quic_wire_range *, size_t, size_t,
 int32_t quic_wire_ack_write_(uint64_t, const quic_wire_range *, size_t, size_t,
                              const uint64_t *, size_t, uint8_t *, size_t,
                              size_t *);
+int32_t quic_wire_frame_fields_(const uint8_t *, size_t, uint32_t,
+                                quic_wire_span *, size_t, quic_wire_fields *);
+int32_t quic_wire_packet_fields_(const uint8_t *, size_t, size_t,
+                                 const uint32_t *, size_t, uint32_t,
+                                 quic_wire_span *, size_t, quic_wire_fields *);
+int32_t quic_wire_param_fields_(const uint8_t *, size_t, quic_wire_span *,
+                                size_t, quic_wire_fields *);
 
 /* An address for arrays without items, since the proved library accepts no
  * NULL.  It is aligned for each kind of item, and never read or written. */
@@ -728,6 +735,42 @@ QUIC_WIRE_API int quic_wire_ack_write(uint64_t delay,
       count, counts ? counts : (const uint64_t *)quic_wire_nothing_(),
       counts ? 3 : 0, dest ? dest : (uint8_t *)quic_wire_nothing_(), destlen,
       written ? written : &unused);
+}
+
+QUIC_WIRE_API int quic_wire_frame_fields(const uint8_t *payload,
+                                         size_t payloadlen, uint32_t flags,
+                                         quic_wire_span *fields, size_t nfields,
+                                         quic_wire_fields *read) {
+  if ((!payload && payloadlen) || (!fields && nfields) || !read)
+    return QUIC_WIRE_ERR_ARGUMENT;
+  return quic_wire_frame_fields_(
+      payload ? payload : (const uint8_t *)quic_wire_nothing_(), payloadlen,
+      flags, fields ? fields : (quic_wire_span *)quic_wire_nothing_(), nfields,
+      read);
+}
+
+QUIC_WIRE_API int
+quic_wire_packet_fields(const uint8_t *bytes, size_t len, size_t cidlen,
+                        const uint32_t *versions, size_t nversions,
+                        uint32_t flags, quic_wire_span *fields, size_t nfields,
+                        quic_wire_fields *read) {
+  if (!bytes || (!versions && nversions) || (!fields && nfields) || !read)
+    return QUIC_WIRE_ERR_ARGUMENT;
+  return quic_wire_packet_fields_(
+      bytes, len, cidlen,
+      versions ? versions : (const uint32_t *)quic_wire_nothing_(), nversions,
+      flags, fields ? fields : (quic_wire_span *)quic_wire_nothing_(), nfields,
+      read);
+}
+
+QUIC_WIRE_API int quic_wire_param_fields(const uint8_t *list, size_t listlen,
+                                         quic_wire_span *fields, size_t nfields,
+                                         quic_wire_fields *read) {
+  if ((!list && listlen) || (!fields && nfields) || !read)
+    return QUIC_WIRE_ERR_ARGUMENT;
+  return quic_wire_param_fields_(
+      list ? list : (const uint8_t *)quic_wire_nothing_(), listlen,
+      fields ? fields : (quic_wire_span *)quic_wire_nothing_(), nfields, read);
 }
 
 #endif /* QUIC_WIRE_INLINE_H */

@@ -139,4 +139,9 @@ extern void sets_nulls(void);
 extern void sets(void);
 extern void set_rubbish(void);
 
+/* fields.c: where fields are. */
+extern void fields_nulls(void);
+extern void fields_examples(void);
+extern void fields_any(const uint8_t *bytes, size_t len);
+
 #endif /* ABUSE_H */

@@ -61,6 +61,8 @@ static void nulls(void) {
   params_nulls();
   params_with();
   sets_nulls();
+  fields_nulls();
+  fields_examples();
 }
 
 static void rubbish(int rounds) {
@@ -95,6 +97,7 @@ static void rubbish(int rounds) {
     place_any(bytes, len);
     params_any(bytes, len);
     set_rubbish();
+    fields_any(bytes, len);
     if (i % 8 == 0)
       sets();
     for (k = 0; k < 2; k++)

@@ -106,7 +106,7 @@ fn show_header(
 
 // Stores what was read in `head`, and returns where the packet ends, or why it isn't complete.
 #[inline(always)]
-fn show(
+pub(crate) fn show(
     packet: &[u8],
     read: Result<HeaderPlaces, ReadError>,
     flags: u32,
@@ -197,7 +197,7 @@ fn is_of_version(packet: &[u8], versions: &[u32]) -> bool
 
 // Whether the fixed bit of the first byte is clear although it must be set.
 #[inline(always)]
-fn lacks_fixed_bit(packet: &[u8], versions: &[u32], flags: u32) -> bool
+pub(crate) fn lacks_fixed_bit(packet: &[u8], versions: &[u32], flags: u32) -> bool
     ensures { IsTrue result ↔ LacksFixedBit flags versions.now packet.now }
 {
     match packet.first() {

@@ -2,6 +2,7 @@
 //! function is safe with any argument values.
 #![tactic(auto)]
 
+mod fields;
 mod headers;
 pub mod laws;
 mod negotiation;

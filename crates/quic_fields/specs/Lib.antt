@@ -4,3 +4,4 @@ pub mod Inside
 pub mod Walk
 pub mod Entry
 pub mod Stopping
+pub mod Rules

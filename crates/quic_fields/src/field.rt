@@ -25,6 +25,20 @@ pub struct Span {
     pub number: u64,
 }
 
+/// How far fields were read, as libraries for C return it.
+#[repr(C)]
+#[derive(Clone, Copy, Debug, PartialEq, Eq)]
+pub struct Reach {
+    /// How many fields were read. So the field at fault has this index.
+    pub count: usize,
+    /// Where the last of them ends, and the field at fault begins.
+    pub end: usize,
+    /// How many bytes of the field at fault come before the number or the bytes at fault.
+    pub inside: usize,
+    /// How many numbers these are.
+    pub numbers: u64,
+}
+
 /// What later fields need of those that were read: the first number of an ACK, and the two of a NEW_CONNECTION_ID.
 #[derive(Clone, Copy, Debug, PartialEq, Eq)]
 pub enum Seen {

@@ -1,4 +1,5 @@
-// The formats of QUIC as data: the fields of frames and headers, transport parameters, error codes, reasons.
+// The formats of QUIC as data: the fields of frames and headers, transport parameters, error codes,
+// reasons.
 // Made by scripts/tables from docs/formats.json: change nothing here.
 // docs/formats.schema.json explains the members. Keys are Numbers; bounds, defaults and values are BigInts.
 
@@ -234,7 +235,7 @@ export const HEADERS = new Map([
       {name: "Unused", bits: 7},
     ], fields: [
       {index: 0, kind: "first_byte", bytes: [1, 1]},
-      {index: 1, kind: "uint32", name: "Version", bytes: [4, 4]},
+      {index: 1, kind: "uint32", name: "Version", bytes: [4, 4], value: 0n},
       {
         index: 2, kind: "id", name: "Destination Connection ID", length: "Destination Connection ID Length",
         bytes: [0, 20],
@@ -582,16 +583,19 @@ export const ERROR_CODES = new Map([
 
 // Why something is rejected, by what the library returns.
 export const REASONS = new Map([
-  [-1, {number: -1, about: "call", name: "ARGUMENT", close_code: 1}],
-  [-2, {number: -2, about: "call", name: "PLACE", close_code: 1}],
-  [-3, {number: -3, about: "call", name: "KIND", close_code: 1}],
-  [-5, {number: -5, about: "call", name: "NUMBER", close_code: 1}],
-  [-6, {number: -6, about: "call", name: "LENGTH", close_code: 1}],
-  [-7, {number: -7, about: "call", name: "RANGES", close_code: 1}],
-  [-8, {number: -8, about: "call", name: "PARAM", close_code: 1}],
-  [-9, {number: -9, about: "call", name: "NOBUF", close_code: 1}],
+  [-1, {number: -1, about: "call", name: "ARGUMENT", close_code: 1, text: "invalid argument"}],
+  [-2, {number: -2, about: "call", name: "PLACE", close_code: 1, text: "place outside of the bytes"}],
+  [-3, {number: -3, about: "call", name: "KIND", close_code: 1, text: "no such kind"}],
+  [-5, {number: -5, about: "call", name: "NUMBER", close_code: 1, text: "number out of range"}],
+  [-6, {number: -6, about: "call", name: "LENGTH", close_code: 1, text: "length out of range"}],
+  [-7, {number: -7, about: "call", name: "RANGES", close_code: 1, text: "ranges not sorted or touching"}],
+  [-8, {
+    number: -8, about: "call", name: "PARAM", close_code: 1, text: "parameters that the peer would refuse",
+  }],
+  [-9, {number: -9, about: "call", name: "NOBUF", close_code: 1, text: "buffer too small"}],
   [-20, {
     number: -20, about: "frame", name: "PAYLOAD_EMPTY", close_code: 10, section: "RFC 9000, section 12.4",
+    text: "packet payload is empty",
   }],
   [-21, {
     number: -21, about: "frame", name: "FRAME_END", close_code: 7, section: "RFC 9000, section 20.1",
@@ -615,45 +619,55 @@ export const REASONS = new Map([
   }],
   [-26, {
     number: -26, about: "frame", name: "FRAME_PACKET", close_code: 10, section: "RFC 9000, section 12.4",
+    text: "not permitted in this packet",
   }],
   [-27, {
     number: -27, about: "frame", name: "FRAME_SENDER", close_code: 10, section: "RFC 9000, sections 19.7, 19.20",
+    text: "not permitted from this side",
   }],
   [-28, {
     number: -28, about: "frame", name: "FRAME_STREAM", close_code: 5,
-    section: "RFC 9000, sections 19.4, 19.5, 19.8, 19.10, 19.13",
+    section: "RFC 9000, sections 19.4, 19.5, 19.8, 19.10, 19.13", text: "not permitted on this stream",
   }],
   [-40, {
     number: -40, about: "header", name: "PACKET_END", close_code: 0, section: "RFC 9000, section 17",
+    text: "unexpected end of packet",
   }],
   [-41, {
     number: -41, about: "header", name: "PACKET_FIXED_BIT", close_code: 0, section: "RFC 9000, sections 17.2, 17.3.1",
+    text: "fixed bit unset",
   }],
   [-42, {
     number: -42, about: "header", name: "PACKET_SMALL", close_code: 0, section: "RFC 9001, section 5.4.2",
+    text: "packet too small",
   }],
   [-43, {
     number: -43, about: "header", name: "PACKET_CID", close_code: 0, section: "RFC 9000, section 17.2",
+    text: "malformed cid",
   }],
   [-44, {
     number: -44, about: "header", name: "PACKET_TOKEN", close_code: 0, section: "RFC 9000, section 17.2.2",
+    text: "token out of bounds",
   }],
   [-45, {
     number: -45, about: "header", name: "PACKET_VERSION", close_code: 0, section: "RFC 9000, section 6.1",
+    text: "unsupported version",
   }],
   [-46, {
     number: -46, about: "header", name: "PACKET_CUT", close_code: 0, section: "RFC 9000, section 12.2",
+    text: "packet too short to contain payload length",
   }],
   [-47, {
     number: -47, about: "header", name: "PACKET_RETRY", close_code: 0, section: "RFC 9000, section 17.2.5",
+    text: "Retry without a token or a tag",
   }],
   [-60, {
     number: -60, about: "list", name: "PARAMS_MALFORMED", close_code: 8, section: "RFC 9000, section 7.4",
-    text: "parameters were malformed",
+    text: "malformed",
   }],
   [-61, {
     number: -61, about: "list", name: "PARAMS_ILLEGAL", close_code: 8, section: "RFC 9000, sections 7.4, 18.2",
-    text: "parameter had illegal value",
+    text: "illegal value",
   }],
 ]);
 

@@ -121,6 +121,7 @@ fn write_spec(
     line.text("spec", spec)?;
     line.flag("ack_eliciting", eliciting)?;
     line.flag("in_flight", eliciting || ty == 0x00)?;
+    line.flag("counted_in_flight", !spec.contains('C'))?;
     line.flag("probing", spec.contains('P'))?;
     line.flag("flow_controlled", spec.contains('F'))?;
     Ok(())

@@ -12,17 +12,22 @@ pub(crate) struct Names {
     pub section: &'static str,
     /// The bits that follow the header's form, the fixed bit and the type.
     pub bits: &'static [Bits],
-    /// What follows the row's fields, each with the least and the most bytes; 0 at most if these are open.
-    pub after: &'static [(&'static str, u64, u64)],
+    /// What follows the row's fields.
+    pub after: &'static [After],
 }
+
+/// What follows a header's fields: its name, the least and the most bytes, 0 at most if these are open, and whether it
+/// is repeated to the packet's end.
+#[derive(Clone, Copy)]
+pub(crate) struct After(pub &'static str, pub u64, pub u64, pub bool);
 
 const RESERVED: Bits = Bits("Reserved Bits", 2, None);
 
 const NUMBER_LENGTH: Bits = Bits("Packet Number Length", 2, None);
 
-const NUMBER: (&str, u64, u64) = ("Packet Number", 1, 4);
+const NUMBER: After = After("Packet Number", 1, 4, false);
 
-const PAYLOAD: (&str, u64, u64) = ("Packet Payload", 0, 0);
+const PAYLOAD: After = After("Packet Payload", 0, 0, false);
 
 /// Initial packets.
 pub(crate) const INITIAL: Names = Names {
@@ -53,7 +58,10 @@ pub(crate) const RETRY: Names = Names {
     name: "Retry",
     section: "RFC 9000, section 17.2.5",
     bits: &[Bits("Unused", 4, None)],
-    after: &[("Retry Token", 0, 0), ("Retry Integrity Tag", 16, 16)],
+    after: &[
+        After("Retry Token", 0, 0, false),
+        After("Retry Integrity Tag", 16, 16, false),
+    ],
 };
 
 /// Version negotiations.
@@ -61,7 +69,7 @@ pub(crate) const NEGOTIATION: Names = Names {
     name: "Version Negotiation",
     section: "RFC 9000, section 17.2.1",
     bits: &[Bits("Unused", 7, None)],
-    after: &[("Supported Version", 0, 0)],
+    after: &[After("Supported Version", 4, 4, true)],
 };
 
 /// 1-RTT packets.

@@ -1,6 +1,6 @@
 //! The headers of packets.
 use crate::header_names::{
-    Bits, Field, HANDSHAKE, INITIAL, NEGOTIATION, Names, ONE_RTT, RETRY, ZERO_RTT, field_of,
+    After, Bits, Field, HANDSHAKE, INITIAL, NEGOTIATION, Names, ONE_RTT, RETRY, ZERO_RTT, field_of,
 };
 use crate::line::Line;
 use quic_header_encode::long_type::{
@@ -51,13 +51,16 @@ fn line(alloc: Global, version: u32, first: u8, names: Names) -> Result<Line, Fa
     write_bits(&mut line, first, version, names.bits)?;
     line.close("]")?;
     line.open("fields", "[")?;
-    write_fields(&mut line, row(first, version))?;
+    write_fields(&mut line, row(first, version), version)?;
     line.close("]")?;
     line.open("after", "[")?;
-    for (name, least, most) in names.after {
+    for After(name, least, most, is_repeated) in names.after {
         line.item()?;
         line.named(name)?;
         write_bytes(&mut line, *least, *most)?;
+        if *is_repeated {
+            line.flag("repeated", true)?;
+        }
         line.close("}")?;
     }
     line.close("]}")?;
@@ -99,18 +102,22 @@ fn write_bit(line: &mut Line, bits: Bits) -> Result<(), Fail> {
     Ok(())
 }
 
-fn write_fields(line: &mut Line, kinds: &[Kind]) -> Result<(), Fail> {
+// The fields of a row. Among the headers of all versions, only a version negotiation has a version: 0.
+fn write_fields(line: &mut Line, kinds: &[Kind], version: u32) -> Result<(), Fail> {
     line.field(0, "first_byte")?;
     line.bytes(1, 1)?;
     line.close("}")?;
     let mut index: usize = 0;
     for kind in kinds {
         index = index.saturating_add(1);
-        let Field(kind, name, length, least, most) = field_of(*kind);
-        line.field(index, kind)?;
+        let Field(word, name, length, least, most) = field_of(*kind);
+        line.field(index, word)?;
         line.named(name)?;
         line.length_if_any(length)?;
         write_bytes(line, least, most)?;
+        if *kind == Kind::Version && version == 0 {
+            line.number("value", 0)?;
+        }
         line.close("}")?;
     }
     Ok(())

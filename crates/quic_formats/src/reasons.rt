@@ -1,97 +1,158 @@
 //! The codes that close a connection, and the reasons why frames, packets and lists are rejected.
 use crate::line::Line;
+use bytes::BytesMut;
 use quic_errors::transport_error::Code;
 use quic_frame_fields::frame::fault::Fault;
 use quic_frames::frame::Breach;
+use quic_header_decode::cut::PartialDecode;
+use quic_header_decode::parser::FixedLengthConnectionIdParser;
 use quic_params::transport_parameters::Error;
 use quic_results::results::{Failure, close_code, frame_failure};
-use std::alloc::{AllocError, Global};
+use std::alloc::Global;
 use std::test::Fail;
 
-// The reasons, each with its name in C after `QUIC_WIRE_ERR_` and the sections that require it.
-const REASONS: [(Failure, &str, &str); 27] = [
-    (Failure::Argument, "ARGUMENT", ""),
-    (Failure::Place, "PLACE", ""),
-    (Failure::Kind, "KIND", ""),
-    (Failure::Number, "NUMBER", ""),
-    (Failure::Length, "LENGTH", ""),
-    (Failure::Ranges, "RANGES", ""),
-    (Failure::Parameter, "PARAM", ""),
-    (Failure::NoRoom, "NOBUF", ""),
-    (
+// A reason: its name in C after `QUIC_WIRE_ERR_`, the sections that require it, and what the library and the programs
+// say of it.
+#[derive(Clone, Copy)]
+struct Reason(
+    pub Failure,
+    pub &'static str,
+    pub &'static str,
+    pub &'static str,
+);
+
+const REASONS: [Reason; 27] = [
+    Reason(Failure::Argument, "ARGUMENT", "", "invalid argument"),
+    Reason(Failure::Place, "PLACE", "", "place outside of the bytes"),
+    Reason(Failure::Kind, "KIND", "", "no such kind"),
+    Reason(Failure::Number, "NUMBER", "", "number out of range"),
+    Reason(Failure::Length, "LENGTH", "", "length out of range"),
+    Reason(
+        Failure::Ranges,
+        "RANGES",
+        "",
+        "ranges not sorted or touching",
+    ),
+    Reason(
+        Failure::Parameter,
+        "PARAM",
+        "",
+        "parameters that the peer would refuse",
+    ),
+    Reason(Failure::NoRoom, "NOBUF", "", "buffer too small"),
+    Reason(
         Failure::PayloadEmpty,
         "PAYLOAD_EMPTY",
         "RFC 9000, section 12.4",
+        "packet payload is empty",
     ),
-    (Failure::FrameEnd, "FRAME_END", "RFC 9000, section 20.1"),
-    (Failure::FrameType, "FRAME_TYPE", "RFC 9000, section 12.4"),
-    (
+    Reason(
+        Failure::FrameEnd,
+        "FRAME_END",
+        "RFC 9000, section 20.1",
+        "unexpected end",
+    ),
+    Reason(
+        Failure::FrameType,
+        "FRAME_TYPE",
+        "RFC 9000, section 12.4",
+        "invalid frame ID",
+    ),
+    Reason(
         Failure::FrameMalformed,
         "FRAME_MALFORMED",
         "RFC 9000, sections 19.3.1, 19.7, 19.15",
+        "malformed",
     ),
-    (
+    Reason(
         Failure::FrameLongType,
         "FRAME_LONG_TYPE",
         "RFC 9000, section 12.4",
+        "frame type not in shortest form",
     ),
-    (
+    Reason(
         Failure::FrameLimit,
         "FRAME_LIMIT",
         "RFC 9000, sections 19.6, 19.8, 19.11, 19.14",
+        "limit exceeded",
     ),
-    (
+    Reason(
         Failure::FramePacket,
         "FRAME_PACKET",
         "RFC 9000, section 12.4",
+        "not permitted in this packet",
     ),
-    (
+    Reason(
         Failure::FrameSender,
         "FRAME_SENDER",
         "RFC 9000, sections 19.7, 19.20",
+        "not permitted from this side",
     ),
-    (
+    Reason(
         Failure::FrameStream,
         "FRAME_STREAM",
         "RFC 9000, sections 19.4, 19.5, 19.8, 19.10, 19.13",
+        "not permitted on this stream",
     ),
-    (Failure::PacketEnd, "PACKET_END", "RFC 9000, section 17"),
-    (
+    Reason(
+        Failure::PacketEnd,
+        "PACKET_END",
+        "RFC 9000, section 17",
+        "unexpected end of packet",
+    ),
+    Reason(
         Failure::PacketFixedBit,
         "PACKET_FIXED_BIT",
         "RFC 9000, sections 17.2, 17.3.1",
+        "fixed bit unset",
     ),
-    (
+    Reason(
         Failure::PacketSmall,
         "PACKET_SMALL",
         "RFC 9001, section 5.4.2",
+        "packet too small",
     ),
-    (Failure::PacketId, "PACKET_CID", "RFC 9000, section 17.2"),
-    (
+    Reason(
+        Failure::PacketId,
+        "PACKET_CID",
+        "RFC 9000, section 17.2",
+        "malformed cid",
+    ),
+    Reason(
         Failure::PacketToken,
         "PACKET_TOKEN",
         "RFC 9000, section 17.2.2",
+        "token out of bounds",
     ),
-    (
+    Reason(
         Failure::PacketVersion,
         "PACKET_VERSION",
         "RFC 9000, section 6.1",
+        "unsupported version",
     ),
-    (Failure::PacketCut, "PACKET_CUT", "RFC 9000, section 12.2"),
-    (
+    Reason(
+        Failure::PacketCut,
+        "PACKET_CUT",
+        "RFC 9000, section 12.2",
+        "packet too short to contain payload length",
+    ),
+    Reason(
         Failure::PacketRetry,
         "PACKET_RETRY",
         "RFC 9000, section 17.2.5",
+        "Retry without a token or a tag",
     ),
-    (
+    Reason(
         Failure::ParametersMalformed,
         "PARAMS_MALFORMED",
         "RFC 9000, section 7.4",
+        "malformed",
     ),
-    (
+    Reason(
         Failure::ParametersIllegal,
         "PARAMS_ILLEGAL",
         "RFC 9000, sections 7.4, 18.2",
+        "illegal value",
     ),
 ];
 
@@ -131,13 +192,15 @@ fn code_line(alloc: Global, number: u64, name: &str, text: &str) -> Result<Line,
 /// A line for each reason.
 pub(crate) fn lines(alloc: Global) -> Result<Vec<Line>, Fail> {
     let mut lines = Vec::new(alloc);
-    for (reason, name, section) in REASONS {
-        lines.push(line(alloc, reason, name, section)?)?;
+    for reason in REASONS {
+        lines.push(line(alloc, reason)?)?;
     }
     Ok(lines)
 }
 
-fn line(alloc: Global, reason: Failure, name: &str, section: &str) -> Result<Line, Fail> {
+fn line(alloc: Global, row: Reason) -> Result<Line, Fail> {
+    let Reason(reason, name, section, text) = row;
+    check_text(alloc, reason, text)?;
     let number = reason.number();
     let mut line = Line::new(alloc)?;
     line.signed("number", number)?;
@@ -145,9 +208,7 @@ fn line(alloc: Global, reason: Failure, name: &str, section: &str) -> Result<Lin
     line.text("name", name)?;
     line.number("close_code", u64::from(close_code(number)))?;
     line.text_if_any("section", section)?;
-    if let Some(text) = text_of(alloc, reason)? {
-        line.text("text", text.as_str())?;
-    }
+    line.text("text", text)?;
     line.close("}")?;
     Ok(line)
 }
@@ -184,24 +245,52 @@ fn about(reason: Failure) -> &'static str {
     }
 }
 
-// The text that the library reports for a reason, if it is one for each reason.
-fn text_of(alloc: Global, reason: Failure) -> Result<Option<String>, Fail> {
+// Fails if the proved code reports another text for a reason than the table has.
+fn check_text(alloc: Global, reason: Failure, text: &str) -> Result<(), Fail> {
     let frame = match reason {
         Failure::FrameEnd => Fault::UnexpectedEnd.reason(),
         Failure::FrameType => Fault::InvalidFrameId.reason(),
         Failure::FrameMalformed => Fault::Malformed.reason(),
         Failure::FrameLongType => Fault::LongType.reason(),
         Failure::FrameLimit => Breach::Limit.reason(),
-        Failure::ParametersMalformed => return Ok(Some(list_text(alloc, Error::Malformed)?)),
-        Failure::ParametersIllegal => return Ok(Some(list_text(alloc, Error::IllegalValue)?)),
-        _ => return Ok(None),
+        Failure::ParametersMalformed => return check_list(alloc, Error::Malformed, text),
+        Failure::ParametersIllegal => return check_list(alloc, Error::IllegalValue, text),
+        Failure::PacketEnd => return check_packet(alloc, &[], text),
+        Failure::PacketFixedBit => return check_packet(alloc, &[0], text),
+        Failure::PacketSmall => return check_packet(alloc, &[0x40], text),
+        Failure::PacketId => return check_packet(alloc, &[0xc0, 0, 0, 0, 1, 21], text),
+        Failure::PacketToken => return check_packet(alloc, &[0xc0, 0, 0, 0, 1, 0, 0, 1], text),
+        Failure::PacketCut => return check_packet(alloc, &[0xc0, 0, 0, 0, 1, 0, 0, 0, 1], text),
+        _ => return Ok(()),
     };
-    if frame_failure(frame) != reason {
+    if frame_failure(frame) != reason || frame != text {
         return Err("a reason has another text".into());
     }
-    Ok(Some(String::from_str(alloc, frame)?))
+    Ok(())
 }
 
-fn list_text(alloc: Global, error: Error) -> Result<String, AllocError> {
-    format!(in alloc; "{error}")
+// Fails if what is said doesn't end with the text.
+fn same(said: &str, text: &str) -> Result<(), Fail> {
+    if !said.ends_with(text) {
+        return Err("the error of a list or a packet has another text".into());
+    }
+    Ok(())
+}
+
+// A packet that is rejected for the reason with this text.
+fn check_packet(alloc: Global, packet: &[u8], text: &str) -> Result<(), Fail> {
+    let mut bytes = BytesMut::new(alloc);
+    bytes.extend_from_slice(packet)?;
+    match PartialDecode::new(bytes, &FixedLengthConnectionIdParser::new(1), &[1], false) {
+        Ok(_) => Err("a packet isn't rejected".into()),
+        Err(error) => {
+            let said = format!(in alloc; "{error}")?;
+            same(said.as_str(), text)
+        }
+    }
+}
+
+fn check_list(alloc: Global, error: Error, text: &str) -> Result<(), Fail> {
+    let said = format!(in alloc; "{error}")?;
+    same(said.as_str(), text)
 }

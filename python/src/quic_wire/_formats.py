@@ -1,4 +1,4 @@
-"""The formats of QUIC as data: the fields of frames and headers, transport parameters, error codes, reasons.
+"""The formats of QUIC as data: the fields of frames and headers, transport parameters, error codes.
 
 Made by scripts/tables from docs/formats.json: change nothing here.
 docs/formats.schema.json explains the members.
@@ -336,7 +336,7 @@ HEADERS: dict[tuple[int, int], Header] = {
     ), ("Packet Number", "Packet Payload")),
     (0x0, 5): Header(0x0, 5, "Version Negotiation", "RFC 9000, section 17.2.1", (
         Field(0, "first_byte", "", size=(1, 1)),
-        Field(1, "uint32", "Version", size=(4, 4)),
+        Field(1, "uint32", "Version", size=(4, 4), value=0),
         Field(
             2, "id", "Destination Connection ID", length="Destination Connection ID Length", size=(0, 20),
         ),
@@ -612,15 +612,15 @@ ERROR_CODES: dict[int, ErrorCode] = {
     0x100: ErrorCode(256, 511, "CRYPTO_ERROR", "RFC 9001, section 4.8", ""),
 }
 REASONS: dict[int, Reason] = {
-    -1: Reason(-1, "call", "ARGUMENT", 1, "", ""),
-    -2: Reason(-2, "call", "PLACE", 1, "", ""),
-    -3: Reason(-3, "call", "KIND", 1, "", ""),
-    -5: Reason(-5, "call", "NUMBER", 1, "", ""),
-    -6: Reason(-6, "call", "LENGTH", 1, "", ""),
-    -7: Reason(-7, "call", "RANGES", 1, "", ""),
-    -8: Reason(-8, "call", "PARAM", 1, "", ""),
-    -9: Reason(-9, "call", "NOBUF", 1, "", ""),
-    -20: Reason(-20, "frame", "PAYLOAD_EMPTY", 10, "RFC 9000, section 12.4", ""),
+    -1: Reason(-1, "call", "ARGUMENT", 1, "", "invalid argument"),
+    -2: Reason(-2, "call", "PLACE", 1, "", "place outside of the bytes"),
+    -3: Reason(-3, "call", "KIND", 1, "", "no such kind"),
+    -5: Reason(-5, "call", "NUMBER", 1, "", "number out of range"),
+    -6: Reason(-6, "call", "LENGTH", 1, "", "length out of range"),
+    -7: Reason(-7, "call", "RANGES", 1, "", "ranges not sorted or touching"),
+    -8: Reason(-8, "call", "PARAM", 1, "", "parameters that the peer would refuse"),
+    -9: Reason(-9, "call", "NOBUF", 1, "", "buffer too small"),
+    -20: Reason(-20, "frame", "PAYLOAD_EMPTY", 10, "RFC 9000, section 12.4", "packet payload is empty"),
     -21: Reason(-21, "frame", "FRAME_END", 7, "RFC 9000, section 20.1", "unexpected end"),
     -22: Reason(-22, "frame", "FRAME_TYPE", 7, "RFC 9000, section 12.4", "invalid frame ID"),
     -23: Reason(
@@ -632,25 +632,32 @@ REASONS: dict[int, Reason] = {
     -25: Reason(
         -25, "frame", "FRAME_LIMIT", 7, "RFC 9000, sections 19.6, 19.8, 19.11, 19.14", "limit exceeded",
     ),
-    -26: Reason(-26, "frame", "FRAME_PACKET", 10, "RFC 9000, section 12.4", ""),
-    -27: Reason(-27, "frame", "FRAME_SENDER", 10, "RFC 9000, sections 19.7, 19.20", ""),
+    -26: Reason(
+        -26, "frame", "FRAME_PACKET", 10, "RFC 9000, section 12.4", "not permitted in this packet",
+    ),
+    -27: Reason(
+        -27, "frame", "FRAME_SENDER", 10, "RFC 9000, sections 19.7, 19.20", "not permitted from this side",
+    ),
     -28: Reason(
-        -28, "frame", "FRAME_STREAM", 5, "RFC 9000, sections 19.4, 19.5, 19.8, 19.10, 19.13", "",
+        -28, "frame", "FRAME_STREAM", 5, "RFC 9000, sections 19.4, 19.5, 19.8, 19.10, 19.13",
+        "not permitted on this stream",
     ),
-    -40: Reason(-40, "header", "PACKET_END", 0, "RFC 9000, section 17", ""),
-    -41: Reason(-41, "header", "PACKET_FIXED_BIT", 0, "RFC 9000, sections 17.2, 17.3.1", ""),
-    -42: Reason(-42, "header", "PACKET_SMALL", 0, "RFC 9001, section 5.4.2", ""),
-    -43: Reason(-43, "header", "PACKET_CID", 0, "RFC 9000, section 17.2", ""),
-    -44: Reason(-44, "header", "PACKET_TOKEN", 0, "RFC 9000, section 17.2.2", ""),
-    -45: Reason(-45, "header", "PACKET_VERSION", 0, "RFC 9000, section 6.1", ""),
-    -46: Reason(-46, "header", "PACKET_CUT", 0, "RFC 9000, section 12.2", ""),
-    -47: Reason(-47, "header", "PACKET_RETRY", 0, "RFC 9000, section 17.2.5", ""),
-    -60: Reason(
-        -60, "list", "PARAMS_MALFORMED", 8, "RFC 9000, section 7.4", "parameters were malformed",
+    -40: Reason(-40, "header", "PACKET_END", 0, "RFC 9000, section 17", "unexpected end of packet"),
+    -41: Reason(
+        -41, "header", "PACKET_FIXED_BIT", 0, "RFC 9000, sections 17.2, 17.3.1", "fixed bit unset",
     ),
-    -61: Reason(
-        -61, "list", "PARAMS_ILLEGAL", 8, "RFC 9000, sections 7.4, 18.2", "parameter had illegal value",
+    -42: Reason(-42, "header", "PACKET_SMALL", 0, "RFC 9001, section 5.4.2", "packet too small"),
+    -43: Reason(-43, "header", "PACKET_CID", 0, "RFC 9000, section 17.2", "malformed cid"),
+    -44: Reason(-44, "header", "PACKET_TOKEN", 0, "RFC 9000, section 17.2.2", "token out of bounds"),
+    -45: Reason(-45, "header", "PACKET_VERSION", 0, "RFC 9000, section 6.1", "unsupported version"),
+    -46: Reason(
+        -46, "header", "PACKET_CUT", 0, "RFC 9000, section 12.2", "packet too short to contain payload length",
     ),
+    -47: Reason(
+        -47, "header", "PACKET_RETRY", 0, "RFC 9000, section 17.2.5", "Retry without a token or a tag",
+    ),
+    -60: Reason(-60, "list", "PARAMS_MALFORMED", 8, "RFC 9000, section 7.4", "malformed"),
+    -61: Reason(-61, "list", "PARAMS_ILLEGAL", 8, "RFC 9000, sections 7.4, 18.2", "illegal value"),
 }
 PREFERRED_ADDRESS: tuple[Field, ...] = (
     Field(0, "bytes", "IPv4 Address", size=(4, 4)),

@@ -6,6 +6,8 @@ mod colour;
 mod datagram;
 mod dump;
 mod fault;
+#[rustfmt::skip]
+mod formats;
 mod frames;
 mod help;
 mod hint;

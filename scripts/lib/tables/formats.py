@@ -52,15 +52,15 @@ def bound_of(parameter):
     return f"below {most.removesuffix(' - 1')}" if most.endswith(" - 1") else f"at most {most}" if most else ""
 
 
-def wanted(parameter):
-    """What a parameter's value must be."""
+def wanted(parameter, number="one variable-length integer and nothing after it"):
+    """What a parameter's value must be; the text for a number without bounds can be another."""
     kind, least_and_most = parameter["kind"], parameter.get("bytes", [0, 0])
     if kind == "number":
         bound = bound_of(parameter)
         if "max_of" in parameter:
             return f"a number of {parameter['unit']}, {bound}"
         link = " of" * bool(bound) * (not bound.startswith("below"))
-        return f"a number{link} {bound}" if bound else "one variable-length integer and nothing after it"
+        return f"a number{link} {bound}" if bound else number
     return {
         "flag": "no bytes",
         "bytes": f"{least_and_most[1]} bytes",

@@ -4,6 +4,12 @@ import json
 from lib.tables.formats import MADE, bound_of, filled, headers, wanted
 
 PATH = "web/formats.js"
+BEGIN = f"""// The formats of QUIC as data: the fields of frames and headers, transport parameters, error codes,
+// reasons.
+// {MADE}
+// docs/formats.schema.json explains the members. Keys are Numbers; bounds, defaults and values are BigInts.
+
+"""
 # Members that are BigInts, as the page has these numbers from the library.
 BIG = {"max", "min", "default", "value", "times"}
 
@@ -34,7 +40,8 @@ def rows(some, indent):
 
 
 def frame(one):
-    front = "".join(f"{word}: {text(one[word])}, " for word in ("type", "name", "quinn_proto", "section") if word in one)
+    words = [word for word in ("type", "name", "quinn_proto", "section") if word in one]
+    front = "".join(f"{word}: {text(one[word])}, " for word in words)
     return f"  [{one['type']:#04x}, {{{front}fields: [\n{rows(one['fields'], '    ')}  ]}}],\n"
 
 
@@ -62,8 +69,8 @@ def made(formats):
     by_version = (f"  [{version:#x}, new Map([\n{''.join(some)}  ])],\n" for version, some in versions.items())
     tables = {
         "// Frames by their types.\nexport const FRAMES = new Map([": map(frame, formats["frames"]),
-        "// Headers by their versions, then by their kinds of packets; those without a version of their own have version"
-        " 0.\nexport const HEADERS = new Map([": by_version,
+        "// Headers by their versions, then by their kinds of packets; those without a version of their own have"
+        " version 0.\nexport const HEADERS = new Map([": by_version,
         "// Transport parameters by their ids. |wanted| is what the value must be, |bound| of a number its bounds.\n"
         "export const PARAMETERS = new Map([":
             entries([parameter(one) for one in formats["parameters"]], "id"),
@@ -73,7 +80,5 @@ def made(formats):
     }
     parts = [f"{begin}\n{''.join(some)}]);\n\n" for begin, some in tables.items()]
     return (
-        f"// The formats of QUIC as data: the fields of frames and headers, transport parameters, error codes, reasons.\n"
-        f"// {MADE}\n// docs/formats.schema.json explains the members. Keys are Numbers; bounds, defaults and values are"
-        f" BigInts.\n\n{''.join(parts)}"
+        f"{BEGIN}{''.join(parts)}"
         f"export const PREFERRED_ADDRESS = [\n{rows(formats['preferred_address'], '  ')}];\n")

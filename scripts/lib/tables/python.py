@@ -4,7 +4,7 @@ import json
 from lib.tables.formats import MADE, filled, headers, wanted
 
 PATH = "python/src/quic_wire/_formats.py"
-BEGIN = f'''"""The formats of QUIC as data: the fields of frames and headers, transport parameters, error codes, reasons.
+BEGIN = f'''"""The formats of QUIC as data: the fields of frames and headers, transport parameters, error codes.
 
 {MADE}
 docs/formats.schema.json explains the members.

@@ -5,6 +5,7 @@ use quic_errors::transport_error::Code;
 use quic_frame_fields::frame::fault::Fault;
 use quic_frames::frame::Breach;
 use quic_header_decode::cut::PartialDecode;
+use quic_header_decode::decode_error::PacketDecodeError;
 use quic_header_decode::parser::FixedLengthConnectionIdParser;
 use quic_params::transport_parameters::Error;
 use quic_results::results::{Failure, close_code, frame_failure};
@@ -282,11 +283,8 @@ fn check_packet(alloc: Global, packet: &[u8], text: &str) -> Result<(), Fail> {
     let mut bytes = BytesMut::new(alloc);
     bytes.extend_from_slice(packet)?;
     match PartialDecode::new(bytes, &FixedLengthConnectionIdParser::new(1), &[1], false) {
-        Ok(_) => Err("a packet isn't rejected".into()),
-        Err(error) => {
-            let said = format!(in alloc; "{error}")?;
-            same(said.as_str(), text)
-        }
+        Err(PacketDecodeError::InvalidHeader(said)) => same(said, text),
+        _ => Err("a packet isn't rejected as it should be".into()),
     }
 }
 

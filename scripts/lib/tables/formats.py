@@ -25,9 +25,16 @@ def constants(prefix):
     return {name: int(number.rstrip("u"), 0) for name, number in found}
 
 
+def enumeration(name, prefix):
+    """The numbers of an enumeration of the header for C, by their names without a prefix."""
+    body = re.search(rf"typedef enum quic_wire_{name} \{{(.*?)\}} quic_wire_{name};", read(HEADER), re.S)[1]
+    found = re.findall(rf"^  QUIC_WIRE_{prefix}_(\w+) = (-?\w+)", body, re.M)
+    return {word: int(number, 0) for word, number in found}
+
+
 def packet_kinds():
     """The number of each kind of packet in C, by the name that its header has in the RFC."""
-    kinds = constants("PACKET")
+    kinds = enumeration("packet_kind", "PACKET")
     return {header["name"]: kinds[header["name"].upper().replace("-", "").replace(" ", "_")]
             for header in load()["headers"]}
 

@@ -104,7 +104,7 @@ class Fields {
     return kind === "id" || left === 0 ? 1 : 1 << (this.bytes[place] >> 6);
   }
 
-  // What was read of the fields of these rows.
+  // The fields of these rows, as far as they were read.
   draw(rows, { reason, spans, ...reach }) {
     spans.slice(0, rows.length).forEach((span, index) => this.whole(rows[index], span));
     const row = rows[spans.length];
@@ -211,8 +211,6 @@ export function packetFields(library, bytes, { begin, reason }, choices) {
     // The Length at fault says how many bytes there should be.
     const place = fields.number(rows[read.spans.length], 0, read.end);
     fields.stop({ name: PROTECTED, bytes: [fields.last.number] }, { end: place });
-  } else if (read.spans.length === rows.length) {
-    fields.stop({ name: PROTECTED, bytes: [1] }, read);
   }
   if (reason === PACKET_FIXED_BIT) {
     fields.mark(fields.all[0]);

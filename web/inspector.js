@@ -5,7 +5,7 @@ import { linesOf } from "./outline.js";
 import { rangesText } from "./reading.js";
 import { sectionOf } from "./rfc.js";
 import { element } from "./rows.js";
-import { bytesText, count } from "./walk.js";
+import { bytesText, count } from "./shown.js";
 
 const FULL_BYTES = 256;
 

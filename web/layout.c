@@ -53,41 +53,22 @@ static void headers(void) {
 
 static void params(void) {
   STRUCT(params);
-  FIELD(params, present);
-  FIELD(params, reserved);
-  FIELD(params, max_idle_timeout);
-  FIELD(params, max_udp_payload_size);
-  FIELD(params, initial_max_data);
-  FIELD(params, initial_max_stream_data_bidi_local);
-  FIELD(params, initial_max_stream_data_bidi_remote);
-  FIELD(params, initial_max_stream_data_uni);
-  FIELD(params, initial_max_streams_bidi);
-  FIELD(params, initial_max_streams_uni);
-  FIELD(params, ack_delay_exponent);
-  FIELD(params, max_ack_delay);
-  FIELD(params, active_connection_id_limit);
-  FIELD(params, max_datagram_frame_size);
-  FIELD(params, min_ack_delay);
-}
-
-static void params_bytes(void) {
-  FIELD(params, original_dst_cidlen);
-  FIELD(params, initial_src_cidlen);
-  FIELD(params, retry_src_cidlen);
-  FIELD(params, preferred_cidlen);
-  FIELD(params, preferred_v4_port);
-  FIELD(params, preferred_v6_port);
-  FIELD(params, original_dst_cid);
-  FIELD(params, initial_src_cid);
-  FIELD(params, retry_src_cid);
-  FIELD(params, preferred_cid);
-  FIELD(params, stateless_reset_token);
-  FIELD(params, preferred_token);
-  FIELD(params, preferred_v6);
-  FIELD(params, preferred_v4);
   STRUCT(refusal);
   FIELD(refusal, id);
   FIELD(refusal, offset);
+}
+
+static void fields(void) {
+  STRUCT(span);
+  FIELD(span, field);
+  FIELD(span, start);
+  FIELD(span, end);
+  FIELD(span, number);
+  STRUCT(fields);
+  FIELD(fields, count);
+  FIELD(fields, end);
+  FIELD(fields, inside);
+  FIELD(fields, numbers);
 }
 
 int main(void) {
@@ -95,6 +76,6 @@ int main(void) {
   frames();
   headers();
   params();
-  params_bytes();
+  fields();
   return 0;
 }

@@ -21,21 +21,10 @@ export const LAYOUT = {
       token: [16, 4], tokenlen: [20, 4], len: [24, 8],
     },
   },
-  params: {
-    size: 264,
-    fields: {
-      present: [0, 4], reserved: [4, 4], max_idle_timeout: [8, 8], max_udp_payload_size: [16, 8],
-      initial_max_data: [24, 8], initial_max_stream_data_bidi_local: [32, 8],
-      initial_max_stream_data_bidi_remote: [40, 8], initial_max_stream_data_uni: [48, 8],
-      initial_max_streams_bidi: [56, 8], initial_max_streams_uni: [64, 8], ack_delay_exponent: [72, 8],
-      max_ack_delay: [80, 8], active_connection_id_limit: [88, 8], max_datagram_frame_size: [96, 8],
-      min_ack_delay: [104, 8], original_dst_cidlen: [112, 4], initial_src_cidlen: [116, 4],
-      retry_src_cidlen: [120, 4], preferred_cidlen: [124, 4], preferred_v4_port: [128, 2], preferred_v6_port: [130, 2],
-      original_dst_cid: [132, 20], initial_src_cid: [152, 20], retry_src_cid: [172, 20], preferred_cid: [192, 20],
-      stateless_reset_token: [212, 16], preferred_token: [228, 16], preferred_v6: [244, 16], preferred_v4: [260, 4],
-    },
-  },
+  params: { size: 264, fields: {} },
   refusal: { size: 16, fields: { id: [0, 8], offset: [8, 8] } },
+  span: { size: 32, fields: { field: [0, 8], start: [8, 8], end: [16, 8], number: [24, 8] } },
+  fields: { size: 32, fields: { count: [0, 8], end: [8, 8], inside: [16, 8], numbers: [24, 8] } },
 };
 
 // What calls return: QUIC_WIRE_OK, QUIC_WIRE_ITEM, QUIC_WIRE_ERR_PAYLOAD_EMPTY.
@@ -75,11 +64,6 @@ export class Struct {
   // An element of an array of 64-bit integers.
   entry(field, index) {
     return new DataView(this.memory.buffer).getBigUint64(this.place + this.fields[field][0] + 8 * index, true);
-  }
-
-  // A copy of the first bytes of an array.
-  bytes(field, count = this.fields[field][1]) {
-    return new Uint8Array(this.memory.buffer, this.place + this.fields[field][0], count).slice();
   }
 
   set(field, value) {

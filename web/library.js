@@ -1,13 +1,14 @@
 // The calls of the proved library, as c/include/quic_wire.h declares them, on bytes in the module's memory.
 
-import {
-  FRAME_REASONS, PACKET_MALFORMED_CID, PACKET_REASONS, PACKET_UNSUPPORTED_VERSION, PADDING,
-} from "./names.js";
+import { REASONS } from "./formats.js";
+import { PACKET_MALFORMED_CID, PACKET_UNSUPPORTED_VERSION, PADDING } from "./names.js";
 import { EMPTY, ITEM, LAYOUT, NO_TYPE, OK, Struct } from "./layout.js";
 
 // How many frames, and how many ranges of an ACK, one call returns at most.
 const ROOM = 1024;
 const MAX_VERSIONS = 64;
+// QUIC_WIRE_PACKET_FIELDS: no call stores more.
+const MAX_FIELDS = 10;
 // QUIC_WIRE_READ_SHORT_TYPES.
 const SHORT_TYPES = 0x001;
 // Bits of a first byte.
@@ -69,11 +70,12 @@ export class Library {
     this.calls = calls;
     this.memory = calls.memory;
     this.free = aligned(Number(calls.__heap_base.value));
-    for (const name of ["frame_iter", "frame", "range_iter", "canon", "header", "params", "refusal"]) {
+    for (const name of ["frame_iter", "frame", "range_iter", "canon", "header", "params", "refusal", "fields"]) {
       this[name] = new Struct(this.memory, name, this.take(LAYOUT[name].size));
     }
     this.count = this.take(8);
     this.versions = this.take(4 * MAX_VERSIONS);
+    this.spans = this.take(MAX_FIELDS * LAYOUT.span.size);
     this.room = this.take(ROOM * LAYOUT.frame.size);
     this.input = this.free;
     this.length = 0;
@@ -109,17 +111,9 @@ export class Library {
     return BigInt(place);
   }
 
-  // The bytes as a pointer and a length.
-  held(length = this.length) {
-    return [BigInt(this.input), BigInt(length)];
-  }
-
-  // Begins to read frames at |offset|.
-  seek(offset, strict) {
-    this.frame_iter.set("offset", offset);
-    this.frame_iter.set("last_type", NO_TYPE);
-    this.frame_iter.set("ended", 0);
-    this.frame_iter.set("flags", strict ? SHORT_TYPES : 0);
+  // The bytes between two offsets as a pointer and a length.
+  held(begin = 0, end = this.length) {
+    return [BigInt(this.input + begin), BigInt(end - begin)];
   }
 
   // The offsets where frames begin, then where the last one ends; their kinds; and the error that ended them, or null.
@@ -129,7 +123,7 @@ export class Library {
     const kinds = new Words();
     const flags = strict ? SHORT_TYPES : 0;
     const begun = this.call("frames_init", this.at(this.frame_iter.place), ...this.held(), flags);
-    let error = begun === EMPTY ? { empty: true } : null;
+    let error = begun === EMPTY ? { reason: EMPTY, type: null } : null;
     while (!error && this.frame_iter.number("offset") < this.length) {
       const answer = this.call(
         "frames_fill", this.at(this.frame_iter.place), ...this.held(), this.at(this.room), BigInt(ROOM),
@@ -137,8 +131,8 @@ export class Library {
       );
       if (answer === ITEM) {
         this.addFrames(begins, kinds);
-      } else if (answer in FRAME_REASONS) {
-        error = this.frameError(answer, new Struct(this.memory, "frame", this.room));
+      } else if (REASONS.has(answer)) {
+        error = this.frameError(answer, new Struct(this.memory, "frame", this.room).entry("numbers", 0));
       } else {
         throw new Error(`quic_wire_frames_fill_ answered ${answer}`);
       }
@@ -162,39 +156,30 @@ export class Library {
     }
   }
 
-  frameError(reason, frame) {
-    const type = frame.entry("numbers", 0);
-    return { empty: false, reason, type: type === NO_TYPE ? null : type };
+  frameError(reason, type) {
+    return { reason, type: type === NO_TYPE ? null : type };
   }
 
   // The frame that begins at |offset|.
-  frameAt(offset, strict) {
-    this.seek(offset, strict);
-    const answer = this.call(
-      "frames_next", this.at(this.frame_iter.place), ...this.held(), this.at(this.frame.place),
-    );
-    if (answer !== ITEM) {
-      throw new Error(`quic_wire_frames_next_ answered ${answer}`);
-    }
+  frameAt(offset) {
     const { frame } = this;
+    this.call("frame_read", ...this.held(offset), 0, this.at(frame.place), this.at(this.room), 0n);
     return {
-      kind: frame.number("kind"), flags: frame.number("flags"), begin: frame.number("begin"), end: frame.number("end"),
-      data: frame.number("data"), datalen: frame.number("datalen"),
+      kind: frame.number("kind"), flags: frame.number("flags"), datalen: frame.number("datalen"),
       numbers: [0, 1, 2, 3, 4].map((index) => frame.entry("numbers", index)),
     };
   }
 
   // The ranges of the ACK at |offset| as pairs of BigInts, smallest and largest number, greatest range first.
-  rangesAt(offset, strict) {
-    this.frameAt(offset, strict);
+  rangesAt(offset) {
+    this.frameAt(offset);
     const ranges = [];
-    const begun = this.call(
-      "ack_ranges_init", this.at(this.range_iter.place), ...this.held(), this.at(this.frame.place),
+    const place = this.at(this.range_iter.place);
+    this.call("ack_ranges_init", place, ...this.held(offset), this.at(this.frame.place));
+    const fill = () => this.call(
+      "ack_ranges_fill", place, ...this.held(offset), this.at(this.room), BigInt(ROOM), this.at(this.count),
     );
-    if (begun !== OK) {
-      throw new Error(`quic_wire_ack_ranges_init_ answered ${begun}`);
-    }
-    while (this.fillRanges() === ITEM) {
+    while (fill() === ITEM) {
       const view = new DataView(this.memory.buffer);
       const count = Number(view.getBigUint64(this.count, true));
       const { size, fields } = LAYOUT.range;
@@ -204,13 +189,6 @@ export class Library {
       }
     }
     return ranges;
-  }
-
-  fillRanges() {
-    return this.call(
-      "ack_ranges_fill", this.at(this.range_iter.place), ...this.held(), this.at(this.room), BigInt(ROOM),
-      this.at(this.count),
-    );
   }
 
   // The shortest payload with the same meaning, or the payload's invalid frame.
@@ -223,12 +201,61 @@ export class Library {
     if (answer === OK) {
       return { bytes: new Uint8Array(this.memory.buffer, output, this.canon.number("len")).slice(), error: null };
     }
-    if (answer === EMPTY) {
-      return { bytes: null, error: { empty: true } };
+    return { bytes: null, error: this.frameError(answer, answer === EMPTY ? NO_TYPE : this.canon.big("last_type")) };
+  }
+
+  // The variable-length integer at |offset|, which must be whole: where it ends, and how many bytes its shortest
+  // encoding has.
+  varintAt(offset) {
+    const read = Number(this.call("varint_read", ...this.held(offset), this.at(this.count)));
+    const number = new DataView(this.memory.buffer).getBigUint64(this.count, true);
+    return { number, end: offset + read, shortest: Number(this.call("varint_len", number)) };
+  }
+
+  // The fields of what begins at |offset|, by a call with this name and these further arguments: why one can't be read,
+  // or ITEM; where those before it begin and end, and their numbers, by their indices; where that one begins, and how
+  // many numbers in how many bytes of it can be read.
+  fieldsAt(call, offset, { before = [], limit = this.length, choices = [] }) {
+    const reason = this.call(
+      call, ...before, ...this.held(offset, limit), ...choices, this.at(this.spans), BigInt(MAX_FIELDS),
+      this.at(this.fields.place),
+    );
+    const view = new DataView(this.memory.buffer);
+    const { size, fields: { start: [start], end: [behind], number: [number] } } = LAYOUT.span;
+    const word = (place) => Number(view.getBigUint64(place, true));
+    const [count, end, inside, numbers] = ["count", "end", "inside", "numbers"].map((name) => this.fields.number(name));
+    const spans = [];
+    for (let place = this.spans; spans.length < count; place += size) {
+      const [begin, last] = [offset + word(place + start), offset + word(place + behind)];
+      spans.push({ begin, end: last, number: view.getBigUint64(place + number, true) });
     }
-    const type = this.canon.big("last_type");
-    const error = { empty: false, reason: answer, type: type === NO_TYPE ? null : type };
-    return { bytes: null, error };
+    return { reason, spans, end: offset + end, inside, numbers };
+  }
+
+  frameFields(offset) {
+    return this.fieldsAt("frame_fields", offset, { choices: [0] });
+  }
+
+  // The fixed bit isn't checked.
+  packetFields(offset, { idLength, versions }) {
+    const spoken = this.speak(versions);
+    const choices = [this.at(idLength), this.at(this.versions), spoken, READ_GREASED_BIT];
+    return this.fieldsAt("packet_fields", offset, { choices });
+  }
+
+  entryFields(offset) {
+    return this.fieldsAt("param_fields", offset, {});
+  }
+
+  // Where the entry that begins at |offset| ends, or null if it is cut off.
+  entryEnd(offset) {
+    const read = this.call("param_fields", ...this.held(offset), this.at(this.spans), 0n, this.at(this.fields.place));
+    return read === ITEM ? offset + this.fields.number("end") : null;
+  }
+
+  // The fields of a parameter's value between these offsets.
+  valueFields(id, offset, limit) {
+    return this.fieldsAt("param_value_fields", offset, { before: [id], limit, choices: [0] });
   }
 
   // Sets the versions whose long headers are read.
@@ -243,13 +270,13 @@ export class Library {
   cutPacket(offset, { idLength, versions, grease }) {
     const spoken = this.speak(versions);
     const answer = Number(this.call(
-      "header_read", this.at(this.input + offset), BigInt(this.length - offset), idLength, this.at(this.versions),
-      spoken, grease ? READ_GREASED_BIT : 0, this.at(this.header.place),
+      "header_read", ...this.held(offset), idLength, this.at(this.versions), spoken, grease ? READ_GREASED_BIT : 0,
+      this.at(this.header.place),
     ));
     if (answer > 0) {
       return OK;
     }
-    if (!(answer in PACKET_REASONS)) {
+    if (!REASONS.has(answer)) {
       throw new Error(`quic_wire_header_read_ answered ${answer}`);
     }
     const hasLongId = () => this.header.number("dcidlen") > MAX_ID || this.header.number("scidlen") > MAX_ID;
@@ -311,22 +338,12 @@ export class Library {
     return { first: memory[header], numberLength: answer, number: written };
   }
 
-  // What a side reads in a list: a copy of the struct, or why the list is rejected and where the entry begins.
+  // Whether a side accepts a list: OK, or why not, and where the entry begins that is rejected.
   readParams(side) {
-    const answer = this.call(
-      "params_read", side === "server" ? 1 : 0, 0, ...this.held(), this.at(this.params.place), this.at(this.refusal.place),
+    const reason = this.call(
+      "params_read", side === "server" ? 1 : 0, 0, ...this.held(), this.at(this.params.place),
+      this.at(this.refusal.place),
     );
-    if (answer !== OK) {
-      return { record: null, reason: answer, offset: this.refusal.number("offset") };
-    }
-    const { params } = this;
-    const copy = ([field, [, bytes]]) => {
-      if (bytes === 8) {
-        return [field, params.big(field)];
-      }
-      return [field, field.endsWith("len") || bytes === 2 || field === "present" || field === "reserved"
-        ? params.number(field) : params.bytes(field)];
-    };
-    return { record: Object.fromEntries(Object.entries(params.fields).map(copy)), reason: OK };
+    return { reason, offset: this.refusal.number("offset") };
   }
 }

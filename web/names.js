@@ -1,6 +1,6 @@
 // The names that the RFCs give to numbers, of formats.js where that has them, and how the page draws what they name.
 
-import { ERROR_CODES, FRAMES, PARAMETERS, REASONS } from "./formats.js";
+import { ERROR_CODES, FRAMES, HEADERS, PARAMETERS, REASONS } from "./formats.js";
 
 // For each kind of frame the tone that it is drawn in.
 const FRAME_TONES = {
@@ -26,16 +26,9 @@ export function frameTone(kind) {
 
 // The kind of a type on the wire: one for all types of STREAM, of ACK and of DATAGRAM.
 export function kindOfType(type) {
-  if (type >= 0x08n && type <= 0x0fn) {
-    return 0x08;
-  }
-  if (type === 0x03n) {
-    return 0x02;
-  }
-  if (type === 0x31n) {
-    return 0x30;
-  }
-  return FRAMES.has(Number(type)) ? Number(type) : null;
+  const kinds = { 0x03: 0x02, 0x31: 0x30 };
+  const kind = type >= 0x08n && type <= 0x0fn ? 0x08 : kinds[type] ?? Number(type);
+  return FRAMES.has(kind) ? kind : null;
 }
 
 // The name of a type on the wire.
@@ -43,55 +36,40 @@ export function typeName(type) {
   return FRAMES.has(Number(type)) ? frameName(Number(type)) : `<unknown ${type.toString(16)}>`;
 }
 
-// What calls return for an invalid frame, QUIC_WIRE_ERR_FRAME_END and so on, with the texts.
-export const REASON_END = -21;
-export const REASON_TYPE = -22;
+// What calls return for what is rejected: QUIC_WIRE_ERR_FRAME_MALFORMED and so on.
 export const REASON_MALFORMED = -23;
 export const REASON_LONG_TYPE = -24;
-export const FRAME_REASONS = Object.fromEntries(
-  [REASON_END, REASON_TYPE, REASON_MALFORMED, REASON_LONG_TYPE].map((reason) => [reason, REASONS.get(reason).text]),
-);
-
-// For a list of parameters: QUIC_WIRE_ERR_PARAMS_MALFORMED and QUIC_WIRE_ERR_PARAMS_ILLEGAL.
 export const PARAMS_MALFORMED = -60;
 export const PARAMS_ILLEGAL = -61;
-export const PARAMS_REASONS = { [PARAMS_MALFORMED]: "malformed", [PARAMS_ILLEGAL]: "illegal value" };
-
-// For a packet: QUIC_WIRE_ERR_PACKET_VERSION and so on.
 export const PACKET_UNSUPPORTED_VERSION = -45;
 export const PACKET_MALFORMED_CID = -43;
 export const PACKET_FIXED_BIT = -41;
-export const PACKET_REASONS = {
-  [PACKET_UNSUPPORTED_VERSION]: "unsupported version", [PACKET_FIXED_BIT]: "fixed bit unset",
-  [PACKET_MALFORMED_CID]: "malformed cid", [-40]: "unexpected end of packet", [-42]: "packet too small",
-  [-44]: "token out of bounds", [-46]: "packet too short to contain payload length",
-};
+export const PACKET_CUT = -46;
 
-// For each kind of packet: the word that quic-show prints, its name, and its tone.
+export const reasonText = (reason) => REASONS.get(reason).text;
+
+// The code with which a connection is closed for a reason.
+export function closeCode(reason) {
+  const code = REASONS.get(reason).close_code;
+  return `${errorName(BigInt(code))} (0x${code.toString(16).padStart(2, "0")})`;
+}
+
+// For each kind of packet: the word that quic-show prints, and its tone.
 const PACKETS = [
-  ["initial", "Initial", "data"],
-  ["0rtt", "0-RTT", "limit"],
-  ["handshake", "Handshake", "crypto"],
-  ["retry", "Retry", "stop"],
-  ["short", "1-RTT", "ack"],
-  ["version-negotiation", "Version Negotiation", "signal"],
+  ["initial", "data"], ["0rtt", "limit"], ["handshake", "crypto"], ["retry", "stop"], ["short", "ack"],
+  ["version-negotiation", "signal"],
 ];
 export const INITIAL = 0;
 export const RETRY = 3;
 export const SHORT = 4;
 export const VERSION_NEGOTIATION = 5;
 
-export function packetWord(kind) {
-  return PACKETS[kind][0];
-}
+export const packetWord = (kind) => PACKETS[kind][0];
+export const packetTone = (kind) => PACKETS[kind][1];
 
-export function packetName(kind) {
-  return PACKETS[kind][1];
-}
-
-export function packetTone(kind) {
-  return PACKETS[kind][2];
-}
+// The header of a kind of packet. Its fields are the same in all versions that have it.
+export const headerOf = (kind) => HEADERS.get(kind === SHORT || kind === VERSION_NEGOTIATION ? 0 : 1).get(kind);
+export const packetName = (kind) => headerOf(kind).name;
 
 // The versions that quic-show supports: 1, the drafts 29 to 34, 2.
 export const VERSIONS = [
@@ -99,19 +77,9 @@ export const VERSIONS = [
 ];
 
 export function versionName(version) {
-  if (version === 1) {
-    return "version 1";
-  }
-  if (version === 0x6b3343cf) {
-    return "version 2";
-  }
-  if (version === 0) {
-    return "version negotiation";
-  }
-  if ((version & 0x0f0f0f0f) === 0x0a0a0a0a) {
-    return "reserved";
-  }
-  return version >>> 8 === 0xff0000 ? `draft ${version & 0xff}` : "";
+  const known = { 0: "version negotiation", 1: "version 1", 0x6b3343cf: "version 2" };
+  const isReserved = (version & 0x0f0f0f0f) === 0x0a0a0a0a;
+  return known[version] ?? (isReserved ? "reserved" : version >>> 8 === 0xff0000 ? `draft ${version & 0xff}` : "");
 }
 
 const ALERTS = 0x100n;
@@ -139,7 +107,10 @@ export function allowedOf(id) {
   return PARAMETERS.get(Number(id))?.bound ?? "";
 }
 
-export const MIN_ACK_DELAY = 0xff04de1bn;
+// Whether only servers send a parameter.
+export function isOfServers(id) {
+  return PARAMETERS.has(Number(id)) && !PARAMETERS.get(Number(id)).senders.includes("client");
+}
 
 export function parameterOf(id) {
   const looks = PARAMETER_LOOKS[id];

@@ -8,7 +8,7 @@ import { INITIAL, packetName, RETRY, typeName, VERSION_NEGOTIATION } from "./nam
 import { readBytes } from "./reading.js";
 import { element } from "./rows.js";
 import { spotIn, Views } from "./views.js";
-import { count } from "./walk.js";
+import { count } from "./shown.js";
 
 const MASK_LENGTH = 5;
 const SAMPLE_LENGTH = 16;

@@ -145,9 +145,6 @@ export class Outline {
     caret.setAttribute("aria-hidden", true);
     const dot = element("span", "dot");
     line.append(caret, dot, element("span", "name", item.name), element("span", "value", item.summary));
-    if (!item.agrees) {
-      line.append(element("span", "note differs", "fields drawn here differ from the library’s"));
-    }
     line.append(element("span", "place", `${item.begin}..${item.end}`));
     return line;
   }

@@ -21,7 +21,7 @@ import { element } from "./rows.js";
 import { inTasks } from "./slices.js";
 import { showReading, showStatus, summaryOf } from "./status.js";
 import { Views } from "./views.js";
-import { count } from "./walk.js";
+import { count } from "./shown.js";
 
 // In milliseconds.
 const LINK_DELAY = 300;

@@ -1,17 +1,18 @@
 // What is shown for bytes: items in order (frames, packets, parameters), each with fields, and the error that ended
-// them. The library decides which items there are, what they say and why they end. A walk finds the offsets of fields;
-// if it differs from the library, the item says so.
+// them. The library decides which items there are, what they say, where their fields are, and why they end.
 
-import { agrees, frameFields, frameSummary, paddingRun } from "./frame-fields.js";
+import {
+  frameFields, openedFields, packetFields, paddingRun, parameterFields, parameterSummary,
+} from "./fields.js";
+import { REASONS } from "./formats.js";
+import { OK } from "./layout.js";
 import { Words } from "./library.js";
 import {
-  ACK, allowedOf, FRAME_REASONS, frameName, frameTone, MIN_ACK_DELAY, NEW_CONNECTION_ID, PACKET_FIXED_BIT,
-  PACKET_REASONS, PACKET_UNSUPPORTED_VERSION, packetName, packetTone, PADDING, parameterOf, PARAMS_ILLEGAL,
-  PARAMS_MALFORMED, PARAMS_REASONS, REASON_END, REASON_LONG_TYPE, REASON_MALFORMED, REASON_TYPE, typeName,
+  ACK, allowedOf, closeCode, frameName, frameTone, isOfServers, kindOfType, NEW_CONNECTION_ID, PACKET_FIXED_BIT,
+  PACKET_UNSUPPORTED_VERSION, packetName, packetTone, PADDING, parameterOf, PARAMS_ILLEGAL, PARAMS_MALFORMED,
+  REASON_MALFORMED, reasonText, typeName,
 } from "./names.js";
-import { openedFields, packetAgrees, packetFields, packetSummary } from "./packet-fields.js";
-import { nextEntry, parameterFields, parameterSummary } from "./parameter-fields.js";
-import { count } from "./walk.js";
+import { count, frameSummary, packetSummary } from "./shown.js";
 
 const KEPT_ITEMS = 4000;
 const SHOWN_RANGES = 200;
@@ -97,17 +98,11 @@ class Reading {
     return this.whole;
   }
 
-  // For what isn't an item: its fields as far as they go, and the one at fault.
-  broken(name, summary, walk, fault, end = this.bytes.length) {
-    const fields = walk.fields.slice();
-    if (walk.place < end) {
-      const value = count(end - walk.place, "byte");
-      fields.push({ name: "not read", begin: walk.place, end, value, opaque: true });
-    }
-    if (fault) {
-      fault.fault = true;
-    }
-    return { name, summary, tone: "error", broken: true, fields, agrees: true };
+  // For what isn't an item: its fields as far as they go, and what isn't read.
+  broken(name, summary, { all, last }, end = this.bytes.length) {
+    const { end: place } = last;
+    const rest = { name: "not read", begin: place, end, value: count(end - place, "byte"), opaque: true };
+    return { name, summary, tone: "error", broken: true, fields: place < end ? [...all, rest] : all };
   }
 }
 
@@ -131,37 +126,23 @@ class FramesReading extends Reading {
     return this.kinds.some((kind, index) => kind === PADDING && this.end(index) - this.begin(index) > 1);
   }
 
-  describe(error) {
-    if (error.empty) {
-      return {
-        place: 0, reason: "packet payload is empty", type: null, code: "PROTOCOL_VIOLATION (0x0a)",
-        section: "RFC 9000, section 12.4",
-      };
-    }
-    const isLong = error.reason === REASON_LONG_TYPE;
-    const sections = {
-      [REASON_END]: "20.1", [REASON_MALFORMED]: Number(error.type) === NEW_CONNECTION_ID ? "19.15" : "19.3.1",
-    };
+  describe({ reason, type }) {
+    const ofMalformed = Number(type) === NEW_CONNECTION_ID ? "RFC 9000, section 19.15" : "RFC 9000, section 19.3.1";
     return {
-      place: this.walkRest().fault?.begin ?? this.rest, reason: FRAME_REASONS[error.reason], type: error.type,
-      code: isLong ? "PROTOCOL_VIOLATION (0x0a)" : "FRAME_ENCODING_ERROR (0x07)",
-      section: `RFC 9000, section ${sections[error.reason] ?? "12.4"}`,
+      place: this.readRest().fields.fault.begin, reason: reasonText(reason), type, code: closeCode(reason),
+      section: reason === REASON_MALFORMED ? ofMalformed : REASONS.get(reason).section,
     };
   }
 
-  // The walk along an invalid frame, and the field at which it failed.
-  walkRest() {
-    const found = frameFields(this.bytes, this.rest, this.bytes.length);
-    const { missing, wrong, fields: [type] } = found.walk;
-    const faults = { [REASON_END]: missing, [REASON_TYPE]: type, [REASON_LONG_TYPE]: type };
-    return { ...found, fault: faults[this.failure.reason] ?? wrong };
+  readRest() {
+    return frameFields(this.library, this.bytes, this.rest, this.failure.reason);
   }
 
   make(index) {
     if (index === this.bad) {
-      const { walk, type, kind: found, fault } = this.walkRest();
+      const { fields, type } = this.readRest();
       const name = type === null ? "not a frame" : `${typeName(type)} (invalid)`;
-      return { kind: found, ...this.broken(name, this.error.reason, walk, fault) };
+      return { kind: type === null ? null : kindOfType(type), ...this.broken(name, this.error.reason, fields) };
     }
     const begin = this.begin(index);
     const kind = this.kinds[index];
@@ -169,13 +150,13 @@ class FramesReading extends Reading {
     const tone = frameTone(kind);
     if (kind === PADDING) {
       const { frames, fields } = paddingRun(this.bytes, begin, this.end(index));
-      return { kind, name, tone, summary: count(frames, "frame"), fields, agrees: true };
+      return { kind, name, tone, summary: count(frames, "frame"), fields };
     }
-    const frame = this.library.frameAt(begin, this.choices.strict);
-    const ranges = kind === ACK ? this.library.rangesAt(begin, this.choices.strict) : null;
-    const found = frameFields(this.bytes, begin, frame.end);
+    const frame = this.library.frameAt(begin);
+    const ranges = kind === ACK ? this.library.rangesAt(begin) : null;
+    const { fields } = frameFields(this.library, this.bytes, begin);
     const summary = frameSummary(frame, ranges && rangesText(ranges, 20));
-    return { kind, name, tone, summary, fields: found.walk.fields, ranges, agrees: agrees(frame, found) };
+    return { kind, name, tone, summary, fields: fields.all, ranges };
   }
 
   // The shortest payload with the same meaning, or why there is none.
@@ -207,7 +188,7 @@ class DatagramReading extends Reading {
   describe(refusal) {
     const isVersion = refusal.reason === PACKET_UNSUPPORTED_VERSION;
     return {
-      place: this.walkRest().fault?.begin ?? this.rest, reason: PACKET_REASONS[refusal.reason],
+      place: this.fieldsOf(refusal).fault.begin, reason: reasonText(refusal.reason),
       version: isVersion ? refusal.version : null, code: null, section: this.sectionOf(refusal.reason),
     };
   }
@@ -230,25 +211,20 @@ class DatagramReading extends Reading {
     return "what is left of the datagram is dropped: RFC 9000, section 12.2";
   }
 
-  // The walk along what isn't a packet, and the field at which it failed.
-  walkRest() {
-    const walk = packetFields(this.bytes, this.rest, this.bytes.length, null, this.choices);
-    const [first, version] = walk.fields;
-    const isVersion = this.refusal.reason === PACKET_UNSUPPORTED_VERSION;
-    return { walk, fault: isVersion ? version : walk.wrong ?? walk.missing ?? first };
+  // The fields of a packet, or of what isn't one.
+  fieldsOf(packet) {
+    return packetFields(this.library, this.bytes, packet, this.choices);
   }
 
   make(index) {
     if (index === this.bad) {
-      const { walk, fault } = this.walkRest();
-      return { kind: null, ...this.broken("not a packet", this.error.reason, walk, fault) };
+      return { kind: null, ...this.broken("not a packet", this.error.reason, this.fieldsOf(this.refusal)) };
     }
     const packet = this.packet(index);
     const { kind, version } = packet;
-    const walk = packetFields(this.bytes, packet.begin, packet.end, kind, this.choices);
     const item = {
       kind, version, name: packetName(kind), tone: packetTone(kind), summary: packetSummary(packet),
-      fields: walk.fields, agrees: packetAgrees(packet, walk),
+      fields: this.fieldsOf(packet).all,
     };
     const opening = this.openings.get(index);
     return opening ? { ...item, ...this.opened(item, packet, opening) } : item;
@@ -277,9 +253,8 @@ class ParamsReading extends Reading {
     this.unit = "parameter";
     this.error = null;
     this.scan();
-    const { record, reason, offset } = library.readParams(choices.side);
-    this.record = record;
-    if (!record) {
+    const { reason, offset } = library.readParams(choices.side);
+    if (reason !== OK) {
       this.refused = this.begins.indexOf(offset);
       if (reason === PARAMS_MALFORMED) {
         // Nothing after the entry was read.
@@ -296,57 +271,57 @@ class ParamsReading extends Reading {
   // Where all whole entries begin, then where the last of them ends.
   scan() {
     const begins = new Words();
-    begins.push(0);
-    for (let entry = nextEntry(this.bytes, 0); entry.end !== null; entry = nextEntry(this.bytes, entry.end)) {
-      if (entry.id === MIN_ACK_DELAY) {
-        this.lastMinDelay = begins.count - 1;
-      }
-      begins.push(entry.end);
-    }
+    let end = 0;
+    do {
+      begins.push(end);
+      end = this.library.entryEnd(end);
+    } while (end !== null);
     this.begins = begins.all();
   }
 
+  // For each entry its id and where its value begins and ends.
+  * values() {
+    for (let index = 0; index < this.whole; index += 1) {
+      const [id, { end, number }] = this.library.entryFields(this.begin(index)).spans;
+      yield [Number(id.number), [end - Number(number), end]];
+    }
+  }
+
   describe(reason) {
-    const begin = this.begins[this.refused];
     this.reason = reason;
-    const { walk, id } = parameterFields(this.bytes, begin);
-    const fault = this.faultOf(walk);
-    // A server rejects an entry of the client's for its id if only servers send it.
-    const isServers = reason === PARAMS_ILLEGAL && this.choices.side === "server" && fault === walk.fields[0];
+    const { fields, id } = parameterFields(this.library, this.bytes, this.begins[this.refused]);
+    const fault = this.faultOf(fields, id);
+    const isServers = this.isServers(id);
     return {
-      place: fault?.begin ?? begin, reason: PARAMS_REASONS[reason], note: isServers ? "Only servers send it." : "",
-      allowed: fault?.name === "Value" && fault.number !== undefined ? allowedOf(id) : "",
-      code: "TRANSPORT_PARAMETER_ERROR (0x08)", section: `RFC 9000, section ${isServers ? "18.2" : "7.4"}`,
+      place: fault.begin, reason: reasonText(reason), note: isServers ? "Only servers send it." : "",
+      allowed: fault.name === "Value" && fault.number !== undefined ? allowedOf(id) : "",
+      code: closeCode(reason), section: `RFC 9000, section ${isServers ? "18.2" : "7.4"}`,
     };
   }
 
-  // The field of the rejected entry that is at fault: one that is cut off or isn't a value of its kind; else a number
-  // that is out of range; else the entry's id, which is a repeat or is forbidden.
-  faultOf(walk) {
-    const number = walk.fields.find((field) => field.name === "Value" && field.number !== undefined);
-    return walk.missing ?? walk.wrong ?? (this.reason === PARAMS_MALFORMED ? null : number) ?? walk.fields[0];
+  // Whether a server rejects an entry of its client's for its id.
+  isServers(id) {
+    return this.reason === PARAMS_ILLEGAL && this.choices.side === "server" && isOfServers(id);
+  }
+
+  // The field of the rejected entry that is at fault: the one at which reading it fails; else a number that another
+  // parameter puts out of range; else the entry's id, which is a repeat or is forbidden.
+  faultOf({ all, fault }, id) {
+    const number = all.find((field) => field.name === "Value" && field.number !== undefined);
+    const wrong = fault ?? (this.reason === PARAMS_MALFORMED ? null : number);
+    return this.isServers(id) ? all[0] : wrong ?? all[0];
   }
 
   make(index) {
-    const { walk, id } = parameterFields(this.bytes, this.begin(index));
-    const name = id === null ? "not a parameter" : parameterOf(id).name;
-    if (index === this.bad) {
-      const fault = this.faultOf(walk);
-      const summary = this.error.reason + (walk.missing ? "" : `: ${parameterSummary(walk, id)}`);
-      return { kind: id, ...this.broken(name, summary, walk, fault, this.end(index)) };
+    const { fields, id, end } = parameterFields(this.library, this.bytes, this.begin(index));
+    const { name, tone } = { ...parameterOf(id), ...(id === null ? { name: "not a parameter" } : {}) };
+    const summary = parameterSummary(fields, id);
+    if (index !== this.bad) {
+      return { kind: id, name, tone, summary, fields: fields.all };
     }
-    const { tone } = parameterOf(id);
-    const summary = parameterSummary(walk, id);
-    return { kind: id, name, tone, summary, fields: walk.fields, agrees: this.agrees(walk, id, index) };
-  }
-
-  // Whether a number in the list is the record's. A min_ack_delay may be repeated, and then the last one counts.
-  agrees(walk, id, index) {
-    const { name, kind } = parameterOf(id);
-    if (!this.record || kind !== "number" || (id === MIN_ACK_DELAY && index !== this.lastMinDelay)) {
-      return true;
-    }
-    return walk.fields.find((field) => field.name === "Value")?.number === this.record[name];
+    fields.mark(this.faultOf(fields, id));
+    const what = this.error.reason + (end === null ? "" : `: ${summary}`);
+    return { kind: id, ...this.broken(name, what, fields, this.end(index)) };
   }
 }
 

@@ -1,7 +1,7 @@
 // Where an item or a field is described: the section of an RFC, and its address.
 
-import { FRAMES, HEADERS, PARAMETERS } from "./formats.js";
-import { ACK, SHORT, VERSION_NEGOTIATION } from "./names.js";
+import { FRAMES, PARAMETERS } from "./formats.js";
+import { ACK, headerOf, SHORT } from "./names.js";
 
 const ACK_FREQUENCY = "draft-ietf-quic-ack-frequency";
 const ACK_FREQUENCY_DRAFT = `${ACK_FREQUENCY}-08`;
@@ -27,11 +27,10 @@ function packetSection({ kind, version }, field) {
   if (kind === null) {
     return "17";
   }
-  const isTyped = ![SHORT, VERSION_NEGOTIATION].includes(kind);
-  if (isTyped && version === VERSION_2 && ["First Byte", "Version"].includes(field?.name)) {
+  if (kind < SHORT && version === VERSION_2 && ["First Byte", "Version"].includes(field?.name)) {
     return `RFC 9369, section ${field.name === "Version" ? "3.1" : "3.2"}`;
   }
-  return HEADERS.get(isTyped ? 1 : 0).get(kind).section;
+  return headerOf(kind).section;
 }
 
 function parameterSection({ kind, name }, field) {

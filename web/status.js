@@ -2,7 +2,7 @@
 
 import { typeName } from "./names.js";
 import { element } from "./rows.js";
-import { count } from "./walk.js";
+import { count } from "./shown.js";
 
 function errorText({ place, reason, type, version, allowed, note, code, section }) {
   const what = (type ?? null) === null ? "" : ` in ${typeName(type)}`;

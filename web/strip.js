@@ -1,7 +1,7 @@
 // The ranges of an ACK as a strip: all packet numbers from the smallest to the largest, the acknowledged ones filled.
 
 import { element } from "./rows.js";
-import { count } from "./walk.js";
+import { count } from "./shown.js";
 
 const SVG = "http://www.w3.org/2000/svg";
 const WIDTH = 1000;

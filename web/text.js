@@ -1,20 +1,15 @@
 // What quic-show prints of the same bytes.
 
 import { toHex } from "./bytes.js";
-import { paddingEnds } from "./frame-fields.js";
-import {
-  FRAME_REASONS, frameName, INITIAL, PACKET_REASONS, packetWord, PADDING, SHORT, typeName,
-} from "./names.js";
+import { paddingEnds } from "./fields.js";
+import { PARAMETERS } from "./formats.js";
+import { frameName, INITIAL, packetWord, PADDING, reasonText, SHORT, typeName } from "./names.js";
 
 const dashed = (bytes) => toHex(bytes) || "-";
 
 // The line of an invalid frame.
-function invalidLine(error) {
-  if (error.empty) {
-    return "error packet payload is empty";
-  }
-  const where = error.type === null ? "" : ` in ${typeName(error.type)}`;
-  return `error ${FRAME_REASONS[error.reason]}${where}`;
+function invalidLine({ reason, type }) {
+  return `error ${reasonText(reason)}${type === null ? "" : ` in ${typeName(type)}`}`;
 }
 
 function* frameLines(reading) {
@@ -51,54 +46,28 @@ function* packetLines(reading) {
     yield packetLine(reading.bytes, reading.packet(index));
   }
   if (reading.error) {
-    const { version } = reading.error;
-    yield `error ${PACKET_REASONS[reading.refusal.reason]}${version === null ? "" : ` ${version.toString(16)}`}`;
+    const { reason, version } = reading.error;
+    yield `error ${reason}${version === null ? "" : ` ${version.toString(16)}`}`;
   }
 }
 
-// The numbers that have a default, in the order in which they are printed.
-const NUMBERS = [
-  ["max_idle_timeout", 0n], ["max_udp_payload_size", 65527n], ["initial_max_data", 0n],
-  ["initial_max_stream_data_bidi_local", 0n], ["initial_max_stream_data_bidi_remote", 0n],
-  ["initial_max_stream_data_uni", 0n], ["initial_max_streams_bidi", 0n], ["initial_max_streams_uni", 0n],
-  ["ack_delay_exponent", 3n], ["max_ack_delay", 25n], ["active_connection_id_limit", 2n],
-];
-
-// QUIC_WIRE_HAS_STATELESS_RESET_TOKEN and so on, in the order in which they are printed: the bit, the name, the value.
-const PRESENT = [
-  [0x001, "stateless_reset_token", (r) => toHex(r.stateless_reset_token)],
-  [0x002, "disable_active_migration", () => "true"],
-  [0x004, "max_datagram_frame_size", (r) => `${r.max_datagram_frame_size}`],
-  [0x008, "preferred_address", addressDigits],
-  [0x040, "original_dst_cid", (r) => dashed(r.original_dst_cid.subarray(0, r.original_dst_cidlen))],
-  [0x080, "initial_src_cid", (r) => dashed(r.initial_src_cid.subarray(0, r.initial_src_cidlen))],
-  [0x100, "retry_src_cid", (r) => dashed(r.retry_src_cid.subarray(0, r.retry_src_cidlen))],
-  [0x200, "grease_quic_bit", () => "true"],
-  [0x400, "min_ack_delay", (r) => `${r.min_ack_delay}`],
-];
-
-// A preferred address, encoded as in a list.
-function addressDigits(record) {
-  const word = (number, digits) => number.toString(16).padStart(digits, "0");
-  return toHex(record.preferred_v4) + word(record.preferred_v4_port, 4) + toHex(record.preferred_v6)
-    + word(record.preferred_v6_port, 4) + word(record.preferred_cidlen, 2)
-    + toHex(record.preferred_cid.subarray(0, record.preferred_cidlen)) + toHex(record.preferred_token);
-}
+// Transport parameters in the order in which they are printed.
+const PRINTED = [...PARAMETERS.values()].filter(({ kind }) => kind !== "skipped").sort((a, b) => a.order - b.order);
 
 function* parameterLines(reading) {
-  const { record } = reading;
-  if (!record) {
+  if (reading.error) {
     yield `error ${reading.error.reason}`;
     return;
   }
-  for (const [name, normal] of NUMBERS) {
-    if (record[name] !== normal) {
-      yield `${name} ${record[name]}`;
-    }
-  }
-  for (const [bit, name, value] of PRESENT) {
-    if (record.present & bit) {
-      yield `${name} ${value(record)}`;
+  // Of a parameter that is repeated the last value counts.
+  const values = new Map(reading.values());
+  for (const { id, name, quinn_proto: own, kind, default: normal } of PRINTED.filter((one) => values.has(one.id))) {
+    const [begin, end] = values.get(id);
+    const number = kind === "number" ? reading.library.varintAt(begin).number : null;
+    if (kind !== "number") {
+      yield `${own ?? name} ${kind === "flag" ? "true" : dashed(reading.bytes.subarray(begin, end))}`;
+    } else if (number !== normal) {
+      yield `${name} ${number}`;
     }
   }
   yield "ok";

@@ -30,6 +30,11 @@ def forbidden(payload: bytes, sender: q.Side) -> Optional[q.Code]:
     return None
 
 
+def data_of(payload: bytes) -> list[bytes]:
+    fields: list[q.Field] = q.frame_fields(payload, checks=q.Checks.RFC)
+    return [payload[field.end - field.number : field.end] for field in fields if field.name.endswith("Data")]
+
+
 def shorter(payload: bytes) -> bytes:
     frames = q.read_frames(q.canonical(payload, checks=q.Checks.RFC))
     return frames[0].encode(checks=q.Checks.RFC) + q.write_frames(frames[1:], checks=q.Checks.RFC)

@@ -4,19 +4,12 @@
 
 #include <string.h>
 
-/* How packets are read. */
-typedef struct reader {
-  uint32_t cid_len, versions[MOST_VERSIONS];
-  size_t count;
-  uint32_t flags;
-} reader;
-
 /* Versions 1 and 2, and the drafts that version 1 was, as in the Rust crate. */
 static const uint32_t usual_versions[] = {
     QUIC_WIRE_VERSION_1, 0xff00001d, 0xff00001e, 0xff00001f,
     0xff000020,          0xff000021, 0xff000022, QUIC_WIRE_VERSION_2};
 
-static int set_versions(reader *how, PyObject *versions) {
+int wire_set_versions(wire_reader *how, PyObject *versions) {
   PyObject *list;
   Py_ssize_t i, len;
   if (versions == Py_None) {
@@ -42,7 +35,7 @@ static int set_versions(reader *how, PyObject *versions) {
 }
 
 /* The header of the packet that bytes begin with: QUIC_WIRE_OK or an error. */
-static int header_at(const reader *how, const uint8_t *bytes, size_t len,
+static int header_at(const wire_reader *how, const uint8_t *bytes, size_t len,
                      quic_wire_header *h) {
   int64_t end = quic_wire_header_read(bytes, len, how->cid_len, how->versions,
                                       how->count, how->flags, h);
@@ -58,7 +51,7 @@ static int header_at(const reader *how, const uint8_t *bytes, size_t len,
 
 /* The packet that begins at an offset of a datagram; for an error the
  * exception, with the packets before it. */
-static PyObject *packet_at(wire_state *state, const reader *how,
+static PyObject *packet_at(wire_state *state, const wire_reader *how,
                            PyObject *owner, const wire_bytes *bytes,
                            size_t begin, PyObject *before) {
   quic_wire_header h;
@@ -73,14 +66,14 @@ static PyObject *packet_at(wire_state *state, const reader *how,
     if (!packet || result == QUIC_WIRE_OK)
       return packet;
   }
-  wire_packet_error(result, owner, begin, how->cid_len, before, packet);
+  wire_packet_error(result, bytes, begin, how, before, packet);
   Py_XDECREF(packet);
   return NULL;
 }
 
 /* The packets of a datagram from an offset on: all of them as a list, or one.
  */
-static PyObject *read_from(wire_state *state, const reader *how,
+static PyObject *read_from(wire_state *state, const wire_reader *how,
                            PyObject *datagram, size_t begin, int is_list) {
   PyObject *owner = wire_owner(datagram), *list = NULL, *packet = NULL;
   wire_bytes bytes;
@@ -113,12 +106,12 @@ static PyObject *read_packets(PyObject *module, PyObject *args,
                               PyObject *keywords) {
   static char *names[] = {"datagram", "cid_len", "versions", "checks", NULL};
   PyObject *datagram, *versions = Py_None;
-  reader how = {0};
+  wire_reader how = {0};
   if (!PyArg_ParseTupleAndKeywords(args, keywords, "OO&|O$O&:read_packets",
                                    names, &datagram, wire_to_uint32,
                                    &how.cid_len, &versions, wire_to_checks,
                                    &how.flags) ||
-      set_versions(&how, versions) < 0)
+      wire_set_versions(&how, versions) < 0)
     return NULL;
   return read_from(PyModule_GetState(module), &how, datagram, 0, 1);
 }
@@ -129,12 +122,12 @@ static PyObject *read_packet(PyObject *module, PyObject *args,
                           "versions", "checks",  NULL};
   PyObject *datagram, *versions = Py_None;
   Py_ssize_t at = 0;
-  reader how = {0};
+  wire_reader how = {0};
   if (!PyArg_ParseTupleAndKeywords(args, keywords, "OO&|nO$O&:read_packet",
                                    names, &datagram, wire_to_uint32,
                                    &how.cid_len, &at, &versions, wire_to_checks,
                                    &how.flags) ||
-      set_versions(&how, versions) < 0)
+      wire_set_versions(&how, versions) < 0)
     return NULL;
   if (at < 0)
     return PyErr_Format(PyExc_ValueError, "at must not be negative");

@@ -32,12 +32,15 @@ static PyObject *type_read(uint64_t type) {
                                    : PyLong_FromUnsignedLongLong(type);
 }
 
-PyObject *wire_frame_error(int result, PyObject *payload, size_t begin,
-                           uint64_t type, PyObject *before) {
+PyObject *wire_frame_error(int result, const wire_bytes *payload, size_t begin,
+                           uint32_t flags, uint64_t type, PyObject *before) {
+  PyObject *read = wire_frame_read(payload, begin, flags);
+  if (!read)
+    return NULL;
   return raise_by("_frame_error",
-                  Py_BuildValue("(isIOnNO)", result, quic_wire_strerror(result),
-                                quic_wire_close_code(result), payload,
-                                (Py_ssize_t)begin, type_read(type), before));
+                  Py_BuildValue("(isInNON)", result, quic_wire_strerror(result),
+                                quic_wire_close_code(result), (Py_ssize_t)begin,
+                                type_read(type), before, read));
 }
 
 PyObject *wire_rule_error(int result, uint64_t type, PyObject *begin) {
@@ -47,14 +50,18 @@ PyObject *wire_rule_error(int result, uint64_t type, PyObject *begin) {
                                 (unsigned long long)type, begin));
 }
 
-PyObject *wire_packet_error(int result, PyObject *datagram, size_t begin,
-                            size_t cid_len, PyObject *before,
-                            PyObject *packet) {
+PyObject *wire_packet_error(int result, const wire_bytes *datagram,
+                            size_t begin, const wire_reader *how,
+                            PyObject *before, PyObject *packet) {
+  PyObject *read = wire_packet_read(datagram, begin, how);
+  const int first = begin < datagram->len ? datagram->at[begin] : -1;
+  if (!read)
+    return NULL;
   return raise_by("_packet_error",
-                  Py_BuildValue("(isOnnOO)", result, quic_wire_strerror(result),
-                                datagram, (Py_ssize_t)begin,
-                                (Py_ssize_t)cid_len, before,
-                                packet ? packet : Py_None));
+                  Py_BuildValue("(isnniOON)", result,
+                                quic_wire_strerror(result), (Py_ssize_t)begin,
+                                (Py_ssize_t)datagram->len, first, before,
+                                packet ? packet : Py_None, read));
 }
 
 PyObject *wire_parameter_error(int result, uint32_t side, uint32_t flags,

@@ -46,8 +46,7 @@ static int add_constants(PyObject *module) {
                    {"FRAME_SENDER", QUIC_WIRE_ERR_FRAME_SENDER},
                    {"FRAME_STREAM", QUIC_WIRE_ERR_FRAME_STREAM},
                    {"PACKET_FIXED_BIT", QUIC_WIRE_ERR_PACKET_FIXED_BIT},
-                   {"PACKET_CID", QUIC_WIRE_ERR_PACKET_CID},
-                   {"PACKET_CUT", QUIC_WIRE_ERR_PACKET_CUT},
+                   {"PACKET_VERSION", QUIC_WIRE_ERR_PACKET_VERSION},
                    {"PACKET_RETRY", QUIC_WIRE_ERR_PACKET_RETRY},
                    {"READ_SHORT_TYPES", QUIC_WIRE_READ_SHORT_TYPES},
                    {"READ_DATA_LIMIT", QUIC_WIRE_READ_DATA_LIMIT},
@@ -80,6 +79,7 @@ static int exec(PyObject *module) {
       PyModule_AddFunctions(module, wire_packet_functions) < 0 ||
       PyModule_AddFunctions(module, wire_number_functions) < 0 ||
       PyModule_AddFunctions(module, wire_parameter_functions) < 0 ||
+      PyModule_AddFunctions(module, wire_field_functions) < 0 ||
       wire_add_frames(module, state) < 0 ||
       wire_add_iterator(module, state) < 0 ||
       wire_add_packets(module, state) < 0 ||

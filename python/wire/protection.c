@@ -16,10 +16,22 @@ static int check_mask(Py_ssize_t at, const Py_buffer *mask) {
   return PyErr_Occurred() ? -1 : 0;
 }
 
+/* PacketError for a packet whose fixed bit isn't checked. */
+static PyObject *packet_error(int result, const uint8_t *at, size_t len) {
+  wire_reader how = {0};
+  wire_bytes bytes = {0};
+  bytes.at = len ? at : (const uint8_t *)"";
+  bytes.len = len;
+  how.flags = QUIC_WIRE_READ_GREASED_BIT;
+  if (wire_set_versions(&how, Py_None) < 0)
+    return NULL;
+  return wire_packet_error(result, &bytes, 0, &how, Py_None, NULL);
+}
+
 /* The result of a call: an error of the packet or of the caller. */
-static PyObject *reject(int result, PyObject *packet) {
+static PyObject *reject(int result, const Py_buffer *packet) {
   return result == QUIC_WIRE_ERR_PACKET_SMALL
-             ? wire_packet_error(result, packet, 0, 0, Py_None, NULL)
+             ? packet_error(result, packet->buf, (size_t)packet->len)
              : wire_mistake(result);
 }
 
@@ -47,7 +59,7 @@ static PyObject *unprotect(PyObject *module, PyObject *args,
                                    mask.buf, next, copy, room, &number);
     if (header && result < 0) {
       Py_CLEAR(header);
-      reject(result, packet.obj);
+      reject(result, &packet);
     } else if (header)
       header = wire_front(header, (size_t)(at + result));
   }
@@ -70,7 +82,7 @@ static PyObject *protect(PyObject *module, PyObject *args, PyObject *keywords) {
   if (check_mask(at, &mask) == 0) {
     result =
         quic_wire_protect(packet.buf, (size_t)packet.len, (size_t)at, mask.buf);
-    out = result < 0 ? reject(result, packet.obj) : PyLong_FromLong(result);
+    out = result < 0 ? reject(result, &packet) : PyLong_FromLong(result);
   }
   PyBuffer_Release(&packet);
   PyBuffer_Release(&mask);
@@ -325,9 +337,11 @@ static PyObject *number_read(PyObject *module, PyObject *args) {
       wire_acquire(data, &bytes) < 0)
     return NULL;
   result = quic_wire_number_read(bytes.at, bytes.len, len, &written);
+  if (result == QUIC_WIRE_ERR_PACKET_END)
+    packet_error(result, bytes.at, bytes.len);
   wire_release(&bytes);
   if (result == QUIC_WIRE_ERR_PACKET_END)
-    return wire_packet_error(result, data, 0, 0, Py_None, NULL);
+    return NULL;
   return result < 0 ? wire_mistake(result)
                     : PyLong_FromUnsignedLongLong(written);
 }

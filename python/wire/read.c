@@ -26,14 +26,14 @@ static int fill(quic_wire_frame_iter *iter, const wire_bytes *bytes,
 }
 
 /* The exception for a result of these two. */
-static PyObject *reject(int result, PyObject *owner,
+static PyObject *reject(int result, const wire_bytes *bytes,
                         const quic_wire_frame_iter *iter,
                         const quic_wire_frame *frame, PyObject *before) {
   if (result == QUIC_WIRE_ERR_PAYLOAD_EMPTY)
-    return wire_frame_error(result, owner, 0, QUIC_WIRE_NO_TYPE, before);
+    return wire_frame_error(result, bytes, 0, 0, QUIC_WIRE_NO_TYPE, before);
   if (result > QUIC_WIRE_ERR_PAYLOAD_EMPTY)
     return wire_mistake(result);
-  return wire_frame_error(result, owner, iter->offset,
+  return wire_frame_error(result, bytes, iter->offset, iter->flags,
                           quic_wire_error_type(frame), before);
 }
 
@@ -57,7 +57,7 @@ static PyObject *next_frame(PyObject *self) {
     if (result != QUIC_WIRE_ITEM)
       o->count = 0;
     if (result < 0)
-      return reject(result, o->owner, &o->iter, o->batch, Py_None);
+      return reject(result, &o->bytes, &o->iter, o->batch, Py_None);
     if (result == QUIC_WIRE_OK)
       return NULL;
   }
@@ -136,7 +136,7 @@ static PyObject *frames(PyObject *module, PyObject *const *args,
   }
   result = start(&o->iter, &o->bytes, flags);
   if (result < 0) {
-    reject(result, o->owner, &o->iter, o->batch, Py_None);
+    reject(result, &o->bytes, &o->iter, o->batch, Py_None);
     Py_CLEAR(o);
   }
   return (PyObject *)o;
@@ -169,7 +169,7 @@ static PyObject *list_of(wire_state *state, PyObject *owner,
     if (append(list, state, owner, batch, count) < 0)
       Py_CLEAR(list);
   if (list && result < 0) {
-    reject(result, owner, &iter, batch, list);
+    reject(result, bytes, &iter, batch, list);
     Py_CLEAR(list);
   }
   return list;
@@ -232,7 +232,8 @@ static PyObject *canonical(PyObject *module, PyObject *const *args,
   else if (out) {
     const int is_empty = result == QUIC_WIRE_ERR_PAYLOAD_EMPTY;
     Py_CLEAR(out);
-    wire_frame_error(result, owner, is_empty ? 0 : end_of_frames(&bytes, flags),
+    wire_frame_error(result, &bytes,
+                     is_empty ? 0 : end_of_frames(&bytes, flags), flags,
                      is_empty ? QUIC_WIRE_NO_TYPE : canon.last_type, Py_None);
   }
   wire_release(&bytes);

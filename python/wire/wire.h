@@ -32,6 +32,18 @@ typedef struct wire_state {
   PyObject *set;
 } wire_state;
 
+/* ---- datagrams.c: how packets are read */
+
+typedef struct wire_reader {
+  uint32_t cid_len, versions[MOST_VERSIONS];
+  size_t count;
+  uint32_t flags;
+} wire_reader;
+
+/* The versions of an argument, or the usual ones for None: -1 with an
+ * exception. */
+int wire_set_versions(wire_reader *how, PyObject *versions);
+
 /* ---- bytes.c: bytes that a caller hands in */
 
 /* The bytes of an object, which don't move until wire_release. */
@@ -81,17 +93,27 @@ quic_wire_range *wire_ranges(PyObject *ranges, size_t *count);
 /* A `range` of Python. */
 PyObject *wire_range(const quic_wire_range *range);
 
+/* ---- fields.c: where fields are, as arguments of quic_wire._fields.Read
+ * (NULL with an exception) */
+
+PyObject *wire_frame_read(const wire_bytes *payload, size_t begin,
+                          uint32_t flags);
+PyObject *wire_packet_read(const wire_bytes *datagram, size_t begin,
+                           const wire_reader *how);
+
 /* ---- errors.c: exceptions.  Each returns NULL. */
 
 /* ValueError, for the caller's mistake. */
 PyObject *wire_mistake(int result);
-PyObject *wire_frame_error(int result, PyObject *payload, size_t begin,
-                           uint64_t type, PyObject *before);
+/* |flags| are those with which the payload was read. */
+PyObject *wire_frame_error(int result, const wire_bytes *payload, size_t begin,
+                           uint32_t flags, uint64_t type, PyObject *before);
 /* A frame of this type breaks a rule; |begin| is where it was read, or None. */
 PyObject *wire_rule_error(int result, uint64_t type, PyObject *begin);
 /* |packet| is what was read from a truncated packet, or NULL. */
-PyObject *wire_packet_error(int result, PyObject *datagram, size_t begin,
-                            size_t cid_len, PyObject *before, PyObject *packet);
+PyObject *wire_packet_error(int result, const wire_bytes *datagram,
+                            size_t begin, const wire_reader *how,
+                            PyObject *before, PyObject *packet);
 /* |flags| are those with which the list was read. */
 PyObject *wire_parameter_error(int result, uint32_t side, uint32_t flags,
                                PyObject *list,
@@ -169,6 +191,7 @@ extern PyMethodDef wire_read_functions[];
 extern PyMethodDef wire_packet_functions[];
 extern PyMethodDef wire_number_functions[];
 extern PyMethodDef wire_parameter_functions[];
+extern PyMethodDef wire_field_functions[];
 
 #define WIRE_FAST(function) ((PyCFunction)(void (*)(void))(function))
 #define WIRE_END_OF_FIELDS                                                     \

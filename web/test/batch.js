@@ -91,9 +91,6 @@ function faults(line, printed, canon) {
   if (line !== "" && bytes !== line.toLowerCase()) {
     found.push(`bytes ${bytes}`);
   }
-  if (document.querySelector("#outline .note.differs")) {
-    found.push("an item whose fields differ from the library's answer");
-  }
   const items = itemsShown();
   const whole = items.filter((item) => !item.isError).map((item) => `${item.place} ${item.name}`).join("\n");
   if (form.mode !== "params" && line !== "" && whole !== itemsPrinted(printed)) {

@@ -30,6 +30,7 @@ from ._wire import (
 from ._version import VERSION
 from .checks import Checks
 from .errors import Code, Error, FrameError, PacketError, ParameterError
+from .fields import Field, frame_fields, packet_fields, parameter_fields
 from .packets import PacketType, Version, packets
 from .parameters import Parameter, PreferredAddress, Side, TransportParameters, parameters
 
@@ -37,16 +38,17 @@ __version__ = VERSION
 
 __all__ = [
     "LIBRARY_VERSION", "Ack", "AckFrequency", "ApplicationClose", "Checks", "Code", "ConnectionClose", "Crypto",
-    "DataBlocked", "Datagram", "Error", "Frame", "FrameError", "FrameIterator", "Handshake", "HandshakeDone",
-    "ImmediateAck", "Initial", "MaxData", "MaxStreamData", "MaxStreamsBidi", "MaxStreamsUni", "NewConnectionId",
-    "NewToken", "OneRtt", "Packet", "PacketError", "PacketType", "Padding", "Parameter", "ParameterError",
-    "PathChallenge", "PathResponse", "Ping", "PreferredAddress", "RangeSet", "ResetStream", "RetireConnectionId",
-    "Retry", "Side", "StopSending", "Stream", "StreamDataBlocked", "StreamsBlockedBidi", "StreamsBlockedUni",
-    "TransportParameters", "UnknownVersion", "Version", "VersionNegotiation", "ZeroRtt", "canonical", "check_type",
-    "expand_packet_number", "frames", "is_known_parameter", "packet_number_len", "packets", "parameters", "protect",
-    "read_frames", "read_packet", "read_packet_number", "read_packets", "read_varint", "set_length", "type_name",
-    "unprotect", "varint_len", "write_frames", "write_header", "write_packet_number", "write_parameter",
-    "write_varint", "write_version_negotiation",
+    "DataBlocked", "Datagram", "Error", "Field", "Frame", "FrameError", "FrameIterator", "Handshake",
+    "HandshakeDone", "ImmediateAck", "Initial", "MaxData", "MaxStreamData", "MaxStreamsBidi", "MaxStreamsUni",
+    "NewConnectionId", "NewToken", "OneRtt", "Packet", "PacketError", "PacketType", "Padding", "Parameter",
+    "ParameterError", "PathChallenge", "PathResponse", "Ping", "PreferredAddress", "RangeSet", "ResetStream",
+    "RetireConnectionId", "Retry", "Side", "StopSending", "Stream", "StreamDataBlocked", "StreamsBlockedBidi",
+    "StreamsBlockedUni", "TransportParameters", "UnknownVersion", "Version", "VersionNegotiation", "ZeroRtt",
+    "canonical", "check_type", "expand_packet_number", "frame_fields", "frames", "is_known_parameter",
+    "packet_fields", "packet_number_len", "packets", "parameter_fields", "parameters", "protect", "read_frames",
+    "read_packet", "read_packet_number", "read_packets", "read_varint", "set_length", "type_name", "unprotect",
+    "varint_len", "write_frames", "write_header", "write_packet_number", "write_parameter", "write_varint",
+    "write_version_negotiation",
 ]  # fmt: skip
 
 

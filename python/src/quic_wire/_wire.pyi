@@ -1,6 +1,7 @@
 from collections.abc import Iterable, Iterator, Sequence
 from typing import Any, ClassVar, Optional, TypeVar, Union, final
 
+from ._fields import Raw
 from ._types import Buffer
 from .checks import Checks
 from .parameters import PreferredAddress
@@ -18,8 +19,7 @@ FRAME_PACKET: int
 FRAME_SENDER: int
 FRAME_STREAM: int
 PACKET_FIXED_BIT: int
-PACKET_CID: int
-PACKET_CUT: int
+PACKET_VERSION: int
 PACKET_RETRY: int
 READ_SHORT_TYPES: int
 READ_DATA_LIMIT: int
@@ -487,6 +487,14 @@ class _Parameters:
 def _entry_at(data: Buffer, at: int, /) -> Optional[tuple[int, int, int]]: ...
 def write_parameter(id: int, value: Buffer, /) -> bytes: ...
 def is_known_parameter(id: int, /) -> bool: ...
+
+# ---- Fields, as quic_wire._fields.Read has them
+
+def _frame_fields(payload: Buffer, at: int, checks: int, /) -> Raw: ...
+def _packet_fields(
+    datagram: Buffer, cid_len: int, at: int, versions: Optional[Sequence[int]], checks: int, /
+) -> Raw: ...
+def _parameter_fields(data: Buffer, at: int, /) -> Raw: ...
 
 # ---- Sets of packet numbers
 

@@ -5,10 +5,13 @@ from __future__ import annotations
 import enum
 from typing import TYPE_CHECKING, NoReturn, Optional
 
-from . import _faults, _parameter_table
+from . import _parameters
+from ._fields import (
+    FRAME_TYPE_FIELD, Field, Place, Raw, Read, in_entry, in_frame, in_header, of_entry, of_frame, of_header,
+)  # fmt: skip
 from ._wire import (
     FRAME_LIMIT, FRAME_LONG_TYPE, FRAME_MALFORMED, FRAME_PACKET, FRAME_SENDER, FRAME_STREAM, FRAME_TYPE,
-    PAYLOAD_EMPTY, type_name,
+    PACKET_FIXED_BIT, PACKET_RETRY, PAYLOAD_EMPTY, type_name,
 )  # fmt: skip
 from .checks import Checks
 
@@ -18,6 +21,7 @@ if TYPE_CHECKING:
 
 _NEW_TOKEN, _NEW_CONNECTION_ID = 0x07, 0x18
 _OF_TYPES = (FRAME_TYPE, FRAME_LONG_TYPE)  # results for a type that was read
+_LONG_FORM = 0x80  # of a first byte
 _ACK_FREQUENCY = (0x1F, 0xAF)  # unknown only with Checks.NO_ACK_FREQUENCY
 _PERMISSIONS = (FRAME_PACKET, FRAME_SENDER, FRAME_STREAM)
 # For types of frames with a limit, except those of STREAM, the sections that have it.
@@ -58,6 +62,7 @@ class Error(ValueError):
     - why: what is wrong with them, or None if no more is known.
     - offset: where what is rejected begins in the bytes that were read.
     - field, field_offset: the RFC's name of the field at fault, and where it begins; None if it isn't known.
+    - fields: the fields before it in the same frame, packet or entry; None if they aren't known.
     - code: the code to close the connection with; only those of frames and parameters have one.
     - section: the document and section that say so.
     """
@@ -67,6 +72,7 @@ class Error(ValueError):
     offset: Optional[int]
     field: Optional[str]
     field_offset: Optional[int]
+    fields: Optional[list[Field]] = None
     code: Optional[Code]
     section: str
 
@@ -74,7 +80,7 @@ class Error(ValueError):
         self,
         reason: str,
         offset: Optional[int] = None,
-        place: Optional[_faults.Place] = None,
+        place: Optional[Place] = None,
         code: Optional[Code] = None,
         section: str = "",
     ) -> None:
@@ -101,7 +107,8 @@ class FrameError(Error):
 
     - frame_type: the type of the invalid frame, as its attribute type; None if it couldn't be read.
     - frames: the frames before it; None if they were read one by one.
-    - reason, why, offset, field, field_offset, code, section: as in Error. offset is None if the frame wasn't read.
+    - reason, why, offset, field, field_offset, fields, code, section: as in Error. offset is None if the frame wasn't
+      read.
     """
 
     code: Code
@@ -125,7 +132,7 @@ class PacketError(Error):
 
     - packets: the packets before it; None if they were read one by one.
     - packet: what was read from a packet that is cut off, or None.
-    - reason, offset, field, field_offset, section: as in Error. code is None.
+    - reason, offset, field, field_offset, fields, section: as in Error. code is None.
     """
 
     packets: Optional[list[Packet]] = None
@@ -138,7 +145,7 @@ class ParameterError(Error):
     - id, name, value: those of the parameter at fault; each is None if it isn't known.
     - why: what is wrong with it.
     - wanted: what its value must be; None if that isn't what is wrong.
-    - reason, offset, code, section: as in Error. field and field_offset are None.
+    - reason, offset, code, section: as in Error. Only parameter_fields sets field, field_offset and fields.
     """
 
     id: Optional[int] = None
@@ -185,16 +192,18 @@ def _frame_error(
     result: int,
     reason: str,
     code: int,
-    payload: Buffer,
     begin: int,
     frame_type: Optional[int],
     before: Optional[list[Frame]],
+    read: Raw,
 ) -> FrameError:
-    place, why = (None, None) if result == PAYLOAD_EMPTY else _faults.of_frame(result, memoryview(payload), begin)
+    found = Read(*read)
+    place, why = (None, None) if result == PAYLOAD_EMPTY else in_frame(found)
     error = FrameError(reason, begin, place, Code(code), _frame_section(result, frame_type))
-    is_cut_off = result not in _OF_TYPES and place == _faults.Place(_faults.FRAME_TYPE_FIELD, begin)
+    is_cut_off = result not in _OF_TYPES and place == Place(FRAME_TYPE_FIELD, begin)
     error.frame_type = None if is_cut_off else frame_type
     error._last_type, error.why, error.frames = frame_type, why or _why_unknown(result, frame_type), before
+    error.fields = of_frame(found)
     is_of_token = result == FRAME_MALFORMED and frame_type == _NEW_TOKEN
     error._breaks_rule = result == FRAME_LIMIT or is_of_token or _why_unknown(result, frame_type) is not None
     return error
@@ -212,32 +221,52 @@ def _rule_error(result: int, reason: str, code: int, frame_type: int, begin: Opt
     return error
 
 
+def _header_section(result: int, place: Optional[Place], first: int, end: int) -> str:
+    """By which a packet is dropped, given its first byte or -1, and where the datagram ends."""
+    section = "12.2"
+    if result == PACKET_FIXED_BIT:
+        section = "17.2" if first >= _LONG_FORM else "17.3.1"
+    elif place is not None and result == PACKET_RETRY:
+        section = "17.2.5.2"
+    elif place is not None and place.field.endswith("ID Length") and place.at < end:
+        section = "17.2"
+    return f"RFC 9000, section {section}"
+
+
 def _packet_error(
     result: int,
     reason: str,
-    datagram: Buffer,
     begin: int,
-    cid_len: int,
+    end: int,
+    first: int,
     before: Optional[list[Packet]],
     packet: Optional[Packet],
+    read: Raw,
 ) -> PacketError:
-    place, section = _faults.of_header(result, memoryview(datagram).cast("B"), begin, cid_len)
-    error = PacketError(reason, begin, place, None, section)
-    error.packets, error.packet = before, packet
+    found = Read(*read)
+    place = in_header(found, begin)
+    error = PacketError(reason, begin, place, None, _header_section(result, place, first, end))
+    error.packets, error.packet, error.fields = before, packet, of_header(found)
     return error
 
 
 def _parameter_error(
     reason: str, code: int, side: int, flags: int, data: Buffer, begin: int, number: Optional[int]
 ) -> ParameterError:
-    found = _parameter_table.fault_of(side, Checks(flags), memoryview(bytes(data)), begin, number)
+    found = _parameters.fault_of(side, Checks(flags), memoryview(bytes(data)), begin, number)
     return _parameter_fault(reason, Code(code), found)
 
 
-def _parameter_fault(reason: str, code: Code, found: _parameter_table.Fault) -> ParameterError:
+def _parameter_fault(reason: str, code: Code, found: _parameters.Fault) -> ParameterError:
     error = ParameterError(reason, found.offset, None, code, found.section)
     error.id, error.name, error.value = found.id, found.name, found.value
     error.why, error.wanted = found.why, found.wanted
+    return error
+
+
+def _parameter_cut_off(reason: str, begin: int, number: Optional[int], read: Read) -> ParameterError:
+    error = _parameter_fault(reason, Code.TRANSPORT_PARAMETER_ERROR, _parameters.cut_off(begin, number))
+    (error.field, error.field_offset), error.fields = in_entry(read), of_entry(read)
     return error
 
 

@@ -8,18 +8,18 @@ from collections.abc import Iterable, Iterator
 from dataclasses import dataclass
 from typing import Any, NamedTuple, Optional
 
-from . import _faults
-from ._parameter_table import KNOWN, LEAST, MOST, OF_SERVERS, ROWS, cut_off
+from ._formats import PARAMETERS
+from ._parameters import KNOWN, OF_SERVERS, cut_off, entries
 from ._types import Buffer
 from ._wire import _Parameters, is_known_parameter, varint_at, write_parameter
 from .errors import Code, _parameter_fault
 
 __all__ = ["Parameter", "PreferredAddress", "Side", "TransportParameters", "parameters"]
 
-_RESERVED_ROW = 11
-_FURTHER_ROW = 21
+_FURTHER_ROW = len(PARAMETERS)
 _MOST_FURTHER = 256 - _FURTHER_ROW  # a row is a byte
 _MICROSECONDS = 1000  # in a millisecond
+_SMALL = 1000  # greater bounds are written as powers of 2
 _MAX_CID_LEN = 20
 _RESET_TOKEN_LEN = 16
 
@@ -64,9 +64,10 @@ class TransportParameters(_Parameters):
             raise ValueError("side must be Side.CLIENT or Side.SERVER")
         more, first_ids = list(further), list(order)
         _check_ids([number for number, _ in more], first_ids)
-        rows = ROWS | {number: _FURTHER_ROW + i for i, (number, _) in enumerate(more)}
+        rows = {number: known.order for number, known in KNOWN.items()}
+        rows |= {number: _FURTHER_ROW + i for i, (number, _) in enumerate(more)}
         first = [rows[number] for number in first_ids]
-        rest = sorted({*rows.values(), _RESERVED_ROW} - set(first))
+        rest = sorted({*range(_FURTHER_ROW), *rows.values()} - set(first))
         listed = b"".join(write_parameter(number, value) for number, value in more)
         try:
             return self._write(side, listed, bytes(first + rest) if first else b"")
@@ -99,18 +100,26 @@ def _check_ids(further: list[int], order: list[int]) -> None:
         raise ValueError(f"further must have at most {_MOST_FURTHER} parameters")
 
 
+def _bound(number: int) -> str:
+    """A number as it is written in messages."""
+    if number < _SMALL:
+        return str(number)
+    return f"2^{number.bit_length() - 1}" if number & 1 == 0 else f"2^{number.bit_length()} - 1"
+
+
 def _fault_in(values: TransportParameters, side: Side) -> Optional[str]:
     """Why the peer would reject these parameters of a side, or None."""
-    for name, least in LEAST.items():
-        if getattr(values, name) < least:
+    bounds = [(known.name, *known.bounds) for known in KNOWN.values()]
+    for name, least, _ in bounds:
+        if least is not None and getattr(values, name) < least:
             return f"{name} must be at least {least}"
-    for name, (most, shown) in MOST.items():
-        if getattr(values, name) > most:
-            return f"{name} must be at most {shown}"
+    for name, _, most in bounds:
+        if most is not None and getattr(values, name) > most:
+            return f"{name} must be at most {_bound(most)}"
     most_delay = values.max_ack_delay * _MICROSECONDS
     if values.min_ack_delay is not None and values.min_ack_delay > most_delay:
         return f"min_ack_delay must be at most max_ack_delay, {most_delay} microseconds"
-    for number in sorted(OF_SERVERS):
+    for number in OF_SERVERS:
         name = KNOWN[number].name
         if side == Side.CLIENT and getattr(values, name) is not None:
             return f"a client must not send {name}"
@@ -156,7 +165,7 @@ def parameters(data: Buffer) -> Iterator[Parameter]:
     """The entries of a list, one by one, whatever their values. Raises ParameterError at one that is cut off."""
     view = memoryview(data).toreadonly()
     end = 0
-    for entry in _faults.entries(view):
+    for entry in entries(view):
         end = entry.end
         yield Parameter(entry.id, view[entry.value : end], entry.begin, end)
     if end != len(view):

@@ -9,8 +9,7 @@ from .. import (
     Checks, Handshake, Initial, OneRtt, Packet, PacketError, Retry, UnknownVersion, VersionNegotiation, ZeroRtt,
     read_packet,
 )  # fmt: skip
-from .._wire import PACKET_CID, PACKET_FIXED_BIT
-from ..errors import _packet_error
+from ..fields import packet_fields
 from . import link
 from . import output as out
 from .args import Args
@@ -92,11 +91,20 @@ def _read(datagram: bytes, begin: int, cid_len: int, args: Args) -> Union[Packet
         rest = datagram[begin:]
         if not _lacks_bit_of_quinn(rest, args) or _is_negotiation(rest):
             return error
-        return _packet_error(PACKET_FIXED_BIT, "fixed bit unset", datagram, begin, cid_len, None, None)
+        return _rejected(datagram, begin, cid_len, args, Checks.QUINN)
     if isinstance(read, VersionNegotiation) and max(len(read.dcid), len(read.scid)) > _MAX_CID_LEN:
         # quinn-proto rejects these ids, as the Rust crate does.
-        return _packet_error(PACKET_CID, "malformed cid", datagram, begin, cid_len, None, None)
+        return _rejected(datagram, begin, cid_len, args, checks)
     return read
+
+
+def _rejected(datagram: bytes, begin: int, cid_len: int, args: Args, checks: Checks) -> PacketError:
+    """Why no packet with ids of at most 20 bytes begins there."""
+    try:
+        packet_fields(datagram, cid_len, begin, args.versions, checks=checks)
+    except PacketError as error:
+        return error
+    raise AssertionError("it is a packet")
 
 
 def _lacks_bit_of_quinn(packet: bytes, args: Args) -> bool:

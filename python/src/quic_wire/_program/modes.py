@@ -12,7 +12,6 @@ from .. import (
     StreamDataBlocked, StreamsBlockedBidi, StreamsBlockedUni, TransportParameters, canonical, expand_packet_number,
     frames, is_known_parameter, parameters, read_varint, varint_len,
 )  # fmt: skip
-from .._parameter_table import NUMBER
 from .._wire import varint_at
 from ..errors import frame_name
 from ..pcap import Endpoint
@@ -252,7 +251,7 @@ _SHORT_NAMES = {
     "initial_source_connection_id": "initial_src_cid",
     "retry_source_connection_id": "retry_src_cid",
 }
-_SHORT_WANTED = {NUMBER: "a number of variable length"}  # as quic-wire prints it
+_SHORT_WANTED = {"one variable-length integer and nothing after it": "a number of variable length"}  # as quic-wire prints it
 _PREFERRED = "preferred_address"
 
 

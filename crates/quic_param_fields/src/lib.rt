@@ -1,0 +1,6 @@
+//! Where each field of a transport parameter's value is in its bytes (RFC 9000, section 18.2).
+#![tactic(auto)]
+
+mod field;
+mod row;
+pub mod value;

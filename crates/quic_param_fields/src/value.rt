@@ -1,0 +1,126 @@
+//! Where each field of a parameter's value is.
+ghost use Rattle.std.specs.Prelude.{◌≡◌, ◌↔◌, ◌+◌, ℕ, [], List, IsTrue, None, IfSome, Option, length};
+ghost use Rattle.quic_base.specs.Varint.{Encodes};
+ghost use Rattle.quic_fields.specs.Walk.{stored};
+ghost use Rattle.quic_params.specs.declared.parameter.TransportParameterId.{TransportParameterId};
+ghost use Rattle.quic_params.specs.Record.{IsOfKind};
+ghost use Rattle.quic_params.specs.Table.{row_of};
+ghost use Rattle.quic_params.specs.declared.value.Value.TheVariants.{Number};
+ghost use Rattle.quic_param_fields.specs.Rows.{sort_of};
+ghost use Rattle.quic_param_fields.specs.Fields.{fault_at, stop};
+ghost use Rattle.quic_param_fields.specs.Values.{IsAccepted, IsNowhere, HasEmptyId, NumberRule, Rule, Finds, HasValue, LacksValue};
+
+use crate::field::walk;
+pub use crate::field::{Reason, Walked};
+use crate::row::{Sort, row, sort_of};
+use quic_fields::field::Span;
+use quic_params::transport_parameters::{TransportParameterId, known, value_number};
+
+// A fault in the field with this index, which begins at this offset.
+fn at(field: usize, start: usize, reason: Reason) -> Walked
+    ensures { result ≡ fault_at field start (stop 0 0 reason) }
+{
+    Walked {
+        count: field,
+        end: start,
+        fault: Some(reason),
+        inside: 0,
+        numbers: 0,
+    }
+}
+
+// Whether a client accepts a record with this number of a parameter.
+fn is_accepted(id: TransportParameterId, n: u64) -> bool
+    requires { IsOfKind (row_of id).kind (Number n) }
+    ensures { IsTrue result ↔ IsAccepted id (Number n) }
+{
+    use TransportParameterId::*;
+    match id {
+        MaxUdpPayloadSize => n >= 1200,
+        InitialMaxStreamsBidi | InitialMaxStreamsUni => n <= 1 << 60,
+        AckDelayExponent => n <= 20,
+        MaxAckDelay => n < 1 << 14,
+        ActiveConnectionIdLimit => n >= 2,
+        _ => true,
+    }
+}
+
+// Whether the addresses and ports at the front of an address are all zeros.
+fn is_nowhere(value: &[u8]) -> bool
+    ensures { IsTrue result ↔ IsNowhere value.now }
+{
+    value.starts_with(&[0; 24])
+}
+
+// Whether the id after them is empty.
+fn has_empty_id(value: &[u8]) -> bool
+    ensures { IsTrue result ↔ HasEmptyId value.now }
+{
+    value.len() > 24 && value[24] == 0
+}
+
+// What is at fault in a number that fills its value.
+fn number_rule(id: TransportParameterId, value: &[u8], any_width: bool, read: Walked) -> Walked
+    requires kind { IsOfKind (row_of id).kind (Number 0) }
+    requires number { (n : ℕ) × Encodes n value.now }
+    ensures { (n : ℕ) × Encodes n value.now × NumberRule any_width id n value.now read result }
+{
+    let Some(n) = value_number(value) else {
+        unreachable!();
+    };
+    if sort_of(id) == Sort::Integer && !any_width && n.size() != value.len() {
+        return at(0, 0, Reason::LongNumber);
+    }
+    if !is_accepted(id, n.into_inner()) {
+        return at(0, 0, Reason::OutOfRange);
+    }
+    read
+}
+
+// What is at fault in a value whose fields all can be read.
+fn rule(id: TransportParameterId, value: &[u8], any_width: bool, read: Walked) -> Walked
+    ensures { (rest : List ℕ) → (IsOfKind (row_of id).kind (Number 0) → rest ≡ [] → (n : ℕ) × Encodes n value.now)
+        → read.end + length rest ≡ length value.now
+        → Rule any_width id (sort_of (row_of id).kind) value.now rest read result }
+{
+    let sort = sort_of(id);
+    if sort == Sort::Address && is_nowhere(value) {
+        return at(2, 6, Reason::NoAddress);
+    }
+    if read.end < value.len() {
+        return at(read.count, read.end, Reason::BytesLeft);
+    }
+    match sort {
+        Sort::Integer | Sort::Varint => number_rule(id, value, any_width, read),
+        Sort::Address if has_empty_id(value) => at(4, 24, Reason::EmptyId),
+        _ => read,
+    }
+}
+
+/// Stores where the fields of the value of a parameter are, as far as `room` reaches (RFC 9000, section 18.2): one field
+/// of all bytes if the value is a number, an id or a token; none if it has no bytes; those of a preferred address in
+/// their order, which are IPv4 Address, IPv4 Port, IPv6 Address, IPv6 Port, the Connection ID with its length, and
+/// Stateless Reset Token; and one field of all bytes if the parameter is unknown or reserved. The number of a span is the
+/// value of a number or a port; else how many bytes the field has, without a length.
+///
+/// If `TransportParameters::read_with` rejects the value whatever else the list has, the result says which field is at
+/// fault, where it begins, and why. The spans of all fields that can be read are stored then too: the field at fault is
+/// among them if it can be read and what it says is invalid. Not tested is what depends on other parameters: repeats,
+/// the side that sends the value, and `min_ack_delay` above `max_ack_delay`.
+///
+/// With `any_width` an integer that has a default may be in any width, as in `ReadOptions`. It doesn't allocate.
+pub fn value_spans(id: u64, value: &[u8], any_width: bool, room: &mut [Span]) -> Walked
+    ensures ok { result.fault ≡ None → (found : Option TransportParameterId) × Finds id found
+        × HasValue any_width found value.now room.old room.new result }
+    ensures err { IfSome result.fault (λ reason. (found : Option TransportParameterId) × Finds id found
+        × LacksValue any_width found value.now room.old room.new result reason) }
+{
+    let Some(id) = known(id) else {
+        return walk(row(Sort::Any), 0, 0, value, room);
+    };
+    let read = walk(row(sort_of(id)), 0, 0, value, room);
+    match read.fault {
+        None => rule(id, value, any_width, read),
+        Some(_) => read,
+    }
+}

@@ -1,0 +1,4 @@
+mod Once
+mod Accepted
+mod Addresses
+mod Reading

@@ -2,3 +2,5 @@ mod Once
 mod Accepted
 mod Addresses
 mod Reading
+mod Values
+mod Faults

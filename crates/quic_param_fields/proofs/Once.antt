@@ -102,7 +102,7 @@ fields_once index start (kind ∷ kinds) spans others bytes rest left (n, front,
     let again = fields_once (index + 1) (start + length front) kinds more further after rest left next step in
     (all ∙ rw (same.0, same.1, again.0) (sym every), again.1)
 
-fields_or_stop : (index start : ℕ) (kinds : List Kind) (spans others : List Span) (bytes rest : List ℕ) (w : Walked)
+pub fields_or_stop : (index start : ℕ) (kinds : List Kind) (spans others : List Span) (bytes rest : List ℕ) (w : Walked)
     → AreFieldsAt index start kinds spans bytes rest → StopsWithinAt index start kinds others bytes w → ⊥
 fields_or_stop index start [] spans others bytes rest w s t = t
 fields_or_stop index start (kind ∷ kinds) spans others bytes rest w (n, front, after, more, split, field, all, next) t =

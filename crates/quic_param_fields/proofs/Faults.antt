@@ -17,6 +17,8 @@ use Rattle.quic_params.specs.Table.{row_of}
 use Rattle.quic_params.specs.Value.{IsEncoded, IsNoValue}
 use Rattle.quic_params.proofs.Addresses.{fields_once, not_nowhere, address_whole, address_nowhere, no_address, long_address}
 use Rattle.quic_params.proofs.Values.{part_number, no_integer, no_varint, no_flag, no_token, no_id}
+use Rattle.quic_param_fields.specs.declared.row.Kind.{Kind}
+use Rattle.quic_param_fields.specs.declared.row.Kind.TheVariants as K
 use Rattle.quic_param_fields.specs.declared.row.Sort.{Sort}
 use Rattle.quic_param_fields.specs.declared.row.Sort.TheVariants as S
 use Rattle.quic_param_fields.specs.declared.field.Reason.{Reason}
@@ -24,7 +26,7 @@ use Rattle.quic_param_fields.specs.declared.field.Reason.TheVariants as R
 use Rattle.quic_param_fields.specs.declared.field.Stop.{Stop}
 use Rattle.quic_param_fields.specs.declared.field.Walked.{Walked}
 use Rattle.quic_param_fields.specs.Rows.{sort_of, fields_of}
-use Rattle.quic_param_fields.specs.Fields.{error_of, AreFieldsAt, StopsWithinAt, span, fault_at, stop, whole}
+use Rattle.quic_param_fields.specs.Fields.{error_of, Stops, AreFieldsAt, StopsWithinAt, span, fault_at, stop, whole}
 use Rattle.quic_param_fields.specs.Values.{IsAccepted, IsNowhere, NumberRule, WholeRule, Rule, IsRead, IsValueAt, IsNoValueAt}
 use Rattle.quic_param_fields.proofs.Accepted.{bounded}
 use Rattle.quic_param_fields.proofs.Addresses.{address_of, fields_of_address}
@@ -192,3 +194,209 @@ pub spans_of_value : (any_width : Bool) (id : TransportParameterId) (value : Val
     → IsEncoded (kind_in any_width (row_of id).kind) value bytes → IsAccepted id value
     → (spans : List Span) × IsValueAt any_width (Some id) spans bytes
 spans_of_value any_width id value bytes h a = spans_or any_width id (sort_of id) value bytes refl h a
+
+-- ---- a fault is an error of the definition
+
+-- what is reported of bytes that are no value
+abbrev Reports : Bool → TransportParameterId → List ℕ → Reason → Type 0
+Reports any_width id b reason = IsNoValue (kind_in any_width (row_of id).kind) b (error_of reason)
+    ⊎ ((value : Value) × IsEncoded (kind_in any_width (row_of id).kind) value b × ¬ (IsAccepted id value)
+    × (error_of reason ≡ IllegalValue))
+
+-- the reason of a fault that is written in two ways
+reason_of : (w : Walked) (i j k l : ℕ) (r t : Reason) → w ≡ fault_at i j (stop k l r) → w.fault ≡ Some t → r ≡ t
+reason_of w i j k l r t e f = same_reason r t (ap (λ (v : Walked). v.fault) (sym e) ∙ f)
+
+as_error : (any_width : Bool) (id : TransportParameterId) (b : List ℕ) (r t : Reason) → r ≡ t
+    → IsNoValue (kind_in any_width (row_of id).kind) b (error_of r) → Reports any_width id b t
+as_error any_width id b r t e h =
+    inl (subst (λ (s : Reason). IsNoValue (kind_in any_width (row_of id).kind) b (error_of s)) e h)
+
+-- the same of a kind that doesn't depend on how the list is read
+as_fixed : (any_width : Bool) (id : TransportParameterId) (b : List ℕ) (r t : Reason) → sort_of id ≢ S.Number → r ≡ t
+    → IsNoValue (row_of id).kind b (error_of r) → Reports any_width id b t
+as_fixed any_width id b r t other e h =
+    as_error any_width id b r t e (subst (λ k. IsNoValue k b (error_of r)) (fixed any_width id other) h)
+
+no_flag_of : (id : TransportParameterId) (b : List ℕ) → sort_of id ≡ S.Flag → length b ≢ 0
+    → IsNoValue (row_of id).kind b Malformed
+no_flag_of Id.DisableActiveMigration b e h = no_flag b h
+no_flag_of Id.GreaseQuicBit b e h = no_flag b h
+no_flag_of _ b e h = absurd cc
+
+no_token_of : (id : TransportParameterId) (b : List ℕ) → sort_of id ≡ S.Token → length b ≢ 16
+    → IsNoValue (row_of id).kind b Malformed
+no_token_of Id.StatelessResetToken b e h = no_token b h
+no_token_of _ b e h = absurd cc
+
+no_id_of : (id : TransportParameterId) (b : List ℕ) → sort_of id ≡ S.Id → 20 < length b
+    → IsNoValue (row_of id).kind b Malformed
+no_id_of Id.OriginalDestinationConnectionId b e h = no_id b h
+no_id_of Id.InitialSourceConnectionId b e h = no_id b h
+no_id_of Id.RetrySourceConnectionId b e h = no_id b h
+no_id_of _ b e h = absurd cc
+
+-- a field of a value with one field can't be read
+stopped : (any_width : Bool) (id : TransportParameterId) (sort : Sort) (spans : List Span) (b : List ℕ) (w : Walked)
+    (t : Reason) → sort_of id ≡ sort → StopsWithinAt 0 0 (fields_of sort) spans b w → w.fault ≡ Some t
+    → Reports any_width id b t
+stopped any_width id S.Number spans b w t e s f =
+    elim s [
+      | inl (nil, at, (none, why), is) ↦
+          as_error any_width id b R.UnexpectedEnd t
+          (reason_of w 0 0 0 0 R.UnexpectedEnd t (is ∙ ap (fault_at 0 0) why) f)
+          ((facts any_width id e).0 b (λ n h. none n b [] (sym (append-nil b)) h))
+      | inr (n, front, left, others, split, field, all, next) ↦ absurd next
+    ]
+stopped any_width id S.Flag spans b w t e s f = absurd s
+stopped any_width id S.Token spans b w t e s f =
+    elim s [
+      | inl (nil, at, (short, why), is) ↦
+          as_fixed any_width id b R.UnexpectedEnd t (λ h. let clash : S.Token ≡ S.Number = sym e ∙ h in absurd cc)
+          (reason_of w 0 0 0 0 R.UnexpectedEnd t (is ∙ ap (fault_at 0 0) why) f)
+          (no_token_of id b e (λ l. omega (arith, l, short)))
+      | inr (n, front, left, others, split, field, all, next) ↦ absurd next
+    ]
+stopped any_width id S.Id spans b w t e s f =
+    elim s [
+      | inl (nil, at, (long, why), is) ↦
+          as_fixed any_width id b R.LongId t (λ h. let clash : S.Id ≡ S.Number = sym e ∙ h in absurd cc)
+          (reason_of w 0 0 0 0 R.LongId t (is ∙ ap (fault_at 0 0) why) f) (no_id_of id b e long)
+      | inr (n, front, left, others, split, field, all, next) ↦ absurd next
+    ]
+stopped any_width Id.PreferredAddress S.Address spans b w t e s f =
+    let r = malformed 0 0 (fields_of S.Address) spans b w t s f in
+    inl (subst (λ d. IsNoValue (kind_in any_width (row_of Id.PreferredAddress).kind) b d) (sym r)
+    (subst (λ k. IsNoValue k b Malformed) (fixed any_width Id.PreferredAddress (λ h. absurd cc))
+    (no_address b (λ a front rest split h. let row = fields_of_address a b front rest split h in
+    fields_or_stop 0 0 (fields_of S.Address) row.0 spans b rest w row.1 s))))
+  where
+    stop_malformed : (kind : Kind) (b : List ℕ) (s : Stop) → Stops kind b s → error_of s.reason ≡ Malformed
+    stop_malformed K.Varint b s h = rw (h.1) refl
+    stop_malformed K.Port b s h = rw (h.1) refl
+    stop_malformed K.Ip4 b s h = rw (h.1) refl
+    stop_malformed K.Ip6 b s h = rw (h.1) refl
+    stop_malformed K.Bytes16 b s h = rw (h.1) refl
+    stop_malformed K.LongId [] s h = rw (h) refl
+    stop_malformed K.LongId (n ∷ b) s h = elim h [ inl long ↦ rw (long.1) refl | inr cut ↦ rw (cut.2) refl ]
+    stop_malformed K.Id b s h = rw (h.1) refl
+    stop_malformed K.Rest b s h = absurd h
+
+    malformed : (index start : ℕ) (kinds : List Kind) (spans : List Span) (b : List ℕ) (w : Walked) (t : Reason)
+        → StopsWithinAt index start kinds spans b w → w.fault ≡ Some t → error_of t ≡ Malformed
+    malformed index start [] spans b w t s f = absurd s
+    malformed index start (kind ∷ kinds) spans b w t s f =
+        elim s [
+          | inl here ↦
+              let same : here.1.reason ≡ t = same_reason here.1.reason t (ap (λ (v : Walked). v.fault) (sym here.3) ∙ f) in
+              ap error_of (sym same) ∙ stop_malformed kind b here.1 here.2
+          | inr (n, front, left, others, split, field, all, next) ↦
+              malformed (index + 1) (start + length front) kinds others left w t next f
+        ]
+stopped any_width _ S.Address spans b w t e s f = absurd cc
+stopped any_width id S.Any spans b w t e s f =
+    elim s [
+      | inl here ↦ absurd here.2
+      | inr (n, front, left, others, split, field, all, next) ↦ absurd next
+    ]
+
+some_length : (b : List ℕ) → b ≢ [] → length b ≢ 0
+some_length [] some l = some refl
+some_length (x ∷ b) some l = omega (arith, l)
+
+-- bytes follow the fields
+left_over : (any_width : Bool) (id : TransportParameterId) (sort : Sort) (spans : List Span) (b rest : List ℕ) (t : Reason)
+    → sort_of id ≡ sort → AreFieldsAt 0 0 (fields_of sort) spans b rest → rest ≢ [] → ¬ ((sort ≡ S.Address) × IsNowhere b)
+    → R.BytesLeft ≡ t → Reports any_width id b t
+left_over any_width id S.Number spans b rest t e fields some somewhere why =
+    let front : List ℕ = fields.1 in
+    let split : b ≡ front ++ rest = fields.4 ∙ ap (λ (l : List ℕ). front ++ l) fields.7.1 in
+    as_error any_width id b R.BytesLeft t why ((facts any_width id e).0 b
+    (λ n h. part_number fields.0 n b rest (record { front = front; split = split; is = fields.5 })
+    (let l = some_length rest some in omega (arith, l)) h))
+left_over any_width id S.Flag spans b rest t e fields some somewhere why =
+    as_fixed any_width id b R.BytesLeft t (λ h. let clash : S.Flag ≡ S.Number = sym e ∙ h in absurd cc) why
+    (no_flag_of id b e (λ l. some_length rest some (sym (ap length fields.1) ∙ l)))
+left_over any_width id S.Token spans b rest t e fields some somewhere why =
+    let l = some_length rest some in
+    as_fixed any_width id b R.BytesLeft t (λ h. let clash : S.Token ≡ S.Number = sym e ∙ h in absurd cc) why
+    (no_token_of id b e (λ whole. l (omega (arith, whole, ap length fields.4, length-append fields.1 fields.2, fields.5.0, ap length fields.7.1))))
+left_over any_width id S.Id spans b rest t e fields some somewhere why =
+    absurd (some (sym fields.7.1 ∙ fields.5.2))
+left_over any_width Id.PreferredAddress S.Address spans b rest t e fields some somewhere why =
+    let p = address_of spans b rest fields in
+    as_fixed any_width Id.PreferredAddress b R.BytesLeft t (λ h. absurd cc) why
+    (long_address p.address b p.front rest p.parts p.fields (some_length rest some) (λ h. somewhere (refl, p.nowhere h)))
+left_over any_width _ S.Address spans b rest t e fields some somewhere why = absurd cc
+left_over any_width id S.Any spans b rest t e fields some somewhere why =
+    absurd (some (sym fields.7.1 ∙ fields.5.1))
+
+-- a rule of the whole value is broken
+broken : (any_width : Bool) (id : TransportParameterId) (sort : Sort) (spans : List Span) (b : List ℕ) (read w : Walked)
+    (t : Reason) → sort_of id ≡ sort → AreFieldsAt 0 0 (fields_of sort) spans b [] → ¬ ((sort ≡ S.Address) × IsNowhere b)
+    → WholeRule any_width id sort b read w → read.fault ≡ None → w.fault ≡ Some t → Reports any_width id b t
+broken any_width id S.Number spans b read w t e fields somewhere (n, encodes, rule) none f =
+    elim rule [
+      | inl long ↦
+          as_error any_width id b R.LongNumber t (reason_of w 0 0 0 0 R.LongNumber t long.1 f)
+          ((facts any_width id e).1 n b encodes long.0)
+      | inr short ↦ elim short.1 [
+        | inl out ↦
+            inr (V.Number n, short.0, out.0, ap error_of (sym (reason_of w 0 0 0 0 R.OutOfRange t out.1 f)))
+        | inr within ↦
+            let clash : None ≡ Some t = sym none ∙ ap (λ (v : Walked). v.fault) (sym within.1) ∙ f in absurd cc
+      ]
+    ]
+broken any_width Id.PreferredAddress S.Address spans b read w t e fields somewhere rule none f =
+    elim rule [
+      | inl empty ↦
+          let p = address_of spans b [] fields in
+          let is = address_whole p.address b p.front [] p.parts p.fields refl (λ h. somewhere (refl, p.nowhere h)) in
+          inr (
+            V.Address p.address,
+            subst (λ k. IsEncoded k (V.Address p.address) b) (fixed any_width Id.PreferredAddress (λ h. absurd cc)) is,
+            (λ a. bounded Id.PreferredAddress (V.Address p.address) a (p.is_empty empty.0)),
+            ap error_of (sym (reason_of w 4 24 0 0 R.EmptyId t empty.1 f)),
+          )
+      | inr some ↦ let clash : None ≡ Some t = sym none ∙ ap (λ (v : Walked). v.fault) (sym some.1) ∙ f in absurd cc
+    ]
+broken any_width _ S.Address spans b read w t e fields somewhere rule none f = absurd cc
+broken any_width id S.Flag spans b read w t e fields somewhere rule none f =
+    let clash : None ≡ Some t = sym none ∙ ap (λ (v : Walked). v.fault) (sym rule) ∙ f in absurd cc
+broken any_width id S.Token spans b read w t e fields somewhere rule none f =
+    let clash : None ≡ Some t = sym none ∙ ap (λ (v : Walked). v.fault) (sym rule) ∙ f in absurd cc
+broken any_width id S.Id spans b read w t e fields somewhere rule none f =
+    let clash : None ≡ Some t = sym none ∙ ap (λ (v : Walked). v.fault) (sym rule) ∙ f in absurd cc
+broken any_width id S.Any spans b read w t e fields somewhere rule none f =
+    let clash : None ≡ Some t = sym none ∙ ap (λ (v : Walked). v.fault) (sym rule) ∙ f in absurd cc
+
+nowhere_of : (any_width : Bool) (id : TransportParameterId) (spans : List Span) (b rest : List ℕ) (t : Reason)
+    → sort_of id ≡ S.Address → AreFieldsAt 0 0 (fields_of S.Address) spans b rest → IsNowhere b → R.NoAddress ≡ t
+    → Reports any_width id b t
+nowhere_of any_width Id.PreferredAddress spans b rest t e fields nowhere why =
+    let p = address_of spans b rest fields in
+    as_fixed any_width Id.PreferredAddress b R.NoAddress t (λ h. absurd cc) why
+    (address_nowhere p.address b p.front rest p.parts p.fields (p.is_nowhere nowhere))
+nowhere_of any_width _ spans b rest t e fields nowhere why = absurd cc
+
+pub reported : (any_width : Bool) (id : TransportParameterId) (spans : List Span) (bytes : List ℕ) (at start : ℕ)
+    (s : Stop) → IsNoValueAt any_width (Some id) spans bytes at start s → Reports any_width id bytes s.reason
+reported any_width id spans bytes at start s h =
+    let w : Walked = fault_at at start s in
+    elim h [
+      | inl stops ↦ stopped any_width id (sort_of id) spans bytes w s.reason refl stops refl
+      | inr (rest, end, fields, width, rule) ↦ elim rule [
+        | inl (address, nowhere, is) ↦
+            nowhere_of any_width id spans bytes rest s.reason address
+            (subst (λ (k : Sort). AreFieldsAt 0 0 (fields_of k) spans bytes rest) address fields) nowhere
+            (reason_of w 2 6 0 0 R.NoAddress s.reason is refl)
+        | inr (somewhere, more) ↦ elim more [
+          | inl (some, is) ↦
+              left_over any_width id (sort_of id) spans bytes rest s.reason refl fields some somewhere
+              (reason_of w (length spans) end 0 0 R.BytesLeft s.reason is refl)
+          | inr (none, rule) ↦
+              broken any_width id (sort_of id) spans bytes (whole (length spans) end) w s.reason refl
+              (subst (AreFieldsAt 0 0 (fields_of (sort_of id)) spans bytes) none fields) somewhere rule refl refl
+        ]
+      ]
+    ]

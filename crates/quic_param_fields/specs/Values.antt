@@ -53,8 +53,7 @@ NumberRule any_width id n bytes read w =
 
 -- What is at fault in a value whose fields are all of its bytes. Those of a number are read.
 abbrev pub WholeRule : Bool → TransportParameterId → Sort → List ℕ → Walked → Walked → Type 0
-WholeRule any_width id S.Integer bytes read w = (n : ℕ) × Encodes n bytes × NumberRule any_width id n bytes read w
-WholeRule any_width id S.Varint bytes read w = (n : ℕ) × Encodes n bytes × NumberRule any_width id n bytes read w
+WholeRule any_width id S.Number bytes read w = (n : ℕ) × Encodes n bytes × NumberRule any_width id n bytes read w
 WholeRule any_width id S.Address bytes read w =
     (HasEmptyId bytes × (w ≡ fault_at 4 24 (stop 0 0 R.EmptyId))) ⊎ (¬ (HasEmptyId bytes) × (w ≡ read))
 WholeRule any_width id _ bytes read w = w ≡ read
@@ -70,7 +69,7 @@ Rule any_width id sort bytes rest read w =
 -- An unknown parameter has no rule.
 abbrev pub RuleIn : Bool → Option TransportParameterId → List ℕ → List ℕ → Walked → Walked → Type 0
 RuleIn any_width None bytes rest read w = w ≡ read
-RuleIn any_width (Some id) bytes rest read w = Rule any_width id (sort_of (row_of id).kind) bytes rest read w
+RuleIn any_width (Some id) bytes rest read w = Rule any_width id (sort_of id) bytes rest read w
 
 -- What the bytes are as the value of a parameter, an unknown one too: the spans of the fields that can be read, and what
 -- is at fault, if anything is.

@@ -1,5 +1,6 @@
 /* The functions of quic_wire.h that don't call the proved library: the
- * library's version, and the texts of results and frame types. */
+ * library's version, and the texts of results and frame types, whose cases
+ * scripts/tables makes from docs/formats.json. */
 #include "quic_wire.h"
 
 uint32_t quic_wire_lib(void) { return QUIC_WIRE_LIB; }

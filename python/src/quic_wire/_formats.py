@@ -113,7 +113,7 @@ class ErrorCode(NamedTuple):
     name: str
     section: str
     text: str
-    """quinn-proto's."""
+    """quinn-proto's; empty for the codes of TLS alerts."""
 
 
 class Reason(NamedTuple):
@@ -126,7 +126,7 @@ class Reason(NamedTuple):
     close_code: int
     section: str
     text: str
-    """quinn-proto's, or the library's; empty if it has none."""
+    """What the library says of it."""
 
 
 # fmt: off

@@ -412,6 +412,7 @@ def write_packet_number(number: int, length: int, /) -> bytes: ...
 # ---- Transport parameters
 
 class _Parameters:
+    # scripts/tables makes the parameters from docs/formats.json.
     __match_args__: ClassVar[tuple[str, ...]]
     def __init__(
         self,

@@ -1,14 +1,12 @@
-"""What can't be made from docs/formats.json without losing its comments is compared: with the formats the header for C,
-the rules of frames in the proved code for C, the texts of c/src/texts.c, and the parameters that
-python/src/quic_wire/_wire.pyi declares; with the header's structs those of the proved crates, in order and widths, and
-those of web/layout.js."""
+"""What can't be made from docs/formats.json without losing its comments is compared: with the formats the header for C
+and the rules of frames in the proved code for C; with the header's structs those of the proved crates, in order and
+widths, and those of web/layout.js; with its constants those of python/src/quic_wire/_wire.pyi."""
 import glob
 import os
 import re
 
 from lib.tables.formats import HEADER, TOP, constants, enumeration, packet_kinds, read
 
-TEXTS = "c/src/texts.c"
 STUB = "python/src/quic_wire/_wire.pyi"
 LAYOUT = "web/layout.js"
 # Fields and structs that C names otherwise than Rattle does, besides underscores.
@@ -88,20 +86,6 @@ def rules(formats):
     yield from differences(path, found, wanted)
 
 
-def texts(formats):
-    """The texts of errors and the names of frames in C."""
-    source = uncommented(TEXTS)
-    found = dict(re.findall(r'case QUIC_WIRE_ERR_(\w+):\s+return "([^"]*)";', source))
-    wanted = {reason["name"]: reason["text"] for reason in formats["reasons"]}
-    wanted.update((name, found.get(name)) for name in OWN_ERRORS)
-    yield from differences(f"{TEXTS}: texts", found, wanted)
-    names = {}
-    for cases, name in re.findall(r'((?:case 0x\w+:\s+)+)return "(\w+)";', source):
-        names.update((int(number, 16), name) for number in re.findall(r"0x\w+", cases))
-    wanted = {frame["type"]: frame.get("quinn_proto", frame["name"]) for frame in formats["frames"]}
-    yield from differences(f"{TEXTS}: frames", names, wanted)
-
-
 def c_structs(branch=1):
     """The structs of the header: for each its fields in order, with their offsets and widths in bytes. Those that
     QUIC_WIRE_PLAIN changes are as they are with it, or in the second branch, of each union the first member."""
@@ -172,25 +156,6 @@ def layout():
             yield f"{LAYOUT}: {name} has {size} bytes and not {end + -end % 8}"
 
 
-def declared_parameters(formats):
-    """The parameters of the class for Python, in order, with their defaults."""
-    types = {"id": "Optional[Buffer] = None", "bytes": "Optional[Buffer] = None", "flag": "bool = False",
-             "preferred_address": "Optional[PreferredAddress] = None"}
-    wanted, read_as = [], []
-    for one in sorted(formats["parameters"], key=lambda it: it["order"]):
-        if one["kind"] == "skipped":
-            continue
-        number = f"int = {one['default']}" if "default" in one else "Optional[int] = None"
-        kind = types.get(one["kind"], number)
-        wanted.append(f"        {one['name']}: {kind},\n")
-        result = kind.split(" = ")[0].replace("Buffer", "bytes")
-        read_as.append(f"    @property\n    def {one['name']}(self) -> {result}: ...\n")
-    stub = read(STUB)
-    for what, text in ("arguments", "".join(wanted)), ("properties", "".join(read_as)):
-        if text not in stub:
-            yield f"{STUB}: the {what} of _Parameters aren't\n{text}"
-
-
 def declared_constants():
     """The constants of the module for Python: the header's, without QUIC_WIRE_ and ERR_."""
     known = {*enumeration("result", "ERR"), *(f"READ_{name}" for name in constants("READ"))}
@@ -205,8 +170,6 @@ def faults(formats):
     yield from header_constants(formats)
     yield from rattle_kinds()
     yield from rules(formats)
-    yield from texts(formats)
     yield from structs()
     yield from layout()
-    yield from declared_parameters(formats)
     yield from declared_constants()

@@ -119,7 +119,7 @@ class ErrorCode(NamedTuple):
     name: str
     section: str
     text: str
-    """quinn-proto's."""
+    """quinn-proto's; empty for the codes of TLS alerts."""
 
 
 class Reason(NamedTuple):
@@ -132,7 +132,7 @@ class Reason(NamedTuple):
     close_code: int
     section: str
     text: str
-    """quinn-proto's, or the library's; empty if it has none."""
+    """What the library says of it."""
 
 
 # fmt: off
@@ -140,7 +140,9 @@ class Reason(NamedTuple):
 
 
 def text(value):
-    """A value as Python has it."""
+    """A value as Python has it; an object is what both readings accept."""
+    if isinstance(value, dict):
+        return f"Readings({value['quinn_proto']}, {value['rfc']})"
     if isinstance(value, (list, tuple)):
         return "(" + ", ".join(map(text, value)) + "," * (len(value) == 1) + ")"
     return json.dumps(value) if isinstance(value, str) else repr(value)
@@ -167,11 +169,6 @@ def rows(fields):
     return "".join(field(one, " " * 8) for one in fields)
 
 
-class Readings(dict):
-    def __repr__(self):
-        return f"Readings({self['quinn_proto']}, {self['rfc']})"
-
-
 def frame(one):
     number, quinn_proto = f"{one['type']:#04x}", one.get("quinn_proto", one["name"])
     return (
@@ -190,11 +187,11 @@ def header(version, kind, one):
 def parameter(one):
     needed = [
         one["id"], one["name"], one.get("quinn_proto", one["name"]), one["kind"], wanted(one), one["section"],
-        one["senders"], Readings(one["repeat"]), one["order"]]
+        one["senders"], one["repeat"], one["order"]]
     return f"    {one['id']:#x}: " + call("Parameter", needed, {
         "unit": one.get("unit"), "default": one.get("default"), "bounds": (one.get("min"), one.get("max")),
         "max_of": tuple(one.get("max_of", {}).values()), "size": one.get("bytes"),
-        "any_width": Readings(one["any_width"]) if "any_width" in one else None,
+        "any_width": one.get("any_width"),
     }, "    ") + ",\n"
 
 

@@ -43,7 +43,7 @@ IsNowhere bytes = (others : List ℕ) × (bytes ≡ replicate 24 0 ++ others)
 abbrev pub HasEmptyId : List ℕ → Type 0
 HasEmptyId bytes = (addresses others : List ℕ) × (bytes ≡ addresses ++ (0 ∷ others)) × (length addresses ≡ 24)
 
--- What is at fault in a number: its width, or its value.
+-- What is at fault in a number: its width, or its value; nothing, if w is what was read.
 abbrev pub NumberRule : Bool → TransportParameterId → ℕ → List ℕ → Walked → Walked → Type 0
 NumberRule any_width id n bytes read w =
     (¬ (IsEncoded (kind_in any_width (row_of id).kind) (V.Number n) bytes) × (w ≡ fault_at 0 0 (stop 0 0 R.LongNumber)))

@@ -3,7 +3,7 @@ use Rattle.std.specs.Prelude.{⊤, IfSome}
 use Rattle.std.proofs.Common.{◌≡◌, ◌≢◌, ℕ, ◌≤◌, ◌<◌, ◌^◌, Bool, true, false, List, [], ◌∷◌, length, Option, Some, None, refl, sym, ap, ◌∙◌, subst, arith}
 use Rattle.quic_base.specs.Varint.{Encodes, size}
 use Rattle.quic_base.proofs.PublicLaws.{encoded_bound, length-short}
-use Rattle.quic_base.specs.declared.ids.Side.TheVariants.{Client, Server}
+use Rattle.quic_base.specs.declared.ids.Side.TheVariants.{Client}
 use Rattle.quic_params.specs.declared.parameter.TransportParameterId.{TransportParameterId}
 use Rattle.quic_params.specs.declared.parameter.TransportParameterId.TheVariants as Id
 use Rattle.quic_params.specs.declared.record.TransportParameters.{TransportParameters}

@@ -1,15 +1,12 @@
 -- Values of the parameter's definition have spans, and faults are its errors.
 use Rattle.std.specs.Prelude.{◌⊎◌}
-use Rattle.std.proofs.Common.{◌≡◌, ◌≢◌, ℕ, ◌+◌, ◌≤◌, ◌<◌, ◌^◌, Bool, true, false, List, [], ◌∷◌, ◌++◌, length, Option, Some, None, refl, sym, ap, subst, ◌∙◌, append-nil, length-append, arith, inl, inr}
-use Rattle.quic_base.specs.Codec.{Takes}
+use Rattle.std.proofs.Common.{◌≡◌, ◌≢◌, ℕ, ◌+◌, ◌≤◌, ◌<◌, ◌^◌, Bool, true, false, List, [], ◌∷◌, ◌++◌, length, Some, None, refl, sym, ap, subst, ◌∙◌, append-nil, length-append, arith, inl, inr}
 use Rattle.quic_base.specs.Varint.{Encodes, shortest_varint}
 use Rattle.quic_base.proofs.PublicLaws.{encodes_unique, shortest_encodes}
 use Rattle.quic_fields.specs.declared.field.Span.{Span}
-use Rattle.quic_params.specs.Address.{IsAddress}
 use Rattle.quic_params.specs.declared.error.Error.TheVariants.{IllegalValue, Malformed}
 use Rattle.quic_params.specs.declared.parameter.TransportParameterId.{TransportParameterId}
 use Rattle.quic_params.specs.declared.parameter.TransportParameterId.TheVariants as Id
-use Rattle.quic_params.specs.declared.value.PreferredAddress.{PreferredAddress}
 use Rattle.quic_params.specs.declared.value.Value.{Value}
 use Rattle.quic_params.specs.declared.value.Value.TheVariants as V
 use Rattle.quic_params.specs.Options.{kind_in}
@@ -27,11 +24,11 @@ use Rattle.quic_param_fields.specs.declared.field.Stop.{Stop}
 use Rattle.quic_param_fields.specs.declared.field.Walked.{Walked}
 use Rattle.quic_param_fields.specs.Rows.{sort_of, fields_of}
 use Rattle.quic_param_fields.specs.Fields.{error_of, Stops, AreFieldsAt, StopsWithinAt, span, fault_at, stop, whole}
-use Rattle.quic_param_fields.specs.Values.{IsAccepted, IsNowhere, NumberRule, WholeRule, Rule, IsRead, IsValueAt, IsNoValueAt}
+use Rattle.quic_param_fields.specs.Values.{IsAccepted, IsNowhere, WholeRule, IsValueAt, IsNoValueAt}
 use Rattle.quic_param_fields.proofs.Accepted.{bounded}
 use Rattle.quic_param_fields.proofs.Addresses.{address_of, fields_of_address}
 use Rattle.quic_param_fields.proofs.Once.{fields_or_stop}
-use Rattle.quic_param_fields.proofs.Values.{fixed, alone, same_reason}
+use Rattle.quic_param_fields.proofs.Values.{fixed, same_reason}
 
 -- ---- numbers
 

@@ -1,9 +1,5 @@
 -- Bytes are a value of a parameter in one way, or no value in one way.
-use Rattle.std.specs.Prelude.{◌⊎◌}
 use Rattle.std.proofs.Common.{◌≡◌, ℕ, ◌+◌, ◌≤◌, Bool, List, [], ◌∷◌, ◌++◌, length, Option, Some, None, refl, sym, ap, subst, ◌∙◌, append-nil, length-append, arith, inl, inr}
-use Rattle.quic_base.specs.ConnectionId.{IsLongId}
-use Rattle.quic_base.specs.Number.{IsNumber}
-use Rattle.quic_base.specs.Varint.{Encodes}
 use Rattle.quic_base.proofs.PublicLaws.{same_front, same_back, encodes_unique, number_unique, long_id_unique}
 use Rattle.quic_fields.specs.declared.field.Span.{Span}
 use Rattle.quic_fields.specs.Spans.{AreInRow, AreNumbered}
@@ -15,7 +11,7 @@ use Rattle.quic_param_fields.specs.declared.row.Sort.TheVariants as S
 use Rattle.quic_param_fields.specs.declared.field.Stop.{Stop}
 use Rattle.quic_param_fields.specs.declared.field.Walked.{Walked}
 use Rattle.quic_param_fields.specs.Rows.{sort_of, sort_in, fields_of}
-use Rattle.quic_param_fields.specs.Fields.{IsField, Stops, AreFieldsAt, StopsWithinAt, span, fault_at, whole}
+use Rattle.quic_param_fields.specs.Fields.{IsField, Stops, AreFieldsAt, StopsWithinAt, fault_at, whole}
 use Rattle.quic_param_fields.specs.Values.{NumberRule, WholeRule, Rule, RuleIn, IsRead}
 
 -- ---- a field

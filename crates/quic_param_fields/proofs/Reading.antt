@@ -1,6 +1,6 @@
 -- What the code reads is what the definitions say.
-use Rattle.std.specs.Prelude.{◌⊎◌, nat_eq, IfSome, MatchOption, slice_set}
-use Rattle.std.proofs.Common.{◌≡◌, ◌≢◌, ℕ, zero, suc, ◌+◌, ◌-◌, ◌≤◌, ◌<◌, Bool, true, false, List, [], ◌∷◌, ◌++◌, length, take, drop, get_or, Option, Some, None, refl, sym, ap, subst, ◌∙◌, length-append, length-take, take-append-drop, arith, inl, inr}
+use Rattle.std.specs.Prelude.{nat_eq, IfSome, slice_set}
+use Rattle.std.proofs.Common.{◌≡◌, ℕ, zero, suc, ◌+◌, ◌-◌, ◌≤◌, ◌<◌, Bool, true, List, [], ◌∷◌, ◌++◌, length, take, drop, get_or, Option, Some, None, refl, sym, ap, subst, ◌∙◌, length-append, length-take, take-append-drop, arith, inl, inr}
 use Rattle.std.proofs.lemmas.Bool.{eqb-true}
 use Rattle.std.proofs.lemmas.List.{take_rest}
 use Rattle.quic_base.specs.Codec.{Takes}
@@ -19,7 +19,7 @@ use Rattle.quic_param_fields.specs.declared.field.Reason.{Reason}
 use Rattle.quic_param_fields.specs.declared.field.Walked.{Walked}
 use Rattle.quic_param_fields.specs.Rows.{sort_of, fields_of}
 use Rattle.quic_param_fields.specs.Fields.{IsField, AreFieldsAt, StopsWithinAt, HasFields, StopsIn, fault_at, span, stop, whole}
-use Rattle.quic_param_fields.specs.Values.{HasEmptyId, NumberRule, WholeRule, Rule, IsRead, Finds, HasValue, LacksValue}
+use Rattle.quic_param_fields.specs.Values.{HasEmptyId, WholeRule, Rule, IsRead, Finds, HasValue, LacksValue}
 
 -- ---- fields
 

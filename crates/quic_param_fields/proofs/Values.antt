@@ -1,20 +1,15 @@
 -- The definitions of values by their spans, and by the parameter's definition.
-use Rattle.std.specs.Prelude.{◌⊎◌}
-use Rattle.std.proofs.Common.{◌≡◌, ◌≢◌, ℕ, zero, suc, ◌+◌, ◌≤◌, ◌<◌, ◌^◌, Bool, true, false, List, [], ◌∷◌, ◌++◌, length, Option, Some, None, refl, sym, ap, subst, ◌∙◌, append-nil, length-append, arith, inl, inr}
-use Rattle.quic_base.specs.Varint.{Encodes, shortest_varint}
-use Rattle.quic_base.proofs.PublicLaws.{encodes_unique, shortest_encodes}
+use Rattle.std.proofs.Common.{◌≡◌, ◌≢◌, ℕ, ◌+◌, ◌≤◌, Bool, true, false, List, [], ◌∷◌, ◌++◌, length, Option, Some, None, refl, sym, ap, subst, ◌∙◌, append-nil, arith, inl, inr}
 use Rattle.quic_fields.specs.declared.field.Span.{Span}
 use Rattle.quic_fields.specs.Spans.{AreInRow, AreNumbered}
-use Rattle.quic_params.specs.declared.error.Error.TheVariants.{IllegalValue, Malformed}
 use Rattle.quic_params.specs.declared.parameter.TransportParameterId.{TransportParameterId}
 use Rattle.quic_params.specs.declared.parameter.TransportParameterId.TheVariants as Id
 use Rattle.quic_params.specs.declared.value.Value.{Value}
 use Rattle.quic_params.specs.declared.value.Value.TheVariants as V
 use Rattle.quic_params.specs.Options.{kind_in}
 use Rattle.quic_params.specs.Table.{row_of}
-use Rattle.quic_params.specs.Value.{IsEncoded, IsNoValue}
-use Rattle.quic_params.proofs.Addresses.{address_whole, address_nowhere, no_address, long_address}
-use Rattle.quic_params.proofs.Values.{no_integer, no_varint, no_flag, no_token, no_id}
+use Rattle.quic_params.specs.Value.{IsEncoded}
+use Rattle.quic_params.proofs.Addresses.{address_whole}
 use Rattle.quic_param_fields.specs.declared.row.Kind.{Kind}
 use Rattle.quic_param_fields.specs.declared.row.Sort.{Sort}
 use Rattle.quic_param_fields.specs.declared.row.Sort.TheVariants as S
@@ -22,11 +17,11 @@ use Rattle.quic_param_fields.specs.declared.field.Reason.{Reason}
 use Rattle.quic_param_fields.specs.declared.field.Reason.TheVariants as R
 use Rattle.quic_param_fields.specs.declared.field.Stop.{Stop}
 use Rattle.quic_param_fields.specs.declared.field.Walked.{Walked}
-use Rattle.quic_param_fields.specs.Rows.{sort_of, sort_in, fields_of}
-use Rattle.quic_param_fields.specs.Fields.{error_of, IsField, AreFieldsAt, StopsWithinAt, fault_at, stop, whole}
-use Rattle.quic_param_fields.specs.Values.{IsAccepted, NumberRule, WholeRule, Rule, RuleIn, IsRead, IsValueAt, IsNoValueAt}
-use Rattle.quic_param_fields.proofs.Accepted.{accepts, bounded}
-use Rattle.quic_param_fields.proofs.Addresses.{address_of, fields_of_address}
+use Rattle.quic_param_fields.specs.Rows.{sort_of, fields_of}
+use Rattle.quic_param_fields.specs.Fields.{AreFieldsAt, StopsWithinAt, stop, whole}
+use Rattle.quic_param_fields.specs.Values.{IsAccepted, NumberRule, WholeRule, Rule, IsValueAt, IsNoValueAt}
+use Rattle.quic_param_fields.proofs.Accepted.{accepts}
+use Rattle.quic_param_fields.proofs.Addresses.{address_of}
 use Rattle.quic_param_fields.proofs.Once.{read_once, fields_in_row}
 use Rattle.quic_param_fields.proofs.Reading.{rule_kept}
 

@@ -1,5 +1,5 @@
--- The fields of the value of each parameter: RFC 9000, section 18.2, RFC 9221, section 3, RFC 9287, section 3, and the ACK
--- frequency draft. The laws tie them to `quic_params`.
+-- The fields of the value of each parameter: RFC 9000, section 18.2, RFC 9221, section 3, RFC 9287, section 3, and the
+-- ACK frequency draft. The laws tie them to `quic_params`.
 use Rattle.std.specs.Prelude.{List, [], ◌∷◌, Option, Some, None}
 use Rattle.quic_params.specs.declared.parameter.TransportParameterId.{TransportParameterId}
 use Rattle.quic_params.specs.declared.parameter.TransportParameterId.TheVariants.{ReservedTransportParameter, StatelessResetToken, DisableActiveMigration, PreferredAddress, OriginalDestinationConnectionId, InitialSourceConnectionId, RetrySourceConnectionId, GreaseQuicBit}

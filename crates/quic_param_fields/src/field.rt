@@ -45,8 +45,8 @@ impl Reason {
 /// How far the fields of a value were read.
 #[derive(Clone, Copy, Debug, PartialEq, Eq)]
 pub struct Walked {
-    /// How many fields come before the one at fault, which has this index; how many there are if none is at fault. Bytes
-    /// after the last field have the index after that field's.
+    /// How many fields come before the one at fault, which has this index; how many there are if none is at fault.
+    /// Bytes after the last field have the index after that field's.
     pub count: usize,
     /// Where the field at fault begins; or where the value ends.
     pub end: usize,

@@ -14,9 +14,9 @@ ghost use Rattle.quic_param_fields.specs.Fields.{error_of};
 ghost use Rattle.quic_param_fields.specs.Rows.{sort_of};
 ghost use Rattle.quic_param_fields.specs.Values.{IsAccepted, IsValueAt, IsNoValueAt};
 
-/// A value of a parameter has exactly one list of spans, and only values have one: bytes that the parameter's definition
-/// encodes, with a value that a client accepts (RFC 9000, section 18.2). Together the spans are all of the bytes, one
-/// after another, and their indices count from 0.
+/// A value of a parameter has exactly one list of spans, and only values have one: bytes that the parameter's
+/// definition encodes, with a value that a client accepts (RFC 9000, section 18.2). Together the spans are all of the
+/// bytes, one after another, and their indices count from 0.
 pub fn one_list_of_spans_in_a_value()
     ensures exists { (any_width : Bool) (id : TransportParameterId) (value : Value) (bytes : List ℕ)
         → IsEncoded (kind_in any_width (row_of id).kind) value bytes → IsAccepted id value
@@ -30,9 +30,9 @@ pub fn one_list_of_spans_in_a_value()
         → IsValueAt any_width found spans bytes → AreInRow 0 spans (length bytes) × AreNumbered 0 spans }
 {}
 
-/// Bytes that are no value of a parameter have exactly one field at fault, and those that are a value have none:
-/// `value_spans` says for all bytes which they are. The error is that of the parameter's definition; or the bytes encode
-/// a value that a client doesn't accept, which is `IllegalValue`.
+/// Bytes have at most one field at fault, and a value of the parameter has none: `value_spans` finds it in all bytes that
+/// are no value. The error is that of the parameter's definition; or the bytes encode a value that a client doesn't
+/// accept, which is `IllegalValue`.
 pub fn one_field_at_fault_in_a_value()
     ensures none { (any_width : Bool) (found : Option TransportParameterId) (spans others : List Span) (bytes : List ℕ)
         (at start : ℕ) (s : Stop) → IsValueAt any_width found spans bytes

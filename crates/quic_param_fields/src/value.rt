@@ -126,16 +126,16 @@ fn rule(id: TransportParameterId, value: &[u8], any_width: bool, read: Walked) -
     whole_rule(id, value, any_width, read)
 }
 
-/// Stores where the fields of the value of a parameter are, as far as `room` reaches (RFC 9000, section 18.2): one field
-/// of all bytes if the value is a number, an id or a token; none if it has no bytes; those of a preferred address in
-/// their order, which are IPv4 Address, IPv4 Port, IPv6 Address, IPv6 Port, the Connection ID with its length, and
-/// Stateless Reset Token; and one field of all bytes if the parameter is unknown or reserved. The number of a span is the
-/// value of a number or a port; else how many bytes the field has, without a length.
+/// Stores where the fields of the value of a parameter are, as far as `room` reaches (RFC 9000, section 18.2): one
+/// field of all bytes if the value is a number, an id or a token; none if it has no bytes; those of a preferred
+/// address in their order, which are IPv4 Address, IPv4 Port, IPv6 Address, IPv6 Port, the Connection ID with its
+/// length, and Stateless Reset Token; and one field of all bytes if the parameter is unknown or reserved. The number
+/// of a span is the value of a number or a port; else how many bytes the field has, without a length.
 ///
-/// If `TransportParameters::read_with` rejects the value whatever else the list has, the result says which field is at
-/// fault, where it begins, and why. The spans of all fields that can be read are stored then too: the field at fault is
-/// among them if it can be read and what it says is invalid. Not tested is what depends on other parameters: repeats,
-/// the side that sends the value, and `min_ack_delay` above `max_ack_delay`.
+/// If these bytes are no value of the parameter, the result says which field is at fault, where it begins, and why. A
+/// list with them is then rejected, with the error of the reason. The spans of all fields that can be read are stored,
+/// of the field at fault too if it can be read. Bounds that are values of other parameters aren't tested:
+/// `min_ack_delay` may be any number; nor are repeats and which side sends the value.
 ///
 /// With `any_width` an integer that has a default may be in any width, as in `ReadOptions`. It doesn't allocate.
 pub fn value_spans(id: u64, value: &[u8], any_width: bool, room: &mut [Span]) -> Walked

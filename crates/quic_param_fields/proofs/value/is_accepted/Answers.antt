@@ -1,4 +1,4 @@
-use Rattle.std.proofs.Common.{◌≤◌, ◌<◌, ◌^◌, refl, arith, inl, inr}
+use Rattle.std.proofs.Common.{refl, arith, inl, inr}
 use Rattle.std.proofs.lemmas.Bool.Decides.{nat_tests}
 use Rattle.quic_params.specs.declared.parameter.TransportParameterId.TheVariants as Id
 use Rattle.quic_param_fields.proofs.Accepted.{tested, free}

@@ -294,7 +294,7 @@ class ParamsReading extends Reading {
     const isServers = this.isServers(id);
     return {
       place: fault.begin, reason: reasonText(reason), note: isServers ? "Only servers send it." : "",
-      allowed: fault.name === "Value" && fault.number !== undefined ? allowedOf(id) : "",
+      allowed: reason === PARAMS_ILLEGAL && fault.name === "Value" && !isServers ? allowedOf(id) : "",
       code: closeCode(reason), section: `RFC 9000, section ${isServers ? "18.2" : "7.4"}`,
     };
   }

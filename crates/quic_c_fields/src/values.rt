@@ -23,11 +23,11 @@ fn failure_of(error: Error) -> Failure
     }
 }
 
-/// Stores where the fields of the value of the parameter with this number are, as far as `fields` reaches, and returns 1
-/// (RFC 9000, section 18.2). If these bytes are no value of the parameter, it stores the fields that can be read and
-/// returns why: `ParametersIllegal` if a number is out of the parameter's range, or a preferred address has no address or
-/// an empty id; else `ParametersMalformed`. With the bit 0x080 in `flags` an integer may be in any width (section 16);
-/// other bits are ignored.
+/// Stores where the fields of the value of the parameter with this number are, as far as `fields` reaches, and returns
+/// 1 (RFC 9000, section 18.2). If these bytes are no value of the parameter, it stores the fields that can be read and
+/// returns why: `ParametersIllegal` if a number is out of the parameter's range, or a preferred address has no address
+/// or an empty id; else `ParametersMalformed`. With the bit 0x080 in `flags` an integer may be in any width (section
+/// 16); other bits are ignored.
 #[unsafe(no_mangle)]
 pub extern "C" fn quic_wire_param_value_fields_(
     id: u64,

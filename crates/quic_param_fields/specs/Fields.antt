@@ -1,15 +1,18 @@
 -- Where the fields of a value are in its bytes, one after another.
 use Rattle.std.specs.Prelude.{◌≡◌, ℕ, ◌+◌, ◌<◌, ◌≤◌, ◌⊎◌, List, [], ◌∷◌, ◌++◌, length, Some, None}
+use Rattle.std.specs.Net.Addr.{ipv4_octets, ipv6_octets}
+use Rattle.std.specs.declared.net.ipv4_addr.Ipv4Addr.{Ipv4Addr}
+use Rattle.std.specs.declared.net.ipv6_addr.Ipv6Addr.{Ipv6Addr}
 use Rattle.quic_base.specs.Codec.{NoFront}
 use Rattle.quic_base.specs.ConnectionId.{IsLongId}
-use Rattle.quic_base.specs.Number.{IsNumber}
+use Rattle.quic_base.specs.Number.{IsNumber, IsOctets}
 use Rattle.quic_base.specs.Varint.{Encodes}
 use Rattle.quic_fields.specs.declared.field.Span.{Span}
 use Rattle.quic_fields.specs.Walk.{stored}
 use Rattle.quic_params.specs.declared.error.Error.{Error}
 use Rattle.quic_params.specs.declared.error.Error.TheVariants.{IllegalValue, Malformed}
 use Rattle.quic_param_fields.specs.declared.row.Kind.{Kind}
-use Rattle.quic_param_fields.specs.declared.row.Kind.TheVariants.{Varint, Port, Bytes4, Bytes16, LongId, Id, Rest}
+use Rattle.quic_param_fields.specs.declared.row.Kind.TheVariants.{Varint, Port, Ip4, Ip6, Bytes16, LongId, Id, Rest}
 use Rattle.quic_param_fields.specs.declared.field.Reason.{Reason}
 use Rattle.quic_param_fields.specs.declared.field.Reason.TheVariants as R
 use Rattle.quic_param_fields.specs.declared.field.Stop.{Stop}
@@ -28,7 +31,8 @@ error_of _ = Malformed
 abbrev pub IsField : Kind → ℕ → List ℕ → List ℕ → Type 0
 IsField Varint n bytes rest = Encodes n bytes
 IsField Port n bytes rest = IsNumber 2 n bytes
-IsField Bytes4 n bytes rest = (length bytes ≡ 4) × (n ≡ 4)
+IsField Ip4 n bytes rest = (ip : Ipv4Addr) × IsOctets 4 (ipv4_octets ip) bytes × (n ≡ 4)
+IsField Ip6 n bytes rest = (ip : Ipv6Addr) × IsOctets 16 (ipv6_octets ip) bytes × (n ≡ 16)
 IsField Bytes16 n bytes rest = (length bytes ≡ 16) × (n ≡ 16)
 IsField LongId n bytes rest = (id : List ℕ) × IsLongId id bytes × (n ≡ length id)
 IsField Id n bytes rest = (length bytes ≤ 20) × (n ≡ length bytes) × (rest ≡ [])
@@ -41,8 +45,9 @@ stop inside numbers reason = record { inside = inside; numbers = numbers; reason
 -- The bytes don't begin with such a field: why, and what comes before that.
 abbrev pub Stops : Kind → List ℕ → Stop → Type 0
 Stops Varint bytes s = ((n : ℕ) → NoFront (Encodes n) bytes) × (s ≡ stop 0 0 R.UnexpectedEnd)
-Stops Port bytes s = (length bytes < 2) × (s ≡ stop 0 0 R.UnexpectedEnd)
-Stops Bytes4 bytes s = (length bytes < 4) × (s ≡ stop 0 0 R.UnexpectedEnd)
+Stops Port bytes s = ((n : ℕ) → NoFront (IsNumber 2 n) bytes) × (s ≡ stop 0 0 R.UnexpectedEnd)
+Stops Ip4 bytes s = ((ip : Ipv4Addr) → NoFront (IsOctets 4 (ipv4_octets ip)) bytes) × (s ≡ stop 0 0 R.UnexpectedEnd)
+Stops Ip6 bytes s = ((ip : Ipv6Addr) → NoFront (IsOctets 16 (ipv6_octets ip)) bytes) × (s ≡ stop 0 0 R.UnexpectedEnd)
 Stops Bytes16 bytes s = (length bytes < 16) × (s ≡ stop 0 0 R.UnexpectedEnd)
 Stops LongId [] s = s ≡ stop 0 0 R.UnexpectedEnd
 Stops LongId (n ∷ bytes) s = ((20 < n) × (s ≡ stop 0 0 R.LongId))

@@ -1,37 +1,36 @@
--- The fields of the value of each parameter (RFC 9000, section 18.2).
+-- The fields of the value of each parameter: RFC 9000, section 18.2, RFC 9221, section 3, RFC 9287, section 3, and the
+-- ACK frequency draft. The laws tie them to `quic_params`.
 use Rattle.std.specs.Prelude.{List, [], ◌∷◌, Option, Some, None}
-use Rattle.quic_params.specs.declared.parameter.Kind.{Kind}
-use Rattle.quic_params.specs.declared.parameter.Kind.TheVariants as K
 use Rattle.quic_params.specs.declared.parameter.TransportParameterId.{TransportParameterId}
-use Rattle.quic_params.specs.Table.{row_of}
-use Rattle.quic_param_fields.specs.declared.row.Kind as field
-use Rattle.quic_param_fields.specs.declared.row.Kind.TheVariants as fields
+use Rattle.quic_params.specs.declared.parameter.TransportParameterId.TheVariants.{ReservedTransportParameter, StatelessResetToken, DisableActiveMigration, PreferredAddress, OriginalDestinationConnectionId, InitialSourceConnectionId, RetrySourceConnectionId, GreaseQuicBit}
+use Rattle.quic_param_fields.specs.declared.row.Kind.{Kind}
+use Rattle.quic_param_fields.specs.declared.row.Kind.TheVariants as K
 use Rattle.quic_param_fields.specs.declared.row.Sort.{Sort}
 use Rattle.quic_param_fields.specs.declared.row.Sort.TheVariants as S
 
--- what a value of this kind is
-abbrev pub sort_of : Kind → Sort
-sort_of (K.Integer default) = S.Integer
-sort_of K.Varint = S.Varint
-sort_of K.Flag = S.Flag
-sort_of K.Token = S.Token
-sort_of K.Id = S.Id
-sort_of K.Address = S.Address
-sort_of K.Skipped = S.Any
+-- what the value of a parameter is
+abbrev pub sort_of : TransportParameterId → Sort
+sort_of OriginalDestinationConnectionId = S.Id
+sort_of InitialSourceConnectionId = S.Id
+sort_of RetrySourceConnectionId = S.Id
+sort_of StatelessResetToken = S.Token
+sort_of DisableActiveMigration = S.Flag
+sort_of GreaseQuicBit = S.Flag
+sort_of PreferredAddress = S.Address
+sort_of ReservedTransportParameter = S.Any
+sort_of _ = S.Number
 
--- what the value of a parameter is; any bytes, if it isn't known
+-- the same of a parameter that may not be known
 abbrev pub sort_in : Option TransportParameterId → Sort
 sort_in None = S.Any
-sort_in (Some id) = sort_of (row_of id).kind
+sort_in (Some id) = sort_of id
 
 -- Its fields. Those of an address are the address of IPv4 and its port, those of IPv6, the id after its length, and the
 -- token.
-abbrev pub fields_of : Sort → List field.Kind
-fields_of S.Integer = fields.Varint ∷ []
-fields_of S.Varint = fields.Varint ∷ []
+abbrev pub fields_of : Sort → List Kind
+fields_of S.Number = K.Varint ∷ []
 fields_of S.Flag = []
-fields_of S.Token = fields.Bytes16 ∷ []
-fields_of S.Id = fields.Id ∷ []
-fields_of S.Address =
-    fields.Bytes4 ∷ fields.Port ∷ fields.Bytes16 ∷ fields.Port ∷ fields.LongId ∷ fields.Bytes16 ∷ []
-fields_of S.Any = fields.Rest ∷ []
+fields_of S.Token = K.Bytes16 ∷ []
+fields_of S.Id = K.Id ∷ []
+fields_of S.Address = K.Ip4 ∷ K.Port ∷ K.Ip6 ∷ K.Port ∷ K.LongId ∷ K.Bytes16 ∷ []
+fields_of S.Any = K.Rest ∷ []

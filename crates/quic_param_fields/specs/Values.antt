@@ -43,7 +43,7 @@ IsNowhere bytes = (others : List ℕ) × (bytes ≡ replicate 24 0 ++ others)
 abbrev pub HasEmptyId : List ℕ → Type 0
 HasEmptyId bytes = (addresses others : List ℕ) × (bytes ≡ addresses ++ (0 ∷ others)) × (length addresses ≡ 24)
 
--- What is at fault in a number: its width, or its value.
+-- What is at fault in a number: its width, or its value; nothing, if w is what was read.
 abbrev pub NumberRule : Bool → TransportParameterId → ℕ → List ℕ → Walked → Walked → Type 0
 NumberRule any_width id n bytes read w =
     (¬ (IsEncoded (kind_in any_width (row_of id).kind) (V.Number n) bytes) × (w ≡ fault_at 0 0 (stop 0 0 R.LongNumber)))
@@ -53,8 +53,7 @@ NumberRule any_width id n bytes read w =
 
 -- What is at fault in a value whose fields are all of its bytes. Those of a number are read.
 abbrev pub WholeRule : Bool → TransportParameterId → Sort → List ℕ → Walked → Walked → Type 0
-WholeRule any_width id S.Integer bytes read w = (n : ℕ) × Encodes n bytes × NumberRule any_width id n bytes read w
-WholeRule any_width id S.Varint bytes read w = (n : ℕ) × Encodes n bytes × NumberRule any_width id n bytes read w
+WholeRule any_width id S.Number bytes read w = (n : ℕ) × Encodes n bytes × NumberRule any_width id n bytes read w
 WholeRule any_width id S.Address bytes read w =
     (HasEmptyId bytes × (w ≡ fault_at 4 24 (stop 0 0 R.EmptyId))) ⊎ (¬ (HasEmptyId bytes) × (w ≡ read))
 WholeRule any_width id _ bytes read w = w ≡ read
@@ -70,10 +69,10 @@ Rule any_width id sort bytes rest read w =
 -- An unknown parameter has no rule.
 abbrev pub RuleIn : Bool → Option TransportParameterId → List ℕ → List ℕ → Walked → Walked → Type 0
 RuleIn any_width None bytes rest read w = w ≡ read
-RuleIn any_width (Some id) bytes rest read w = Rule any_width id (sort_of (row_of id).kind) bytes rest read w
+RuleIn any_width (Some id) bytes rest read w = Rule any_width id (sort_of id) bytes rest read w
 
--- What the bytes are as the value of a parameter, an unknown one too: the spans of the fields that can be read, and what
--- is at fault, if anything is.
+-- What the bytes are as the value of a parameter, an unknown one too: the spans of the fields that can be read, and
+-- what is at fault, if anything is.
 abbrev pub IsRead : Bool → Option TransportParameterId → List ℕ → List Span → Walked → Type 0
 IsRead any_width found bytes spans w =
     StopsWithinAt 0 0 (fields_of (sort_in found)) spans bytes w
@@ -84,8 +83,8 @@ IsRead any_width found bytes spans w =
 abbrev pub IsValueAt : Bool → Option TransportParameterId → List Span → List ℕ → Type 0
 IsValueAt any_width found spans bytes = IsRead any_width found bytes spans (whole (length spans) (length bytes))
 
--- The bytes are no value of the parameter: these are the spans of the fields that can be read; the field with this index,
--- which begins at this offset, is at fault for this reason, so many bytes and numbers after it begins.
+-- The bytes are no value of the parameter: these are the spans of the fields that can be read; the field with this
+-- index, which begins at this offset, is at fault for this reason, so many bytes and numbers after it begins.
 abbrev pub IsNoValueAt : Bool → Option TransportParameterId → List Span → List ℕ → ℕ → ℕ → Stop → Type 0
 IsNoValueAt any_width found spans bytes at start s = IsRead any_width found bytes spans (fault_at at start s)
 

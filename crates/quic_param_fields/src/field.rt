@@ -9,6 +9,7 @@ use quic_base::ids::{MAX_CID_SIZE, RESET_TOKEN_SIZE};
 use quic_base::varint::split_var;
 use quic_fields::field::Span;
 use quic_params::transport_parameters::Error;
+use std::net::{Ipv4Addr, Ipv6Addr};
 
 /// Why a value isn't valid (RFC 9000, section 18.2).
 #[derive(Clone, Copy, Debug, PartialEq, Eq)]
@@ -44,8 +45,8 @@ impl Reason {
 /// How far the fields of a value were read.
 #[derive(Clone, Copy, Debug, PartialEq, Eq)]
 pub struct Walked {
-    /// How many fields come before the one at fault, which has this index; how many there are if none is at fault. Bytes
-    /// after the last field have the index after that field's.
+    /// How many fields come before the one at fault, which has this index; how many there are if none is at fault.
+    /// Bytes after the last field have the index after that field's.
     pub count: usize,
     /// Where the field at fault begins; or where the value ends.
     pub end: usize,
@@ -99,19 +100,37 @@ fn read_port(bytes: &[u8]) -> Result<(u64, &[u8]), Stop>
     }
 }
 
-// Four bytes, or sixteen.
-fn read_bytes(n: usize, bytes: &[u8]) -> Result<(u64, &[u8]), Stop>
-    ensures four { IfOk result (λ x. n ≡ 4
-        → Takes (λ front. IsField Kind.Bytes4 x.0 front x.1.now) bytes.now x.1.now) }
-    ensures sixteen { IfOk result (λ x. n ≡ 16
-        → Takes (λ front. IsField Kind.Bytes16 x.0 front x.1.now) bytes.now x.1.now) }
-    ensures no_four { IfErr result (λ stop. n ≡ 4 → Stops Kind.Bytes4 bytes.now stop) }
-    ensures no_sixteen { IfErr result (λ stop. n ≡ 16 → Stops Kind.Bytes16 bytes.now stop) }
+fn read_ip4(bytes: &[u8]) -> Result<(u64, &[u8]), Stop>
+    ensures ok { IfOk result (λ x. Takes (λ front. IsField Kind.Ip4 x.0 front x.1.now) bytes.now x.1.now) }
+    ensures err { IfErr result (Stops Kind.Ip4 bytes.now) }
 {
-    if bytes.len() < n {
+    let mut rest = bytes;
+    match Ipv4Addr::decode(&mut rest) {
+        Ok(_) => Ok((4, rest)),
+        Err(_) => Err(Stop::here(Reason::UnexpectedEnd)),
+    }
+}
+
+fn read_ip6(bytes: &[u8]) -> Result<(u64, &[u8]), Stop>
+    ensures ok { IfOk result (λ x. Takes (λ front. IsField Kind.Ip6 x.0 front x.1.now) bytes.now x.1.now) }
+    ensures err { IfErr result (Stops Kind.Ip6 bytes.now) }
+{
+    let mut rest = bytes;
+    match Ipv6Addr::decode(&mut rest) {
+        Ok(_) => Ok((16, rest)),
+        Err(_) => Err(Stop::here(Reason::UnexpectedEnd)),
+    }
+}
+
+// Sixteen bytes.
+fn read_token(bytes: &[u8]) -> Result<(u64, &[u8]), Stop>
+    ensures ok { IfOk result (λ x. Takes (λ front. IsField Kind.Bytes16 x.0 front x.1.now) bytes.now x.1.now) }
+    ensures err { IfErr result (Stops Kind.Bytes16 bytes.now) }
+{
+    if bytes.len() < RESET_TOKEN_SIZE {
         return Err(Stop::here(Reason::UnexpectedEnd));
     }
-    Ok((n as u64, &bytes[n..]))
+    Ok((16, &bytes[RESET_TOKEN_SIZE..]))
 }
 
 // An id after its length.
@@ -161,8 +180,9 @@ fn read_field(kind: Kind, bytes: &[u8]) -> Result<(u64, &[u8]), Stop>
     match kind {
         Kind::Varint => read_number(bytes),
         Kind::Port => read_port(bytes),
-        Kind::Bytes4 => read_bytes(4, bytes),
-        Kind::Bytes16 => read_bytes(RESET_TOKEN_SIZE, bytes),
+        Kind::Ip4 => read_ip4(bytes),
+        Kind::Ip6 => read_ip6(bytes),
+        Kind::Bytes16 => read_token(bytes),
         Kind::LongId => read_long_id(bytes),
         Kind::Id => read_id(bytes),
         Kind::Rest => Ok(read_rest(bytes)),

@@ -2,5 +2,6 @@
 #![tactic(auto)]
 
 mod field;
+pub mod laws;
 mod row;
 pub mod value;

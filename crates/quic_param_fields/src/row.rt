@@ -1,6 +1,5 @@
 //! The fields of the value of each parameter.
 ghost use Rattle.std.specs.Prelude.{◌≡◌, ◌≤◌, length};
-ghost use Rattle.quic_params.specs.Table.{row_of};
 ghost use Rattle.quic_param_fields.specs.Rows.{fields_of, sort_of};
 
 use quic_params::transport_parameters::TransportParameterId;
@@ -12,8 +11,10 @@ pub enum Kind {
     Varint,
     /// A number of two bytes.
     Port,
-    /// Four bytes.
-    Bytes4,
+    /// An address of IPv4.
+    Ip4,
+    /// An address of IPv6.
+    Ip6,
     /// Sixteen bytes.
     Bytes16,
     /// A byte of at most 20, and that many bytes.
@@ -27,10 +28,8 @@ pub enum Kind {
 /// What the value of a parameter is.
 #[derive(Clone, Copy, Debug, PartialEq, Eq)]
 pub enum Sort {
-    /// A number, which has a default.
-    Integer,
-    /// Another number.
-    Varint,
+    /// A number.
+    Number,
     /// No bytes.
     Flag,
     /// A token of 16 bytes.
@@ -50,9 +49,9 @@ static TOKEN: [Kind; 1] = [Kind::Bytes16];
 static ID: [Kind; 1] = [Kind::Id];
 
 static ADDRESS: [Kind; 6] = [
-    Kind::Bytes4,
+    Kind::Ip4,
     Kind::Port,
-    Kind::Bytes16,
+    Kind::Ip6,
     Kind::Port,
     Kind::LongId,
     Kind::Bytes16,
@@ -62,18 +61,17 @@ static ANY: [Kind; 1] = [Kind::Rest];
 
 /// What the value of this parameter is.
 pub fn sort_of(id: TransportParameterId) -> Sort
-    ensures { result ≡ sort_of (row_of id).kind }
+    ensures { result ≡ sort_of id }
 {
     use TransportParameterId::*;
     match id {
-        MaxDatagramFrameSize | MinAckDelayDraft07 => Sort::Varint,
         DisableActiveMigration | GreaseQuicBit => Sort::Flag,
         StatelessResetToken => Sort::Token,
         OriginalDestinationConnectionId | InitialSourceConnectionId | RetrySourceConnectionId =>
             Sort::Id,
         PreferredAddress => Sort::Address,
         ReservedTransportParameter => Sort::Any,
-        _ => Sort::Integer,
+        _ => Sort::Number,
     }
 }
 
@@ -83,7 +81,7 @@ pub fn row(sort: Sort) -> &'static [Kind]
     ensures few { length result.now ≤ 6 }
 {
     match sort {
-        Sort::Integer | Sort::Varint => &NUMBER,
+        Sort::Number => &NUMBER,
         Sort::Flag => &ANY[..0],
         Sort::Token => &TOKEN,
         Sort::Id => &ID,

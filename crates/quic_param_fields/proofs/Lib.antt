@@ -1,0 +1,6 @@
+mod Once
+mod Accepted
+mod Addresses
+mod Reading
+mod Values
+mod Faults

@@ -12,8 +12,8 @@ FEE, PV, TPE = q.Code.FRAME_ENCODING_ERROR, q.Code.PROTOCOL_VIOLATION, q.Code.TR
 RETRY = "f0000000010000"
 # What is rejected only with a flag: the flag, bytes, reason, field and offset, code, section of RFC 9000.
 FRAMES = [
-    ("SHORT_TYPES", "4001", "frame type not in shortest form", "Frame Type", 0, PV, "12.4"),
-    ("SHORT_TYPES", "80000001", "frame type not in shortest form", "Frame Type", 0, PV, "12.4"),
+    ("SHORT_TYPES", "4001", "frame type not in shortest form", "Type", 0, PV, "12.4"),
+    ("SHORT_TYPES", "80000001", "frame type not in shortest form", "Type", 0, PV, "12.4"),
     ("DATA_LIMIT", "06ffffffffffffffff01aa", "limit exceeded", "Length", 9, FEE, "19.6"),
     ("DATA_LIMIT", "0e00ffffffffffffffff0161", "limit exceeded", "Length", 10, FEE, "19.8"),
     ("DATA_LIMIT", "0c00ffffffffffffffff61", "limit exceeded", "Offset", 2, FEE, "19.8"),
@@ -21,8 +21,8 @@ FRAMES = [
     ("STREAM_LIMIT", "13ffffffffffffffff", "limit exceeded", "Maximum Streams", 1, FEE, "19.11"),
     ("STREAM_LIMIT", "16d000000000000001", "limit exceeded", "Maximum Streams", 1, FEE, "19.14"),
     ("STREAM_LIMIT", "17ffffffffffffffff", "limit exceeded", "Maximum Streams", 1, FEE, "19.14"),
-    ("NO_ACK_FREQUENCY", "1f", "invalid frame ID", "Frame Type", 0, FEE, "12.4"),
-    ("NO_ACK_FREQUENCY", "40af00000000", "invalid frame ID", "Frame Type", 0, FEE, "12.4"),
+    ("NO_ACK_FREQUENCY", "1f", "invalid frame ID", "Type", 0, FEE, "12.4"),
+    ("NO_ACK_FREQUENCY", "40af00000000", "invalid frame ID", "Type", 0, FEE, "12.4"),
     ("TOKENS", "0700", "malformed", "Token Length", 1, FEE, "19.7"),
     ("TOKENS", "074000", "malformed", "Token Length", 1, FEE, "19.7"),
 ]
@@ -85,7 +85,7 @@ class Flags(unittest.TestCase):
                         self.rejected(read, flags, row)
 
     def test_a_type_that_was_not_negotiated_is_unknown_before_its_fields(self):
-        row = ("invalid frame ID", "Frame Type", 0, FEE, "12.4")
+        row = ("invalid frame ID", "Type", 0, FEE, "12.4")
         for cut, whole in UNKNOWN:
             for flags in (q.Checks.NO_ACK_FREQUENCY, q.Checks.RFC):
                 for digits in (cut, whole):
@@ -94,7 +94,7 @@ class Flags(unittest.TestCase):
             for flags in (q.Checks.QUINN, ~q.Checks.NO_ACK_FREQUENCY):
                 with self.assertRaisesRegex(q.FrameError, "^unexpected end in ACK_FREQUENCY at 0"):
                     q.read_frames(bytes.fromhex(cut), checks=flags)
-        row = ("frame type not in shortest form", "Frame Type", 0, PV, "12.4")
+        row = ("frame type not in shortest form", "Type", 0, PV, "12.4")
         for digits in TOO_LONG:
             self.rejected(lambda checks: q.read_frames(bytes.fromhex(digits), checks=checks), q.Checks.RFC, row)
 

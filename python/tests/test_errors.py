@@ -24,9 +24,9 @@ class Errors(unittest.TestCase):
             ("", "packet payload is empty", 0, None, None, 0x0A, "12.4", None),
             ("0106000561", "unexpected end", 1, "Crypto Data", 4, 0x07, "20.1", 0x06),
             ("0110", "unexpected end", 1, "Maximum Data", 2, 0x07, "20.1", 0x10),
-            ("0140", "unexpected end", 1, "Frame Type", 1, 0x07, "20.1", None),
+            ("0140", "unexpected end", 1, "Type", 1, 0x07, "20.1", None),
             ("1c0040", "unexpected end", 0, "Frame Type", 2, 0x07, "20.1", 0x1C),
-            ("0121", "invalid frame ID", 1, "Frame Type", 1, 0x07, "12.4", 0x21),
+            ("0121", "invalid frame ID", 1, "Type", 1, 0x07, "12.4", 0x21),
             ("02030000" + "04", "malformed", 0, "First ACK Range", 4, 0x07, "19.3.1", 0x02),
             ("180102", "malformed", 0, "Retire Prior To", 2, 0x07, "19.15", 0x18),
             ("18010015", "malformed", 0, "Length", 3, 0x07, "19.15", 0x18),
@@ -44,8 +44,8 @@ class Errors(unittest.TestCase):
 
     def test_messages_of_payloads(self):
         rows = [
-            ("0140", "unexpected end at 1, Frame Type at 1 (RFC 9000, section 20.1)"),
-            ("0121", "invalid frame ID in <unknown 0x21> at 1, Frame Type at 1 (RFC 9000, section 12.4)"),
+            ("0140", "unexpected end at 1, Type at 1 (RFC 9000, section 20.1)"),
+            ("0121", "invalid frame ID in <unknown 0x21> at 1, Type at 1 (RFC 9000, section 12.4)"),
             (
                 "180102",
                 "malformed in NEW_CONNECTION_ID at 0, Retire Prior To at 2: "

@@ -63,8 +63,8 @@ class Frames(unittest.TestCase):
         stream = ["Type", "FIN", "Stream ID", "Offset"]
         rows = [
             ("", None, None, []),
-            ("40", "Frame Type", 0, []),
-            ("21", "Frame Type", 0, []),
+            ("40", "Type", 0, []),
+            ("21", "Type", 0, []),
             ("0a00", "Length", 2, stream),
             ("0a000561", "Stream Data", 3, stream),
             ("0203000104", "First ACK Range", 4, ["Type", "Largest Acknowledged", "ACK Delay"]),
@@ -83,7 +83,7 @@ class Frames(unittest.TestCase):
 
     def test_rules(self):
         rows = [
-            ("4001", "Frame Type", 0), ("1f", "Frame Type", 0), ("0700", "Token Length", 1),
+            ("4001", "Type", 0), ("1f", "Type", 0), ("0700", "Token Length", 1),
             ("12d000000000000001", "Maximum Streams", 1), ("06ffffffffffffffff01aa", "Length", 9),
             ("0c00ffffffffffffffff61", "Offset", 2),
         ]  # fmt: skip

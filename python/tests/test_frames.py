@@ -145,7 +145,7 @@ class Frames(unittest.TestCase):
     def test_types_may_have_to_be_shortest_or_known(self):
         self.assertEqual(q.read_frames(b"\x40\x01"), [q.Ping()])
         for read in (q.read_frames, lambda payload, **how: list(q.frames(payload, **how))):
-            with self.assertRaisesRegex(q.FrameError, "not in shortest form in PING at 0, Frame Type at 0"):
+            with self.assertRaisesRegex(q.FrameError, "not in shortest form in PING at 0, Type at 0"):
                 read(b"\x40\x01", checks=q.Checks.SHORT_TYPES)
             with self.assertRaisesRegex(q.FrameError, "invalid frame ID in IMMEDIATE_ACK at 0"):
                 read(b"\x1f", checks=q.Checks.NO_ACK_FREQUENCY)

@@ -214,9 +214,9 @@ class Readings(unittest.TestCase):
     def test_a_frame_that_the_rfc_forbids_is_an_error(self):
         long_type = "frame type not in shortest form in PING"
         rows = [
-            ("4001", long_type, "Frame Type", 0, None, "12.4", "PING"),
-            ("1f", "invalid frame ID in IMMEDIATE_ACK", "Frame Type", 0, EXTENSION, "12.4", "IMMEDIATE_ACK"),
-            ("40af2a148000c35001", "invalid frame ID in ACK_FREQUENCY", "Frame Type", 0, EXTENSION, "12.4",
+            ("4001", long_type, "Type", 0, None, "12.4", "PING"),
+            ("1f", "invalid frame ID in IMMEDIATE_ACK", "Type", 0, EXTENSION, "12.4", "IMMEDIATE_ACK"),
+            ("40af2a148000c35001", "invalid frame ID in ACK_FREQUENCY", "Type", 0, EXTENSION, "12.4",
              "ACK_FREQUENCY sequence=42 "),
             ("0700", "malformed in NEW_TOKEN", "Token Length", 1, TOKEN, "19.7", "NEW_TOKEN token=-"),
             ("074000", "malformed in NEW_TOKEN", "Token Length", 1, TOKEN, "19.7", "NEW_TOKEN token=-"),

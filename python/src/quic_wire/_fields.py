@@ -9,7 +9,7 @@ from . import _formats
 from ._formats import FRAMES, HEADERS, Header
 from ._wire import FRAME_LIMIT, FRAME_MALFORMED, PACKET_FIXED_BIT
 
-FRAME_TYPE_FIELD = "Frame Type"
+FRAME_TYPE_FIELD = FRAMES[0].fields[0].name
 _FIRST_BYTE = "First Byte"
 _ID, _LENGTH, _VALUE = "Parameter ID", "Parameter Length", "Parameter Value"
 _RULE = "supported"  # whether the version is read

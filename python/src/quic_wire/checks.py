@@ -45,7 +45,7 @@ class Checks(enum.IntFlag):
     >>> read_frames(bytes.fromhex("4001"), checks=checks)
     Traceback (most recent call last):
     ...
-    quic_wire.errors.FrameError: frame type not in shortest form in PING at 0, Frame Type at 0 (RFC 9000, section 12.4)
+    quic_wire.errors.FrameError: frame type not in shortest form in PING at 0, Type at 0 (RFC 9000, section 12.4)
     >>> TransportParameters.read(Side.CLIENT, bytes.fromhex("04024005"), checks=checks)
     TransportParameters(initial_max_data=5)
     """

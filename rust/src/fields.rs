@@ -25,6 +25,7 @@ use crate::proved::quic_fields::entry::entry_spans;
 use crate::proved::quic_fields::field::Reach;
 use crate::proved::quic_fields::rules::{frame_spans_by, reach_of};
 use crate::proved::quic_header_fields::packet::packet_spans;
+use crate::proved::quic_param_fields::value::{Reason, value_spans};
 
 pub use crate::proved::quic_fields::field::Span;
 
@@ -105,6 +106,36 @@ pub fn of_entry(list: &[u8]) -> Fields {
     found(|room| {
         let walked = entry_spans(list, room);
         (walked.fault.map(|fault| fault.reason()), reach_of(walked))
+    })
+}
+
+/// The fields of a parameter's value (RFC 9000, section 18.2): a number, an id, a token, or other bytes; those of a
+/// preferred address; none of a parameter without a value. What is at fault is what a list is rejected for, except
+/// repeats, parameters that a client must not send, and a `min_ack_delay` above `max_ack_delay`. With `any_width`
+/// integers may be in any encoding, as in
+/// [`ReadOptions`](crate::transport_parameters::ReadOptions). Of an unknown parameter every value is accepted.
+///
+/// ```
+/// use quic_wire::fields;
+/// let value = fields::of_value(0x0b, &[0x40, 0x19], true); // max_ack_delay
+/// assert_eq!(value.spans()[0].number, 25);
+/// let value = fields::of_value(0x0b, &[0x80, 0, 0x40, 0], true);
+/// assert_eq!(value.fault().unwrap().reason, "out of range");
+/// ```
+pub fn of_value(id: u64, value: &[u8], any_width: bool) -> Fields {
+    found(|room| {
+        let walked = value_spans(id, value, any_width, room);
+        let reason = walked.fault.map(|reason| match reason {
+            Reason::UnexpectedEnd => "unexpected end",
+            Reason::LongId => "an id of more than 20 bytes",
+            Reason::BytesLeft => "bytes after the value",
+            Reason::LongNumber => "a number not in its shortest encoding",
+            Reason::OutOfRange => "out of range",
+            Reason::NoAddress => "neither an IPv4 nor an IPv6 address",
+            Reason::EmptyId => "an empty id",
+        });
+        let reach = Reach { count: walked.count, end: walked.end, inside: walked.inside, numbers: walked.numbers };
+        (reason, reach)
     })
 }
 

@@ -7,7 +7,7 @@ use std::path::{Path, PathBuf};
 use std::{fs, io};
 
 /// The crates that users call, which no other of the library uses.
-const TOPS_OF_LIBRARY: [&str; 3] = ["quic_wire", "quic_fields", "quic_header_fields"];
+const TOPS_OF_LIBRARY: [&str; 3] = ["quic_wire", "quic_header_fields", "quic_param_fields"];
 
 /// What stands before the modules of the library. Only ghost code uses some names of the sources, whose style isn't
 /// Rust's everywhere.

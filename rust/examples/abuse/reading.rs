@@ -7,8 +7,8 @@ use quic_wire::fields::{self, Fields};
 use quic_wire::frame::{Ack, AckRange, FrameType, Iter};
 use quic_wire::packet::PacketNumber;
 use quic_wire::transport_error::Code;
-use quic_wire::transport_parameters::entries;
-use quic_wire::{StreamId, VarInt, varint};
+use quic_wire::transport_parameters::{TransportParameters, entries};
+use quic_wire::{Side, StreamId, VarInt, varint};
 use std::fmt::Debug;
 use std::net::{Ipv4Addr, Ipv6Addr};
 
@@ -155,6 +155,7 @@ pub fn fields(random: &mut Random) {
         Some(Ok(read)) => assert_eq!(entry.spans().last().map(|value| value.number), Some(read.value.len() as u64)),
         _ => assert!(entry.fault().is_some()),
     }
+    entry_values(random, &list);
     let (datagram, cid_len) = (random.datagram(), random.below(21) as usize);
     let packet = fields::of_packet(&datagram, cid_len, VERSIONS);
     in_a_row(&packet, datagram.len());
@@ -165,6 +166,20 @@ pub fn fields(random: &mut Random) {
         Err(HeaderError::InvalidHeader(reason)) => {
             assert_eq!(packet.fault().map(|fault| fault.reason), Some(reason));
         }
+    }
+}
+
+// A value is at fault exactly if a list of it alone is rejected.
+fn entry_values(random: &mut Random, list: &[u8]) {
+    const MIN_ACK_DELAY: u64 = 0xff04_de1b;
+    let options = random.read_options();
+    for entry in entries(list).flatten().filter(|entry| entry.id != MIN_ACK_DELAY) {
+        let value = fields::of_value(entry.id, entry.value, options.any_width);
+        in_a_row(&value, entry.value.len());
+        let mut alone = vec![];
+        entry.write(&mut alone).unwrap();
+        let read = TransportParameters::read_list(Side::Client, options, &alone);
+        assert_eq!(read.is_ok(), value.fault().is_none(), "{:x} {:?}", entry.id, entry.value);
     }
 }
 

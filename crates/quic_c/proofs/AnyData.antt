@@ -8,7 +8,9 @@ use Rattle.quic_frames.specs.declared.frame.Frame.{Frame}
 use Rattle.quic_frames.specs.declared.frame.rules.Breach.{Breach}
 use Rattle.quic_frames.specs.declared.frame.rules.Breach.TheVariants as breaches
 use Rattle.quic_c.specs.declared.words.CFrame.{CFrame}
-use Rattle.quic_c.specs.Shapes.{LacksData, Shape, shape_of, shows_data, kept_data, token_room}
+use Rattle.quic_c.specs.Shapes.{LacksData, shape_of, shows_data, kept_data, token_room}
+use Rattle.std.specs.List.{list_any}
+use Rattle.quic_c.specs.Slots.{Slot, is_data}
 use Rattle.quic_c.specs.Shown.{data_of, frame_kind_of, rules_in, tail_of}
 use Rattle.quic_c.specs.Written.{BreaksRule, CanWriteFrame, IsAnswer, is_last, token_of}
 use Rattle.quic_c.proofs.Meanings.{one_meaning}
@@ -21,7 +23,7 @@ nil_of : (bytes : List ℕ) → length bytes ≡ 0 → bytes ≡ []
 nil_of [] e = refl
 nil_of (b ∷ bytes) e = absurd (omega (arith, e))
 
-no_data : (shape : Option Shape) (bytes : List ℕ) → shows_data shape ≡ false → (shape ≡ None → ⊥)
+no_data : (shape : Option (List Slot)) (bytes : List ℕ) → shows_data shape ≡ false → (shape ≡ None → ⊥)
     → kept_data shape bytes ≡ bytes → bytes ≡ []
 no_data None bytes e known kept = absurd (known refl)
 no_data (Some s) bytes e known kept = sym kept ∙ ap (λ (b : Bool). if b then bytes else []) e

@@ -106,38 +106,19 @@ header_and words bytes last (frames.Datagram x) h can =
       flags = inl s.flags;
     } in
     (has, datagram_parts last x ∙ ap (λ (l : List ℕ). l ++ x.bytes.now) (sym same))
-header_and words bytes last frames.Padding h can = absurd (never words.kind 0x00 h can.described.kind refl)
-header_and words bytes last frames.Ping h can = absurd (never words.kind 0x01 h can.described.kind refl)
-header_and words bytes last (frames.Ack a) h can = absurd (never words.kind 0x02 h can.described.kind refl)
-header_and words bytes last (frames.ResetStream r) h can = absurd (never words.kind 0x04 h can.described.kind refl)
-header_and words bytes last (frames.StopSending x) h can = absurd (never words.kind 0x05 h can.described.kind refl)
-header_and words bytes last (frames.NewToken t) h can = absurd (never words.kind 0x07 h can.described.kind refl)
-header_and words bytes last (frames.MaxData n) h can = absurd (never words.kind 0x10 h can.described.kind refl)
-header_and words bytes last (frames.MaxStreamData id offset) h can =
-    absurd (never words.kind 0x11 h can.described.kind refl)
 header_and words bytes last (frames.MaxStreams dirs.Bi count) h can =
     absurd (never words.kind 0x12 h can.described.kind refl)
 header_and words bytes last (frames.MaxStreams dirs.Uni count) h can =
     absurd (never words.kind 0x13 h can.described.kind refl)
-header_and words bytes last (frames.DataBlocked offset) h can = absurd (never words.kind 0x14 h can.described.kind refl)
-header_and words bytes last (frames.StreamDataBlocked id offset) h can =
-    absurd (never words.kind 0x15 h can.described.kind refl)
 header_and words bytes last (frames.StreamsBlocked dirs.Bi limit) h can =
     absurd (never words.kind 0x16 h can.described.kind refl)
 header_and words bytes last (frames.StreamsBlocked dirs.Uni limit) h can =
     absurd (never words.kind 0x17 h can.described.kind refl)
-header_and words bytes last (frames.NewConnectionId n) h can = absurd (never words.kind 0x18 h can.described.kind refl)
-header_and words bytes last (frames.RetireConnectionId sequence) h can =
-    absurd (never words.kind 0x19 h can.described.kind refl)
-header_and words bytes last (frames.PathChallenge n) h can = absurd (never words.kind 0x1a h can.described.kind refl)
-header_and words bytes last (frames.PathResponse n) h can = absurd (never words.kind 0x1b h can.described.kind refl)
 header_and words bytes last (frames.Close (closes.Connection x)) h can =
     absurd (never words.kind 0x1c h can.described.kind refl)
 header_and words bytes last (frames.Close (closes.Application x)) h can =
     absurd (never words.kind 0x1d h can.described.kind refl)
-header_and words bytes last (frames.AckFrequency f) h can = absurd (never words.kind 0xaf h can.described.kind refl)
-header_and words bytes last frames.ImmediateAck h can = absurd (never words.kind 0x1f h can.described.kind refl)
-header_and words bytes last frames.HandshakeDone h can = absurd (never words.kind 0x1e h can.described.kind refl)
+header_and words bytes last frame h can = absurd (never words.kind (frame_kind_of frame) h can.described.kind refl)
 
 -- ---- rules
 

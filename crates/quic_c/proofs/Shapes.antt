@@ -8,7 +8,10 @@ use Rattle.quic_frames.specs.declared.frame.Frame.{Frame}
 use Rattle.quic_frames.specs.declared.frame.Frame.TheVariants as frames
 use Rattle.quic_frames.specs.InRange.{IsNoAck, IsTypedFrame, InRange}
 use Rattle.quic_c.specs.Shown.{frame_kind_of, flags_of, frame_numbers_of, data_of, data_len_of, tail_of}
-use Rattle.quic_c.specs.Shapes.{IsSound, Shape, shape, bare_shape, first_shape, second_shape, both_shape, shape_of, kept_by_mask, kept_numbers, kept_data, token_room}
+use Rattle.quic_frames.specs.Meaning.{meaning_of}
+use Rattle.std.specs.List.{list_any}
+use Rattle.quic_c.specs.Slots.{Slot, slots_of, is_data}
+use Rattle.quic_c.specs.Shapes.{IsSound, shape_of, kept_by, kept_numbers, kept_data, token_room}
 
 zero_fits : 0 < 2 ^ 62
 zero_fits = omega arith
@@ -119,65 +122,37 @@ fin_kept true = refl
 fin_kept false = refl
 
 -- a kind is looked up once for all facts about it
-none_some : (s : Shape) → ◌≡◌ {A = Option Shape} (Some s) None → ⊥
+none_some : (s : List Slot) → ◌≡◌ {A = Option (List Slot)} (Some s) None → ⊥
 none_some s e = cc
 
-kept_by : (frame : Frame) (s : Shape) → shape_of (frame_kind_of frame) ≡ Some s
-    → kept_by_mask s.numbers (frame_numbers_of frame) ≡ frame_numbers_of frame
-    → (if s.has_data then data_of frame else []) ≡ data_of frame
+by_slots : (frame : Frame) → shape_of (frame_kind_of frame) ≡ Some (slots_of (meaning_of frame).name)
+    → kept_by (slots_of (meaning_of frame).name) (frame_numbers_of frame) ≡ frame_numbers_of frame
+    → (if list_any is_data (slots_of (meaning_of frame).name) then data_of frame else []) ≡ data_of frame
     → ◌≡◌ {A = ℕ} (if frame_kind_of frame == 0x08 && flags_of frame == 1 then 1 else 0) (flags_of frame)
     → tail_of frame ≡ token_room (frame_kind_of frame) → data_len_of frame ≡ length (data_of frame) → Keeps frame
-kept_by frame s e numbers content flags tail len = record {
-  known = λ none. none_some s (sym e ∙ none);
-  numbers = ap (λ (o : Option Shape). kept_numbers o (frame_numbers_of frame)) e ∙ numbers;
-  content = ap (λ (o : Option Shape). kept_data o (data_of frame)) e ∙ content;
+by_slots frame e numbers content flags tail len = record {
+  known = λ none. none_some (slots_of (meaning_of frame).name) (sym e ∙ none);
+  numbers = ap (λ (o : Option (List Slot)). kept_numbers o (frame_numbers_of frame)) e ∙ numbers;
+  content = ap (λ (o : Option (List Slot)). kept_data o (data_of frame)) e ∙ content;
   flags = flags;
   tail = tail;
   len = len;
 }
 
 pub keeps : (frame : Frame) → IsNoAck frame → Keeps frame
-keeps frames.Padding here = kept_by frames.Padding bare_shape refl refl refl refl refl refl
 keeps (frames.Ack _) here = elim here [ ]
-keeps frames.Ping here = kept_by frames.Ping bare_shape refl refl refl refl refl refl
-keeps (frames.ResetStream r) here =
-    kept_by (frames.ResetStream r) (shape true true true false false) refl refl refl refl refl refl
-keeps (frames.StopSending s) here = kept_by (frames.StopSending s) both_shape refl refl refl refl refl refl
-keeps (frames.Crypto x) here = kept_by (frames.Crypto x) (shape false true false false true) refl refl refl refl refl refl
-keeps (frames.NewToken t) here =
-    kept_by (frames.NewToken t) (shape false false false false true) refl refl refl refl refl refl
-keeps (frames.Stream s) here =
-    kept_by (frames.Stream s) (shape true true false false true) refl refl refl (fin_kept s.fin) refl refl
-keeps (frames.MaxData n) here = kept_by (frames.MaxData n) second_shape refl refl refl refl refl refl
-keeps (frames.MaxStreamData id offset) here =
-    kept_by (frames.MaxStreamData id offset) both_shape refl refl refl refl refl refl
-keeps (frames.MaxStreams dirs.Bi count) here =
-    kept_by (frames.MaxStreams dirs.Bi count) second_shape refl refl refl refl refl refl
-keeps (frames.MaxStreams dirs.Uni count) here =
-    kept_by (frames.MaxStreams dirs.Uni count) second_shape refl refl refl refl refl refl
-keeps (frames.DataBlocked offset) here = kept_by (frames.DataBlocked offset) second_shape refl refl refl refl refl refl
-keeps (frames.StreamDataBlocked id offset) here =
-    kept_by (frames.StreamDataBlocked id offset) both_shape refl refl refl refl refl refl
+keeps (frames.Stream s) here = by_slots (frames.Stream s) refl refl refl (fin_kept s.fin) refl refl
+keeps (frames.MaxStreams dirs.Bi count) here = by_slots (frames.MaxStreams dirs.Bi count) refl refl refl refl refl refl
+keeps (frames.MaxStreams dirs.Uni count) here = by_slots (frames.MaxStreams dirs.Uni count) refl refl refl refl refl refl
 keeps (frames.StreamsBlocked dirs.Bi limit) here =
-    kept_by (frames.StreamsBlocked dirs.Bi limit) second_shape refl refl refl refl refl refl
+    by_slots (frames.StreamsBlocked dirs.Bi limit) refl refl refl refl refl refl
 keeps (frames.StreamsBlocked dirs.Uni limit) here =
-    kept_by (frames.StreamsBlocked dirs.Uni limit) second_shape refl refl refl refl refl refl
-keeps (frames.NewConnectionId n) here =
-    kept_by (frames.NewConnectionId n) (shape true true false false true) refl refl refl refl refl refl
-keeps (frames.RetireConnectionId sequence) here =
-    kept_by (frames.RetireConnectionId sequence) first_shape refl refl refl refl refl refl
-keeps (frames.PathChallenge n) here = kept_by (frames.PathChallenge n) first_shape refl refl refl refl refl refl
-keeps (frames.PathResponse n) here = kept_by (frames.PathResponse n) first_shape refl refl refl refl refl refl
+    by_slots (frames.StreamsBlocked dirs.Uni limit) refl refl refl refl refl refl
 keeps (frames.Close (closes.Connection x)) here =
-    kept_by (frames.Close (closes.Connection x)) (shape true true false false true) refl refl refl refl refl refl
+    by_slots (frames.Close (closes.Connection x)) refl refl refl refl refl refl
 keeps (frames.Close (closes.Application x)) here =
-    kept_by (frames.Close (closes.Application x)) (shape true false false false true) refl refl refl refl refl refl
-keeps (frames.Datagram d) here =
-    kept_by (frames.Datagram d) (shape false false false false true) refl refl refl refl refl refl
-keeps (frames.AckFrequency f) here =
-    kept_by (frames.AckFrequency f) (shape true true true true false) refl refl refl refl refl refl
-keeps frames.ImmediateAck here = kept_by frames.ImmediateAck bare_shape refl refl refl refl refl refl
-keeps frames.HandshakeDone here = kept_by frames.HandshakeDone bare_shape refl refl refl refl refl refl
+    by_slots (frames.Close (closes.Application x)) refl refl refl refl refl refl
+keeps frame here = by_slots frame refl refl refl refl refl refl
 
 pub len_is : (frame : Frame) → IsNoAck frame → data_len_of frame ≡ length (data_of frame)
 len_is frame here = (keeps frame here).len

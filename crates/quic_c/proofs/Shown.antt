@@ -8,25 +8,4 @@ use Rattle.quic_c.specs.Shown.{back_of, data_len_of, data_offset_of}
 pub place_is : (stop : ℕ) (frame : Frame) → stop < 2 ^ 64
     → stop - back_of frame - data_len_of frame ≡ data_offset_of stop frame
 place_is stop (frames.Ack a) lt = omega arith
-place_is stop frames.Padding lt = refl
-place_is stop frames.Ping lt = refl
-place_is stop (frames.ResetStream r) lt = refl
-place_is stop (frames.StopSending s) lt = refl
-place_is stop (frames.Crypto x) lt = refl
-place_is stop (frames.NewToken t) lt = refl
-place_is stop (frames.Stream s) lt = refl
-place_is stop (frames.MaxData n) lt = refl
-place_is stop (frames.MaxStreamData id offset) lt = refl
-place_is stop (frames.MaxStreams dir count) lt = refl
-place_is stop (frames.DataBlocked offset) lt = refl
-place_is stop (frames.StreamDataBlocked id offset) lt = refl
-place_is stop (frames.StreamsBlocked dir limit) lt = refl
-place_is stop (frames.NewConnectionId n) lt = refl
-place_is stop (frames.RetireConnectionId sequence) lt = refl
-place_is stop (frames.PathChallenge n) lt = refl
-place_is stop (frames.PathResponse n) lt = refl
-place_is stop (frames.Close x) lt = refl
-place_is stop (frames.Datagram d) lt = refl
-place_is stop (frames.AckFrequency f) lt = refl
-place_is stop frames.ImmediateAck lt = refl
-place_is stop frames.HandshakeDone lt = refl
+place_is stop frame lt = refl

@@ -1,70 +1,47 @@
 -- Which words a kind of frame has.
-use Rattle.std.specs.Prelude.{◌≡◌, ℕ, ◌+◌, ◌<◌, ◌≤◌, ◌^◌, ◌==◌, ◌&&◌, ◌||◌, ◌⊎◌, List, [], ◌∷◌, length, take, drop, Bool, true, false, Option, None, Some, if◌then◌else◌}
-use Rattle.std.specs.Map.{lookup}
+use Rattle.std.specs.Prelude.{◌≡◌, ℕ, ◌+◌, ◌<◌, ◌≤◌, ◌^◌, ◌==◌, ◌&&◌, ◌||◌, ◌⊎◌, List, [], ◌∷◌, length, take, drop, slice_index_or, Bool, true, false, Option, None, Some, if◌then◌else◌}
+use Rattle.std.specs.List.{list_any}
 use Rattle.quic_frame_fields.specs.Numbers.{AreNumeric}
+use Rattle.quic_frame_fields.specs.Table.{Row}
 use Rattle.quic_frames.specs.declared.frame.Frame.{Frame}
 use Rattle.quic_frames.specs.InRange.{IsNoAck, InRange}
 use Rattle.quic_c.specs.declared.words.CFrame.{CFrame}
+use Rattle.quic_c.specs.Slots.{Slot, slots_of, row_of_kind, is_nth, is_data}
 use Rattle.quic_c.specs.Shown.{frame_kind_of, flags_of, frame_numbers_of, data_of, tail_of}
 use Rattle.quic_c.specs.Written.{token_of}
 
--- which of the five numbers a kind has, and whether it has data
-pub record Shape : Type 0 where
-  pub numbers : List Bool
-  pub has_data : Bool
+-- the words of a kind, except ACK
+abbrev pub slots_in : Option Row → Option (List Slot)
+slots_in None = None
+slots_in (Some r) = Some (slots_of r.name)
 
-abbrev pub shape : Bool → Bool → Bool → Bool → Bool → Shape
-shape a b c d has_data = record { numbers = a ∷ b ∷ c ∷ d ∷ false ∷ []; has_data = has_data }
+abbrev pub shape_of : ℕ → Option (List Slot)
+shape_of kind = slots_in (row_of_kind kind)
 
-abbrev pub bare_shape : Shape
-bare_shape = shape false false false false false
-
-abbrev pub first_shape : Shape
-first_shape = shape true false false false false
-
-abbrev pub second_shape : Shape
-second_shape = shape false true false false false
-
-abbrev pub both_shape : Shape
-both_shape = shape true true false false false
-
--- every kind but ACK
-abbrev pub shapes : List (ℕ × Shape)
-shapes =
-    (0x00, bare_shape) ∷ (0x01, bare_shape) ∷ (0x04, shape true true true false false) ∷ (0x05, both_shape)
-    ∷ (0x06, shape false true false false true) ∷ (0x07, shape false false false false true)
-    ∷ (0x08, shape true true false false true)
-    ∷ (0x10, second_shape) ∷ (0x11, both_shape) ∷ (0x12, second_shape) ∷ (0x13, second_shape) ∷ (0x14, second_shape)
-    ∷ (0x15, both_shape)
-    ∷ (0x16, second_shape) ∷ (0x17, second_shape) ∷ (0x18, shape true true false false true) ∷ (0x19, first_shape)
-    ∷ (0x1a, first_shape)
-    ∷ (0x1b, first_shape) ∷ (0x1c, shape true true false false true) ∷ (0x1d, shape true false false false true)
-    ∷ (0x1e, bare_shape)
-    ∷ (0x1f, bare_shape) ∷ (0x30, shape false false false false true) ∷ (0xaf, shape true true true true false) ∷ []
-
-abbrev pub shape_of : ℕ → Option Shape
-shape_of kind = lookup (λ u. kind == u) shapes
-
-abbrev pub shows_data : Option Shape → Bool
+abbrev pub shows_data : Option (List Slot) → Bool
 shows_data None = false
-shows_data (Some s) = s.has_data
+shows_data (Some slots) = list_any is_data slots
 
 -- The words describe no data, or a kind that has none.
 abbrev pub LacksData : CFrame → Type 0
 LacksData words = (words.data_len ≡ 0) ⊎ (shows_data (shape_of words.kind) ≡ false)
 
-abbrev pub kept_by_mask : List Bool → List ℕ → List ℕ
-kept_by_mask (is_kept ∷ mask) (n ∷ ns) = (if is_kept then n else 0) ∷ kept_by_mask mask ns
-kept_by_mask mask ns = []
+abbrev pub kept_number : List Slot → List ℕ → ℕ → ℕ
+kept_number slots numbers i = if list_any (is_nth i) slots then slice_index_or numbers i 0 else 0
 
--- the numbers that a kind has, and 0 for the others
-abbrev pub kept_numbers : Option Shape → List ℕ → List ℕ
+-- the five numbers, with 0 for those that a kind lacks
+abbrev pub kept_by : List Slot → List ℕ → List ℕ
+kept_by slots numbers =
+    kept_number slots numbers 0 ∷ kept_number slots numbers 1 ∷ kept_number slots numbers 2 ∷ kept_number slots numbers 3
+    ∷ kept_number slots numbers 4 ∷ []
+
+abbrev pub kept_numbers : Option (List Slot) → List ℕ → List ℕ
 kept_numbers None numbers = []
-kept_numbers (Some s) numbers = kept_by_mask s.numbers numbers
+kept_numbers (Some slots) numbers = kept_by slots numbers
 
-abbrev pub kept_data : Option Shape → List ℕ → List ℕ
+abbrev pub kept_data : Option (List Slot) → List ℕ → List ℕ
 kept_data None bytes = []
-kept_data (Some s) bytes = if s.has_data then bytes else []
+kept_data (Some slots) bytes = if list_any is_data slots then bytes else []
 
 abbrev pub is_path : ℕ → Bool
 is_path kind = kind == 0x1a || kind == 0x1b

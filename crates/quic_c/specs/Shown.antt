@@ -1,16 +1,15 @@
 -- Frames and iterators over a payload as C sees them.
 use Rattle.std.specs.Prelude.{ℕ, ◌+◌, ◌-◌, ◌^◌, List, [], ◌∷◌, length, nat_lt, Option, Some, None, not, ◌==◌, if◌then◌else◌}
-use Rattle.quic_base.specs.Ids.{dir_number}
-use Rattle.quic_errors.specs.Types.{type_or_zero}
 use Rattle.quic_frames.specs.declared.frame.Frame.{Frame}
 use Rattle.quic_frames.specs.declared.frame.Frame.TheVariants as frames
 pub use Rattle.quic_frames.specs.Flags.{has_flag, rules_in}
-use Rattle.quic_frame_fields.specs.declared.frame.close.Close.TheVariants as closes
 use Rattle.quic_frame_fields.specs.declared.frame.ack.EcnCounts.{EcnCounts}
 use Rattle.quic_frame_fields.specs.Acks.{ranges_acked}
 use Rattle.quic_frames.specs.IterState.{IterState}
+use Rattle.quic_frames.specs.Meaning.{meaning_of}
 use Rattle.quic_c.specs.declared.words.CFrameIter.{CFrameIter}
 use Rattle.quic_c.specs.declared.words.CFrame.{CFrame}
+use Rattle.quic_c.specs.Slots.{slots_of, kind_of, numbers_in, data_in}
 
 -- the word of a type
 abbrev pub type_word : Option ℕ → ℕ
@@ -37,30 +36,7 @@ state_of f payload = record {
 
 -- the kind of a frame: its type, 8 for every STREAM, 2 for every ACK and 0x30 for every DATAGRAM
 abbrev pub frame_kind_of : Frame → ℕ
-frame_kind_of frames.Padding = 0x00
-frame_kind_of frames.Ping = 0x01
-frame_kind_of (frames.Ack a) = 0x02
-frame_kind_of (frames.ResetStream r) = 0x04
-frame_kind_of (frames.StopSending s) = 0x05
-frame_kind_of (frames.Crypto c) = 0x06
-frame_kind_of (frames.NewToken t) = 0x07
-frame_kind_of (frames.Stream s) = 0x08
-frame_kind_of (frames.MaxData n) = 0x10
-frame_kind_of (frames.MaxStreamData id offset) = 0x11
-frame_kind_of (frames.MaxStreams dir count) = 0x12 + dir_number dir
-frame_kind_of (frames.DataBlocked offset) = 0x14
-frame_kind_of (frames.StreamDataBlocked id offset) = 0x15
-frame_kind_of (frames.StreamsBlocked dir limit) = 0x16 + dir_number dir
-frame_kind_of (frames.NewConnectionId n) = 0x18
-frame_kind_of (frames.RetireConnectionId sequence) = 0x19
-frame_kind_of (frames.PathChallenge n) = 0x1a
-frame_kind_of (frames.PathResponse n) = 0x1b
-frame_kind_of (frames.Close (closes.Connection c)) = 0x1c
-frame_kind_of (frames.Close (closes.Application c)) = 0x1d
-frame_kind_of (frames.Datagram d) = 0x30
-frame_kind_of (frames.AckFrequency f) = 0xaf
-frame_kind_of frames.ImmediateAck = 0x1f
-frame_kind_of frames.HandshakeDone = 0x1e
+frame_kind_of frame = kind_of (meaning_of frame)
 
 abbrev pub counts_numbers : Option EcnCounts → List ℕ
 counts_numbers None = 0 ∷ 0 ∷ 0 ∷ []
@@ -69,25 +45,7 @@ counts_numbers (Some e) = e.ect0 ∷ e.ect1 ∷ e.ce ∷ []
 -- its five numbers, with 0 for those that it lacks
 abbrev pub frame_numbers_of : Frame → List ℕ
 frame_numbers_of (frames.Ack a) = a.largest ∷ a.delay ∷ counts_numbers a.ecn
-frame_numbers_of (frames.ResetStream r) = r.id ∷ r.error_code ∷ r.final_offset ∷ 0 ∷ 0 ∷ []
-frame_numbers_of (frames.StopSending s) = s.id ∷ s.error_code ∷ 0 ∷ 0 ∷ 0 ∷ []
-frame_numbers_of (frames.Crypto c) = 0 ∷ c.offset ∷ 0 ∷ 0 ∷ 0 ∷ []
-frame_numbers_of (frames.Stream s) = s.id ∷ s.offset ∷ 0 ∷ 0 ∷ 0 ∷ []
-frame_numbers_of (frames.MaxData n) = 0 ∷ n ∷ 0 ∷ 0 ∷ 0 ∷ []
-frame_numbers_of (frames.MaxStreamData id offset) = id ∷ offset ∷ 0 ∷ 0 ∷ 0 ∷ []
-frame_numbers_of (frames.MaxStreams dir count) = 0 ∷ count ∷ 0 ∷ 0 ∷ 0 ∷ []
-frame_numbers_of (frames.DataBlocked offset) = 0 ∷ offset ∷ 0 ∷ 0 ∷ 0 ∷ []
-frame_numbers_of (frames.StreamDataBlocked id offset) = id ∷ offset ∷ 0 ∷ 0 ∷ 0 ∷ []
-frame_numbers_of (frames.StreamsBlocked dir limit) = 0 ∷ limit ∷ 0 ∷ 0 ∷ 0 ∷ []
-frame_numbers_of (frames.NewConnectionId n) = n.sequence ∷ n.retire_prior_to ∷ 0 ∷ 0 ∷ 0 ∷ []
-frame_numbers_of (frames.RetireConnectionId sequence) = sequence ∷ 0 ∷ 0 ∷ 0 ∷ 0 ∷ []
-frame_numbers_of (frames.PathChallenge n) = n ∷ 0 ∷ 0 ∷ 0 ∷ 0 ∷ []
-frame_numbers_of (frames.PathResponse n) = n ∷ 0 ∷ 0 ∷ 0 ∷ 0 ∷ []
-frame_numbers_of (frames.Close (closes.Connection c)) = c.error_code ∷ type_or_zero c.frame_type ∷ 0 ∷ 0 ∷ 0 ∷ []
-frame_numbers_of (frames.Close (closes.Application c)) = c.error_code ∷ 0 ∷ 0 ∷ 0 ∷ 0 ∷ []
-frame_numbers_of (frames.AckFrequency f) = f.sequence ∷ f.ack_eliciting_threshold ∷ f.request_max_ack_delay
-    ∷ f.reordering_threshold ∷ 0 ∷ []
-frame_numbers_of frame = 0 ∷ 0 ∷ 0 ∷ 0 ∷ 0 ∷ []
+frame_numbers_of frame = let m = meaning_of frame in numbers_in (slots_of m.name) m.values
 
 abbrev pub counts_flag : Option EcnCounts → ℕ
 counts_flag None = 0
@@ -105,14 +63,7 @@ tail_of (frames.NewConnectionId n) = 16
 tail_of frame = 0
 
 abbrev pub data_of : Frame → List ℕ
-data_of (frames.Crypto c) = c.bytes.now
-data_of (frames.NewToken t) = t.token.now
-data_of (frames.Stream s) = s.bytes.now
-data_of (frames.Datagram d) = d.bytes.now
-data_of (frames.NewConnectionId n) = n.id
-data_of (frames.Close (closes.Connection c)) = c.reason.now
-data_of (frames.Close (closes.Application c)) = c.reason.now
-data_of frame = []
+data_of frame = let m = meaning_of frame in data_in (slots_of m.name) m.values
 
 -- the length of the first of these ranges, less one: First ACK Range (RFC 9000, section 19.3)
 abbrev pub first_length : List (ℕ × ℕ) → ℕ

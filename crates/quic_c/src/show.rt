@@ -2,7 +2,6 @@
 ghost use Rattle.std.specs.Prelude.{◌≡◌, ◌+◌, ◌-◌, ◌<◌, ◌^◌, ℕ, List, [], ◌∷◌, length, if◌then◌else◌};
 ghost use Rattle.quic_frame_fields.specs.Acks.{ranges_acked};
 ghost use Rattle.quic_frame_fields.specs.Field.{AreBelow};
-ghost use Rattle.quic_base.specs.Ids.{dir_number};
 ghost use Rattle.quic_frames.specs.declared.frame.Frame.TheVariants as frames;
 ghost use Rattle.quic_c.specs.Shown.{frame_kind_of, flags_of, first_length, frame_numbers_of, data_of, data_len_of, back_of, frame_words, counts_flag, counts_numbers};
 
@@ -55,24 +54,6 @@ fn with_data(kind: u16, flags: u32, numbers: [u64; 5], bytes: &[u8]) -> Parts
         tail: 0,
         data_len: bytes.len(),
         numbers,
-    }
-}
-
-// A kind with the second number alone, of which there is one for each direction.
-#[inline(always)]
-fn by_dir(bi: u16, dir: Dir, n: u64) -> Parts
-    requires { bi < 2 ^ 8 }
-    ensures { result ≡ record {
-      kind = bi + dir_number dir;
-      flags = 0;
-      tail = 0;
-      data_len = 0;
-      numbers = 0 ∷ n ∷ 0 ∷ 0 ∷ 0 ∷ [];
-    } }
-{
-    match dir {
-        Dir::Bi => without_data(bi, [0, n, 0, 0, 0]),
-        Dir::Uni => without_data(bi + 1, [0, n, 0, 0, 0]),
     }
 }
 
@@ -230,10 +211,24 @@ pub(crate) fn parts_of(frame: &Frame<'_>) -> Parts
         }
         Frame::MaxData(n) => without_data(0x10, [0, n.into_inner(), 0, 0, 0]),
         Frame::MaxStreamData { id, offset } => both(0x11, u64::from(*id), *offset),
-        Frame::MaxStreams { dir, count } => by_dir(0x12, *dir, *count),
+        Frame::MaxStreams {
+            dir: Dir::Bi,
+            count,
+        } => without_data(0x12, [0, *count, 0, 0, 0]),
+        Frame::MaxStreams {
+            dir: Dir::Uni,
+            count,
+        } => without_data(0x13, [0, *count, 0, 0, 0]),
         Frame::DataBlocked { offset } => without_data(0x14, [0, *offset, 0, 0, 0]),
         Frame::StreamDataBlocked { id, offset } => both(0x15, u64::from(*id), *offset),
-        Frame::StreamsBlocked { dir, limit } => by_dir(0x16, *dir, *limit),
+        Frame::StreamsBlocked {
+            dir: Dir::Bi,
+            limit,
+        } => without_data(0x16, [0, *limit, 0, 0, 0]),
+        Frame::StreamsBlocked {
+            dir: Dir::Uni,
+            limit,
+        } => without_data(0x17, [0, *limit, 0, 0, 0]),
         Frame::NewConnectionId(n) => of_new_connection_id(n),
         Frame::RetireConnectionId { sequence } => without_data(0x19, [*sequence, 0, 0, 0, 0]),
         Frame::PathChallenge(n) => without_data(0x1a, [*n, 0, 0, 0, 0]),

@@ -1737,6 +1737,33 @@ quic_wire_param_fields(const uint8_t *list, size_t listlen,
                        quic_wire_span *fields, size_t nfields,
                        quic_wire_fields *read);
 
+/**
+ * Where the fields of the |value| of the parameter with this |id| are (RFC
+ * 9000, section 18.2): one field if the value is a number, an id, a token, or
+ * that of an unknown parameter; none if it has no bytes; those of
+ * preferred_address in the order of docs/formats.json, the id with its length.
+ * Index 0 is the first of them.  A span's |number| is the value of a number or
+ * a port, else how many bytes there are.  With QUIC_WIRE_READ_ANY_WIDTH an
+ * integer may be in any encoding; other flags are ignored.
+ *
+ * Returns:
+ *  - QUIC_WIRE_ITEM, with all fields: |read->end| is |valuelen|
+ *  - QUIC_WIRE_ERR_PARAMS_ILLEGAL if a number is out of the parameter's range,
+ *    or preferred_address has no address (index 2) or an empty id (index 4)
+ *  - QUIC_WIRE_ERR_PARAMS_MALFORMED if a field is cut off, an id has more than
+ *    20 bytes, a number isn't in its shortest encoding, or bytes follow the
+ *    last field, which have the index after it
+ *  - QUIC_WIRE_ERR_ARGUMENT for NULL; nothing changes then
+ *
+ * After an error the fields that can be read are stored, also those from the
+ * one at fault on.  What depends on other entries isn't checked: repeats, the
+ * sender, min_ack_delay above max_ack_delay.
+ */
+QUIC_WIRE_CHECKED QUIC_WIRE_API int
+quic_wire_param_value_fields(uint64_t id, const uint8_t *value, size_t valuelen,
+                             uint32_t flags, quic_wire_span *fields,
+                             size_t nfields, quic_wire_fields *read);
+
 /* ---- Texts */
 
 /** A description of a result below 0, in English; "ok" for others.  For

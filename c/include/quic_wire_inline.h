@@ -118,6 +118,9 @@ int32_t quic_wire_packet_fields_(const uint8_t *, size_t, size_t,
                                  quic_wire_span *, size_t, quic_wire_fields *);
 int32_t quic_wire_param_fields_(const uint8_t *, size_t, quic_wire_span *,
                                 size_t, quic_wire_fields *);
+int32_t quic_wire_param_value_fields_(uint64_t, const uint8_t *, size_t,
+                                      uint32_t, quic_wire_span *, size_t,
+                                      quic_wire_fields *);
 
 /* An address for arrays without items, since the proved library accepts no
  * NULL.  It is aligned for each kind of item, and never read or written. */
@@ -771,6 +774,18 @@ QUIC_WIRE_API int quic_wire_param_fields(const uint8_t *list, size_t listlen,
   return quic_wire_param_fields_(
       list ? list : (const uint8_t *)quic_wire_nothing_(), listlen,
       fields ? fields : (quic_wire_span *)quic_wire_nothing_(), nfields, read);
+}
+
+QUIC_WIRE_API int
+quic_wire_param_value_fields(uint64_t id, const uint8_t *value, size_t valuelen,
+                             uint32_t flags, quic_wire_span *fields,
+                             size_t nfields, quic_wire_fields *read) {
+  if ((!value && valuelen) || (!fields && nfields) || !read)
+    return QUIC_WIRE_ERR_ARGUMENT;
+  return quic_wire_param_value_fields_(
+      id, value ? value : (const uint8_t *)quic_wire_nothing_(), valuelen,
+      flags, fields ? fields : (quic_wire_span *)quic_wire_nothing_(), nfields,
+      read);
 }
 
 #endif /* QUIC_WIRE_INLINE_H */

@@ -24,6 +24,11 @@ void fields_nulls(void) {
   WANT(quic_wire_param_fields(NULL, 1, &field, 1, &read) == INVALID);
   WANT(quic_wire_param_fields(bytes, 4, NULL, 1, &read) == INVALID);
   WANT(quic_wire_param_fields(bytes, 4, &field, 1, NULL) == INVALID);
+  WANT(quic_wire_param_value_fields(1, NULL, 1, 0, &field, 1, &read) ==
+       INVALID);
+  WANT(quic_wire_param_value_fields(1, bytes, 4, 0, NULL, 1, &read) == INVALID);
+  WANT(quic_wire_param_value_fields(1, bytes, 4, 0, &field, 1, NULL) ==
+       INVALID);
   WANT(field.field == 1 && field.number == 4 && read.count == 5 &&
        read.numbers == 8);
   WANT(quic_wire_frame_fields(NULL, 0, 0, NULL, 0, &read) ==
@@ -179,12 +184,41 @@ static void param_examples(void) {
   WANT(READ(read, 1, 2, 1, 1));
 }
 
+#define VALUE(id, text, flags)                                                 \
+  quic_wire_param_value_fields(id, (const uint8_t *)text, sizeof text - 1,     \
+                               flags, fields, ROOM, &read)
+
+/* Section 18.2 has the values. */
+static void value_examples(void) {
+  quic_wire_span fields[ROOM];
+  quic_wire_fields read;
+  /* max_ack_delay: 25 milliseconds, in two widths, and 2^14. */
+  WANT(VALUE(0x0b, "\x19", 0) == QUIC_WIRE_ITEM);
+  WANT(READ(read, 1, 1, 0, 0) && FIELD(fields[0], 0, 0, 1, 25));
+  WANT(VALUE(0x0b, "\x40\x19", RFC) == QUIC_WIRE_ITEM);
+  WANT(VALUE(0x0b, "\x40\x19", 0) == QUIC_WIRE_ERR_PARAMS_MALFORMED);
+  WANT(VALUE(0x0b, "\x80\0\x40\0", RFC) == QUIC_WIRE_ERR_PARAMS_ILLEGAL);
+  WANT(READ(read, 0, 0, 0, 0) && fields[0].number == 0x4000);
+  /* disable_active_migration has no value, and any unknown one is read. */
+  WANT(VALUE(0x0c, "", 0) == QUIC_WIRE_ITEM && read.count == 0);
+  WANT(VALUE(0x0c, "\0", 0) == QUIC_WIRE_ERR_PARAMS_MALFORMED);
+  WANT(VALUE(0x1b, "abc", 0) == QUIC_WIRE_ITEM && fields[0].number == 3);
+  /* preferred_address: 10.0.0.1:443, no IPv6, an id of a byte, a token. */
+  WANT(VALUE(0x0d,
+             "\x0a\0\0\1\1\xbb\0\0\0\0\0\0\0\0\0\0\0\0\0\0\0\0\0\0"
+             "\1i0123456789abcdef",
+             0) == QUIC_WIRE_ITEM);
+  WANT(READ(read, 6, 42, 0, 0) && FIELD(fields[1], 1, 4, 6, 443) &&
+       FIELD(fields[4], 4, 24, 26, 1) && FIELD(fields[5], 5, 26, 42, 16));
+}
+
 void fields_examples(void) {
   frame_examples();
   rule_examples();
   packet_examples();
   other_packets();
   param_examples();
+  value_examples();
 }
 
 /* Each field begins where the one before it ends, and as many are stored as
@@ -260,11 +294,25 @@ static void param_any(const uint8_t *bytes, size_t len) {
   free(fields);
 }
 
+static void value_any(const uint8_t *bytes, size_t len, uint32_t flags) {
+  const uint64_t id = any() % 0x22;
+  const size_t room = any() % ROOM;
+  quic_wire_span *fields = unset(room);
+  quic_wire_fields read;
+  const int result = quic_wire_param_value_fields(id, bytes, len, flags, fields,
+                                                  room, &read);
+  WANT(result == QUIC_WIRE_ITEM || result == QUIC_WIRE_ERR_PARAMS_ILLEGAL ||
+       result == QUIC_WIRE_ERR_PARAMS_MALFORMED);
+  WANT(read.end <= len && (result != QUIC_WIRE_ITEM || read.end == len));
+  free(fields);
+}
+
 void fields_any(const uint8_t *bytes, size_t len) {
   uint8_t *packet = block(len + 12);
   const uint32_t flags = any() % 4 ? any_flags() : RFC;
   frame_any(bytes, len, flags);
   param_any(bytes, len);
+  value_any(bytes, len, flags);
   packet_any(bytes, len, flags);
   /* A long header of a version that may be known, with short ids. */
   memcpy(packet, "\xc0\0\0\0\1\1d\1s", 9);

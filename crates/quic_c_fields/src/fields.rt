@@ -34,7 +34,7 @@ pub extern "C" fn quic_wire_frame_fields_(
         → HasSpansBy (rules_in flags) payload.now fields.old fields.new out.new.count out.new.end }
     ensures err { (result ≡ pos 1) ⊎ (payload.now ≡ [])
         ⊎ ((reason : Refusal) × (result ≡ failed (frame_failure (refusal_text reason)))
-        × LacksSpansBy (rules_in flags) payload.now fields.old fields.new out.new reason) }
+        × LacksSpansBy (rules_in flags) payload.now fields.old fields.new out.new.count out.new.end reason) }
     ensures empty { payload.now ≡ [] → result ≡ failed failure.PayloadEmpty }
 {
     let (refusal, reach) = frame_spans_by(Rules::of_flags(flags), payload, fields);

@@ -5,3 +5,5 @@ mod SpanLaws
 mod FrameWalks
 mod Entries
 mod Stopping
+mod RuleSpans
+mod TypeRules

@@ -1,6 +1,9 @@
 //! Where each field of a frame is that is read by rules, and the field of a frame that breaks one.
-ghost use Rattle.std.specs.Prelude.{◌≡◌, None, IfSome};
-ghost use Rattle.quic_fields.specs.Rules.{refusal_text, HasSpansBy, LacksSpansBy};
+ghost use Rattle.std.specs.Prelude.{◌≡◌, ◌<◌, ◌≤◌, ◌+◌, ◌-◌, ◌^◌, None, IfSome, length, map, take};
+ghost use Rattle.quic_frame_fields.specs.Reading.{varint_at};
+ghost use Rattle.quic_fields.specs.Kinds.{field_of};
+ghost use Rattle.quic_fields.specs.Rules.{broken_at, broken_walk, refusal_text, stop_by, type_fault_at, FrontBreaks, FrontKeeps, HasSpansBy, LacksSpansBy};
+ghost use Rattle.quic_fields.specs.Walk.{stored, last_end};
 
 use crate::field::{Reach, Seen, Span, Walked, number, put, walk};
 use crate::frame::frame_spans;
@@ -12,7 +15,7 @@ use quic_frames::frame::{Breach, Iter, Rules};
 /// Why a frame is rejected.
 #[derive(Clone, Copy, Debug, PartialEq, Eq)]
 pub enum Refusal {
-    /// No frame begins the bytes.
+    /// No frame that the rules know begins the bytes.
     NoFrame(Fault),
     /// One does, and breaks a rule.
     Broken(Breach),
@@ -32,7 +35,9 @@ impl Refusal {
 
 // Why a type is rejected that can be read, whatever follows it: it isn't in its shortest encoding, or its extension
 // wasn't negotiated.
-fn type_fault(rules: Rules, payload: &[u8]) -> Option<Fault> {
+fn type_fault(rules: Rules, payload: &[u8]) -> Option<Fault>
+    ensures { result ≡ type_fault_at rules (length payload.now) (varint_at payload.now) }
+{
     let Ok((ty, rest)) = number(payload) else {
         return None;
     };
@@ -45,34 +50,65 @@ fn type_fault(rules: Rules, payload: &[u8]) -> Option<Fault> {
     None
 }
 
-// The rule that the frame at the front breaks.
-fn breach_at(rules: Rules, payload: &[u8]) -> Option<Breach> {
-    let mut iter = Iter::resume(payload, 0, None, rules.short_types)?;
+// The rule that the frame at the front breaks, however its type is encoded.
+fn breach_at(rules: Rules, payload: &[u8]) -> Option<Breach>
+    ensures breaks { IfSome result (λ breach. FrontBreaks rules payload.now breach) }
+    ensures keeps { result ≡ None → FrontKeeps rules payload.now }
+{
+    let Some(mut iter) = Iter::resume(payload, 0, None, false) else {
+        return None;
+    };
     match iter.next() {
         Some(Ok(frame)) => rules.breach(&frame),
-        _ => None,
+        Some(Err(_)) => None,
+        None => None,
     }
 }
 
-// The fields before the last one that has a number: in a frame that breaks a rule that one is at fault.
-fn before_number(kinds: &[Kind]) -> &[Kind] {
-    match kinds.split_last() {
-        Some((Kind::Rest, others)) => before_number(others),
-        Some((_, others)) => others,
-        None => kinds,
+// The index of the last field in a row that has a number.
+fn number_index(kinds: &[Kind]) -> usize
+    requires few { length kinds.now < 2 ^ 32 }
+    ensures index { result ≡ broken_at (map field_of kinds.now) }
+    ensures some { 1 ≤ result }
+    ensures within { result ≤ 1 + length kinds.now }
+{
+    let Some((_, others)) = kinds.split_first() else {
+        return 1;
+    };
+    match others.split_first() {
+        None => 1,
+        Some((Kind::Rest, _)) => 1,
+        Some(_) => 1 + number_index(others),
     }
 }
 
-// Stores the fields of a frame before the one that breaks a rule.
-fn walk_broken(payload: &[u8], room: &mut [Span]) -> Reach {
+// The kinds before the last field that has a number.
+fn before_number(kinds: &[Kind]) -> &[Kind]
+    requires few { length kinds.now < 2 ^ 32 }
+    ensures fields { map field_of result.now
+        ≡ take (broken_at (map field_of kinds.now) - 1) (map field_of kinds.now) }
+    ensures fewer { length result.now ≤ length kinds.now }
+{
+    &kinds[..number_index(kinds) - 1]
+}
+
+// Stores the fields of a frame before the last one that has a number.
+fn walk_broken(payload: &[u8], room: &mut [Span]) -> Reach
+    ensures spans { room.new ≡ stored 0 (broken_walk payload.now) room.old }
+    ensures count { result.count ≡ length (broken_walk payload.now) }
+    ensures end { result.end ≡ last_end 0 (broken_walk payload.now) }
+    ensures inside { result.inside ≡ 0 }
+    ensures numbers { result.numbers ≡ 0 }
+{
     let none = Reach {
         count: 0,
         end: 0,
         inside: 0,
         numbers: 0,
     };
-    let Ok((ty, rest)) = number(payload) else {
-        return none;
+    let (ty, rest) = match number(payload) {
+        Ok(read) => read,
+        Err(_) => return none,
     };
     let Some(kinds) = row(ty) else {
         return none;
@@ -89,7 +125,12 @@ fn walk_broken(payload: &[u8], room: &mut [Span]) -> Reach {
         },
     );
     let walked = walk(before_number(kinds), 1, end, Seen::Nothing, rest, room);
-    reach_of(walked)
+    Reach {
+        count: walked.count,
+        end: walked.end,
+        inside: 0,
+        numbers: 0,
+    }
 }
 
 /// How far fields were read, without the reason why not further.
@@ -116,7 +157,8 @@ pub fn frame_spans_by(rules: Rules, payload: &[u8], room: &mut [Span]) -> (Optio
     ensures ok { result.0 ≡ None
         → HasSpansBy rules payload.now room.old room.new result.1.count result.1.end }
     ensures err { IfSome result.0
-        (λ reason. LacksSpansBy rules payload.now room.old room.new result.1 reason) }
+        (λ reason. LacksSpansBy rules payload.now room.old room.new result.1.count result.1.end reason) }
+    ensures inside { (result.1.inside, result.1.numbers) ≡ stop_by result.0 result.1.count payload.now }
 {
     if let Some(fault) = type_fault(rules, payload) {
         let none = Reach {
@@ -131,9 +173,8 @@ pub fn frame_spans_by(rules: Rules, payload: &[u8], room: &mut [Span]) -> (Optio
         return (Some(Refusal::Broken(breach)), walk_broken(payload, room));
     }
     let walked = frame_spans(payload, room);
-    let refusal = match walked.fault {
-        Some(fault) => Some(Refusal::NoFrame(fault)),
-        None => None,
-    };
-    (refusal, reach_of(walked))
+    match walked.fault {
+        Some(fault) => (Some(Refusal::NoFrame(fault)), reach_of(walked)),
+        None => (None, reach_of(walked)),
+    }
 }

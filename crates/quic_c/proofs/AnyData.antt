@@ -9,8 +9,7 @@ use Rattle.quic_frames.specs.declared.frame.rules.Breach.{Breach}
 use Rattle.quic_frames.specs.declared.frame.rules.Breach.TheVariants as breaches
 use Rattle.quic_c.specs.declared.words.CFrame.{CFrame}
 use Rattle.quic_c.specs.Shapes.{LacksData, shape_of, shows_data, kept_data, token_room}
-use Rattle.std.specs.List.{list_any}
-use Rattle.quic_c.specs.Slots.{Slot, is_data}
+use Rattle.quic_c.specs.Slots.{Slot}
 use Rattle.quic_c.specs.Shown.{data_of, frame_kind_of, rules_in, tail_of}
 use Rattle.quic_c.specs.Written.{BreaksRule, CanWriteFrame, IsAnswer, is_last, token_of}
 use Rattle.quic_c.proofs.Meanings.{one_meaning}

@@ -1,5 +1,5 @@
 -- Words describe one meaning at most.
-use Rattle.std.proofs.Common.{◌≡◌, ℕ, ◌%◌, List, [], ◌∷◌, map, take, drop, Bool, Option, None, Some, refl, sym, ap, ◌∙◌}
+use Rattle.std.proofs.Common.{◌≡◌, ℕ, ◌%◌, List, [], map, take, drop, Bool, Option, None, Some, refl, sym, ap, ◌∙◌}
 use Rattle.std.specs.Prelude.{slice_index_or}
 use Rattle.quic_base.specs.declared.ids.Dir.TheVariants as dirs
 use Rattle.quic_frame_fields.specs.declared.frame.close.Close.TheVariants as closes

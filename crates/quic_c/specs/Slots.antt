@@ -1,6 +1,5 @@
 -- Which words of a frame have its values: a column of the table of types (RFC 9000, section 19).
-use Rattle.std.specs.Prelude.{ℕ, ◌+◌, ◌==◌, ◌&&◌, ◌||◌, List, [], ◌∷◌, Bool, true, false, Option, None, Some, filter, nat_lt, not, if◌then◌else◌}
-use Rattle.std.specs.List.{list_any}
+use Rattle.std.specs.Prelude.{ℕ, ◌==◌, ◌&&◌, ◌||◌, List, [], ◌∷◌, Bool, true, false, Option, filter, nat_lt, not, if◌then◌else◌}
 use Rattle.std.specs.Map.{lookup}
 use Rattle.quic_frame_fields.specs.Field.{Value, Number, Bytes}
 use Rattle.quic_frame_fields.specs.Parts.{named_type}

@@ -1,12 +1,12 @@
 //! Where each field of a frame is.
-ghost use Rattle.std.specs.Prelude.{◌≡◌, ◌⊎◌, [], pos};
+ghost use Rattle.std.specs.Prelude.{◌≡◌, ◌⊎◌, [], None, Some, pos};
 ghost use Rattle.quic_frame_fields.specs.declared.frame.fault.Fault.{Fault};
 ghost use Rattle.quic_frames.specs.Flags.{rules_in};
 ghost use Rattle.quic_results.specs.Results.{failed, frame_failure};
 ghost use Rattle.quic_results.specs.declared.results.Failure.TheVariants as failure;
 ghost use Rattle.quic_fields.specs.declared.rules.Refusal.{Refusal};
 ghost use Rattle.quic_fields.specs.Entry.{HasEntry, LacksEntry, stop_in_entry};
-ghost use Rattle.quic_fields.specs.Rules.{refusal_text, HasSpansBy, LacksSpansBy};
+ghost use Rattle.quic_fields.specs.Rules.{refusal_text, stop_by, HasSpansBy, LacksSpansBy};
 
 use quic_fields::entry::entry_spans;
 use quic_fields::field::{Reach, Span};
@@ -31,18 +31,29 @@ pub extern "C" fn quic_wire_frame_fields_(
     out: &mut Reach,
 ) -> i32
     ensures ok { result ≡ pos 1
-        → HasSpansBy (rules_in flags) payload.now fields.old fields.new out.new.count out.new.end }
+        → HasSpansBy (rules_in flags) payload.now fields.old fields.new out.new.count out.new.end
+        × ((out.new.inside, out.new.numbers) ≡ stop_by None out.new.count payload.now) }
     ensures err { (result ≡ pos 1) ⊎ (payload.now ≡ [])
         ⊎ ((reason : Refusal) × (result ≡ failed (frame_failure (refusal_text reason)))
-        × LacksSpansBy (rules_in flags) payload.now fields.old fields.new out.new.count out.new.end reason) }
-    ensures empty { payload.now ≡ [] → result ≡ failed failure.PayloadEmpty }
+        × LacksSpansBy (rules_in flags) payload.now fields.old fields.new out.new.count out.new.end reason
+        × ((out.new.inside, out.new.numbers) ≡ stop_by (Some reason) out.new.count payload.now)) }
+    ensures empty { payload.now ≡ [] → (result ≡ failed failure.PayloadEmpty) × (fields.new ≡ fields.old)
+        × (out.new ≡ record { count = 0; end = 0; inside = 0; numbers = 0 }) }
 {
+    if payload.is_empty() {
+        *out = Reach {
+            count: 0,
+            end: 0,
+            inside: 0,
+            numbers: 0,
+        };
+        return Failure::PayloadEmpty.number();
+    }
     let (refusal, reach) = frame_spans_by(Rules::of_flags(flags), payload, fields);
     *out = reach;
     match refusal {
         None => 1,
-        Some(refusal) if !payload.is_empty() => frame_failure(refusal.reason()).number(),
-        Some(_) => Failure::PayloadEmpty.number(),
+        Some(refusal) => frame_failure(refusal.reason()).number(),
     }
 }
 

@@ -280,9 +280,14 @@ fn same(said: &str, text: &str) -> Result<(), Fail> {
 
 // A packet that is rejected for the reason with this text.
 fn check_packet(alloc: Global, packet: &[u8], text: &str) -> Result<(), Fail> {
-    let mut bytes = BytesMut::new(alloc);
+    let mut bytes = Vec::new(alloc);
     bytes.extend_from_slice(packet)?;
-    match PartialDecode::new(bytes, &FixedLengthConnectionIdParser::new(1), &[1], false) {
+    match PartialDecode::new(
+        BytesMut::from_vec(bytes),
+        &FixedLengthConnectionIdParser::new(1),
+        &[1],
+        false,
+    ) {
         Err(PacketDecodeError::InvalidHeader(said)) => same(said, text),
         _ => Err("a packet isn't rejected as it should be".into()),
     }

@@ -7,7 +7,7 @@ use crate::headers::{lacks_fixed_bit, show};
 use crate::words::CHeader;
 use quic_fields::field::{Reach, Span};
 use quic_header_decode::places::read_header;
-use quic_header_fields::fault::{spans_before_length, spans_of_partial_retry};
+use quic_header_fields::fault::{spans_before_last, spans_of_partial_retry};
 use quic_header_fields::packet::packet_spans;
 use quic_results::results::Failure;
 
@@ -66,7 +66,7 @@ pub extern "C" fn quic_wire_packet_fields_(
         &mut head,
     );
     *out = match outcome {
-        Err(Failure::PacketCut) => spans_before_length(packet, versions, fields),
+        Err(Failure::PacketCut) => spans_before_last(packet, id_len, versions, fields),
         Err(Failure::PacketRetry) => spans_of_partial_retry(packet, id_len, versions, fields),
         _ => {
             let walked = packet_spans(packet, id_len, versions, fields);

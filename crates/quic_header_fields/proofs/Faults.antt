@@ -22,20 +22,12 @@ use Rattle.quic_header_fields.proofs.WalkSteps.{others_of}
 
 -- ---- all but the last
 
-one_less : (n : ℕ) → suc n - 1 ≡ n
-one_less n = omega arith
-
-no_less : zero - 1 ≡ zero
-no_less = omega arith
-
 pub but_last_is : {X Y : Type 0} (f : X → Y) (xs : List X) → map f (take (length xs - 1) xs) ≡ but_last (map f xs)
-but_last_is f [] = rw (no_less) refl
-but_last_is f (x ∷ []) = rw (one_less 0) refl
+but_last_is f [] = refl
+but_last_is f (x ∷ []) = refl
 but_last_is f (x ∷ y ∷ xs) =
-    let others = but_last_is f (y ∷ xs) in
-    let n = length xs in
-    let here : map f (take n (y ∷ xs)) ≡ but_last (map f (y ∷ xs)) = ap (λ (k : ℕ). map f (take k (y ∷ xs))) (sym (one_less n)) ∙ others in
-    rw (one_less (suc n)) (ap (λ l. f x ∷ l) here)
+    let less : length (x ∷ y ∷ xs) - 1 ≡ suc (length (y ∷ xs) - 1) = omega arith in
+    ap (λ (k : ℕ). map f (take k (x ∷ y ∷ xs))) less ∙ ap (λ l. f x ∷ l) (but_last_is f (y ∷ xs))
 
 cons_but_last : {X : Type 0} (x : X) (xs : List X) → 0 < length xs → but_last (x ∷ xs) ≡ x ∷ but_last xs
 cons_but_last x [] some = absurd (omega (arith, some))

@@ -7,5 +7,6 @@ mod PlainWalks
 mod RfcFlags
 mod RfcWalks
 mod Shaping
+mod Stored
 mod Walking
 mod Writing

@@ -3,3 +3,4 @@ pub mod Packets
 pub mod Reading
 pub mod Protection
 pub mod Walks
+pub mod Fields

@@ -9,3 +9,4 @@ mod HeaderLaws
 mod After
 mod EachKind
 mod Stopping
+mod Faults

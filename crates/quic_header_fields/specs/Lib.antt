@@ -4,3 +4,4 @@ pub mod Walk
 pub mod Inside
 pub mod After
 pub mod Headers
+pub mod Fault

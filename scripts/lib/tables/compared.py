@@ -1,26 +1,15 @@
 """What can't be made from docs/formats.json without losing its comments is compared: with the formats the header for C
 and the rules of frames in the proved code for C; with the header's structs those of the proved crates, in order and
 widths, and those of web/layout.js; with its constants those of python/src/quic_wire/_wire.pyi."""
-import glob
-import os
 import re
 
-from lib.tables.formats import HEADER, TOP, constants, enumeration, packet_kinds, read
+from lib.tables import proved
+from lib.tables.formats import HEADER, constants, enumeration, packet_kinds, read
 
 STUB = "python/src/quic_wire/_wire.pyi"
 LAYOUT = "web/layout.js"
-# Fields and structs that C names otherwise than Rattle does, besides underscores.
-NAMES = {
-    "ty": "type", "data_offset": "data", "dst_len": "dcidlen", "src_len": "scidlen", "preferred_id": "preferred_cid",
-    "preferred_id_len": "preferred_cidlen",
-}
-STRUCTS = {"Reach": "fields"}
-# Structs of Rattle that the header needn't have.
-UNDECLARED = {"span", "fields"}
-WIDTHS = {
-    "uint8_t": 1, "uint16_t": 2, "uint32_t": 4, "uint64_t": 8, "quic_wire_size": 8, "u8": 1, "u16": 2, "u32": 4,
-    "u64": 8, "usize": 8,
-}
+# The widths in bytes of the types in structs.
+WIDTHS = dict(proved.NUMBERS.values())
 # An error that only the header itself has.
 OWN_ERRORS = {"LIBRARY": -10}
 
@@ -61,11 +50,7 @@ def header_constants(formats):
 
 def rattle_kinds():
     """The numbers of the kinds of packets in the proved code."""
-    path = "crates/quic_c_headers/src/words.rt"
-    found = re.findall(r"^pub\(crate\) const (\w+): u8 = (\d+);", read(path), re.M)
-    names = {"ZERO_RTT": "0RTT", "SHORT": "1RTT"}
-    ours = {names.get(name, name): int(it) for name, it in found}
-    yield from differences(path, ours, enumeration("packet_kind", "PACKET"))
+    yield from differences(proved.KINDS, proved.packet_kinds(), enumeration("packet_kind", "PACKET"))
 
 
 def rules(formats):
@@ -98,46 +83,20 @@ def c_structs(branch=1):
             for one in names.split(", "):
                 of, count = re.fullmatch(r"(\w+)(?:\[(\d+)\])?", one).groups()
                 fields.append((of, WIDTHS[kind], int(count or 1)))
-        found[name] = placed(fields)
+        found[name] = proved.placed(fields)
     return found
-
-
-def placed(fields):
-    """Fields with their offsets, each aligned to its item's width."""
-    at, found = 0, {}
-    for name, width, count in fields:
-        at += -at % width
-        found[name] = (at, width, count)
-        at += width * count
-    return found
-
-
-def rattle_structs():
-    """The structs that Rattle lays out as C does, by the names that the header has for them."""
-    for path in sorted(glob.glob(os.path.join(TOP, "crates/quic_*/src/*.rt"))):
-        path = os.path.relpath(path, TOP)
-        begin = r"#\[repr\(C\)\]\n(?:#\[[^\n]*\n)*pub struct (\w+) "
-        for name, body in re.findall(begin + r"\{\n(.*?)\n\}", read(path), re.S):
-            fields = []
-            for of, kind in re.findall(r"^    pub (\w+): (.+),$", body, re.M):
-                item, count = re.fullmatch(r"\[?(\w+)(?:; (\d+)\])?", kind).groups()
-                fields.append((NAMES.get(of, of), WIDTHS[item], int(count or 1)))
-            words = re.sub(r"(?<=[a-z])(?=[A-Z])", "_", re.sub(r"^C(?=[A-Z])", "", name)).lower()
-            yield path, name, STRUCTS.get(name, words), placed(fields)
 
 
 def structs():
     """The structs of the proved crates and those of the header."""
     declared = c_structs()
     yield from differences(f"{HEADER}: frame without QUIC_WIRE_PLAIN", c_structs(2)["frame"], declared["frame"])
-    for path, name, words, fields in rattle_structs():
+    for path, name, words, fields in proved.structs():
         if words not in declared:
-            if words not in UNDECLARED:
-                yield f"{HEADER}: no quic_wire_{words}, which {path} has"
+            yield f"{HEADER}: no quic_wire_{words}, which {path} has"
             continue
-        ours = {of.replace("_", ""): it for of, it in fields.items()}
-        theirs = {of.replace("_", ""): it for of, it in declared[words].items()}
-        yield from differences(f"{path}: {name} (offset, width, items)", ours, theirs)
+        ours = proved.placed((of, proved.NUMBERS[item][1], count) for of, item, count in fields)
+        yield from differences(f"{path}: {name} (offset, width, items)", ours, declared[words])
 
 
 def layout():

@@ -1,5 +1,6 @@
 """What is made in place in headers for C: lines between two comments, at most 80 columns wide."""
 import re
+import textwrap
 
 BEGIN, END = "/* Made by scripts/tables: */\n", "/* End of what is made. */\n"
 WIDTH = 80
@@ -7,9 +8,9 @@ WIDTH = 80
 
 def with_blocks(source, blocks):
     """A source with these texts between its pairs of comments."""
-    parts = re.split(f"(?<={re.escape(BEGIN)}).*?(?={re.escape(END)})", source, flags=re.S)
-    assert len(parts) == len(blocks) + 1, f"{len(parts) - 1} blocks and not {len(blocks)}"
-    return "".join(text for pair in zip(parts, [*blocks, ""]) for text in pair)
+    front, *parts = source.split(BEGIN)
+    assert len(parts) == len(blocks), f"{len(parts)} blocks and not {len(blocks)}"
+    return front + "".join(BEGIN + block + END + part.split(END)[1] for block, part in zip(blocks, parts))
 
 
 def wrapped(front, items, end):
@@ -24,15 +25,18 @@ def wrapped(front, items, end):
     return "\n".join(lines) + "\n"
 
 
-def comment(text, column):
-    """The lines of a comment that begins in this column."""
-    lines = ["/*"]
-    for word in f"{text} */".replace(" */", "\n*/").replace(" ", "\n").split("\n"):
-        word = " */" if word == "*/" else f" {word}"
-        if column + len(lines[-1]) + len(word) > WIDTH and lines[-1] != "/*" and word != " */":
-            lines.append("  ")
-        lines[-1] += word
-    return lines
+def comment(text, column, further="   "):
+    """The lines of a comment that begins in this column; its further lines begin so. A number stays with what is before
+    it."""
+    text = re.sub(r" (?=- \d|\d+$)|(?<= -) ", "\xa0", text)
+    lines = textwrap.wrap(
+        f"/* {text}\xa0*/", WIDTH - column, subsequent_indent=further, break_on_hyphens=False, break_long_words=False)
+    return [line.replace("\xa0", " ") for line in lines]
+
+
+def title(text, indent):
+    """A comment on what follows it."""
+    return "".join(f"{indent}{line}\n" for line in comment(text, len(indent), " * ")) if text else ""
 
 
 def commented(lines):

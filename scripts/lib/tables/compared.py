@@ -1,17 +1,14 @@
-"""What can't be made from docs/formats.json without losing its comments is compared: with the formats the header for C
-and the rules of frames in the proved code for C; with the header's structs those of the proved crates, in order and
-widths, and those of web/layout.js; with its constants those of python/src/quic_wire/_wire.pyi."""
+"""What is typed twice, since it has comments or is code, is compared: with docs/formats.json the rules of frames in the
+proved code for C; with the structs of the header for C those of the proved crates, in order and widths; with its
+constants those of python/src/quic_wire/_wire.pyi."""
 import re
 
 from lib.tables import proved
 from lib.tables.formats import HEADER, constants, enumeration, packet_kinds, read
 
 STUB = "python/src/quic_wire/_wire.pyi"
-LAYOUT = "web/layout.js"
 # The widths in bytes of the types in structs.
 WIDTHS = dict(proved.NUMBERS.values())
-# An error that only the header itself has.
-OWN_ERRORS = {"LIBRARY": -10}
 
 
 def uncommented(path):
@@ -23,34 +20,6 @@ def differences(what, found, wanted):
     for key in dict.fromkeys([*wanted, *found]):
         if found.get(key) != wanted.get(key):
             yield f"{what}: {key} is {found.get(key, 'missing')} and not {wanted.get(key, 'there')}"
-
-
-def header_constants(formats):
-    """The header's kinds of frames and packets, codes and errors, and the order of parameters."""
-    frames = {frame.get("quinn_proto", frame["name"]): frame["type"] for frame in reversed(formats["frames"])}
-    del frames["ACK_ECN"]
-    yield from differences(f"{HEADER}: kinds of frames", enumeration("frame_kind", "FRAME"), frames)
-    packets = {name.upper().replace("-", "").replace(" ", "_"): kind for name, kind in packet_kinds().items()}
-    packets["UNKNOWN_VERSION"] = len(packets)
-    yield from differences(f"{HEADER}: kinds of packets", enumeration("packet_kind", "PACKET"), packets)
-    codes = {code["name"]: code["code"] for code in formats["error_codes"]}
-    yield from differences(f"{HEADER}: codes", enumeration("code", "CODE"), codes)
-    errors = {reason["name"]: reason["number"] for reason in formats["reasons"]}
-    yield from differences(f"{HEADER}: errors", enumeration("result", "ERR"), {**errors, **OWN_ERRORS})
-    order = {int(number): name for number, name in re.findall(r"^ \*  - (\d+) (\w+)$", read(HEADER), re.M)}
-    wanted = {one["order"]: one["name"] for one in formats["parameters"] if one["kind"] != "skipped"}
-    yield from differences(f"{HEADER}: the order of parameters", order, wanted)
-    counts = {"PARAM_ROWS": len(formats["parameters"])}
-    for name, list_name in ("FRAME_FIELDS", "frames"), ("PACKET_FIELDS", "headers"):
-        if f"#define QUIC_WIRE_{name} " in read(HEADER):
-            counts[name] = max(len(one["fields"]) for one in formats[list_name])
-    sizes = {name: constants(name.split("_")[0])[name.split("_")[1]] for name in counts}
-    yield from differences(HEADER, sizes, counts)
-
-
-def rattle_kinds():
-    """The numbers of the kinds of packets in the proved code."""
-    yield from differences(proved.KINDS, proved.packet_kinds(), enumeration("packet_kind", "PACKET"))
 
 
 def rules(formats):
@@ -99,22 +68,6 @@ def structs():
         yield from differences(f"{path}: {name} (offset, width, items)", ours, declared[words])
 
 
-def layout():
-    """The layout in bytes of the structs that the page knows, of their fields those that it reads."""
-    declared = c_structs()
-    found = re.findall(r"(\w+): \{\s*size: (\d+),\s*fields: \{(.*?)\}", read(LAYOUT), re.S)
-    if not found:
-        yield f"{LAYOUT}: no structs"
-    for name, size, body in found:
-        ours = {of: (int(at), int(width)) for of, at, width in re.findall(r"(\w+): \[(\d+), (\d+)\]", body)}
-        theirs = {of: (at, width * count) for of, (at, width, count) in declared.get(name, {}).items()}
-        read_here = {of: it for of, it in theirs.items() if of in ours}
-        yield from differences(f"{LAYOUT}: {name} (offset, bytes)", ours, read_here)
-        end = max((at + width for at, width in theirs.values()), default=0)
-        if int(size) != end + -end % 8:
-            yield f"{LAYOUT}: {name} has {size} bytes and not {end + -end % 8}"
-
-
 def declared_constants():
     """The constants of the module for Python: the header's, without QUIC_WIRE_ and ERR_."""
     known = {*enumeration("result", "ERR"), *(f"READ_{name}" for name in constants("READ"))}
@@ -126,9 +79,6 @@ def declared_constants():
 
 def faults(formats):
     """Everything that differs."""
-    yield from header_constants(formats)
-    yield from rattle_kinds()
     yield from rules(formats)
     yield from structs()
-    yield from layout()
     yield from declared_constants()

@@ -1,9 +1,10 @@
 // The structs of c/include/quic_wire.h as they are in the module's memory, whose pointers and sizes have 64 bits. No
-// other file knows a field's offset. scripts/test-web compares this table with what layout.c prints of the header.
+// other file knows a field's offset. scripts/tables makes this table from the header; scripts/test-web compares it with
+// what layout.c prints of that.
 
 // For each struct its size, and for each field its offset and how many bytes it has; for an array, all of them.
 export const LAYOUT = {
-  frame_iter: { size: 24, fields: { offset: [0, 8], last_type: [8, 8], ended: [16, 4], flags: [20, 4] } },
+  frame_iter: {size: 24, fields: {offset: [0, 8], last_type: [8, 8], ended: [16, 4], flags: [20, 4]}},
   frame: {
     size: 80,
     fields: {
@@ -11,9 +12,9 @@ export const LAYOUT = {
       numbers: [40, 40],
     },
   },
-  range: { size: 16, fields: { start: [0, 8], end: [8, 8] } },
-  range_iter: { size: 24, fields: { offset: [0, 8], left: [8, 8], largest: [16, 8] } },
-  canon: { size: 16, fields: { len: [0, 8], last_type: [8, 8] } },
+  range: {size: 16, fields: {start: [0, 8], end: [8, 8]}},
+  range_iter: {size: 24, fields: {offset: [0, 8], left: [8, 8], largest: [16, 8]}},
+  canon: {size: 16, fields: {len: [0, 8], last_type: [8, 8]}},
   header: {
     size: 32,
     fields: {
@@ -21,10 +22,10 @@ export const LAYOUT = {
       token: [16, 4], tokenlen: [20, 4], len: [24, 8],
     },
   },
-  params: { size: 264, fields: {} },
-  refusal: { size: 16, fields: { id: [0, 8], offset: [8, 8] } },
-  span: { size: 32, fields: { field: [0, 8], start: [8, 8], end: [16, 8], number: [24, 8] } },
-  fields: { size: 32, fields: { count: [0, 8], end: [8, 8], inside: [16, 8], numbers: [24, 8] } },
+  params: {size: 264, fields: {}},
+  refusal: {size: 16, fields: {id: [0, 8], offset: [8, 8]}},
+  span: {size: 32, fields: {field: [0, 8], start: [8, 8], end: [16, 8], number: [24, 8]}},
+  fields: {size: 32, fields: {count: [0, 8], end: [8, 8], inside: [16, 8], numbers: [24, 8]}},
 };
 
 // What calls return: QUIC_WIRE_OK, QUIC_WIRE_ITEM, QUIC_WIRE_ERR_PAYLOAD_EMPTY.

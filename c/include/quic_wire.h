@@ -192,71 +192,78 @@ extern "C" {
 /** What functions return.  Below 0 it is an error, which quic_wire_strerror
  * describes; from 0 on it is a count, a length or one of the first three.  The
  * numbers never change; new ones may be added. */
+/* Made by scripts/tables: */
 typedef enum quic_wire_result {
-  QUIC_WIRE_OK = 0,   /* reading is complete, or something was written */
-  QUIC_WIRE_ITEM = 1, /* an item was read */
+  QUIC_WIRE_OK = 0,      /* reading is complete, or something was written */
+  QUIC_WIRE_ITEM = 1,    /* an item was read */
   QUIC_WIRE_CHANGED = 1, /* the set changed */
 
   /* The caller's mistakes. */
   QUIC_WIRE_ERR_ARGUMENT = -1, /* a pointer is NULL, or the arguments describe
                                   nothing that can be written */
-  QUIC_WIRE_ERR_PLACE = -2,    /* an offset is outside the bytes, or the
-                                  function can't read what is there */
+  QUIC_WIRE_ERR_PLACE = -2, /* an offset is outside the bytes, or the function
+                               can't read what is there */
   QUIC_WIRE_ERR_KIND = -3, /* there is no such kind or side, or the function
                               doesn't accept it */
-  QUIC_WIRE_ERR_NUMBER = -5,   /* a number is out of range, such as above
-                                  2^62 - 1 */
-  QUIC_WIRE_ERR_LENGTH = -6,   /* a length or width is impossible for its
-                                  field */
-  QUIC_WIRE_ERR_RANGES = -7,   /* there are no ranges, or they aren't sorted, or
-                                  two of them touch */
-  QUIC_WIRE_ERR_PARAM = -8,    /* the peer would reject the transport
-                                  parameters */
-  QUIC_WIRE_ERR_NOBUF = -9,    /* the buffer is too small */
+  QUIC_WIRE_ERR_NUMBER = -5, /* a number is out of range, such as above
+                                2^62 - 1 */
+  QUIC_WIRE_ERR_LENGTH = -6, /* a length or width is impossible for its field */
+  QUIC_WIRE_ERR_RANGES = -7, /* there are no ranges, or they aren't sorted, or
+                                two of them touch */
+  QUIC_WIRE_ERR_PARAM = -8, /* the peer would reject the transport parameters */
+  QUIC_WIRE_ERR_NOBUF = -9, /* the buffer is too small */
   QUIC_WIRE_ERR_LIBRARY = -10, /* the linked library doesn't fit this header */
 
   /* A payload is rejected (RFC 9000, sections 12.4 and 19). */
-  QUIC_WIRE_ERR_PAYLOAD_EMPTY = -20,
-  QUIC_WIRE_ERR_FRAME_END = -21,       /* the bytes end within a frame */
-  QUIC_WIRE_ERR_FRAME_TYPE = -22,      /* the type is unknown */
-  QUIC_WIRE_ERR_FRAME_MALFORMED = -23, /* a field has an invalid value */
+  QUIC_WIRE_ERR_PAYLOAD_EMPTY = -20, /* packet payload is empty (12.4) */
+  QUIC_WIRE_ERR_FRAME_END = -21,     /* the bytes end within a frame (20.1) */
+  QUIC_WIRE_ERR_FRAME_TYPE = -22,    /* the type is unknown (12.4) */
+  QUIC_WIRE_ERR_FRAME_MALFORMED = -23, /* a field has an invalid value (19.3.1,
+                                          19.7, 19.15) */
   QUIC_WIRE_ERR_FRAME_LONG_TYPE = -24, /* the type isn't in its shortest
-                                          encoding:
-                                          QUIC_WIRE_READ_SHORT_TYPES */
+                                          encoding: QUIC_WIRE_READ_SHORT_TYPES
+                                          (12.4) */
   QUIC_WIRE_ERR_FRAME_LIMIT = -25, /* data ends past 2^62 - 1, or there are more
                                       than 2^60 streams:
                                       QUIC_WIRE_READ_DATA_LIMIT,
-                                      QUIC_WIRE_READ_STREAM_LIMIT */
+                                      QUIC_WIRE_READ_STREAM_LIMIT (19.6, 19.8,
+                                      19.11, 19.14) */
 
   /* A frame isn't permitted.  Only quic_wire_type_permitted and
    * quic_wire_frame_permitted return these. */
-  QUIC_WIRE_ERR_FRAME_PACKET = -26, /* its packet may not carry it (12.4,
-                                       table 3) */
+  QUIC_WIRE_ERR_FRAME_PACKET = -26, /* its packet may not carry it, by table 3
+                                       (12.4) */
   QUIC_WIRE_ERR_FRAME_SENDER = -27, /* that side may not send it (19.7,
                                        19.20) */
   QUIC_WIRE_ERR_FRAME_STREAM = -28, /* that side may not send it on this stream
                                        (19.4, 19.5, 19.8, 19.10, 19.13) */
 
   /* A packet is dropped (section 5.2). */
-  QUIC_WIRE_ERR_PACKET_END = -40,       /* the bytes end within the header */
-  QUIC_WIRE_ERR_PACKET_FIXED_BIT = -41, /* the fixed bit is clear */
-  QUIC_WIRE_ERR_PACKET_SMALL = -42,   /* too short for the id, or for the packet
-                                         number */
-  QUIC_WIRE_ERR_PACKET_CID = -43,     /* an id is cut off, or too long */
-  QUIC_WIRE_ERR_PACKET_TOKEN = -44,   /* the bytes end within the token */
-  QUIC_WIRE_ERR_PACKET_VERSION = -45, /* not one of the given versions */
-  QUIC_WIRE_ERR_PACKET_CUT = -46,     /* the bytes end within the packet, after
-                                         its header */
-  QUIC_WIRE_ERR_PACKET_RETRY = -47,   /* a Retry without a token or a tag */
+  QUIC_WIRE_ERR_PACKET_END = -40, /* the bytes end within the header (17) */
+  QUIC_WIRE_ERR_PACKET_FIXED_BIT = -41, /* the fixed bit is clear (17.2,
+                                           17.3.1) */
+  QUIC_WIRE_ERR_PACKET_SMALL = -42, /* too short for the id, or for the packet
+                                       number (RFC 9001, section 5.4.2) */
+  QUIC_WIRE_ERR_PACKET_CID = -43, /* an id is cut off, or too long (17.2) */
+  QUIC_WIRE_ERR_PACKET_TOKEN = -44, /* the bytes end within the token
+                                       (17.2.2) */
+  QUIC_WIRE_ERR_PACKET_VERSION = -45, /* not one of the given versions (6.1) */
+  QUIC_WIRE_ERR_PACKET_CUT = -46, /* the bytes end within the packet, after its
+                                     header (12.2) */
+  QUIC_WIRE_ERR_PACKET_RETRY = -47, /* a Retry without a token or a tag
+                                       (17.2.5) */
 
   /* A list of transport parameters is rejected (section 7.4). */
   QUIC_WIRE_ERR_PARAMS_MALFORMED = -60, /* a parameter is cut off, has an
-                                           invalid value, or occurs twice */
-  QUIC_WIRE_ERR_PARAMS_ILLEGAL = -61    /* a value is out of range, or that side
-                                           may not send it */
+                                           invalid value, or occurs twice
+                                           (7.4) */
+  QUIC_WIRE_ERR_PARAMS_ILLEGAL = -61 /* a value is out of range, or that side
+                                        may not send it (7.4, 18.2) */
 } quic_wire_result;
+/* End of what is made. */
 
 /** The codes of a CONNECTION_CLOSE (RFC 9000, section 20.1). */
+/* Made by scripts/tables: */
 typedef enum quic_wire_code {
   QUIC_WIRE_CODE_NO_ERROR = 0x00,
   QUIC_WIRE_CODE_INTERNAL_ERROR = 0x01,
@@ -277,6 +284,7 @@ typedef enum quic_wire_code {
   QUIC_WIRE_CODE_NO_VIABLE_PATH = 0x10,
   QUIC_WIRE_CODE_CRYPTO_ERROR = 0x100 /* plus the TLS alert */
 } quic_wire_code;
+/* End of what is made. */
 
 /* ---- Flags of readers */
 
@@ -341,6 +349,7 @@ typedef enum quic_wire_code {
 
 /** The kinds of frames: the frame's type, with one kind for all types of
  * STREAM, one for ACK and one for DATAGRAM. */
+/* Made by scripts/tables: */
 typedef enum quic_wire_frame_kind {
   QUIC_WIRE_FRAME_PADDING = 0x00,
   QUIC_WIRE_FRAME_PING = 0x01,
@@ -369,6 +378,7 @@ typedef enum quic_wire_frame_kind {
   QUIC_WIRE_FRAME_DATAGRAM = 0x30,
   QUIC_WIRE_FRAME_ACK_FREQUENCY = 0xaf
 } quic_wire_frame_kind;
+/* End of what is made. */
 
 /** Flags of a frame. */
 #define QUIC_WIRE_FLAG_FIN 1 /* STREAM: the data ends the stream */
@@ -526,6 +536,7 @@ typedef struct quic_wire_canon {
 /* ---- Packets (RFC 9000, section 17) */
 
 /** The kinds of packets. */
+/* Made by scripts/tables: */
 typedef enum quic_wire_packet_kind {
   QUIC_WIRE_PACKET_INITIAL = 0,
   QUIC_WIRE_PACKET_0RTT = 1,
@@ -536,6 +547,7 @@ typedef enum quic_wire_packet_kind {
   QUIC_WIRE_PACKET_UNKNOWN_VERSION = 6 /* a long header of a version that isn't
                                           given */
 } quic_wire_packet_kind;
+/* End of what is made. */
 
 /** Bits of a first byte. */
 #define QUIC_WIRE_BIT_LONG 0x80 /* set in all headers except those of 1-RTT */
@@ -598,6 +610,7 @@ typedef enum quic_wire_side {
 } quic_wire_side;
 
 /** Bits of |present|: which optional parameters are there. */
+/* Made by scripts/tables: */
 #define QUIC_WIRE_HAS_STATELESS_RESET_TOKEN 0x001
 #define QUIC_WIRE_HAS_DISABLE_ACTIVE_MIGRATION 0x002
 #define QUIC_WIRE_HAS_MAX_DATAGRAM_FRAME_SIZE 0x004
@@ -609,42 +622,47 @@ typedef enum quic_wire_side {
 #define QUIC_WIRE_HAS_RETRY_SRC_CID 0x100
 #define QUIC_WIRE_HAS_GREASE_QUIC_BIT 0x200
 #define QUIC_WIRE_HAS_MIN_ACK_DELAY 0x400
+/* End of what is made. */
 
 /** Transport parameters.  If a parameter is absent, all its fields are 0, or
  * hold its default if it has one.  Ids are at the front of their bytes,
  * followed by zeros.  Compare reset tokens by quic_wire_reset_token_equal. */
+/* Made by scripts/tables: */
 typedef struct quic_wire_params {
-  uint32_t present;  /* QUIC_WIRE_HAS_STATELESS_RESET_TOKEN and so on */
-  uint32_t reserved; /* 0 */
-  uint64_t max_idle_timeout;     /* milliseconds; default 0: no timeout */
-  uint64_t max_udp_payload_size; /* bytes, at least 1200; default 65527 */
-  uint64_t initial_max_data;     /* bytes; default 0, also for the next five */
-  uint64_t initial_max_stream_data_bidi_local;  /* bytes */
-  uint64_t initial_max_stream_data_bidi_remote; /* bytes */
-  uint64_t initial_max_stream_data_uni;         /* bytes */
-  uint64_t initial_max_streams_bidi;            /* at most 2^60 */
-  uint64_t initial_max_streams_uni;             /* at most 2^60 */
-  uint64_t ack_delay_exponent;         /* at most 20; default 3 */
-  uint64_t max_ack_delay;             /* milliseconds, below 2^14; default 25 */
-  uint64_t active_connection_id_limit; /* at least 2, the default */
-  uint64_t max_datagram_frame_size;    /* bytes (RFC 9221, section 3) */
-  uint64_t min_ack_delay; /* microseconds, no longer than max_ack_delay */
-  uint32_t original_dst_cidlen; /* the lengths of ids: at most 20 bytes */
-  uint32_t initial_src_cidlen;
-  uint32_t retry_src_cidlen;
-  uint32_t preferred_cidlen; /* 1 to 20 if there is a preferred address */
-  uint16_t preferred_v4_port; /* in the machine's byte order */
-  uint16_t preferred_v6_port;
+  uint32_t present;          /* QUIC_WIRE_HAS_STATELESS_RESET_TOKEN and so on */
+  uint32_t reserved;         /* 0 */
+  uint64_t max_idle_timeout; /* milliseconds, 0 for none; default 0 */
+  uint64_t max_udp_payload_size; /* bytes, 1200 or more; default 65527 */
+  uint64_t initial_max_data;     /* bytes; default 0 */
+  uint64_t initial_max_stream_data_bidi_local;  /* bytes; default 0 */
+  uint64_t initial_max_stream_data_bidi_remote; /* bytes; default 0 */
+  uint64_t initial_max_stream_data_uni;         /* bytes; default 0 */
+  uint64_t initial_max_streams_bidi; /* streams, at most 2^60; default 0 */
+  uint64_t initial_max_streams_uni;  /* streams, at most 2^60; default 0 */
+  uint64_t ack_delay_exponent;       /* power of 2, at most 20; default 3 */
+  uint64_t max_ack_delay;            /* milliseconds, below 2^14; default 25 */
+  uint64_t active_connection_id_limit; /* connection ids, 2 or more;
+                                          default 2 */
+  uint64_t max_datagram_frame_size; /* bytes (RFC 9221, section 3) */
+  uint64_t min_ack_delay; /* microseconds, at most max_ack_delay
+                             (draft-ietf-quic-ack-frequency, section 3) */
+  uint32_t original_dst_cidlen; /* 0 to 20 bytes */
+  uint32_t initial_src_cidlen;  /* 0 to 20 bytes */
+  uint32_t retry_src_cidlen;    /* 0 to 20 bytes */
+  uint32_t preferred_cidlen;    /* 1 to 20 bytes */
+  uint16_t preferred_v4_port;   /* in the machine's byte order */
+  uint16_t preferred_v6_port;   /* in the machine's byte order */
   uint8_t original_dst_cid[20]; /* of the client's first packet, its
                                    destination */
-  uint8_t initial_src_cid[20];  /* of the sender's first packet, its source */
-  uint8_t retry_src_cid[20];    /* of the server's Retry, its source */
-  uint8_t preferred_cid[20];    /* the id at the preferred address */
+  uint8_t initial_src_cid[20]; /* of the sender's first packet, its source */
+  uint8_t retry_src_cid[20];   /* of the server's Retry, its source */
+  uint8_t preferred_cid[20];   /* the id at the preferred address */
   uint8_t stateless_reset_token[16];
   uint8_t preferred_token[16]; /* that id's stateless reset token */
-  uint8_t preferred_v6[16];    /* the highest byte first, as in the next */
-  uint8_t preferred_v4[4];
+  uint8_t preferred_v6[16];    /* the highest byte first */
+  uint8_t preferred_v4[4];     /* the highest byte first */
 } QUIC_WIRE_ALIGNED quic_wire_params;
+/* End of what is made. */
 
 /** An entry of a list of transport parameters (RFC 9000, section 18). */
 typedef struct quic_wire_param {
@@ -717,53 +735,48 @@ typedef struct quic_wire_fields {
 
 /* The layout of the structs, on which the library relies. */
 #if defined(__cplusplus) && __cplusplus >= 201103L
-#define QUIC_WIRE_ASSERT(so, why) static_assert(so, why)
+#define QUIC_WIRE_ASSERT(so) static_assert(so, "the library's layout")
 #elif defined(__STDC_VERSION__) && __STDC_VERSION__ >= 201112L
-#define QUIC_WIRE_ASSERT(so, why) _Static_assert(so, why)
+#define QUIC_WIRE_ASSERT(so) _Static_assert(so, "the library's layout")
 #endif
 #ifdef QUIC_WIRE_ASSERT
-QUIC_WIRE_ASSERT(sizeof(quic_wire_frame_iter) == 24, "64-bit words");
-QUIC_WIRE_ASSERT(offsetof(quic_wire_frame_iter, offset) == 0, "64-bit words");
-QUIC_WIRE_ASSERT(offsetof(quic_wire_frame_iter, last_type) == 8,
-                 "64-bit words");
-QUIC_WIRE_ASSERT(offsetof(quic_wire_frame_iter, ended) == 16, "no room");
-QUIC_WIRE_ASSERT(offsetof(quic_wire_frame_iter, flags) == 20, "no room");
-QUIC_WIRE_ASSERT(sizeof(quic_wire_frame) == 80, "64-bit words");
-QUIC_WIRE_ASSERT(offsetof(quic_wire_frame, type) == 2, "no room");
-QUIC_WIRE_ASSERT(offsetof(quic_wire_frame, flags) == 4, "no room");
-QUIC_WIRE_ASSERT(offsetof(quic_wire_frame, numbers) == 40, "64-bit words");
-QUIC_WIRE_ASSERT(sizeof(quic_wire_range) == 16, "64-bit words");
-QUIC_WIRE_ASSERT(offsetof(quic_wire_range, start) == 0, "64-bit words");
-QUIC_WIRE_ASSERT(offsetof(quic_wire_range, end) == 8, "64-bit words");
-QUIC_WIRE_ASSERT(sizeof(quic_wire_gap) == 16, "64-bit words");
-QUIC_WIRE_ASSERT(offsetof(quic_wire_gap, len) == 8, "64-bit words");
-QUIC_WIRE_ASSERT(sizeof(quic_wire_range_iter) == 24, "64-bit words");
-QUIC_WIRE_ASSERT(sizeof(quic_wire_canon) == 16, "64-bit words");
-QUIC_WIRE_ASSERT(offsetof(quic_wire_canon, last_type) == 8, "64-bit words");
-QUIC_WIRE_ASSERT(sizeof(quic_wire_header) == 32, "no room between the fields");
-QUIC_WIRE_ASSERT(offsetof(quic_wire_header, version) == 4, "no room");
-QUIC_WIRE_ASSERT(offsetof(quic_wire_header, len) == 24, "no room");
-QUIC_WIRE_ASSERT(sizeof(quic_wire_header_fields) == 16,
-                 "no room between the fields");
-QUIC_WIRE_ASSERT(sizeof(quic_wire_params) == 264, "no room between the fields");
-QUIC_WIRE_ASSERT(offsetof(quic_wire_params, max_idle_timeout) == 8, "no room");
-QUIC_WIRE_ASSERT(offsetof(quic_wire_params, original_dst_cidlen) == 112,
-                 "no room");
-QUIC_WIRE_ASSERT(offsetof(quic_wire_params, preferred_v4_port) == 128,
-                 "no room");
-QUIC_WIRE_ASSERT(offsetof(quic_wire_params, original_dst_cid) == 132,
-                 "no room");
-QUIC_WIRE_ASSERT(offsetof(quic_wire_params, preferred_v4) == 260, "no room");
-QUIC_WIRE_ASSERT(sizeof(quic_wire_param) == 24, "64-bit words");
-QUIC_WIRE_ASSERT(offsetof(quic_wire_param, value) == 8, "64-bit words");
-QUIC_WIRE_ASSERT(sizeof(quic_wire_refusal) == 16, "64-bit words");
-QUIC_WIRE_ASSERT(offsetof(quic_wire_refusal, offset) == 8, "64-bit words");
-QUIC_WIRE_ASSERT(sizeof(quic_wire_span) == 32, "64-bit words");
-QUIC_WIRE_ASSERT(offsetof(quic_wire_span, end) == 16, "64-bit words");
-QUIC_WIRE_ASSERT(offsetof(quic_wire_span, number) == 24, "64-bit words");
-QUIC_WIRE_ASSERT(sizeof(quic_wire_fields) == 32, "64-bit words");
-QUIC_WIRE_ASSERT(offsetof(quic_wire_fields, inside) == 16, "64-bit words");
-QUIC_WIRE_ASSERT(offsetof(quic_wire_fields, numbers) == 24, "64-bit words");
+/* Made by scripts/tables: */
+QUIC_WIRE_ASSERT(sizeof(quic_wire_frame_iter) == 24);
+QUIC_WIRE_ASSERT(offsetof(quic_wire_frame_iter, ended) == 16);
+QUIC_WIRE_ASSERT(offsetof(quic_wire_frame_iter, flags) == 20);
+QUIC_WIRE_ASSERT(sizeof(quic_wire_frame) == 80);
+QUIC_WIRE_ASSERT(offsetof(quic_wire_frame, flags) == 4);
+QUIC_WIRE_ASSERT(offsetof(quic_wire_frame, begin) == 8);
+QUIC_WIRE_ASSERT(offsetof(quic_wire_frame, numbers) == 40);
+QUIC_WIRE_ASSERT(sizeof(quic_wire_range) == 16);
+QUIC_WIRE_ASSERT(offsetof(quic_wire_range, end) == 8);
+QUIC_WIRE_ASSERT(sizeof(quic_wire_gap) == 16);
+QUIC_WIRE_ASSERT(offsetof(quic_wire_gap, len) == 8);
+QUIC_WIRE_ASSERT(sizeof(quic_wire_range_iter) == 24);
+QUIC_WIRE_ASSERT(offsetof(quic_wire_range_iter, largest) == 16);
+QUIC_WIRE_ASSERT(sizeof(quic_wire_canon) == 16);
+QUIC_WIRE_ASSERT(offsetof(quic_wire_canon, last_type) == 8);
+QUIC_WIRE_ASSERT(sizeof(quic_wire_header) == 32);
+QUIC_WIRE_ASSERT(offsetof(quic_wire_header, version) == 4);
+QUIC_WIRE_ASSERT(offsetof(quic_wire_header, len) == 24);
+QUIC_WIRE_ASSERT(sizeof(quic_wire_header_fields) == 16);
+QUIC_WIRE_ASSERT(offsetof(quic_wire_header_fields, version) == 4);
+QUIC_WIRE_ASSERT(offsetof(quic_wire_header_fields, number) == 8);
+QUIC_WIRE_ASSERT(sizeof(quic_wire_params) == 264);
+QUIC_WIRE_ASSERT(offsetof(quic_wire_params, max_idle_timeout) == 8);
+QUIC_WIRE_ASSERT(offsetof(quic_wire_params, original_dst_cidlen) == 112);
+QUIC_WIRE_ASSERT(offsetof(quic_wire_params, preferred_v4_port) == 128);
+QUIC_WIRE_ASSERT(offsetof(quic_wire_params, original_dst_cid) == 132);
+QUIC_WIRE_ASSERT(offsetof(quic_wire_params, preferred_v4) == 260);
+QUIC_WIRE_ASSERT(sizeof(quic_wire_param) == 24);
+QUIC_WIRE_ASSERT(offsetof(quic_wire_param, valuelen) == 16);
+QUIC_WIRE_ASSERT(sizeof(quic_wire_refusal) == 16);
+QUIC_WIRE_ASSERT(offsetof(quic_wire_refusal, offset) == 8);
+QUIC_WIRE_ASSERT(sizeof(quic_wire_span) == 32);
+QUIC_WIRE_ASSERT(offsetof(quic_wire_span, number) == 24);
+QUIC_WIRE_ASSERT(sizeof(quic_wire_fields) == 32);
+QUIC_WIRE_ASSERT(offsetof(quic_wire_fields, numbers) == 24);
+/* End of what is made. */
 #undef QUIC_WIRE_ASSERT
 #endif
 

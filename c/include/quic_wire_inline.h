@@ -14,80 +14,84 @@
 #ifndef QUIC_WIRE_INLINE_H
 #define QUIC_WIRE_INLINE_H
 
-/* The functions of the proved library.  Their pointers must not be NULL. */
-uint32_t quic_wire_close_code_(int32_t);
-uint32_t quic_wire_frame_rules_(uint32_t);
-int32_t quic_wire_type_permitted_(uint64_t, uint32_t, uint32_t, uint32_t);
-int32_t quic_wire_frame_permitted_(uint64_t, uint64_t, uint32_t, uint32_t,
-                                   uint32_t);
-uint32_t quic_wire_reset_token_equal_(const uint8_t *, size_t, const uint8_t *,
-                                      size_t);
-int32_t quic_wire_frames_init_(quic_wire_frame_iter *, const uint8_t *, size_t,
-                               uint32_t);
-int32_t quic_wire_frames_next_(quic_wire_frame_iter *, const uint8_t *, size_t,
-                               quic_wire_frame *);
-int32_t quic_wire_frames_fill_(quic_wire_frame_iter *, const uint8_t *, size_t,
-                               quic_wire_frame *, size_t, size_t *);
-int32_t quic_wire_frames_first_(quic_wire_frame_iter *, const uint8_t *, size_t,
-                                uint32_t, quic_wire_frame *, size_t, size_t *);
-int64_t quic_wire_frame_read_(const uint8_t *, size_t, uint32_t,
-                              quic_wire_frame *, quic_wire_gap *, size_t);
-int64_t quic_wire_frame_header_read_(const uint8_t *, size_t, uint32_t,
-                                     quic_wire_frame *);
+/* The functions of the proved library.  Their pointers must not be NULL.  A
+ * slice of its crates is a pointer and a length here. */
+/* Made by scripts/tables: */
+int32_t quic_wire_ack_gaps_write_(const quic_wire_frame *,
+                                  const quic_wire_gap *, size_t, uint8_t *,
+                                  size_t, size_t *);
 int32_t quic_wire_ack_ranges_init_(quic_wire_range_iter *, const uint8_t *,
                                    size_t, const quic_wire_frame *);
 int32_t quic_wire_ack_ranges_next_(quic_wire_range_iter *, const uint8_t *,
                                    size_t, quic_wire_range *);
-int32_t quic_wire_ack_ranges_fill_(quic_wire_range_iter *, const uint8_t *,
-                                   size_t, quic_wire_range *, size_t, size_t *);
-int32_t quic_wire_frame_write_(const quic_wire_frame *, const uint8_t *, size_t,
-                               uint32_t, uint8_t *, size_t, size_t *);
+uint32_t quic_wire_close_code_(int32_t);
 int32_t quic_wire_frame_header_write_(const quic_wire_frame *, uint32_t,
                                       uint8_t *, size_t, size_t *);
-int32_t quic_wire_ack_gaps_write_(const quic_wire_frame *,
-                                  const quic_wire_gap *, size_t, uint8_t *,
-                                  size_t, size_t *);
+int32_t quic_wire_frames_fill_(quic_wire_frame_iter *, const uint8_t *, size_t,
+                               quic_wire_frame *, size_t, size_t *);
+int32_t quic_wire_frames_first_(quic_wire_frame_iter *, const uint8_t *, size_t,
+                                uint32_t, quic_wire_frame *, size_t, size_t *);
+int32_t quic_wire_ack_ranges_fill_(quic_wire_range_iter *, const uint8_t *,
+                                   size_t, quic_wire_range *, size_t, size_t *);
+int32_t quic_wire_frames_init_(quic_wire_frame_iter *, const uint8_t *, size_t,
+                               uint32_t);
+int32_t quic_wire_frames_next_(quic_wire_frame_iter *, const uint8_t *, size_t,
+                               quic_wire_frame *);
+int64_t quic_wire_frame_read_(const uint8_t *, size_t, uint32_t,
+                              quic_wire_frame *, quic_wire_gap *, size_t);
+int64_t quic_wire_frame_header_read_(const uint8_t *, size_t, uint32_t,
+                                     quic_wire_frame *);
+int32_t quic_wire_frame_write_(const quic_wire_frame *, const uint8_t *, size_t,
+                               uint32_t, uint8_t *, size_t, size_t *);
 int32_t quic_wire_canonical_(const uint8_t *, size_t, uint8_t *, size_t,
                              quic_wire_canon *);
 int32_t quic_wire_canonical_with_(const uint8_t *, size_t, uint32_t, uint8_t *,
                                   size_t, quic_wire_canon *);
+int32_t quic_wire_frame_fields_(const uint8_t *, size_t, uint32_t,
+                                quic_wire_span *, size_t, quic_wire_fields *);
+int32_t quic_wire_param_fields_(const uint8_t *, size_t, quic_wire_span *,
+                                size_t, quic_wire_fields *);
+int32_t quic_wire_param_value_fields_(uint64_t, const uint8_t *, size_t,
+                                      uint32_t, quic_wire_span *, size_t,
+                                      quic_wire_fields *);
+int32_t quic_wire_packet_fields_(const uint8_t *, size_t, size_t,
+                                 const uint32_t *, size_t, uint32_t,
+                                 quic_wire_span *, size_t, quic_wire_fields *);
 int64_t quic_wire_header_read_(const uint8_t *, size_t, uint32_t,
                                const uint32_t *, size_t, uint32_t,
                                quic_wire_header *);
-size_t quic_wire_dcid_read_(const uint8_t *, size_t, size_t, size_t *);
 size_t quic_wire_short_read_(const uint8_t *, size_t, uint32_t);
+size_t quic_wire_dcid_read_(const uint8_t *, size_t, size_t, size_t *);
 int64_t quic_wire_negotiation_read_(const uint8_t *, size_t,
                                     quic_wire_header *);
+int32_t quic_wire_negotiation_write_(uint8_t, const uint8_t *, size_t,
+                                     const uint8_t *, size_t, const uint32_t *,
+                                     size_t, uint8_t *, size_t, size_t *);
+size_t quic_wire_varint_read_(const uint8_t *, size_t, uint64_t *);
+size_t quic_wire_varint_len_(uint64_t);
+size_t quic_wire_varint_write_(uint64_t, uint32_t, uint8_t *, size_t);
+int32_t quic_wire_number_len_(uint64_t, uint64_t);
+int32_t quic_wire_number_read_(const uint8_t *, size_t, uint32_t, uint64_t *);
+int32_t quic_wire_number_write_(uint64_t, uint32_t, uint8_t *, size_t);
+uint64_t quic_wire_number_expand_(uint64_t, uint32_t, uint64_t);
 int32_t quic_wire_unprotect_(uint8_t *, size_t, size_t, const uint8_t *,
                              uint64_t, uint64_t *);
 int32_t quic_wire_unprotect_copy_(const uint8_t *, size_t, size_t,
                                   const uint8_t *, uint64_t, uint8_t *, size_t,
                                   uint64_t *);
 int32_t quic_wire_protect_(uint8_t *, size_t, size_t, const uint8_t *);
+int32_t quic_wire_set_len_(uint8_t *, size_t, size_t, uint32_t);
 int64_t quic_wire_short_write_(const quic_wire_header_fields *, const uint8_t *,
                                size_t, uint8_t *, size_t);
 int64_t quic_wire_header_write_(const quic_wire_header_fields *,
                                 const uint8_t *, size_t, const uint8_t *,
                                 size_t, const uint8_t *, size_t, uint8_t *,
                                 size_t);
-int32_t quic_wire_negotiation_write_(uint8_t, const uint8_t *, size_t,
-                                     const uint8_t *, size_t, const uint32_t *,
-                                     size_t, uint8_t *, size_t, size_t *);
-int32_t quic_wire_set_len_(uint8_t *, size_t, size_t, uint32_t);
-int32_t quic_wire_number_len_(uint64_t, uint64_t);
-uint64_t quic_wire_number_expand_(uint64_t, uint32_t, uint64_t);
-int32_t quic_wire_number_read_(const uint8_t *, size_t, uint32_t, uint64_t *);
-int32_t quic_wire_number_write_(uint64_t, uint32_t, uint8_t *, size_t);
-size_t quic_wire_varint_len_(uint64_t);
-size_t quic_wire_varint_read_(const uint8_t *, size_t, uint64_t *);
-size_t quic_wire_varint_write_(uint64_t, uint32_t, uint8_t *, size_t);
-int32_t quic_wire_params_read_(uint32_t, uint32_t, const uint8_t *, size_t,
-                               quic_wire_params *, quic_wire_refusal *);
-int32_t quic_wire_params_write_(uint32_t, const quic_wire_params *, uint8_t *,
-                                size_t, size_t *);
-int32_t quic_wire_params_write_with_(uint32_t, const quic_wire_params *,
-                                     const uint8_t *, size_t, const uint8_t *,
-                                     size_t, uint8_t *, size_t, size_t *);
+int32_t quic_wire_preferred_address_read_(const uint8_t *, size_t,
+                                          quic_wire_params *);
+int32_t quic_wire_preferred_address_write_(const quic_wire_params *, uint8_t *,
+                                           size_t, size_t *);
+uint32_t quic_wire_param_is_known_(uint64_t);
 int64_t quic_wire_param_read_(const uint8_t *, size_t, quic_wire_param *);
 int32_t quic_wire_param_write_(uint64_t, const uint8_t *, size_t, uint8_t *,
                                size_t, size_t *);
@@ -97,30 +101,29 @@ int32_t quic_wire_param_header_write_(uint64_t, size_t, uint8_t *, size_t,
                                       size_t *);
 int32_t quic_wire_param_write_number_(uint64_t, uint64_t, uint8_t *, size_t,
                                       size_t *);
-int32_t quic_wire_preferred_address_read_(const uint8_t *, size_t,
-                                          quic_wire_params *);
-int32_t quic_wire_preferred_address_write_(const quic_wire_params *, uint8_t *,
-                                           size_t, size_t *);
-uint32_t quic_wire_param_is_known_(uint64_t);
+int32_t quic_wire_params_write_with_(uint32_t, const quic_wire_params *,
+                                     const uint8_t *, size_t, const uint8_t *,
+                                     size_t, uint8_t *, size_t, size_t *);
+int32_t quic_wire_params_read_(uint32_t, uint32_t, const uint8_t *, size_t,
+                               quic_wire_params *, quic_wire_refusal *);
+int32_t quic_wire_params_write_(uint32_t, const quic_wire_params *, uint8_t *,
+                                size_t, size_t *);
+int32_t quic_wire_type_permitted_(uint64_t, uint32_t, uint32_t, uint32_t);
+int32_t quic_wire_frame_permitted_(uint64_t, uint64_t, uint32_t, uint32_t,
+                                   uint32_t);
+uint32_t quic_wire_frame_rules_(uint32_t);
+uint32_t quic_wire_reset_token_equal_(const uint8_t *, size_t, const uint8_t *,
+                                      size_t);
+int32_t quic_wire_ack_write_(uint64_t, const quic_wire_range *, size_t, size_t,
+                             const uint64_t *, size_t, uint8_t *, size_t,
+                             size_t *);
 int32_t quic_wire_set_insert_(quic_wire_range *, size_t, size_t *, uint64_t,
                               uint64_t);
 int32_t quic_wire_set_remove_(quic_wire_range *, size_t, size_t *, uint64_t,
                               uint64_t);
 int32_t quic_wire_set_contains_(const quic_wire_range *, size_t, size_t,
                                 uint64_t);
-int32_t quic_wire_ack_write_(uint64_t, const quic_wire_range *, size_t, size_t,
-                             const uint64_t *, size_t, uint8_t *, size_t,
-                             size_t *);
-int32_t quic_wire_frame_fields_(const uint8_t *, size_t, uint32_t,
-                                quic_wire_span *, size_t, quic_wire_fields *);
-int32_t quic_wire_packet_fields_(const uint8_t *, size_t, size_t,
-                                 const uint32_t *, size_t, uint32_t,
-                                 quic_wire_span *, size_t, quic_wire_fields *);
-int32_t quic_wire_param_fields_(const uint8_t *, size_t, quic_wire_span *,
-                                size_t, quic_wire_fields *);
-int32_t quic_wire_param_value_fields_(uint64_t, const uint8_t *, size_t,
-                                      uint32_t, quic_wire_span *, size_t,
-                                      quic_wire_fields *);
+/* End of what is made. */
 
 /* An address for arrays without items, since the proved library accepts no
  * NULL.  It is aligned for each kind of item, and never read or written. */

@@ -1,28 +1,14 @@
-"""What can't be made from docs/formats.json without losing its comments is compared: with the formats the header for C
-and the rules of frames in the proved code for C; with the header's structs those of the proved crates, in order and
-widths, and those of web/layout.js; with its constants those of python/src/quic_wire/_wire.pyi."""
-import glob
-import os
+"""What is typed twice, since it has comments or is code, is compared: with docs/formats.json the rules of frames in the
+proved code for C; with the structs of the header for C those of the proved crates, in order and widths; with its
+constants those of python/src/quic_wire/_wire.pyi."""
 import re
 
-from lib.tables.formats import HEADER, TOP, constants, enumeration, packet_kinds, read
+from lib.tables import proved
+from lib.tables.formats import HEADER, constants, enumeration, packet_kinds, read
 
 STUB = "python/src/quic_wire/_wire.pyi"
-LAYOUT = "web/layout.js"
-# Fields and structs that C names otherwise than Rattle does, besides underscores.
-NAMES = {
-    "ty": "type", "data_offset": "data", "dst_len": "dcidlen", "src_len": "scidlen", "preferred_id": "preferred_cid",
-    "preferred_id_len": "preferred_cidlen",
-}
-STRUCTS = {"Reach": "fields"}
-# Structs of Rattle that the header needn't have.
-UNDECLARED = {"span", "fields"}
-WIDTHS = {
-    "uint8_t": 1, "uint16_t": 2, "uint32_t": 4, "uint64_t": 8, "quic_wire_size": 8, "u8": 1, "u16": 2, "u32": 4,
-    "u64": 8, "usize": 8,
-}
-# An error that only the header itself has.
-OWN_ERRORS = {"LIBRARY": -10}
+# The widths in bytes of the types in structs.
+WIDTHS = dict(proved.NUMBERS.values())
 
 
 def uncommented(path):
@@ -34,38 +20,6 @@ def differences(what, found, wanted):
     for key in dict.fromkeys([*wanted, *found]):
         if found.get(key) != wanted.get(key):
             yield f"{what}: {key} is {found.get(key, 'missing')} and not {wanted.get(key, 'there')}"
-
-
-def header_constants(formats):
-    """The header's kinds of frames and packets, codes and errors, and the order of parameters."""
-    frames = {frame.get("quinn_proto", frame["name"]): frame["type"] for frame in reversed(formats["frames"])}
-    del frames["ACK_ECN"]
-    yield from differences(f"{HEADER}: kinds of frames", enumeration("frame_kind", "FRAME"), frames)
-    packets = {name.upper().replace("-", "").replace(" ", "_"): kind for name, kind in packet_kinds().items()}
-    packets["UNKNOWN_VERSION"] = len(packets)
-    yield from differences(f"{HEADER}: kinds of packets", enumeration("packet_kind", "PACKET"), packets)
-    codes = {code["name"]: code["code"] for code in formats["error_codes"]}
-    yield from differences(f"{HEADER}: codes", enumeration("code", "CODE"), codes)
-    errors = {reason["name"]: reason["number"] for reason in formats["reasons"]}
-    yield from differences(f"{HEADER}: errors", enumeration("result", "ERR"), {**errors, **OWN_ERRORS})
-    order = {int(number): name for number, name in re.findall(r"^ \*  - (\d+) (\w+)$", read(HEADER), re.M)}
-    wanted = {one["order"]: one["name"] for one in formats["parameters"] if one["kind"] != "skipped"}
-    yield from differences(f"{HEADER}: the order of parameters", order, wanted)
-    counts = {"PARAM_ROWS": len(formats["parameters"])}
-    for name, list_name in ("FRAME_FIELDS", "frames"), ("PACKET_FIELDS", "headers"):
-        if f"#define QUIC_WIRE_{name} " in read(HEADER):
-            counts[name] = max(len(one["fields"]) for one in formats[list_name])
-    sizes = {name: constants(name.split("_")[0])[name.split("_")[1]] for name in counts}
-    yield from differences(HEADER, sizes, counts)
-
-
-def rattle_kinds():
-    """The numbers of the kinds of packets in the proved code."""
-    path = "crates/quic_c_headers/src/words.rt"
-    found = re.findall(r"^pub\(crate\) const (\w+): u8 = (\d+);", read(path), re.M)
-    names = {"ZERO_RTT": "0RTT", "SHORT": "1RTT"}
-    ours = {names.get(name, name): int(it) for name, it in found}
-    yield from differences(path, ours, enumeration("packet_kind", "PACKET"))
 
 
 def rules(formats):
@@ -98,62 +52,20 @@ def c_structs(branch=1):
             for one in names.split(", "):
                 of, count = re.fullmatch(r"(\w+)(?:\[(\d+)\])?", one).groups()
                 fields.append((of, WIDTHS[kind], int(count or 1)))
-        found[name] = placed(fields)
+        found[name] = proved.placed(fields)
     return found
-
-
-def placed(fields):
-    """Fields with their offsets, each aligned to its item's width."""
-    at, found = 0, {}
-    for name, width, count in fields:
-        at += -at % width
-        found[name] = (at, width, count)
-        at += width * count
-    return found
-
-
-def rattle_structs():
-    """The structs that Rattle lays out as C does, by the names that the header has for them."""
-    for path in sorted(glob.glob(os.path.join(TOP, "crates/quic_*/src/*.rt"))):
-        path = os.path.relpath(path, TOP)
-        begin = r"#\[repr\(C\)\]\n(?:#\[[^\n]*\n)*pub struct (\w+) "
-        for name, body in re.findall(begin + r"\{\n(.*?)\n\}", read(path), re.S):
-            fields = []
-            for of, kind in re.findall(r"^    pub (\w+): (.+),$", body, re.M):
-                item, count = re.fullmatch(r"\[?(\w+)(?:; (\d+)\])?", kind).groups()
-                fields.append((NAMES.get(of, of), WIDTHS[item], int(count or 1)))
-            words = re.sub(r"(?<=[a-z])(?=[A-Z])", "_", re.sub(r"^C(?=[A-Z])", "", name)).lower()
-            yield path, name, STRUCTS.get(name, words), placed(fields)
 
 
 def structs():
     """The structs of the proved crates and those of the header."""
     declared = c_structs()
     yield from differences(f"{HEADER}: frame without QUIC_WIRE_PLAIN", c_structs(2)["frame"], declared["frame"])
-    for path, name, words, fields in rattle_structs():
+    for path, name, words, fields in proved.structs():
         if words not in declared:
-            if words not in UNDECLARED:
-                yield f"{HEADER}: no quic_wire_{words}, which {path} has"
+            yield f"{HEADER}: no quic_wire_{words}, which {path} has"
             continue
-        ours = {of.replace("_", ""): it for of, it in fields.items()}
-        theirs = {of.replace("_", ""): it for of, it in declared[words].items()}
-        yield from differences(f"{path}: {name} (offset, width, items)", ours, theirs)
-
-
-def layout():
-    """The layout in bytes of the structs that the page knows, of their fields those that it reads."""
-    declared = c_structs()
-    found = re.findall(r"(\w+): \{\s*size: (\d+),\s*fields: \{(.*?)\}", read(LAYOUT), re.S)
-    if not found:
-        yield f"{LAYOUT}: no structs"
-    for name, size, body in found:
-        ours = {of: (int(at), int(width)) for of, at, width in re.findall(r"(\w+): \[(\d+), (\d+)\]", body)}
-        theirs = {of: (at, width * count) for of, (at, width, count) in declared.get(name, {}).items()}
-        read_here = {of: it for of, it in theirs.items() if of in ours}
-        yield from differences(f"{LAYOUT}: {name} (offset, bytes)", ours, read_here)
-        end = max((at + width for at, width in theirs.values()), default=0)
-        if int(size) != end + -end % 8:
-            yield f"{LAYOUT}: {name} has {size} bytes and not {end + -end % 8}"
+        ours = proved.placed((of, proved.NUMBERS[item][1], count) for of, item, count in fields)
+        yield from differences(f"{path}: {name} (offset, width, items)", ours, declared[words])
 
 
 def declared_constants():
@@ -167,9 +79,6 @@ def declared_constants():
 
 def faults(formats):
     """Everything that differs."""
-    yield from header_constants(formats)
-    yield from rattle_kinds()
     yield from rules(formats)
     yield from structs()
-    yield from layout()
     yield from declared_constants()

@@ -1,13 +1,12 @@
 """What can't be made from docs/formats.json without losing its comments is compared: with the formats the header for C
 and the rules of frames in the proved code for C; with the header's structs those of the proved crates, in order and
-widths, and those of web/layout.js; with its constants those of python/src/quic_wire/_wire.pyi."""
+widths, and those of web/layout.js."""
 import glob
 import os
 import re
 
 from lib.tables.formats import HEADER, TOP, constants, enumeration, packet_kinds, read
 
-STUB = "python/src/quic_wire/_wire.pyi"
 LAYOUT = "web/layout.js"
 # Fields and structs that C names otherwise than Rattle does, besides underscores.
 NAMES = {
@@ -156,15 +155,6 @@ def layout():
             yield f"{LAYOUT}: {name} has {size} bytes and not {end + -end % 8}"
 
 
-def declared_constants():
-    """The constants of the module for Python: the header's, without QUIC_WIRE_ and ERR_."""
-    known = {*enumeration("result", "ERR"), *(f"READ_{name}" for name in constants("READ"))}
-    stub = re.search(r"\nLIBRARY_VERSION: str\n((?:\w+: int\n)+)", read(STUB))
-    for name in re.findall(r"^(\w+): int", stub[1] if stub else "none: int", re.M):
-        if name not in known:
-            yield f"{STUB}: {name} isn't in {HEADER}"
-
-
 def faults(formats):
     """Everything that differs."""
     yield from header_constants(formats)
@@ -172,4 +162,3 @@ def faults(formats):
     yield from rules(formats)
     yield from structs()
     yield from layout()
-    yield from declared_constants()

@@ -166,149 +166,23 @@ PyObject *frame_check(PyObject *self, PyObject *args, PyObject *keywords) {
                                 : frame_reject(self, result);
 }
 
-#define NUMBER(name, slot, doc)                                                \
-  { name, frame_get_number, NULL, PyDoc_STR(doc), (void *)(size_t)(slot) }
-#define DATA(name, doc)                                                        \
-  { name, frame_get_data, NULL, PyDoc_STR(doc), NULL }
-#define ECN(name, slot, doc)                                                   \
-  { name, frame_get_ecn, NULL, PyDoc_STR(doc), (void *)(size_t)(slot) }
-#define STREAM_ID NUMBER("stream_id", 0, "the stream's id")
-#define ERROR_CODE(slot) NUMBER("error_code", slot, "the error code")
-
-static PyGetSetDef no_fields[] = {WIRE_END_OF_FIELDS};
-static PyGetSetDef padding_fields[] = {
-    {"count", frame_get_count, NULL,
-     PyDoc_STR("how many PADDING frames follow each other here"), NULL},
-    WIRE_END_OF_FIELDS};
-static PyGetSetDef ack_fields[] = {
-    NUMBER("largest", 0, "the largest acknowledged packet number"),
-    NUMBER("delay", 1,
-           "ACK Delay: microseconds, shifted right by the "
-           "sender's ack_delay_exponent"),
-    {"ranges", frame_get_ranges, NULL,
-     PyDoc_STR("the acknowledged packet numbers, the greatest range first"),
-     NULL},
-    ECN("ect0", 2, "packets marked ECT(0), or None"),
-    ECN("ect1", 3, "packets marked ECT(1), or None"),
-    ECN("ce", 4, "packets marked ECN-CE, or None"),
-    WIRE_END_OF_FIELDS};
-static PyGetSetDef reset_stream_fields[] = {
-    STREAM_ID, ERROR_CODE(1), NUMBER("final_size", 2, "the final size, bytes"),
-    WIRE_END_OF_FIELDS};
-static PyGetSetDef stop_sending_fields[] = {STREAM_ID, ERROR_CODE(1),
-                                            WIRE_END_OF_FIELDS};
-static PyGetSetDef crypto_fields[] = {
-    NUMBER("offset", 1, "where the data begin in the CRYPTO stream, bytes"),
-    DATA("data", "Crypto Data"), WIRE_END_OF_FIELDS};
-static PyGetSetDef new_token_fields[] = {DATA("token", "the token"),
-                                         WIRE_END_OF_FIELDS};
-static PyGetSetDef stream_fields[] = {
-    STREAM_ID,
-    NUMBER("offset", 1, "where the data begin in the stream, bytes"),
-    {"fin", frame_get_fin, NULL, PyDoc_STR("whether the data end the stream"),
-     NULL},
-    DATA("data", "Stream Data"),
-    WIRE_END_OF_FIELDS};
-static PyGetSetDef limit_fields[] = {
-    NUMBER("limit", 1,
-           "the limit in bytes; in MAX_STREAMS and STREAMS_BLOCKED, in "
-           "streams"),
-    WIRE_END_OF_FIELDS};
-static PyGetSetDef stream_limit_fields[] = {
-    STREAM_ID, NUMBER("limit", 1, "the limit, bytes"), WIRE_END_OF_FIELDS};
-static PyGetSetDef new_connection_id_fields[] = {
-    NUMBER("sequence", 0, "Sequence Number"),
-    NUMBER("retire_prior_to", 1, "Retire Prior To"),
-    DATA("connection_id", "the id, 1 to 20 bytes"),
-    {"reset_token", frame_get_token, NULL,
-     PyDoc_STR("Stateless Reset Token, 16 bytes; compare it by "
-               "hmac.compare_digest (RFC 9000, section 10.3.1)"),
-     NULL},
-    WIRE_END_OF_FIELDS};
-static PyGetSetDef retire_fields[] = {NUMBER("sequence", 0, "Sequence Number"),
-                                      WIRE_END_OF_FIELDS};
-static PyGetSetDef path_fields[] = {
-    {"data", frame_get_path, NULL, PyDoc_STR("Data, 8 bytes"), NULL},
-    WIRE_END_OF_FIELDS};
-static PyGetSetDef connection_close_fields[] = {
-    ERROR_CODE(0),
-    NUMBER("frame_type", 1, "the type of the frame at fault; 0: none is known"),
-    DATA("reason", "Reason Phrase"), WIRE_END_OF_FIELDS};
-static PyGetSetDef application_close_fields[] = {
-    ERROR_CODE(0), DATA("reason", "Reason Phrase"), WIRE_END_OF_FIELDS};
-static PyGetSetDef datagram_fields[] = {DATA("data", "Datagram Data"),
-                                        WIRE_END_OF_FIELDS};
-static PyGetSetDef ack_frequency_fields[] = {
-    NUMBER("sequence", 0, "Sequence Number"),
-    NUMBER("ack_eliciting_threshold", 1, "Ack-Eliciting Threshold, packets"),
-    NUMBER("max_ack_delay", 2, "Requested Max Ack Delay, microseconds"),
-    NUMBER("reordering_threshold", 3, "Reordering Threshold, packets"),
-    WIRE_END_OF_FIELDS};
-
-#define KIND(word, name, fields, doc)                                          \
-  { QUIC_WIRE_FRAME_##word, name, fields, doc }
+#define FIELD(name, how, slot, doc)                                            \
+  {name, frame_get_##how, NULL, PyDoc_STR(doc), (void *)(size_t)(slot)},
+#define FRAME_KIND(word, name, doc, fields)                                    \
+  {QUIC_WIRE_FRAME_##word, name, (PyGetSetDef[]){fields WIRE_END_OF_FIELDS},   \
+   doc},
 const frame_kind wire_frame_kinds[KINDS] = {
-    KIND(PADDING, "Padding", padding_fields,
-         "PADDING (RFC 9000, section 19.1), as many as follow each other."),
-    KIND(PING, "Ping", no_fields, "PING (RFC 9000, section 19.2)."),
-    KIND(ACK, "Ack", ack_fields, "ACK (RFC 9000, section 19.3)."),
-    KIND(RESET_STREAM, "ResetStream", reset_stream_fields,
-         "RESET_STREAM (RFC 9000, section 19.4)."),
-    KIND(STOP_SENDING, "StopSending", stop_sending_fields,
-         "STOP_SENDING (RFC 9000, section 19.5)."),
-    KIND(CRYPTO, "Crypto", crypto_fields, "CRYPTO (RFC 9000, section 19.6)."),
-    KIND(NEW_TOKEN, "NewToken", new_token_fields,
-         "NEW_TOKEN (RFC 9000, section 19.7)."),
-    KIND(STREAM, "Stream", stream_fields, "STREAM (RFC 9000, section 19.8)."),
-    KIND(MAX_DATA, "MaxData", limit_fields,
-         "MAX_DATA (RFC 9000, section 19.9)."),
-    KIND(MAX_STREAM_DATA, "MaxStreamData", stream_limit_fields,
-         "MAX_STREAM_DATA (RFC 9000, section 19.10)."),
-    KIND(MAX_STREAMS_BIDI, "MaxStreamsBidi", limit_fields,
-         "MAX_STREAMS of bidirectional streams (RFC 9000, section 19.11)."),
-    KIND(MAX_STREAMS_UNI, "MaxStreamsUni", limit_fields,
-         "MAX_STREAMS of unidirectional streams (RFC 9000, section 19.11)."),
-    KIND(DATA_BLOCKED, "DataBlocked", limit_fields,
-         "DATA_BLOCKED (RFC 9000, section 19.12)."),
-    KIND(STREAM_DATA_BLOCKED, "StreamDataBlocked", stream_limit_fields,
-         "STREAM_DATA_BLOCKED (RFC 9000, section 19.13)."),
-    KIND(STREAMS_BLOCKED_BIDI, "StreamsBlockedBidi", limit_fields,
-         "STREAMS_BLOCKED of bidirectional streams (RFC 9000, section 19.14)."),
-    KIND(STREAMS_BLOCKED_UNI, "StreamsBlockedUni", limit_fields,
-         "STREAMS_BLOCKED of unidirectional streams (RFC 9000, section "
-         "19.14)."),
-    KIND(NEW_CONNECTION_ID, "NewConnectionId", new_connection_id_fields,
-         "NEW_CONNECTION_ID (RFC 9000, section 19.15)."),
-    KIND(RETIRE_CONNECTION_ID, "RetireConnectionId", retire_fields,
-         "RETIRE_CONNECTION_ID (RFC 9000, section 19.16)."),
-    KIND(PATH_CHALLENGE, "PathChallenge", path_fields,
-         "PATH_CHALLENGE (RFC 9000, section 19.17)."),
-    KIND(PATH_RESPONSE, "PathResponse", path_fields,
-         "PATH_RESPONSE (RFC 9000, section 19.18)."),
-    KIND(CONNECTION_CLOSE, "ConnectionClose", connection_close_fields,
-         "CONNECTION_CLOSE of the transport, 0x1c (RFC 9000, section 19.19)."),
-    KIND(APPLICATION_CLOSE, "ApplicationClose", application_close_fields,
-         "CONNECTION_CLOSE of the application, 0x1d (RFC 9000, section "
-         "19.19)."),
-    KIND(HANDSHAKE_DONE, "HandshakeDone", no_fields,
-         "HANDSHAKE_DONE (RFC 9000, section 19.20)."),
-    KIND(IMMEDIATE_ACK, "ImmediateAck", no_fields,
-         "IMMEDIATE_ACK of the ACK frequency extension."),
-    KIND(DATAGRAM, "Datagram", datagram_fields,
-         "DATAGRAM (RFC 9221, section 4)."),
-    KIND(ACK_FREQUENCY, "AckFrequency", ack_frequency_fields,
-         "ACK_FREQUENCY of the ACK frequency extension."),
+#include "formats.h"
 };
 
-/* Where a kind is in the table: kinds up to DATAGRAM are found by their number.
- */
+/* Where a kind is in the table. */
 static size_t index_of(uint16_t kind) {
-  static const uint8_t at[] = {0,  1,  2,  2,  3,  4,  5,  6,  7,  7,  7,
-                               7,  7,  7,  7,  7,  8,  9,  10, 11, 12, 13,
-                               14, 15, 16, 17, 18, 19, 20, 21, 22, 23};
-  if (kind < sizeof at)
-    return at[kind];
-  return kind == QUIC_WIRE_FRAME_DATAGRAM ? KINDS - 2 : KINDS - 1;
+  switch (kind) {
+#define FRAME_KIND(word, name, doc, fields)                                    \
+  case QUIC_WIRE_FRAME_##word: return KIND_##word;
+#include "formats.h"
+  default: return KINDS - 1;
+  }
 }
 
 const frame_kind *wire_kind_of(const quic_wire_frame *frame) {
@@ -491,6 +365,7 @@ static PyObject *add_kind(PyObject *module, PyObject *bases,
 }
 
 int wire_add_frames(PyObject *module, wire_state *state) {
+  static const PyGetSetDef no_fields[] = {WIRE_END_OF_FIELDS};
   PyObject *bases;
   size_t i;
   state->frame = wire_add_type(module, &frame_spec, NULL, "Frame", no_fields);

@@ -31,34 +31,16 @@ PyObject *wire_add_type(PyObject *module, PyType_Spec *spec, PyObject *bases,
   return type;
 }
 
-/* Results that quic_wire.errors distinguishes, and the flags of
- * quic_wire.Checks. */
+/* Results of readers, and the flags of quic_wire.Checks. */
 static int add_constants(PyObject *module) {
   static const struct {
     const char *name;
     int value;
-  } constants[] = {{"PAYLOAD_EMPTY", QUIC_WIRE_ERR_PAYLOAD_EMPTY},
-                   {"FRAME_TYPE", QUIC_WIRE_ERR_FRAME_TYPE},
-                   {"FRAME_MALFORMED", QUIC_WIRE_ERR_FRAME_MALFORMED},
-                   {"FRAME_LONG_TYPE", QUIC_WIRE_ERR_FRAME_LONG_TYPE},
-                   {"FRAME_LIMIT", QUIC_WIRE_ERR_FRAME_LIMIT},
-                   {"FRAME_PACKET", QUIC_WIRE_ERR_FRAME_PACKET},
-                   {"FRAME_SENDER", QUIC_WIRE_ERR_FRAME_SENDER},
-                   {"FRAME_STREAM", QUIC_WIRE_ERR_FRAME_STREAM},
-                   {"PACKET_FIXED_BIT", QUIC_WIRE_ERR_PACKET_FIXED_BIT},
-                   {"PACKET_VERSION", QUIC_WIRE_ERR_PACKET_VERSION},
-                   {"PACKET_RETRY", QUIC_WIRE_ERR_PACKET_RETRY},
-                   {"READ_SHORT_TYPES", QUIC_WIRE_READ_SHORT_TYPES},
-                   {"READ_DATA_LIMIT", QUIC_WIRE_READ_DATA_LIMIT},
-                   {"READ_STREAM_LIMIT", QUIC_WIRE_READ_STREAM_LIMIT},
-                   {"READ_NO_ACK_FREQUENCY", QUIC_WIRE_READ_NO_ACK_FREQUENCY},
-                   {"READ_TOKENS", QUIC_WIRE_READ_TOKENS},
-                   {"READ_GREASED_BIT", QUIC_WIRE_READ_GREASED_BIT},
-                   {"READ_ANY_VERSION", QUIC_WIRE_READ_ANY_VERSION},
-                   {"READ_WHOLE_RETRY", QUIC_WIRE_READ_WHOLE_RETRY},
-                   {"READ_ANY_WIDTH", QUIC_WIRE_READ_ANY_WIDTH},
-                   {"READ_NO_REPEATS", QUIC_WIRE_READ_NO_REPEATS},
-                   {"READ_RFC", QUIC_WIRE_READ_RFC}};
+  } constants[] = {
+#define RESULT(word) {#word, QUIC_WIRE_ERR_##word},
+#define READ_FLAG(word) {"READ_" #word, QUIC_WIRE_READ_##word},
+#include "formats.h"
+  };
   size_t i;
   for (i = 0; i < sizeof constants / sizeof *constants; i++)
     if (PyModule_AddIntConstant(module, constants[i].name, constants[i].value) <

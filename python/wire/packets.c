@@ -151,59 +151,17 @@ static PyObject *get_number_at(PyObject *self, void *unused) {
   return PyLong_FromSize_t(PACKET(self)->begin + HEADER(self)->header_end);
 }
 
-#define FIELD(name, get, doc)                                                  \
-  { name, get, NULL, PyDoc_STR(doc), NULL }
-#define VERSION FIELD("version", get_version, "the version")
-#define DCID FIELD("dcid", get_dcid, "Destination Connection ID")
-#define SCID FIELD("scid", get_scid, "Source Connection ID")
-#define LENGTH                                                                 \
-  FIELD("length", get_length, "Length: bytes of packet number and payload")
-
-static PyGetSetDef initial_fields[] = {
-    VERSION,
-    DCID,
-    SCID,
-    FIELD("token", get_token, "Token"),
-    LENGTH,
-    FIELD("token_at", get_token_at, "where the token begins in the datagram"),
-    WIRE_END_OF_FIELDS};
-static PyGetSetDef long_fields[] = {VERSION, DCID, SCID, LENGTH,
-                                    WIRE_END_OF_FIELDS};
-static PyGetSetDef retry_fields[] = {
-    VERSION,
-    DCID,
-    SCID,
-    FIELD("token", get_retry_token, "Retry Token"),
-    FIELD("integrity_tag", get_retry_tag,
-          "Retry Integrity Tag, or None if fewer bytes are there"),
-    WIRE_END_OF_FIELDS};
-static PyGetSetDef short_fields[] = {DCID, FIELD("spin", get_spin, "Spin Bit"),
-                                     WIRE_END_OF_FIELDS};
-static PyGetSetDef negotiation_fields[] = {
-    DCID, SCID, FIELD("versions", get_versions, "Supported Versions"),
-    WIRE_END_OF_FIELDS};
-static PyGetSetDef unknown_fields[] = {VERSION, DCID, SCID, WIRE_END_OF_FIELDS};
-
 static const struct packet_kind {
   const char *name;
   PyGetSetDef *fields;
   const char *doc;
 } packet_kinds[PACKET_KINDS] = {
-    {"quic_wire.Initial", initial_fields,
-     "An Initial packet (RFC 9000, section 17.2.2)."},
-    {"quic_wire.ZeroRtt", long_fields,
-     "A 0-RTT packet (RFC 9000, section 17.2.3)."},
-    {"quic_wire.Handshake", long_fields,
-     "A Handshake packet (RFC 9000, section 17.2.4)."},
-    {"quic_wire.Retry", retry_fields,
-     "A Retry packet (RFC 9000, section 17.2.5)."},
-    {"quic_wire.OneRtt", short_fields,
-     "A 1-RTT packet (RFC 9000, section 17.3.1)."},
-    {"quic_wire.VersionNegotiation", negotiation_fields,
-     "A Version Negotiation packet (RFC 9000, section 17.2.1)."},
-    {"quic_wire.UnknownVersion", unknown_fields,
-     "A packet of a version that isn't one of those given (RFC 8999, section "
-     "5.1): all of the datagram from its first byte on."}};
+#define FIELD(name, how, slot, doc)                                            \
+  {name, get_##how, NULL, PyDoc_STR(doc), NULL},
+#define PACKET_KIND(name, doc, fields)                                         \
+  {"quic_wire." name, (PyGetSetDef[]){fields WIRE_END_OF_FIELDS}, doc},
+#include "formats.h"
+};
 
 enum { MODULE_LEN = 10 }; /* of "quic_wire." */
 
@@ -326,6 +284,8 @@ static PyMethodDef packet_methods[] = {
                "mask of the header is made (RFC 9001, section 5.4.2), or None\n"
                "if the packet is too short or has no packet number.")},
     {NULL, NULL, 0, NULL}};
+#define FIELD(name, get, doc)                                                  \
+  { name, get, NULL, PyDoc_STR(doc), NULL }
 static PyGetSetDef packet_fields[] = {
     FIELD("begin", get_begin, "where it begins in its datagram"),
     FIELD("end", get_end, "where it ends in its datagram"),
@@ -335,7 +295,7 @@ static PyGetSetDef packet_fields[] = {
           "where the packet number begins in the datagram, or None"),
     FIELD("data", get_data, "all of the packet"),
     FIELD("version", get_version, "the version, or 0 if none is known"),
-    DCID,
+    FIELD("dcid", get_dcid, "Destination Connection ID"),
     FIELD("scid", get_scid, "Source Connection ID; empty in a short header"),
     WIRE_END_OF_FIELDS};
 static PyType_Slot packet_slots[] = {

@@ -28,62 +28,17 @@ typedef struct parameter_field {
 } parameter_field;
 
 #define AT(field) offsetof(quic_wire_params, field)
-#define NUMBER(X, name, doc) X(name, INTEGER, AT(name), 0, 0, doc)
-/* The rows in their order: a name, what it is, its offset, the offset of its
- * length, its bit, and the field's documentation. */
-#define ROWS(X)                                                                \
-  NUMBER(X, max_idle_timeout, "milliseconds; 0: no timeout")                   \
-  NUMBER(X, max_udp_payload_size, "bytes, 1200 or more")                       \
-  NUMBER(X, initial_max_data, "bytes")                                         \
-  NUMBER(X, initial_max_stream_data_bidi_local,                                \
-         "bytes, for bidirectional streams that the sender of the list opens") \
-  NUMBER(X, initial_max_stream_data_bidi_remote,                               \
-         "bytes, for bidirectional streams that its receiver opens")           \
-  NUMBER(X, initial_max_stream_data_uni,                                       \
-         "bytes, for unidirectional streams that its receiver opens")          \
-  NUMBER(X, initial_max_streams_bidi, "bidirectional streams, at most 2^60")   \
-  NUMBER(X, initial_max_streams_uni, "unidirectional streams, at most 2^60")   \
-  NUMBER(X, ack_delay_exponent,                                                \
-         "by how many bits ACK Delay is shifted, at most 20")                  \
-  NUMBER(X, max_ack_delay, "milliseconds, below 2^14")                         \
-  NUMBER(X, active_connection_id_limit, "connection IDs, 2 or more")           \
-  X(stateless_reset_token, TOKEN, AT(stateless_reset_token), 0,                \
-    QUIC_WIRE_HAS_STATELESS_RESET_TOKEN,                                       \
-    "16 bytes, or None; from servers only")                                    \
-  X(disable_active_migration, FLAG, 0, 0,                                      \
-    QUIC_WIRE_HAS_DISABLE_ACTIVE_MIGRATION, "True or False")                   \
-  X(max_datagram_frame_size, OPTIONAL, AT(max_datagram_frame_size), 0,         \
-    QUIC_WIRE_HAS_MAX_DATAGRAM_FRAME_SIZE, "bytes, or None (RFC 9221)")        \
-  X(preferred_address, ADDRESS, 0, 0, QUIC_WIRE_HAS_PREFERRED_ADDRESS,         \
-    "a PreferredAddress, or None; from servers only")                          \
-  X(original_destination_connection_id, ID, AT(original_dst_cid),              \
-    AT(original_dst_cidlen), QUIC_WIRE_HAS_ORIGINAL_DST_CID,                   \
-    "at most 20 bytes, or None; from servers only")                            \
-  X(initial_source_connection_id, ID, AT(initial_src_cid),                     \
-    AT(initial_src_cidlen), QUIC_WIRE_HAS_INITIAL_SRC_CID,                     \
-    "at most 20 bytes, or None")                                               \
-  X(retry_source_connection_id, ID, AT(retry_src_cid), AT(retry_src_cidlen),   \
-    QUIC_WIRE_HAS_RETRY_SRC_CID,                                               \
-    "at most 20 bytes, or None; from servers only")                            \
-  X(grease_quic_bit, FLAG, 0, 0, QUIC_WIRE_HAS_GREASE_QUIC_BIT,                \
-    "True or False (RFC 9287)")                                                \
-  X(min_ack_delay, OPTIONAL, AT(min_ack_delay), 0,                             \
-    QUIC_WIRE_HAS_MIN_ACK_DELAY,                                               \
-    "microseconds, at most max_ack_delay, or None (the ACK frequency "         \
-    "extension)")
-
 enum row {
-#define ROW(name, kind, at, len_at, present, doc) ROW_##name,
-  ROWS(ROW)
-#undef ROW
+#define PARAMETER(name, kind, at, len_at, present, doc) ROW_##name,
+#include "formats.h"
+  FIELDS
 };
-static const parameter_field table[] = {
-#define ROW(name, kind, at, len_at, present, doc)                              \
+static const parameter_field table[FIELDS] = {
+#define PARAMETER(name, kind, at, len_at, present, doc)                        \
   {#name, kind, at, len_at, present},
-    ROWS(ROW)
-#undef ROW
+#include "formats.h"
 };
-enum { FIELDS = sizeof table / sizeof *table, CID = 20, RESET_TOKEN = 16 };
+enum { CID = 20, RESET_TOKEN = 16 };
 
 static uint8_t *bytes_at(quic_wire_params *p, size_t at) {
   return (uint8_t *)p + at;
@@ -233,11 +188,10 @@ static int set_field(quic_wire_params *p, const parameter_field *field,
 /* ---- The object */
 
 static PyGetSetDef fields[] = {
-#define ROW(name, kind, at, len_at, present, doc)                              \
+#define PARAMETER(name, kind, at, len_at, present, doc)                        \
   {#name, get_field, NULL, PyDoc_STR(doc), (void *)&table[ROW_##name]},
-    ROWS(ROW)
-#undef ROW
-        WIRE_END_OF_FIELDS};
+#include "formats.h"
+    WIRE_END_OF_FIELDS};
 
 /* An object of a type that Python may have derived. */
 static parameters_object *allocate(PyTypeObject *type) {

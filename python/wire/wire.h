@@ -19,9 +19,15 @@
 #define WIRE_END_ALONE }
 #endif
 
-#define KINDS 26         /* of frames */
 #define PACKET_KINDS 7   /* QUIC_WIRE_PACKET_INITIAL and so on */
 #define MOST_VERSIONS 32 /* that one call can be given */
+
+/* The kinds of frames, by their indices in wire_frame_kinds. */
+enum {
+#define FRAME_KIND(word, name, doc, fields) KIND_##word,
+#include "formats.h"
+  KINDS
+};
 
 /* The types of one module, and so of one interpreter. */
 typedef struct wire_state {

@@ -6,6 +6,7 @@ docs/formats.schema.json explains the members.
 
 from __future__ import annotations
 
+import enum
 from typing import NamedTuple, Optional
 
 
@@ -130,6 +131,31 @@ class Reason(NamedTuple):
 
 
 # fmt: off
+class Code(enum.IntEnum):
+    """The codes of a CONNECTION_CLOSE (RFC 9000, section 20.1). A TLS alert is added to CRYPTO_ERROR."""
+
+    __module__ = "quic_wire.errors"
+
+    NO_ERROR = 0x00
+    INTERNAL_ERROR = 0x01
+    CONNECTION_REFUSED = 0x02
+    FLOW_CONTROL_ERROR = 0x03
+    STREAM_LIMIT_ERROR = 0x04
+    STREAM_STATE_ERROR = 0x05
+    FINAL_SIZE_ERROR = 0x06
+    FRAME_ENCODING_ERROR = 0x07
+    TRANSPORT_PARAMETER_ERROR = 0x08
+    CONNECTION_ID_LIMIT_ERROR = 0x09
+    PROTOCOL_VIOLATION = 0x0a
+    INVALID_TOKEN = 0x0b
+    APPLICATION_ERROR = 0x0c
+    CRYPTO_BUFFER_EXCEEDED = 0x0d
+    KEY_UPDATE_ERROR = 0x0e
+    AEAD_LIMIT_REACHED = 0x0f
+    NO_VIABLE_PATH = 0x10
+    CRYPTO_ERROR = 0x100
+
+
 FRAMES: dict[int, Frame] = {
     0x00: Frame(0x00, "PADDING", "RFC 9000, section 19.1", (
         Field(0, "number", "Type", unit="frame type"),

@@ -1,3 +1,4 @@
+# Made by scripts/tables from _wire.pyi.in and docs/formats.json: change nothing here.
 from collections.abc import Iterable, Iterator, Sequence
 from typing import Any, ClassVar, Optional, TypeVar, Union, final
 
@@ -11,6 +12,7 @@ _Self = TypeVar("_Self", bound="_Parameters")
 
 LIBRARY_VERSION: str
 PAYLOAD_EMPTY: int
+FRAME_END: int
 FRAME_TYPE: int
 FRAME_MALFORMED: int
 FRAME_LONG_TYPE: int
@@ -18,9 +20,16 @@ FRAME_LIMIT: int
 FRAME_PACKET: int
 FRAME_SENDER: int
 FRAME_STREAM: int
+PACKET_END: int
 PACKET_FIXED_BIT: int
+PACKET_SMALL: int
+PACKET_CID: int
+PACKET_TOKEN: int
 PACKET_VERSION: int
+PACKET_CUT: int
 PACKET_RETRY: int
+PARAMS_MALFORMED: int
+PARAMS_ILLEGAL: int
 READ_SHORT_TYPES: int
 READ_DATA_LIMIT: int
 READ_STREAM_LIMIT: int
@@ -154,14 +163,16 @@ class Stream(Frame):
     @property
     def data(self) -> memoryview: ...
 
-class _Limit(Frame):
+@final
+class MaxData(Frame):
     KIND: ClassVar[int]
     __match_args__ = ("limit",)
     def __init__(self, limit: int = 0) -> None: ...
     @property
     def limit(self) -> int: ...
 
-class _StreamLimit(Frame):
+@final
+class MaxStreamData(Frame):
     KIND: ClassVar[int]
     __match_args__ = ("stream_id", "limit")
     def __init__(self, stream_id: int = 0, limit: int = 0) -> None: ...
@@ -171,28 +182,54 @@ class _StreamLimit(Frame):
     def limit(self) -> int: ...
 
 @final
-class MaxData(_Limit): ...
+class MaxStreamsBidi(Frame):
+    KIND: ClassVar[int]
+    __match_args__ = ("limit",)
+    def __init__(self, limit: int = 0) -> None: ...
+    @property
+    def limit(self) -> int: ...
 
 @final
-class MaxStreamData(_StreamLimit): ...
+class MaxStreamsUni(Frame):
+    KIND: ClassVar[int]
+    __match_args__ = ("limit",)
+    def __init__(self, limit: int = 0) -> None: ...
+    @property
+    def limit(self) -> int: ...
 
 @final
-class MaxStreamsBidi(_Limit): ...
+class DataBlocked(Frame):
+    KIND: ClassVar[int]
+    __match_args__ = ("limit",)
+    def __init__(self, limit: int = 0) -> None: ...
+    @property
+    def limit(self) -> int: ...
 
 @final
-class MaxStreamsUni(_Limit): ...
+class StreamDataBlocked(Frame):
+    KIND: ClassVar[int]
+    __match_args__ = ("stream_id", "limit")
+    def __init__(self, stream_id: int = 0, limit: int = 0) -> None: ...
+    @property
+    def stream_id(self) -> int: ...
+    @property
+    def limit(self) -> int: ...
 
 @final
-class DataBlocked(_Limit): ...
+class StreamsBlockedBidi(Frame):
+    KIND: ClassVar[int]
+    __match_args__ = ("limit",)
+    def __init__(self, limit: int = 0) -> None: ...
+    @property
+    def limit(self) -> int: ...
 
 @final
-class StreamDataBlocked(_StreamLimit): ...
-
-@final
-class StreamsBlockedBidi(_Limit): ...
-
-@final
-class StreamsBlockedUni(_Limit): ...
+class StreamsBlockedUni(Frame):
+    KIND: ClassVar[int]
+    __match_args__ = ("limit",)
+    def __init__(self, limit: int = 0) -> None: ...
+    @property
+    def limit(self) -> int: ...
 
 @final
 class NewConnectionId(Frame):
@@ -218,7 +255,8 @@ class RetireConnectionId(Frame):
     @property
     def sequence(self) -> int: ...
 
-class _Path(Frame):
+@final
+class PathChallenge(Frame):
     KIND: ClassVar[int]
     __match_args__ = ("data",)
     def __init__(self, data: Buffer = ...) -> None: ...
@@ -226,10 +264,12 @@ class _Path(Frame):
     def data(self) -> bytes: ...
 
 @final
-class PathChallenge(_Path): ...
-
-@final
-class PathResponse(_Path): ...
+class PathResponse(Frame):
+    KIND: ClassVar[int]
+    __match_args__ = ("data",)
+    def __init__(self, data: Buffer = ...) -> None: ...
+    @property
+    def data(self) -> bytes: ...
 
 @final
 class ConnectionClose(Frame):
@@ -276,11 +316,7 @@ class AckFrequency(Frame):
     KIND: ClassVar[int]
     __match_args__ = ("sequence", "ack_eliciting_threshold", "max_ack_delay", "reordering_threshold")
     def __init__(
-        self,
-        sequence: int = 0,
-        ack_eliciting_threshold: int = 0,
-        max_ack_delay: int = 0,
-        reordering_threshold: int = 0,
+        self, sequence: int = 0, ack_eliciting_threshold: int = 0, max_ack_delay: int = 0, reordering_threshold: int = 0
     ) -> None: ...
     @property
     def sequence(self) -> int: ...
@@ -338,16 +374,17 @@ class Initial(Packet):
     @property
     def token_at(self) -> int: ...
 
-class _LongPacket(Packet):
+@final
+class ZeroRtt(Packet):
     __match_args__ = ("version", "dcid", "scid", "length")
     @property
     def length(self) -> int: ...
 
 @final
-class ZeroRtt(_LongPacket): ...
-
-@final
-class Handshake(_LongPacket): ...
+class Handshake(Packet):
+    __match_args__ = ("version", "dcid", "scid", "length")
+    @property
+    def length(self) -> int: ...
 
 @final
 class Retry(Packet):
@@ -412,7 +449,6 @@ def write_packet_number(number: int, length: int, /) -> bytes: ...
 # ---- Transport parameters
 
 class _Parameters:
-    # scripts/tables makes the parameters from docs/formats.json.
     __match_args__: ClassVar[tuple[str, ...]]
     def __init__(
         self,

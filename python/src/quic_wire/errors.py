@@ -2,13 +2,13 @@
 
 from __future__ import annotations
 
-import enum
 from typing import TYPE_CHECKING, NoReturn, Optional
 
 from . import _parameters
 from ._fields import (
     FRAME_TYPE_FIELD, Field, Place, Raw, Read, in_entry, in_frame, in_header, of_entry, of_frame, of_header,
 )  # fmt: skip
+from ._formats import Code as Code
 from ._wire import (
     FRAME_LIMIT, FRAME_LONG_TYPE, FRAME_MALFORMED, FRAME_PACKET, FRAME_SENDER, FRAME_STREAM, FRAME_TYPE,
     PACKET_FIXED_BIT, PACKET_RETRY, PAYLOAD_EMPTY, type_name,
@@ -30,29 +30,6 @@ _LIMITS = _OF_STREAMS | {0x06: "19.6"}
 # The same for who may send a frame, and on which streams.
 _SENDERS = {_NEW_TOKEN: "19.7", 0x1E: "19.20"}
 _STREAMS = {0x04: "19.4", 0x05: "19.5", 0x11: "19.10", 0x15: "19.13"}
-
-
-class Code(enum.IntEnum):
-    """The codes of a CONNECTION_CLOSE (RFC 9000, section 20.1). A TLS alert is added to CRYPTO_ERROR."""
-
-    NO_ERROR = 0x00
-    INTERNAL_ERROR = 0x01
-    CONNECTION_REFUSED = 0x02
-    FLOW_CONTROL_ERROR = 0x03
-    STREAM_LIMIT_ERROR = 0x04
-    STREAM_STATE_ERROR = 0x05
-    FINAL_SIZE_ERROR = 0x06
-    FRAME_ENCODING_ERROR = 0x07
-    TRANSPORT_PARAMETER_ERROR = 0x08
-    CONNECTION_ID_LIMIT_ERROR = 0x09
-    PROTOCOL_VIOLATION = 0x0A
-    INVALID_TOKEN = 0x0B
-    APPLICATION_ERROR = 0x0C
-    CRYPTO_BUFFER_EXCEEDED = 0x0D
-    KEY_UPDATE_ERROR = 0x0E
-    AEAD_LIMIT_REACHED = 0x0F
-    NO_VIABLE_PATH = 0x10
-    CRYPTO_ERROR = 0x100
 
 
 class Error(ValueError):

@@ -1,12 +1,10 @@
 """What is typed twice, since it has comments or is code, is compared: with docs/formats.json the rules of frames in the
-proved code for C; with the structs of the header for C those of the proved crates, in order and widths; with its
-constants those of python/src/quic_wire/_wire.pyi."""
+proved code for C; with the structs of the header for C those of the proved crates, in order and widths."""
 import re
 
 from lib.tables import proved
-from lib.tables.formats import HEADER, constants, enumeration, packet_kinds, read
+from lib.tables.formats import HEADER, enumeration, packet_kinds, read
 
-STUB = "python/src/quic_wire/_wire.pyi"
 # The widths in bytes of the types in structs.
 WIDTHS = dict(proved.NUMBERS.values())
 
@@ -68,17 +66,7 @@ def structs():
         yield from differences(f"{path}: {name} (offset, width, items)", ours, declared[words])
 
 
-def declared_constants():
-    """The constants of the module for Python: the header's, without QUIC_WIRE_ and ERR_."""
-    known = {*enumeration("result", "ERR"), *(f"READ_{name}" for name in constants("READ"))}
-    stub = re.search(r"\nLIBRARY_VERSION: str\n((?:\w+: int\n)+)", read(STUB))
-    for name in re.findall(r"^(\w+): int", stub[1] if stub else "none: int", re.M):
-        if name not in known:
-            yield f"{STUB}: {name} isn't in {HEADER}"
-
-
 def faults(formats):
     """Everything that differs."""
     yield from rules(formats)
     yield from structs()
-    yield from declared_constants()

@@ -12,6 +12,7 @@ docs/formats.schema.json explains the members.
 
 from __future__ import annotations
 
+import enum
 from typing import NamedTuple, Optional
 
 
@@ -136,6 +137,11 @@ class Reason(NamedTuple):
 
 
 # fmt: off
+class Code(enum.IntEnum):
+    """The codes of a CONNECTION_CLOSE (RFC 9000, section 20.1). A TLS alert is added to CRYPTO_ERROR."""
+
+    __module__ = "quic_wire.errors"
+
 '''
 
 
@@ -216,4 +222,5 @@ def made(formats):
     }
     address = "".join(field(one, "    ", index) for index, one in enumerate(formats["preferred_address"]))
     parts = [f"{begin}\n{''.join(some)}}}\n" for begin, some in tables.items()]
-    return f"{BEGIN}{''.join(parts)}PREFERRED_ADDRESS: tuple[Field, ...] = (\n{address})\n"
+    codes = "".join(f"    {one['name']} = {one['code']:#04x}\n" for one in formats["error_codes"])
+    return f"{BEGIN}{codes}\n\n{''.join(parts)}PREFERRED_ADDRESS: tuple[Field, ...] = (\n{address})\n"

@@ -1,32 +1,74 @@
-"""The class of transport parameters in python/src/quic_wire/_wire.pyi."""
-from lib.tables.formats import read
+"""python/src/quic_wire/_wire.pyi: _wire.pyi.in with the constants, the classes of frames and packets, the parameters."""
+from lib.tables import classes
+from lib.tables.formats import FILE, read
 
 PATH = "python/src/quic_wire/_wire.pyi"
-BEGIN = """class _Parameters:
-    # scripts/tables makes the parameters from docs/formats.json.
-    __match_args__: ClassVar[tuple[str, ...]]
-    def __init__(
-        self,
-        *,
-"""
+BEGIN = f"# Made by scripts/tables from {PATH.rsplit('/', 1)[1]}.in and {FILE}: change nothing here.\n"
+# What a field is given as, and what it is.
 TYPES = {
+    "number": ("int = 0", "int"), "count": ("int = 1", "int"), "ecn": ("Optional[int] = None", "Optional[int]"),
+    "ranges": ("_Ranges = ...", "tuple[range, ...]"), "fin": ("bool = False", "bool"),
+    "data": ('Buffer = b""', "memoryview"), "token": ("Buffer = ...", "memoryview"), "path": ("Buffer = ...", "bytes"),
+}
+PACKET_TYPES = {
+    "token": "memoryview", "retry_token": "memoryview", "retry_tag": "Optional[memoryview]", "length": "int",
+    "token_at": "int", "spin": "bool", "versions": "tuple[int, ...]",
+}
+PARAMETER_TYPES = {
     "id": "Optional[Buffer] = None", "bytes": "Optional[Buffer] = None", "flag": "bool = False",
     "preferred_address": "Optional[PreferredAddress] = None",
 }
 
 
-def made(formats):
-    """The file, in which this class has these parameters."""
-    arguments, properties = "", ""
-    for one in sorted(formats["parameters"], key=lambda it: it["order"]):
-        if one["kind"] == "skipped":
-            continue
+def init(arguments):
+    """A constructor, in as few lines as there is room for."""
+    line = ", ".join(arguments)
+    if len(line) <= 92:
+        return f"    def __init__({line}) -> None: ...\n"
+    lines = [line] if len(line) <= 112 else [f"{it}," for it in arguments]
+    return "    def __init__(\n" + "".join(f"        {it}\n" for it in lines) + "    ) -> None: ...\n"
+
+
+def properties(types):
+    return "".join(f"    @property\n    def {name}(self) -> {kind}: ...\n" for name, kind in types.items())
+
+
+def names(some):
+    listed = ", ".join(f'"{it.name}"' for it in some) + "," * (len(some) == 1)
+    return f"    __match_args__ = ({listed})\n" if some else ""
+
+
+def frame(one):
+    given = [(it, TYPES[it.how][0].replace('b""', "...") if it.is_needed else TYPES[it.how][0]) for it in one.fields]
+    return (
+        f"@final\nclass {one.name}(Frame):\n    KIND: ClassVar[int]\n{names(one.fields)}"
+        f"{init(['self', *(f'{it.name}: {kind}' for it, kind in given)])}"
+        f"{properties({it.name: TYPES[it.how][1] for it in one.fields})}")
+
+
+def packet(one):
+    own = {it.name: PACKET_TYPES[it.how] for it in one.fields if it.how in PACKET_TYPES}
+    return f"@final\nclass {one.name}(Packet):\n{names(one.fields)}{properties(own)}"
+
+
+def parameters(formats):
+    types = {}
+    for one in classes.parameters(formats):
         number = f"int = {one['default']}" if "default" in one else "Optional[int] = None"
-        kind = TYPES.get(one["kind"], number)
-        result = kind.split(" = ")[0].replace("Buffer", "bytes")
-        arguments += f"        {one['name']}: {kind},\n"
-        properties += f"    @property\n    def {one['name']}(self) -> {result}: ...\n"
-    stub = read(PATH)
-    begin = stub.index("class _Parameters:")
-    end = stub.index("    @classmethod", begin)
-    return f"{stub[:begin]}{BEGIN}{arguments}    ) -> None: ...\n{properties}{stub[end:]}"
+        types[one["name"]] = PARAMETER_TYPES.get(one["kind"], number)
+    results = {name: kind.split(" = ")[0].replace("Buffer", "bytes") for name, kind in types.items()}
+    return init(["self", "*", *(f"{name}: {kind}" for name, kind in types.items())]) + properties(results)
+
+
+def made(formats):
+    constants = [*classes.results(formats), *(f"READ_{word}" for word in classes.flags())]
+    parts = {
+        "constants": "".join(f"{word}: int\n" for word in constants),
+        "frames": "\n".join(map(frame, classes.frames(formats))),
+        "packets": "\n".join(map(packet, classes.packets(formats))),
+        "parameters": parameters(formats),
+    }
+    text = read(f"{PATH}.in")
+    for name, part in parts.items():
+        text = text.replace(f"@{name}@\n", part)
+    return BEGIN + text

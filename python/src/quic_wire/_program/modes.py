@@ -12,6 +12,7 @@ from .. import (
     StreamDataBlocked, StreamsBlockedBidi, StreamsBlockedUni, TransportParameters, canonical, expand_packet_number,
     frames, is_known_parameter, parameters, read_varint, varint_len,
 )  # fmt: skip
+from .._formats import PARAMETERS
 from .._wire import varint_at
 from ..errors import frame_name
 from ..pcap import Endpoint
@@ -246,11 +247,7 @@ def _range(word: bytes) -> Optional[range]:
 # ---- Transport parameters
 
 # The names that the library and quinn-proto have for parameters.
-_SHORT_NAMES = {
-    "original_destination_connection_id": "original_dst_cid",
-    "initial_source_connection_id": "initial_src_cid",
-    "retry_source_connection_id": "retry_src_cid",
-}
+_SHORT_NAMES = {known.name: known.quinn_proto for known in PARAMETERS.values()}
 _SHORT_WANTED = {"one variable-length integer and nothing after it": "a number of variable length"}  # as quic-wire prints it
 _PREFERRED = "preferred_address"
 

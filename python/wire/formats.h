@@ -1,0 +1,243 @@
+/* SPDX-License-Identifier: MIT OR Apache-2.0 */
+/* Made by scripts/tables from docs/formats.json: change nothing here.
+ * Rows of tables: the kinds of frames and of packets with their fields, the transport parameters in their order, the
+ * results and flags of readers. Before a file includes this one, it defines what a row is; rows that it doesn't define
+ * are nothing. Each inclusion forgets the definitions.
+ *
+ * - FIELD(name, what it is, its slot in the union, documentation) */
+#ifndef FRAME_KIND
+#define FRAME_KIND(word, name, doc, fields)
+#endif
+#ifndef PACKET_KIND
+#define PACKET_KIND(name, doc, fields)
+#endif
+#ifndef PARAMETER
+#define PARAMETER(name, kind, at, len_at, present, doc)
+#endif
+#ifndef RESULT
+#define RESULT(word)
+#endif
+#ifndef READ_FLAG
+#define READ_FLAG(word)
+#endif
+
+FRAME_KIND(PADDING, "Padding",
+     "PADDING (RFC 9000, section 19.1), as many as follow each other.",
+     FIELD("count", count, 0, "how many PADDING frames follow each other here"))
+FRAME_KIND(PING, "Ping",
+     "PING (RFC 9000, section 19.2).",)
+FRAME_KIND(ACK, "Ack",
+     "ACK (RFC 9000, section 19.3).",
+     FIELD("largest", number, 0, "the largest acknowledged packet number")
+     FIELD("delay", number, 1, "ACK Delay: microseconds, shifted right by the sender's ack_delay_exponent")
+     FIELD("ranges", ranges, 0, "the acknowledged packet numbers, the greatest range first")
+     FIELD("ect0", ecn, 2, "ECT0 Count, packets marked ECT(0), or None")
+     FIELD("ect1", ecn, 3, "ECT1 Count, packets marked ECT(1), or None")
+     FIELD("ce", ecn, 4, "ECN-CE Count, packets marked ECN-CE, or None"))
+FRAME_KIND(RESET_STREAM, "ResetStream",
+     "RESET_STREAM (RFC 9000, section 19.4).",
+     FIELD("stream_id", number, 0, "Stream ID")
+     FIELD("error_code", number, 1, "Application Protocol Error Code")
+     FIELD("final_size", number, 2, "Final Size, bytes"))
+FRAME_KIND(STOP_SENDING, "StopSending",
+     "STOP_SENDING (RFC 9000, section 19.5).",
+     FIELD("stream_id", number, 0, "Stream ID")
+     FIELD("error_code", number, 1, "Application Protocol Error Code"))
+FRAME_KIND(CRYPTO, "Crypto",
+     "CRYPTO (RFC 9000, section 19.6).",
+     FIELD("offset", number, 1, "Offset, where the data begin in their stream, bytes")
+     FIELD("data", data, 0, "Crypto Data"))
+FRAME_KIND(NEW_TOKEN, "NewToken",
+     "NEW_TOKEN (RFC 9000, section 19.7).",
+     FIELD("token", data, 0, "Token"))
+FRAME_KIND(STREAM, "Stream",
+     "STREAM (RFC 9000, section 19.8).",
+     FIELD("stream_id", number, 0, "Stream ID")
+     FIELD("offset", number, 1, "Offset, where the data begin in their stream, bytes")
+     FIELD("fin", fin, 0, "FIN, whether the data end the stream")
+     FIELD("data", data, 0, "Stream Data"))
+FRAME_KIND(MAX_DATA, "MaxData",
+     "MAX_DATA (RFC 9000, section 19.9).",
+     FIELD("limit", number, 1, "Maximum Data, bytes"))
+FRAME_KIND(MAX_STREAM_DATA, "MaxStreamData",
+     "MAX_STREAM_DATA (RFC 9000, section 19.10).",
+     FIELD("stream_id", number, 0, "Stream ID")
+     FIELD("limit", number, 1, "Maximum Stream Data, bytes"))
+FRAME_KIND(MAX_STREAMS_BIDI, "MaxStreamsBidi",
+     "MAX_STREAMS of bidirectional streams (RFC 9000, section 19.11).",
+     FIELD("limit", number, 1, "Maximum Streams"))
+FRAME_KIND(MAX_STREAMS_UNI, "MaxStreamsUni",
+     "MAX_STREAMS of unidirectional streams (RFC 9000, section 19.11).",
+     FIELD("limit", number, 1, "Maximum Streams"))
+FRAME_KIND(DATA_BLOCKED, "DataBlocked",
+     "DATA_BLOCKED (RFC 9000, section 19.12).",
+     FIELD("limit", number, 1, "Maximum Data, bytes"))
+FRAME_KIND(STREAM_DATA_BLOCKED, "StreamDataBlocked",
+     "STREAM_DATA_BLOCKED (RFC 9000, section 19.13).",
+     FIELD("stream_id", number, 0, "Stream ID")
+     FIELD("limit", number, 1, "Maximum Stream Data, bytes"))
+FRAME_KIND(STREAMS_BLOCKED_BIDI, "StreamsBlockedBidi",
+     "STREAMS_BLOCKED of bidirectional streams (RFC 9000, section 19.14).",
+     FIELD("limit", number, 1, "Maximum Streams"))
+FRAME_KIND(STREAMS_BLOCKED_UNI, "StreamsBlockedUni",
+     "STREAMS_BLOCKED of unidirectional streams (RFC 9000, section 19.14).",
+     FIELD("limit", number, 1, "Maximum Streams"))
+FRAME_KIND(NEW_CONNECTION_ID, "NewConnectionId",
+     "NEW_CONNECTION_ID (RFC 9000, section 19.15).",
+     FIELD("sequence", number, 0, "Sequence Number")
+     FIELD("retire_prior_to", number, 1, "Retire Prior To, sequence number")
+     FIELD("connection_id", data, 0, "Connection ID, 1 to 20 bytes")
+     FIELD("reset_token", token, 0, "Stateless Reset Token, 16 bytes; compare it by hmac.compare_digest (RFC 9000, section 10.3.1)"))
+FRAME_KIND(RETIRE_CONNECTION_ID, "RetireConnectionId",
+     "RETIRE_CONNECTION_ID (RFC 9000, section 19.16).",
+     FIELD("sequence", number, 0, "Sequence Number"))
+FRAME_KIND(PATH_CHALLENGE, "PathChallenge",
+     "PATH_CHALLENGE (RFC 9000, section 19.17).",
+     FIELD("data", path, 0, "Data, 8 bytes"))
+FRAME_KIND(PATH_RESPONSE, "PathResponse",
+     "PATH_RESPONSE (RFC 9000, section 19.18).",
+     FIELD("data", path, 0, "Data, 8 bytes"))
+FRAME_KIND(CONNECTION_CLOSE, "ConnectionClose",
+     "CONNECTION_CLOSE of the transport, 0x1c (RFC 9000, section 19.19).",
+     FIELD("error_code", number, 0, "Error Code")
+     FIELD("frame_type", number, 1, "Frame Type, that of the frame at fault; 0: none is known")
+     FIELD("reason", data, 0, "Reason Phrase, UTF-8"))
+FRAME_KIND(APPLICATION_CLOSE, "ApplicationClose",
+     "CONNECTION_CLOSE of the application, 0x1d (RFC 9000, section 19.19).",
+     FIELD("error_code", number, 0, "Error Code, application error code")
+     FIELD("reason", data, 0, "Reason Phrase, UTF-8"))
+FRAME_KIND(HANDSHAKE_DONE, "HandshakeDone",
+     "HANDSHAKE_DONE (RFC 9000, section 19.20).",)
+FRAME_KIND(IMMEDIATE_ACK, "ImmediateAck",
+     "IMMEDIATE_ACK (draft-ietf-quic-ack-frequency, section 5).",)
+FRAME_KIND(DATAGRAM, "Datagram",
+     "DATAGRAM (RFC 9221, section 4).",
+     FIELD("data", data, 0, "Datagram Data"))
+FRAME_KIND(ACK_FREQUENCY, "AckFrequency",
+     "ACK_FREQUENCY (draft-ietf-quic-ack-frequency, section 4).",
+     FIELD("sequence", number, 0, "Sequence Number")
+     FIELD("ack_eliciting_threshold", number, 1, "Ack-Eliciting Threshold, packets")
+     FIELD("max_ack_delay", number, 2, "Requested Max Ack Delay, microseconds")
+     FIELD("reordering_threshold", number, 3, "Reordering Threshold, packets"))
+
+PACKET_KIND("Initial",
+     "An Initial packet (RFC 9000, section 17.2.2).",
+     FIELD("version", version, 0, "the version")
+     FIELD("dcid", dcid, 0, "Destination Connection ID")
+     FIELD("scid", scid, 0, "Source Connection ID")
+     FIELD("token", token, 0, "Token")
+     FIELD("length", length, 0, "Length: bytes of packet number and payload")
+     FIELD("token_at", token_at, 0, "where the token begins in the datagram"))
+PACKET_KIND("ZeroRtt",
+     "A 0-RTT packet (RFC 9000, section 17.2.3).",
+     FIELD("version", version, 0, "the version")
+     FIELD("dcid", dcid, 0, "Destination Connection ID")
+     FIELD("scid", scid, 0, "Source Connection ID")
+     FIELD("length", length, 0, "Length: bytes of packet number and payload"))
+PACKET_KIND("Handshake",
+     "A Handshake packet (RFC 9000, section 17.2.4).",
+     FIELD("version", version, 0, "the version")
+     FIELD("dcid", dcid, 0, "Destination Connection ID")
+     FIELD("scid", scid, 0, "Source Connection ID")
+     FIELD("length", length, 0, "Length: bytes of packet number and payload"))
+PACKET_KIND("Retry",
+     "A Retry packet (RFC 9000, section 17.2.5).",
+     FIELD("version", version, 0, "the version")
+     FIELD("dcid", dcid, 0, "Destination Connection ID")
+     FIELD("scid", scid, 0, "Source Connection ID")
+     FIELD("token", retry_token, 0, "Retry Token")
+     FIELD("integrity_tag", retry_tag, 0, "Retry Integrity Tag, or None if fewer bytes are there"))
+PACKET_KIND("OneRtt",
+     "A 1-RTT packet (RFC 9000, section 17.3.1).",
+     FIELD("dcid", dcid, 0, "Destination Connection ID")
+     FIELD("spin", spin, 0, "Spin Bit"))
+PACKET_KIND("VersionNegotiation",
+     "A Version Negotiation packet (RFC 9000, section 17.2.1).",
+     FIELD("dcid", dcid, 0, "Destination Connection ID")
+     FIELD("scid", scid, 0, "Source Connection ID")
+     FIELD("versions", versions, 0, "Supported Versions"))
+PACKET_KIND("UnknownVersion",
+     "A packet of a version that isn't one of those given (RFC 8999, section 5.1): all of the datagram from its first byte on.",
+     FIELD("version", version, 0, "the version")
+     FIELD("dcid", dcid, 0, "Destination Connection ID")
+     FIELD("scid", scid, 0, "Source Connection ID"))
+
+PARAMETER(max_idle_timeout, INTEGER, AT(max_idle_timeout), 0,
+     0, "milliseconds, 0 for none")
+PARAMETER(max_udp_payload_size, INTEGER, AT(max_udp_payload_size), 0,
+     0, "bytes, 1200 or more")
+PARAMETER(initial_max_data, INTEGER, AT(initial_max_data), 0,
+     0, "bytes")
+PARAMETER(initial_max_stream_data_bidi_local, INTEGER, AT(initial_max_stream_data_bidi_local), 0,
+     0, "bytes, for bidirectional streams that the sender of the list opens")
+PARAMETER(initial_max_stream_data_bidi_remote, INTEGER, AT(initial_max_stream_data_bidi_remote), 0,
+     0, "bytes, for bidirectional streams that its receiver opens")
+PARAMETER(initial_max_stream_data_uni, INTEGER, AT(initial_max_stream_data_uni), 0,
+     0, "bytes, for unidirectional streams that its receiver opens")
+PARAMETER(initial_max_streams_bidi, INTEGER, AT(initial_max_streams_bidi), 0,
+     0, "bidirectional streams, at most 2^60")
+PARAMETER(initial_max_streams_uni, INTEGER, AT(initial_max_streams_uni), 0,
+     0, "unidirectional streams, at most 2^60")
+PARAMETER(ack_delay_exponent, INTEGER, AT(ack_delay_exponent), 0,
+     0, "by how many bits ACK Delay is shifted, at most 20")
+PARAMETER(max_ack_delay, INTEGER, AT(max_ack_delay), 0,
+     0, "milliseconds, below 2^14")
+PARAMETER(active_connection_id_limit, INTEGER, AT(active_connection_id_limit), 0,
+     0, "connection ids, 2 or more")
+PARAMETER(stateless_reset_token, TOKEN, AT(stateless_reset_token), 0,
+     QUIC_WIRE_HAS_STATELESS_RESET_TOKEN, "16 bytes, or None; from servers only")
+PARAMETER(disable_active_migration, FLAG, 0, 0,
+     QUIC_WIRE_HAS_DISABLE_ACTIVE_MIGRATION, "True or False")
+PARAMETER(max_datagram_frame_size, OPTIONAL, AT(max_datagram_frame_size), 0,
+     QUIC_WIRE_HAS_MAX_DATAGRAM_FRAME_SIZE, "bytes, or None (RFC 9221)")
+PARAMETER(preferred_address, ADDRESS, 0, 0,
+     QUIC_WIRE_HAS_PREFERRED_ADDRESS, "a PreferredAddress, or None; from servers only")
+PARAMETER(original_destination_connection_id, ID, AT(original_dst_cid), AT(original_dst_cidlen),
+     QUIC_WIRE_HAS_ORIGINAL_DST_CID, "at most 20 bytes, or None; from servers only")
+PARAMETER(initial_source_connection_id, ID, AT(initial_src_cid), AT(initial_src_cidlen),
+     QUIC_WIRE_HAS_INITIAL_SRC_CID, "at most 20 bytes, or None")
+PARAMETER(retry_source_connection_id, ID, AT(retry_src_cid), AT(retry_src_cidlen),
+     QUIC_WIRE_HAS_RETRY_SRC_CID, "at most 20 bytes, or None; from servers only")
+PARAMETER(grease_quic_bit, FLAG, 0, 0,
+     QUIC_WIRE_HAS_GREASE_QUIC_BIT, "True or False (RFC 9287)")
+PARAMETER(min_ack_delay, OPTIONAL, AT(min_ack_delay), 0,
+     QUIC_WIRE_HAS_MIN_ACK_DELAY, "microseconds, at most max_ack_delay, or None (draft-ietf-quic-ack-frequency)")
+
+RESULT(PAYLOAD_EMPTY)
+RESULT(FRAME_END)
+RESULT(FRAME_TYPE)
+RESULT(FRAME_MALFORMED)
+RESULT(FRAME_LONG_TYPE)
+RESULT(FRAME_LIMIT)
+RESULT(FRAME_PACKET)
+RESULT(FRAME_SENDER)
+RESULT(FRAME_STREAM)
+RESULT(PACKET_END)
+RESULT(PACKET_FIXED_BIT)
+RESULT(PACKET_SMALL)
+RESULT(PACKET_CID)
+RESULT(PACKET_TOKEN)
+RESULT(PACKET_VERSION)
+RESULT(PACKET_CUT)
+RESULT(PACKET_RETRY)
+RESULT(PARAMS_MALFORMED)
+RESULT(PARAMS_ILLEGAL)
+
+READ_FLAG(SHORT_TYPES)
+READ_FLAG(DATA_LIMIT)
+READ_FLAG(STREAM_LIMIT)
+READ_FLAG(NO_ACK_FREQUENCY)
+READ_FLAG(TOKENS)
+READ_FLAG(GREASED_BIT)
+READ_FLAG(ANY_VERSION)
+READ_FLAG(WHOLE_RETRY)
+READ_FLAG(ANY_WIDTH)
+READ_FLAG(NO_REPEATS)
+READ_FLAG(RFC)
+
+#undef FRAME_KIND
+#undef PACKET_KIND
+#undef PARAMETER
+#undef RESULT
+#undef READ_FLAG
+#undef FIELD

@@ -1,0 +1,56 @@
+"""python/wire/formats.h."""
+import json
+
+from lib.tables import classes
+from lib.tables.formats import MADE
+
+PATH = "python/wire/formats.h"
+MACROS = {
+    "FRAME_KIND": "word, name, doc, fields", "PACKET_KIND": "name, doc, fields",
+    "PARAMETER": "name, kind, at, len_at, present, doc", "RESULT": "word", "READ_FLAG": "word",
+}
+BEGIN = f"""/* SPDX-License-Identifier: MIT OR Apache-2.0 */
+/* {MADE}
+ * Rows of tables: the kinds of frames and of packets with their fields, the transport parameters in their order, the
+ * results and flags of readers. Before a file includes this one, it defines what a row is; rows that it doesn't define
+ * are nothing. Each inclusion forgets the definitions.
+ *
+ * - FIELD(name, what it is, its slot in the union, documentation) */
+"""
+KINDS = {"bytes": "TOKEN", "id": "ID", "flag": "FLAG", "preferred_address": "ADDRESS"}
+
+
+def fields(some):
+    rows = (f"\n     FIELD({json.dumps(it.name)}, {it.how}, {it.slot}, {json.dumps(it.doc)})" for it in some)
+    return "".join(rows)
+
+
+def kind(one):
+    return f"FRAME_KIND({one.word}, {json.dumps(one.name)},\n     {json.dumps(one.doc)},{fields(one.fields)})\n"
+
+
+def packet(one):
+    return f"PACKET_KIND({json.dumps(one.name)},\n     {json.dumps(one.doc)},{fields(one.fields)})\n"
+
+
+def parameter(one):
+    word = one.get("quinn_proto", one["name"])
+    what = KINDS.get(one["kind"], "INTEGER" if "default" in one else "OPTIONAL")
+    at = 0 if what in ("FLAG", "ADDRESS") else f"AT({word})"
+    length = f"AT({word}len)" if what == "ID" else 0
+    present = 0 if what == "INTEGER" else f"QUIC_WIRE_HAS_{word.upper()}"
+    doc = json.dumps(classes.parameter_doc(one))
+    return f"PARAMETER({one['name']}, {what}, {at}, {length},\n     {present}, {doc})\n"
+
+
+def made(formats):
+    rows = {
+        "FRAME_KIND": map(kind, classes.frames(formats)), "PACKET_KIND": map(packet, classes.packets(formats)),
+        "PARAMETER": map(parameter, classes.parameters(formats)),
+        "RESULT": (f"RESULT({word})\n" for word in classes.results(formats)),
+        "READ_FLAG": (f"READ_FLAG({word})\n" for word in classes.flags()),
+    }
+    defined = (f"#ifndef {name}\n#define {name}({words})\n#endif\n" for name, words in MACROS.items())
+    parts = (f"\n{''.join(some)}" for some in rows.values())
+    undefined = (f"#undef {name}\n" for name in [*MACROS, "FIELD"])
+    return BEGIN + "".join([*defined, *parts, "\n", *undefined])

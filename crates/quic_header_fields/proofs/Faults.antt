@@ -1,5 +1,5 @@
 -- The field at fault of a packet that isn't complete although its header is.
-use Rattle.std.proofs.Common.{◌≡◌, ℕ, zero, suc, ◌+◌, ◌-◌, ◌<◌, ◌≤◌, Bool, true, false, List, [], ◌∷◌, ◌++◌, length, map, take, slice_set, Some, Ok, Err, Result, refl, sym, ap, subst, ◌∙◌, length-append, arith}
+use Rattle.std.proofs.Common.{◌≡◌, ℕ, suc, ◌+◌, ◌-◌, ◌<◌, ◌≤◌, Bool, true, false, List, [], ◌∷◌, ◌++◌, length, map, take, slice_set, Some, Ok, Err, Result, refl, sym, ap, subst, ◌∙◌, length-append, arith}
 use Rattle.std.proofs.lemmas.Bool.Decides.{nat_tests}
 use Rattle.std.specs.Prelude.{nat_lt}
 use Rattle.quic_base.specs.Number.{num}
@@ -8,7 +8,7 @@ use Rattle.quic_fields.specs.Spans.{AreInRow}
 use Rattle.quic_fields.specs.Walk.{stored, last_end}
 use Rattle.quic_header_decode.specs.declared.protected.ProtectedHeader.{ProtectedHeader}
 use Rattle.quic_header_decode.specs.Fields.{Taken}
-use Rattle.quic_header_decode.specs.Grammar.{HeaderField, Version, DestinationId, SourceId, ShortId, HeaderValue, header_row_of, is_long}
+use Rattle.quic_header_decode.specs.Grammar.{HeaderField, HeaderValue, header_row_of, is_long}
 use Rattle.quic_header_decode.specs.Reading.{DecodeOptions, word_at}
 use Rattle.quic_header_decode.specs.Refusal.{Refusal}
 use Rattle.quic_header_decode.proofs.Headers.{word_says}

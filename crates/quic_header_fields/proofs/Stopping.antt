@@ -1,15 +1,20 @@
 -- Where reading stops inside a field.
 use Rattle.std.specs.Prelude.{nat_lt, ◌<◌, ◌≤◌}
-use Rattle.std.proofs.Common.{◌≡◌, ℕ, Bool, true, false, List, [], ◌∷◌, ◌++◌, length, take, drop, refl, sym, ap, ◌∙◌, inl, inr, length-take, arith}
+use Rattle.std.proofs.Common.{◌≡◌, ℕ, Bool, true, false, List, [], ◌∷◌, ◌++◌, length, take, drop, refl, sym, ap, ◌+◌, ◌∙◌, inl, inr, length-take, arith}
 use Rattle.std.proofs.lemmas.Bool.Decides.{nat_tests}
 use Rattle.std.proofs.lemmas.List.{take-append-drop}
 use Rattle.quic_base.specs.ConnectionId.{long_id}
-use Rattle.quic_header_decode.specs.Grammar.{HeaderField, HeaderValue, Bytes, Version, DestinationId, SourceId, Supported, TokenLength, Token, Length, ShortId}
+use Rattle.quic_header_decode.specs.Grammar.{HeaderField, HeaderValue, Bytes, Version, DestinationId, SourceId, Supported, TokenLength, Token, Length, ShortId, header_row_of}
 use Rattle.quic_header_decode.specs.Reading.{DecodeOptions}
 use Rattle.quic_header_decode.specs.Refusal.{Refusal}
 use Rattle.quic_header_decode.proofs.Steps.{bool_cases}
-use Rattle.quic_header_fields.specs.Inside.{StopsInId, StopsInside, inside, inside_id}
-use Rattle.quic_header_fields.specs.Spans.{StopsAt}
+use Rattle.quic_base.specs.Number.{num}
+use Rattle.quic_fields.specs.declared.field.Span.{Span}
+use Rattle.quic_header_decode.specs.declared.protected.ProtectedHeader.{ProtectedHeader}
+use Rattle.quic_header_fields.specs.Inside.{StopsInId, StopsInside, inside, inside_id, stop_at, stop_in_header}
+use Rattle.quic_header_fields.specs.Spans.{is_known, AreFieldsAt, IsHeaderAt, StopsAt}
+use Rattle.quic_header_fields.proofs.FieldsIn.{in_again}
+use Rattle.quic_header_fields.proofs.Walks.{fields_any}
 
 -- no front of the bytes is an id of at most that many bytes, if it is limited
 abbrev NoId : Bool → List ℕ → Type 0
@@ -59,3 +64,24 @@ stops_inside known options TokenLength before bytes e s = refl
 stops_inside known options Token before bytes e s = refl
 stops_inside known options Length before bytes e s = refl
 stops_inside known options ShortId before bytes e s = refl
+
+-- ---- if all fields are there, it doesn't stop
+
+never_stops : (known : Bool) (options : DecodeOptions) (index start : ℕ) (fields : List HeaderField)
+    (before : List HeaderValue) (spans : List Span) (after : List HeaderValue) (bytes rest : List ℕ)
+    → AreFieldsAt known options index start fields before spans after bytes rest
+    → stop_at known options fields before bytes ≡ (0, 0)
+never_stops known options index start [] before spans after bytes rest s = refl
+never_stops known options index start (field ∷ fields) before spans after bytes rest s =
+    let one = in_again known options field before s.0 s.1 s.2 s.5 in
+    let two =
+    never_stops known options (index + 1) (start + length s.1) fields (before ++ s.0) s.3 after s.2 rest s.7 in
+    rw (s.4, one) two
+
+pub whole_header : (options : DecodeOptions) (whole : ℕ) (bytes : List ℕ) (h : ProtectedHeader) (spans : List Span)
+    (rest : List ℕ) → IsHeaderAt options whole bytes h spans rest → stop_in_header options bytes ≡ (0, 0)
+whole_header options whole bytes h spans rest (first, text, values, others, split, all, fields, is) =
+    let known = is_known options (num (take 4 text)) in
+    let row = header_row_of first (num (take 4 text)) in
+    rw (split) (never_stops known options 1 1 row [] others values text rest
+    (fields_any known options 1 1 row [] others values text rest fields))

@@ -1,5 +1,5 @@
 -- The token of a Retry is at fault, or its tag.
-use Rattle.std.proofs.Common.{length, ◌∙◌, sym, subst, ℕ, ◌≤◌, ◌<◌}
+use Rattle.std.proofs.Common.{length, subst, ℕ, ◌≤◌, ◌<◌}
 use Rattle.quic_header_decode.specs.Places.{any_fixed}
 use Rattle.quic_header_fields.proofs.Faults.{stored_whole, stored_partial}
 use Rattle.quic_header_fields.proofs.fault.spans_of_partial_retry.Goals as goal

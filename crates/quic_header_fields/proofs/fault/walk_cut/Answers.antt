@@ -1,6 +1,5 @@
 -- The first byte and the fields of the row but the last are read.
-use Rattle.std.proofs.Common.{[], map, refl, ap, ◌∙◌, ◌≡◌, ℕ}
-use Rattle.quic_header_decode.specs.Grammar.{header_row_of}
+use Rattle.std.proofs.Common.{[], map, refl, ap, ◌∙◌, ℕ}
 use Rattle.quic_header_decode.specs.Places.{any_fixed}
 use Rattle.quic_header_fields.specs.Fault.{but_last, cut_walk}
 use Rattle.quic_header_fields.specs.Kinds.{field_of}

@@ -8,7 +8,7 @@ from . import _parameters
 from ._fields import (
     FRAME_TYPE_FIELD, Field, Place, Raw, Read, in_entry, in_frame, in_header, of_entry, of_frame, of_header,
 )  # fmt: skip
-from ._formats import Code as Code
+from ._formats import FRAMES, Code as Code
 from ._wire import (
     FRAME_LIMIT, FRAME_LONG_TYPE, FRAME_MALFORMED, FRAME_PACKET, FRAME_SENDER, FRAME_STREAM, FRAME_TYPE,
     PACKET_FIXED_BIT, PACKET_RETRY, PAYLOAD_EMPTY, type_name,
@@ -19,17 +19,13 @@ if TYPE_CHECKING:
     from ._types import Buffer
     from ._wire import Frame, Packet
 
-_NEW_TOKEN, _NEW_CONNECTION_ID = 0x07, 0x18
+_NEW_TOKEN = 0x07
 _OF_TYPES = (FRAME_TYPE, FRAME_LONG_TYPE)  # results for a type that was read
 _LONG_FORM = 0x80  # of a first byte
 _ACK_FREQUENCY = (0x1F, 0xAF)  # unknown only with Checks.NO_ACK_FREQUENCY
 _PERMISSIONS = (FRAME_PACKET, FRAME_SENDER, FRAME_STREAM)
-# For types of frames with a limit, except those of STREAM, the sections that have it.
-_OF_STREAMS = {0x12: "19.11", 0x13: "19.11", 0x16: "19.14", 0x17: "19.14"}
-_LIMITS = _OF_STREAMS | {0x06: "19.6"}
-# The same for who may send a frame, and on which streams.
-_SENDERS = {_NEW_TOKEN: "19.7", 0x1E: "19.20"}
-_STREAMS = {0x04: "19.4", 0x05: "19.5", 0x11: "19.10", 0x15: "19.13"}
+# Types that only a server sends; and those of ACK, of which a section of their own says what is malformed.
+_OF_SERVERS, _ACKS = (_NEW_TOKEN, 0x1E), (0x02, 0x03)
 
 
 class Error(ValueError):
@@ -148,16 +144,15 @@ def frame_name(frame_type: int) -> str:
 def _frame_section(result: int, frame_type: Optional[int]) -> str:
     if result in (PAYLOAD_EMPTY, FRAME_PACKET, *_OF_TYPES):
         return "RFC 9000, section 12.4"
-    section, number = "20.1", frame_type or 0
+    known = FRAMES.get(frame_type or 0)
+    own = known.section if known else ""
+    if result in (FRAME_LIMIT, FRAME_STREAM):
+        return own
     if result == FRAME_MALFORMED:
-        section = {_NEW_TOKEN: "19.7", _NEW_CONNECTION_ID: "19.15"}.get(number, "19.3.1")
-    elif result == FRAME_LIMIT:
-        section = _LIMITS.get(number, "19.8")
-    elif result == FRAME_SENDER:
-        section = _SENDERS.get(number, "17.2.3")
-    elif result == FRAME_STREAM:
-        section = _STREAMS.get(number, "19.8")
-    return f"RFC 9000, section {section}"
+        return f"{own}.1" if frame_type in _ACKS else own
+    if result == FRAME_SENDER:
+        return own if frame_type in _OF_SERVERS else "RFC 9000, section 17.2.3"
+    return "RFC 9000, section 20.1"
 
 
 def _why_unknown(result: int, frame_type: Optional[int]) -> Optional[str]:
@@ -194,7 +189,8 @@ def _rule_error(result: int, reason: str, code: int, frame_type: int, begin: Opt
     if result == FRAME_MALFORMED:
         error.why = "the token is empty"
     elif result == FRAME_LIMIT:
-        error.why = "it is greater than 2^60" if frame_type in _OF_STREAMS else "the data end past 2^62 - 1"
+        is_of_streams = FRAMES[frame_type].fields[-1].most is not None
+        error.why = "it is greater than 2^60" if is_of_streams else "the data end past 2^62 - 1"
     return error
 
 

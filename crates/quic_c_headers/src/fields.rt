@@ -11,7 +11,7 @@ use quic_fields::field::{Reach, Span};
 use quic_header_decode::laws::one_reading;
 use quic_header_decode::places::read_header;
 use quic_header_fields::fault::{spans_before_last, spans_of_partial_retry};
-use quic_header_fields::laws::{one_error, one_list_of_spans};
+use quic_header_fields::laws::{one_error, one_list_of_spans, where_reading_stops};
 use quic_header_fields::packet::packet_spans;
 use quic_results::laws::distinct;
 use quic_results::results::Failure;
@@ -91,6 +91,7 @@ fn store(
     one_reading();
     one_list_of_spans();
     one_error();
+    where_reading_stops();
     are_bytes(packet);
     match part_of(outcome) {
         Part::Cut => spans_before_last(packet, id_len, versions, fields),

@@ -11,7 +11,7 @@
 // ghost use Rattle.quic_header_decode.specs.Refusal.{Refusal, Unsupported};
 // ghost use Rattle.quic_header_fields.specs.After.{AreAfter};
 // ghost use Rattle.quic_header_fields.specs.Headers.{spans_in, long_spans};
-// ghost use Rattle.quic_header_fields.specs.Inside.{inside, StopsInside};
+// ghost use Rattle.quic_header_fields.specs.Inside.{inside, stop_in_header, StopsInside};
 // ghost use Rattle.quic_header_fields.specs.Spans.{IsHeaderAt, IsNoHeaderAt, StopsAt};
 
 /// A header has exactly one list of spans: it has one, only headers have one, and no bytes have a second one. Together
@@ -94,9 +94,13 @@ pub fn spans_of_each_kind() { #![doc = "# Contract\n```text"]
     #![doc = "```"] }
 
 /// Where reading stops inside a field that can't be read is where the grammar says: in an id at its length or at the
-/// bytes after it, in another field at its beginning.
+/// bytes after it, in another field at its beginning. In a header that is there it stops nowhere.
 pub fn where_reading_stops() { #![doc = "# Contract\n```text"]
-    //! ensures { (known : Bool) (options : DecodeOptions) (field : HeaderField) (before : List HeaderValue)
+    //! ensures fault { (known : Bool) (options : DecodeOptions) (field : HeaderField) (before : List HeaderValue)
     //!     (bytes : List ℕ) (e : Refusal) → StopsAt known options field before bytes e
     //!     → StopsInside known field bytes (inside known field bytes) }
+    //! ensures whole { (id_len : ℕ) (versions : List ℕ) (whole : ℕ) (bytes : List ℕ) (h : ProtectedHeader)
+    //!     (spans : List Span) (rest : List ℕ)
+    //!     → IsHeaderAt (any_fixed id_len versions) whole bytes h spans rest
+    //!     → stop_in_header (any_fixed id_len versions) bytes ≡ (0, 0) }
     #![doc = "```"] }

@@ -1727,7 +1727,8 @@ quic_wire_frame_fields(const uint8_t *payload, size_t payloadlen,
  *    |read->end| is where the last field ends
  *  - the error that it returns.  The field at fault of a packet that is cut off
  *    is its Length; of a Retry without a token that, of one without a tag the
- *    tag; of a packet whose fixed bit is clear the first byte
+ *    tag, and a token of no bytes is stored before it; of a packet whose fixed
+ *    bit is clear the first byte.  With QUIC_WIRE_ERR_LENGTH |*read| is zeros
  *  - QUIC_WIRE_ERR_ARGUMENT for NULL; nothing changes then
  */
 QUIC_WIRE_CHECKED QUIC_WIRE_API int

@@ -14,19 +14,18 @@ use Rattle.quic_header_decode.specs.Places.{any_fixed, ends_at, header_in, refus
 use Rattle.quic_header_decode.specs.Refusal.{Refusal}
 use Rattle.quic_header_decode.specs.Rfc.{Unread}
 use Rattle.quic_header_fields.specs.After.{HasFields}
-use Rattle.quic_header_fields.specs.Fault.{but_last, partial_spans, AreStored}
+use Rattle.quic_header_fields.specs.Fault.{but_last, partial_spans}
 use Rattle.quic_header_fields.specs.Inside.{stop_in_header}
 use Rattle.quic_header_fields.specs.Spans.{IsHeaderAt, IsNoHeaderAt}
 use Rattle.quic_header_fields.specs.Walk.{LacksHeader}
 use Rattle.quic_c_headers.proofs.Answered.{one_answer}
-use Rattle.quic_c_headers.specs.Fields.{found_or, part_of, AreFields, HasPart}
+use Rattle.quic_c_headers.specs.Fields.{part_of, AreFields, HasPart}
 use Rattle.quic_c_headers.specs.Reading.{header_words, is_partial, outcome_of, Reported}
 use Rattle.quic_c_headers.specs.declared.fields.Part.{Part}
 use Rattle.quic_c_headers.specs.declared.fields.Part.TheVariants as parts
 use Rattle.quic_c_headers.specs.declared.words.CHeader.{CHeader}
 use Rattle.quic_results.specs.declared.results.Failure.{Failure}
 use Rattle.quic_results.specs.declared.results.Failure.TheVariants as failure
-use Rattle.quic_results.specs.Results.{failed, returned}
 
 abbrev Read : Type 0
 Read = Result (ProtectedHeader × List ℕ) Refusal
@@ -57,6 +56,13 @@ AreRefused =
     (id_len : ℕ) (versions bytes : List ℕ) (spans : List Span) (at : ℕ) (e : Refusal) → AreBytes bytes
     → IsNoHeaderAt (any_fixed id_len versions) bytes spans at e
     → ReadAnswer (any_fixed id_len versions) bytes (Err e)
+
+abbrev pub NeverStops : Type 0
+NeverStops =
+    (id_len : ℕ) (versions : List ℕ) (whole : ℕ) (bytes : List ℕ) (h : ProtectedHeader) (spans : List Span)
+    (rest : List ℕ)
+    → IsHeaderAt (any_fixed id_len versions) whole bytes h spans rest
+    → stop_in_header (any_fixed id_len versions) bytes ≡ (0, 0)
 
 -- ---- what is reported
 
@@ -152,7 +158,7 @@ refused_stored flags id_len versions packet old new out error.TokenOutOfBounds r
 
 walk_stored : (flags id_len : ℕ) (versions packet : List ℕ) (old new : List Span) (out : Reach)
     (fault : Option ReadError) (read : Result HeaderPlaces ReadError) (outcome : Result ℕ Failure)
-    → OneReading → AreHeaders → AreRefused → AreBytes packet
+    → OneReading → AreHeaders → AreRefused → NeverStops → AreBytes packet
     → ReadAnswer (any_fixed id_len versions) packet (seen_in packet read)
     → outcome ≡ outcome_of flags read (length packet) → part_of outcome ≡ parts.Whole
     → (fault ≡ None → HasFields (any_fixed id_len versions) packet old new out.count out.end)
@@ -160,19 +166,22 @@ walk_stored : (flags id_len : ℕ) (versions packet : List ℕ) (old new : List 
     (refusal_in packet reason))
     → (out.inside, out.numbers) ≡ stop_in_header (any_fixed id_len versions) packet
     → AreFields id_len versions packet old new out outcome
-walk_stored flags id_len versions packet old new out None (Ok x) outcome one heads refused fits right is part ok err stop =
+walk_stored flags id_len versions packet old new out None (Ok x) outcome one heads refused never fits right is part ok err stop =
     let c = complete (is_partial flags x (length packet)) (ends_at x (length packet)) outcome is part in
-    subst (AreFields id_len versions packet old new out) (sym c.1) (ok refl, stop)
-walk_stored flags id_len versions packet old new out (Some r) (Ok x) outcome one heads refused fits right is part ok err stop =
+    let has = ok refl in
+    let none = stop ∙ never id_len versions (length packet) packet has.header has.spans has.rest has.here in
+    subst (AreFields id_len versions packet old new out) (sym c.1)
+    (has, ap (λ (p : ℕ × ℕ). p.0) none, ap (λ (p : ℕ × ℕ). p.1) none)
+walk_stored flags id_len versions packet old new out (Some r) (Ok x) outcome one heads refused never fits right is part ok err stop =
     let other = refused id_len versions packet err.spans out.count (refusal_in packet r) fits err.no_header in
     let same = one id_len versions packet (seen_in packet (Ok x)) (Err (refusal_in packet r)) fits right other in
     absurd cc
-walk_stored flags id_len versions packet old new out None (Err e) outcome one heads refused fits right is part ok err stop =
+walk_stored flags id_len versions packet old new out None (Err e) outcome one heads refused never fits right is part ok err stop =
     let has = ok refl in
     let other = heads id_len versions (length packet) packet has.header has.spans has.rest has.here in
     let same = one id_len versions packet (Ok (has.header, has.rest)) (Err (refusal_in packet e)) fits other right in
     absurd cc
-walk_stored flags id_len versions packet old new out (Some r) (Err e) outcome one heads refused fits right is part ok err stop =
+walk_stored flags id_len versions packet old new out (Some r) (Err e) outcome one heads refused never fits right is part ok err stop =
     let other = refused id_len versions packet err.spans out.count (refusal_in packet r) fits err.no_header in
     let same = one id_len versions packet (Err (refusal_in packet r)) (Err (refusal_in packet e)) fits other right in
     refused_stored flags id_len versions packet old new out e (refusal_in packet r) outcome (err, stop)
@@ -180,15 +189,15 @@ walk_stored flags id_len versions packet old new out (Some r) (Err e) outcome on
 
 pub others_stored : (flags id_len : ℕ) (versions packet : List ℕ) (before after : CHeader) (old new : List Span)
     (out : Reach) (fault : Option ReadError) (outcome : Result ℕ Failure)
-    → OneReading → AreHeaders → AreRefused → AreBytes packet
+    → OneReading → AreHeaders → AreRefused → NeverStops → AreBytes packet
     → Reported flags id_len versions packet before outcome after → part_of outcome ≡ parts.Whole
     → (fault ≡ None → HasFields (any_fixed id_len versions) packet old new out.count out.end)
     → IfSome fault (λ reason. LacksHeader (any_fixed id_len versions) packet old new out.count out.end
     (refusal_in packet reason))
     → (out.inside, out.numbers) ≡ stop_in_header (any_fixed id_len versions) packet
     → AreFields id_len versions packet old new out outcome
-others_stored flags id_len versions packet before after old new out fault outcome one heads refused fits t part ok err stop =
-    walk_stored flags id_len versions packet old new out fault t.read outcome one heads refused fits t.right t.outcome_is
+others_stored flags id_len versions packet before after old new out fault outcome one heads refused never fits t part ok err stop =
+    walk_stored flags id_len versions packet old new out fault t.read outcome one heads refused never fits t.right t.outcome_is
     part ok err stop
 
 -- ---- what is returned

@@ -47,8 +47,7 @@ pub record HasPart (options : DecodeOptions) (packet : List ℕ) (part : List Sp
 -- tag that of a token without bytes. If no header is there they are those before the field at fault.
 abbrev pub AreFields : ℕ → List ℕ → List ℕ → List Span → List Span → Reach → Result ℕ Failure → Type 0
 AreFields id_len versions packet old new out (Ok end) =
-    HasFields (any_fixed id_len versions) packet old new out.count out.end
-    × ((out.inside, out.numbers) ≡ stop_in_header (any_fixed id_len versions) packet)
+    HasFields (any_fixed id_len versions) packet old new out.count out.end × (out.inside ≡ 0) × (out.numbers ≡ 0)
 AreFields id_len versions packet old new out (Err failure.PacketCut) =
     HasPart (any_fixed id_len versions) packet (λ spans rest. but_last spans) old new out
 AreFields id_len versions packet old new out (Err failure.PacketRetry) =

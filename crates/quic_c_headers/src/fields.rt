@@ -11,7 +11,7 @@ use quic_fields::field::{Reach, Span};
 use quic_header_decode::laws::one_reading;
 use quic_header_decode::places::read_header;
 use quic_header_fields::fault::{spans_before_last, spans_of_partial_retry};
-use quic_header_fields::laws::{one_error, one_list_of_spans};
+use quic_header_fields::laws::{one_error, one_list_of_spans, where_reading_stops};
 use quic_header_fields::packet::packet_spans;
 use quic_results::laws::distinct;
 use quic_results::results::Failure;
@@ -91,6 +91,7 @@ fn store(
     one_reading();
     one_list_of_spans();
     one_error();
+    where_reading_stops();
     are_bytes(packet);
     match part_of(outcome) {
         Part::Cut => spans_before_last(packet, id_len, versions, fields),
@@ -111,7 +112,8 @@ fn store(
 /// where the last one ends, in `out`. Those of a version negotiation and of a Retry go on to the end of the packet. No
 /// packet has more than eight. If `quic_wire_header_read_` returns an error for these arguments, that is returned, and the
 /// fields before the one at fault are stored: of a packet that is cut off those before its Length; of a Retry without a
-/// token those before that, or those before its tag. With `Length` and `PacketFixedBit` no field is stored.
+/// token those before that, or those before its tag. With `Length` and `PacketFixedBit` no field is stored, and `out` is
+/// zeros.
 #[unsafe(no_mangle)]
 pub extern "C" fn quic_wire_packet_fields_(
     packet: &[u8],

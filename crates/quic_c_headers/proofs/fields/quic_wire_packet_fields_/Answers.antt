@@ -1,7 +1,7 @@
 -- What is reported for the packet is returned, and its spans are stored.
-use Rattle.std.proofs.Common.{◌≡◌, refl, inr, ap, ◌∙◌, rules, to_z, of_z, w32}
+use Rattle.std.proofs.Common.{◌≡◌, inr, ap, ◌∙◌, rules, to_z, of_z, w32}
 use Rattle.quic_c_headers.specs.Fields.{found_or}
-use Rattle.quic_c_headers.specs.Reading.{header_words, Reported}
+use Rattle.quic_c_headers.specs.Reading.{header_words}
 use Rattle.quic_c_headers.proofs.Stored.{one_outcome, reported_of}
 use Rattle.quic_c_headers.proofs.fields.quic_wire_packet_fields_.Goals as goal
 

@@ -63,5 +63,5 @@ returns-in-Whole c =
             inside = x.inside;
             numbers = x.numbers;
           }) x.fault c.args.outcome c.one_reading.ensures c.one_list_of_spans.ensures.headers c.one_error.ensures.reported
-          c.are_bytes.ensures r.3 part w.ok w.err w.inside;
+          c.where_reading_stops.ensures.whole c.are_bytes.ensures r.3 part w.ok w.err w.inside;
     }

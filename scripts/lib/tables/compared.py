@@ -1,10 +1,12 @@
 """What is typed twice, since it has comments or is code, is compared: with docs/formats.json the rules of frames in the
-proved code for C; with the structs of the header for C those of the proved crates, in order and widths."""
+proved code for C, and the names of the numbers in the header's structs of frames; with the structs of the header those
+of the proved crates, in order and widths."""
 import re
 
 from lib.tables import proved
 from lib.tables.formats import HEADER, enumeration, packet_kinds, read
 
+SLOTS = "crates/quic_c/specs/Slots.antt"
 # The widths in bytes of the types in structs.
 WIDTHS = dict(proved.NUMBERS.values())
 
@@ -66,7 +68,30 @@ def structs():
         yield from differences(f"{path}: {name} (offset, width, items)", ours, declared[words])
 
 
+def struct_of(frame):
+    """The struct of the header with the numbers of a frame."""
+    if frame.startswith("MAX_") or frame.endswith("_BLOCKED"):
+        return "limit"
+    return "path" if frame.startswith("PATH_") else "close" if frame.endswith("_CLOSE") else frame.lower()
+
+
+def frame_structs(formats):
+    """The structs of frames, except an ACK's: each number is the member with its field's name, or a part of that."""
+    declared, frames = c_structs(), {it["name"]: it for it in reversed(formats["frames"])}
+    frames |= {it["quinn_proto"]: it for it in formats["frames"] if "quinn_proto" in it}
+    for word, slots in re.findall(r"^slots_of names\.(\w+) = (.*) ∷ \[\]$", read(SLOTS), re.M):
+        name = re.sub(r"(?<=[a-z])(?=[A-Z])", "_", word).upper()
+        fields = [field for field in frames[name]["fields"][1:] if field["kind"] != "ordered"]
+        for slot, field in zip(slots.split(" ∷ "), fields):
+            if slot.startswith("Nth "):
+                struct, number = struct_of(name), int(slot.removeprefix("Nth "))
+                member = [*declared[struct], *[""] * 5][number]
+                if not member or member.replace("limit", "maximum") not in field["key"]:
+                    yield f"{HEADER}: quic_wire_{struct} has no {field['key']} of {name} as its number {number}"
+
+
 def faults(formats):
     """Everything that differs."""
     yield from rules(formats)
     yield from structs()
+    yield from frame_structs(formats)

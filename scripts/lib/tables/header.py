@@ -140,8 +140,8 @@ def params(formats):
 
 
 def layout():
-    """What is asserted: the size of each struct, which is that of its fields in their order; the offsets of its last field
-    and of those whose items have another width than the one before."""
+    """What is asserted: the size of each struct, which is that of its fields in their order, and the offsets of its
+    last field and of those whose items have another width than the one before."""
     made = {}
     for _, _, name, fields in proved.structs():
         places = proved.placed((of, proved.NUMBERS[item][1], count) for of, item, count in fields)

@@ -278,8 +278,8 @@ pub struct Walked {
     pub numbers: u64,
 }
 
-// Stores a span, if there is room for it.
-pub(crate) fn put(room: &mut [Span], index: usize, span: Span)
+/// Stores a span, if there is room for it.
+pub fn put(room: &mut [Span], index: usize, span: Span)
     ensures { room.new ≡ slice_set room.old index span }
 {
     if index < room.len() {

@@ -8,10 +8,10 @@ ghost use Rattle.quic_header_fields.specs.Fault.{but_last, cut_walk, partial_spa
 ghost use Rattle.quic_header_fields.specs.Kinds.{field_of};
 ghost use Rattle.quic_header_fields.specs.Spans.{IsHeaderAt};
 
-use crate::field::{Given, Seen, is_known, put, walk, word};
+use crate::field::{Given, Seen, is_known, walk, word};
 use crate::header::walk_header;
 use crate::row::{Kind, row};
-use quic_fields::field::{Reach, Span};
+use quic_fields::field::{Reach, Span, put};
 
 // All kinds except the last.
 fn but_last(kinds: &[Kind]) -> &[Kind]

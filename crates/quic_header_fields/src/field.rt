@@ -1,5 +1,5 @@
 //! Fields, read one after another from the front of a slice, with their spans.
-ghost use Rattle.std.specs.Prelude.{◌≡◌, ◌<◌, ◌≤◌, ◌+◌, ◌==◌, ◌^◌, List, ℕ, length, map, slice_set, Some, None, IfSome, drop, Bool, true, false, ◌||◌};
+ghost use Rattle.std.specs.Prelude.{◌≡◌, ◌<◌, ◌≤◌, ◌+◌, ◌==◌, ◌^◌, List, ℕ, length, map, Some, None, IfSome, drop, Bool, true, false, ◌||◌};
 ghost use Rattle.std.specs.List.{list_any};
 ghost use Rattle.quic_base.specs.Reading.{number_at};
 ghost use Rattle.quic_fields.specs.Walk.{stored, last_end};
@@ -14,7 +14,7 @@ ghost use Rattle.quic_header_fields.specs.Walk.{FindsIn, field_in, seen_after, s
 use crate::row::Kind;
 use quic_base::ids::MAX_CID_SIZE;
 use quic_base::varint::split_var;
-use quic_fields::field::Span;
+use quic_fields::field::{Span, put};
 
 /// How many fields with values were read, and the length of a token after three others.
 #[derive(Clone, Copy, Debug, PartialEq, Eq)]
@@ -293,15 +293,6 @@ fn stop_in(kind: Kind, known: bool, bytes: &[u8]) -> (usize, u64)
         Kind::DestinationId => in_id(known, bytes),
         Kind::SourceId => in_id(known, bytes),
         _ => (0, 0),
-    }
-}
-
-// Stores a span, if there is room for it.
-pub(crate) fn put(room: &mut [Span], index: usize, span: Span)
-    ensures { room.new ≡ slice_set room.old index span }
-{
-    if index < room.len() {
-        room[index] = span;
     }
 }
 

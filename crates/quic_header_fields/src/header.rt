@@ -5,10 +5,10 @@ ghost use Rattle.quic_header_decode.specs.Places.{any_fixed, refusal_in, IsSeen}
 ghost use Rattle.quic_header_fields.specs.Inside.{stop_in_header};
 ghost use Rattle.quic_header_fields.specs.Walk.{header_walk, HasHeader, LacksHeader};
 
-use crate::field::{Given, Seen, is_known, put, walk, word};
+use crate::field::{Given, Seen, is_known, walk, word};
 use crate::row::row;
 use quic_base::ids::MAX_CID_SIZE;
-use quic_fields::field::Span;
+use quic_fields::field::{Span, put};
 pub use quic_header_decode::places::ReadError;
 use quic_header_decode::places::read_header;
 

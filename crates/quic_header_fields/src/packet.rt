@@ -6,10 +6,9 @@ ghost use Rattle.quic_header_fields.specs.After.{after_at, HasFields};
 ghost use Rattle.quic_header_fields.specs.Inside.{stop_in_header};
 ghost use Rattle.quic_header_fields.specs.Walk.{LacksHeader};
 
-use crate::field::put;
 use crate::header::{Walked, walk_header};
 use quic_base::ids::MAX_CID_SIZE;
-use quic_fields::field::Span;
+use quic_fields::field::{Span, put};
 use quic_header_decode::places::{HeaderKind, read_header};
 
 // Stores the spans of what follows a header, from an index and an offset on. Returns how many fields there are with

@@ -1,5 +1,5 @@
 //! Fields, read one after another from the front of a value, with their spans.
-ghost use Rattle.std.specs.Prelude.{◌≡◌, ◌<◌, ◌≤◌, ◌+◌, ◌^◌, length, slice_set, IfOk, IfErr, None, IfSome};
+ghost use Rattle.std.specs.Prelude.{◌≡◌, ◌<◌, ◌≤◌, ◌+◌, ◌^◌, length, IfOk, IfErr, None, IfSome};
 ghost use Rattle.quic_base.specs.Codec.{Takes};
 ghost use Rattle.quic_param_fields.specs.Fields.{error_of, IsField, Stops, HasFields, StopsIn};
 
@@ -7,7 +7,7 @@ use crate::row::Kind;
 use quic_base::coding::Codec;
 use quic_base::ids::{MAX_CID_SIZE, RESET_TOKEN_SIZE};
 use quic_base::varint::split_var;
-use quic_fields::field::Span;
+use quic_fields::field::{Span, put};
 use quic_params::transport_parameters::Error;
 use std::net::{Ipv4Addr, Ipv6Addr};
 
@@ -186,15 +186,6 @@ fn read_field(kind: Kind, bytes: &[u8]) -> Result<(u64, &[u8]), Stop>
         Kind::LongId => read_long_id(bytes),
         Kind::Id => read_id(bytes),
         Kind::Rest => Ok(read_rest(bytes)),
-    }
-}
-
-// Stores a span, if there is room for it.
-fn put(room: &mut [Span], index: usize, span: Span)
-    ensures { room.new ≡ slice_set room.old index span }
-{
-    if index < room.len() {
-        room[index] = span;
     }
 }
 

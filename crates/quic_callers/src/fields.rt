@@ -1,0 +1,158 @@
+//! Where the fields of frames, parameters and headers are: what callers learn from the laws on spans.
+ghost use Rattle.std.specs.Prelude.{◌≡◌, ◌≤◌, ◌⊎◌, ◌↔◌, ◌++◌, ◌-◌, ◌+◌, ℕ, List, [], Option, Some, None, IfSome, IsTrue, MatchOption, length, slice_index, ⊤};
+ghost use Rattle.quic_base.specs.Varint.{Encodes};
+ghost use Rattle.quic_base.specs.Codec.{Follows};
+ghost use Rattle.quic_fields.specs.declared.field.Span.{Span};
+ghost use Rattle.quic_fields.specs.Spans.{AreInRow, AreNumbered};
+ghost use Rattle.quic_fields.specs.Walk.{stored};
+ghost use Rattle.quic_frame_fields.specs.Payload.{IsFrame, IsNoFrame, TypedFrame};
+ghost use Rattle.quic_header_decode.specs.declared.protected.ProtectedHeader.{ProtectedHeader};
+ghost use Rattle.quic_header_decode.specs.Grammar.{HeaderAt};
+ghost use Rattle.quic_header_decode.specs.Places.{any_fixed};
+ghost use Rattle.quic_header_fields.specs.Headers.{spans_in};
+ghost use Rattle.quic_param_fields.specs.Values.{Finds, IsAccepted};
+ghost use Rattle.quic_params.specs.Options.{kind_in};
+ghost use Rattle.quic_params.specs.Table.{row_of};
+ghost use Rattle.quic_params.specs.Value.{IsEncoded, IsNoValue};
+ghost use Rattle.quic_params.specs.declared.error.Error.TheVariants.{IllegalValue};
+ghost use Rattle.quic_params.specs.declared.parameter.TransportParameterId.{TransportParameterId};
+ghost use Rattle.quic_params.specs.declared.value.Value.{Value};
+
+use quic_base::ids::MAX_CID_SIZE;
+use quic_fields::entry::entry_spans;
+use quic_fields::field::Span;
+use quic_fields::frame::frame_spans;
+use quic_fields::laws as of_frames;
+use quic_frame_fields::frame::fault::Fault;
+use quic_header_fields::header::header_spans;
+use quic_header_fields::laws as of_headers;
+use quic_header_fields::packet::packet_spans;
+use quic_param_fields::laws as of_values;
+use quic_param_fields::value::value_spans;
+use quic_params::transport_parameters::Error;
+
+/// The frame at the front of a payload, whose fields are stored as far as `room` reaches, and how many these are: each
+/// byte of the frame belongs to one of them. `None` if no frame begins the payload.
+pub fn frame_in_fields<'a>(payload: &'a [u8], room: &mut [Span]) -> Option<(usize, &'a [u8])>
+    ensures { IfSome result (λ r. ((found : TypedFrame) × IsFrame false found r.1.now)
+        × ((spans : List Span) × (room.new ≡ stored 0 spans room.old) × (r.0 ≡ length spans)
+        × AreInRow 0 spans (length r.1.now) × AreNumbered 0 spans)) }
+{
+    of_frames::one_list_of_spans();
+    let walked = frame_spans(payload, room);
+    match walked.fault {
+        Some(_) => None,
+        None => Some((walked.count, &payload[..walked.end])),
+    }
+}
+
+/// Why a payload doesn't begin with a frame: the reason that reading it reports. `None` if it does, or if it is empty.
+pub fn reason_at_front(payload: &[u8]) -> Option<Fault>
+    ensures { IfSome result (λ reason. (type : Option ℕ) × IsNoFrame false None payload.now type reason) }
+{
+    of_frames::one_field_at_fault();
+    if payload.is_empty() {
+        return None;
+    }
+    frame_spans(payload, &mut []).fault
+}
+
+/// How many bytes the entry at the front of a list of transport parameters has: those of its number, of its value's
+/// length and of its value. `None` if no entry begins the list.
+pub fn entry_len(list: &[u8]) -> Option<usize>
+    ensures { IfSome result (λ n. (number : ℕ) × (value front back : List ℕ) × (list.now ≡ front ++ back)
+        × (n ≡ length front) × Follows (Encodes number) (Follows (Encodes (length value)) (λ x. x ≡ value)) front) }
+{
+    of_frames::one_list_of_spans_in_an_entry();
+    let walked = entry_spans(list, &mut []);
+    match walked.fault {
+        Some(_) => None,
+        None => Some(walked.end),
+    }
+}
+
+/// How many fields the value of a parameter has: they are all of its bytes, one after another. `None` if the bytes are no
+/// value of the parameter.
+pub fn value_in_fields(id: u64, value: &[u8], room: &mut [Span]) -> Option<usize>
+    ensures { IfSome result (λ n. (spans : List Span) × (room.new ≡ stored 0 spans room.old) × (n ≡ length spans)
+        × AreInRow 0 spans (length value.now) × AreNumbered 0 spans) }
+{
+    of_values::one_list_of_spans_in_a_value();
+    let walked = value_spans(id, value, false, room);
+    match walked.fault {
+        Some(_) => None,
+        None => Some(walked.count),
+    }
+}
+
+/// Whether a header begins the bytes: exactly when none of its fields is at fault. The caller must ensure that `id_len` is
+/// at most 20.
+pub fn has_header(bytes: &[u8], id_len: usize, versions: &[u32]) -> bool
+    requires { id_len ≤ MAX_CID_SIZE }
+    ensures { IsTrue result ↔ ((h : ProtectedHeader) × (rest : List ℕ)
+        × HeaderAt (any_fixed id_len versions.now) (length bytes.now) bytes.now h rest) }
+{
+    of_headers::one_list_of_spans();
+    of_headers::one_field_at_fault();
+    header_spans(bytes, id_len, versions, &mut []).fault.is_none()
+}
+
+/// Stores the fields of the header at the front, by its kind, as far as `room` reaches, and returns how many bytes they
+/// have. `None` if no header begins the bytes. The caller must ensure that `id_len` is at most 20.
+pub fn header_by_kind(
+    bytes: &[u8],
+    id_len: usize,
+    versions: &[u32],
+    room: &mut [Span],
+) -> Option<usize>
+    requires { id_len ≤ MAX_CID_SIZE }
+    ensures { IfSome result (λ n. (h : ProtectedHeader) × (rest : List ℕ)
+        × HeaderAt (any_fixed id_len versions.now) (length bytes.now) bytes.now h rest
+        × (room.new ≡ stored 0 (spans_in (slice_index bytes.now 0) (length bytes.now - length rest) h) room.old)
+        × (n + length rest ≡ length bytes.now)) }
+{
+    of_headers::one_list_of_spans();
+    of_headers::spans_of_each_kind();
+    let walked = header_spans(bytes, id_len, versions, room);
+    match walked.fault {
+        Some(_) => None,
+        None => Some(walked.end),
+    }
+}
+
+/// Stores the fields of a packet, as far as `room` reaches, and returns how many they are: a header's, and of a version
+/// negotiation or a Retry those that follow it. They are all bytes that follow, up to the packet's end, or none. `None` if
+/// no header begins the bytes. The caller must ensure that `id_len` is at most 20.
+pub fn packet_in_fields(
+    bytes: &[u8],
+    id_len: usize,
+    versions: &[u32],
+    room: &mut [Span],
+) -> Option<usize>
+    requires { id_len ≤ MAX_CID_SIZE }
+    ensures { IfSome result (λ n. (spans others : List Span) × (start : ℕ)
+        × (room.new ≡ stored 0 (spans ++ others) room.old) × (n ≡ length (spans ++ others))
+        × ((others ≡ []) ⊎ AreInRow start others (length bytes.now))) }
+{
+    of_headers::one_list_after_a_header();
+    let walked = packet_spans(bytes, id_len, versions, room);
+    match walked.fault {
+        Some(_) => None,
+        None => Some(walked.count),
+    }
+}
+
+/// The error of a list with this value of a parameter, whose number has its shortest encoding: the bytes aren't encoded
+/// so, or a client doesn't accept what they say. `None` if they are a value of the parameter.
+pub fn error_of_value(id: u64, value: &[u8]) -> Option<Error>
+    ensures { IfSome result (λ e. (found : Option TransportParameterId) × Finds id found × MatchOption found ⊤
+        (λ known. IsNoValue (kind_in false (row_of known).kind) value.now e
+        ⊎ ((v : Value) × IsEncoded (kind_in false (row_of known).kind) v value.now × ¬ (IsAccepted known v)
+        × (e ≡ IllegalValue)))) }
+{
+    of_values::one_field_at_fault_in_a_value();
+    match value_spans(id, value, false, &mut []).fault {
+        Some(reason) => Some(reason.error()),
+        None => None,
+    }
+}

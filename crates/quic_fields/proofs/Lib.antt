@@ -7,3 +7,4 @@ mod Entries
 mod Stopping
 mod RuleSpans
 mod TypeRules
+mod RuleLaws

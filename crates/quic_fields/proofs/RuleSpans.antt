@@ -255,7 +255,7 @@ no_number_in : (bytes : List ℕ) (found : TypedFrame) (front back : List ℕ) �
 no_number_in bytes found front back parts s none = none found.type s.type_bytes (s.field_bytes ++ back)
     (parts ∙ ap (λ (l : List ℕ). l ++ back) s.parts ∙ append_assoc s.type_bytes s.field_bytes back) s.type_encoded.encoded
 
-allowed_of : (rules : Rules) (bytes : List ℕ) (found : TypedFrame) (front back : List ℕ) → bytes ≡ front ++ back
+pub allowed_of : (rules : Rules) (bytes : List ℕ) (found : TypedFrame) (front back : List ℕ) → bytes ≡ front ++ back
     → IsFrame false found front → NoNumber bytes ⊎ AllowsType rules bytes → AllowsType rules bytes
 allowed_of rules bytes found front back parts s (inl none) = absurd (no_number_in bytes found front back parts s none)
 allowed_of rules bytes found front back parts s (inr allowed) = allowed

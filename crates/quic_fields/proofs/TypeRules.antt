@@ -28,14 +28,14 @@ test_on false e = refl
 same_size : (m n : ℕ) → eqb m n ≡ true → m ≡ n
 same_size m n e = grind (arith, nat_tests)
 
-is_type : (strict : Bool) (t : ℕ) (front : List ℕ) → Encodes t front → is_long_type strict t (length front) ≡ false
+pub is_type : (strict : Bool) (t : ℕ) (front : List ℕ) → Encodes t front → is_long_type strict t (length front) ≡ false
     → IsType strict t front
 is_type false t front s e = record { encoded = s; shortest = λ h. absurd (true_is_not_false (sym h)) }
 is_type true t front s e =
     let same : length front ≡ size t = same_size (length front) (size t) (test_off (eqb (length front) (size t)) e) in
     record { encoded = s; shortest = λ _. (short_least t front s).1 (same ∙ sym (length-short t)) }
 
-is_long : (strict : Bool) (t : ℕ) (bytes front back : List ℕ) → bytes ≡ front ++ back → Encodes t front
+pub is_long : (strict : Bool) (t : ℕ) (bytes front back : List ℕ) → bytes ≡ front ++ back → Encodes t front
     → is_long_type strict t (length front) ≡ true → HasLongType strict bytes t
 is_long false t bytes front back parts s e = absurd cc
 is_long true t bytes front back parts s e = record {

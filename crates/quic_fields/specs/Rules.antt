@@ -68,6 +68,17 @@ IsRefusedAt rules bytes spans at (NoFrame reason) =
     ⊎ ((NoNumber bytes ⊎ AllowsType rules bytes) × IsNoFrameAt bytes spans at reason)
 IsRefusedAt rules bytes spans at (Broken breach) = BreaksAt rules bytes spans at breach
 
+-- The frame at the front has these spans, and breaks no rule.
+pub record IsAllowedAt (rules : Rules) (bytes : List ℕ) (spans : List Span) : Type 0 where
+  pub found : TypedFrame
+  pub front : List ℕ
+  pub back : List ℕ
+  pub parts : bytes ≡ front ++ back
+  pub frame : IsFrameAt false found spans front
+  pub opens : is_open found.type ≡ true → back ≡ []
+  pub allowed : AllowsType rules bytes
+  pub kept : Keeps rules found
+
 -- The frame at the front has these spans, and the rules allow it.
 pub record HasSpansBy (rules : Rules) (payload : List ℕ) (old new : List Span) (count end : ℕ) : Type 0 where
   pub plain : HasSpans payload old new count end

@@ -1,5 +1,5 @@
 -- Reading fields from left to right, as functions: what the code computes. The grammar is in `Spans`.
-use Rattle.std.specs.Prelude.{◌≡◌, ℕ, ◌+◌, ◌-◌, List, [], ◌∷◌, ◌++◌, length, Result, Ok, Err, Option, Some, None, true, false, slice_set, ⊤}
+use Rattle.std.specs.Prelude.{◌≡◌, ℕ, ◌+◌, ◌-◌, List, [], ◌∷◌, ◌++◌, length, Result, Ok, Err, Option, Some, None, true, false, slice_set, ⊤, Bool, nat_le, unwrap_or}
 use Rattle.quic_frame_fields.specs.declared.frame.fault.Fault.{Fault}
 use Rattle.quic_frame_fields.specs.declared.frame.fault.Fault.TheVariants.{InvalidFrameId}
 use Rattle.quic_frame_fields.specs.Field.{Value, Number, Field}
@@ -8,25 +8,30 @@ use Rattle.quic_frame_fields.specs.Table.{Row, row_of, is_open}
 use Rattle.quic_frame_fields.specs.Payload.{TypedFrame}
 use Rattle.quic_fields.specs.declared.field.Span.{Span}
 use Rattle.quic_fields.specs.declared.field.Seen.{Seen}
-use Rattle.quic_fields.specs.declared.field.Seen.TheVariants.{Nothing, One, Two, More}
+use Rattle.quic_fields.specs.declared.field.Seen.TheVariants.{Nothing, Values}
 use Rattle.quic_fields.specs.Spans.{span, number_in, IsFrameAt, IsNoFrameAt, AreInRow}
 
--- what later fields need of the values before them
-abbrev pub seen_of : List Value → Seen
-seen_of [] = Nothing
-seen_of (Number a ∷ []) = One a
-seen_of (Number a ∷ Number b ∷ []) = Two a b
-seen_of (Number a ∷ values) = More a
-seen_of values = More 0
+-- Whether these are numbers, the second of which is at most the first.
+abbrev pub are_ordered : Option ℕ → Option ℕ → Bool
+are_ordered (Some first) (Some second) = nat_le second first
+are_ordered first second = false
 
--- the same after one more value, a number or not
+-- what later fields need of the values before them, after one more value, a number or not
 abbrev pub with_value : Seen → Option ℕ → Seen
-with_value Nothing (Some a) = One a
-with_value Nothing None = More 0
-with_value (One a) (Some b) = Two a b
-with_value (One a) None = More a
-with_value (Two a b) value = More a
-with_value (More a) value = More a
+with_value Nothing value = Values (unwrap_or value 0) value false
+with_value (Values first last ordered) value = Values first value (are_ordered last value)
+
+abbrev pub number_of : Value → Option ℕ
+number_of (Number n) = Some n
+number_of value = None
+
+-- the same after more values, of which these are the numbers
+abbrev pub seen_after_all : Seen → List Value → Seen
+seen_after_all seen [] = seen
+seen_after_all seen (value ∷ values) = seen_after_all (with_value seen (number_of value)) values
+
+abbrev pub seen_of : List Value → Seen
+seen_of before = seen_after_all Nothing before
 
 -- what reading a field returns: its number, what later fields need, and the bytes after it
 abbrev pub seen_after : List Value → Result (List Value × List ℕ) Fault → Result (ℕ × Seen × List ℕ) Fault

@@ -1,5 +1,5 @@
 //! Laws of spans, which no single call states. The functions do nothing at run time.
-ghost use Rattle.std.specs.Prelude.{◌≡◌, ◌≢◌, ℕ, List, [], Option, Bool, false, length};
+ghost use Rattle.std.specs.Prelude.{◌≡◌, ◌≢◌, ◌⊎◌, ℕ, List, [], Option, Bool, false, length};
 ghost use Rattle.quic_base.specs.Codec.{Follows};
 ghost use Rattle.quic_base.specs.Varint.{Encodes};
 ghost use Rattle.quic_base.specs.Number.{AreBytes};
@@ -8,7 +8,10 @@ ghost use Rattle.quic_frame_fields.specs.Payload.{TypedFrame, IsFrame, IsNoFrame
 ghost use Rattle.quic_fields.specs.declared.field.Span.{Span};
 ghost use Rattle.quic_fields.specs.Entry.{IsEntryAt};
 ghost use Rattle.quic_frame_fields.specs.Field.{Value, Field, Stops};
+ghost use Rattle.quic_frames.specs.declared.frame.rules.Rules.{Rules};
 ghost use Rattle.quic_fields.specs.Inside.{inside};
+ghost use Rattle.quic_fields.specs.declared.rules.Refusal.{Refusal};
+ghost use Rattle.quic_fields.specs.Rules.{IsAllowedAt, IsRefusedAt};
 ghost use Rattle.quic_fields.specs.Stopping.{StopsInside};
 ghost use Rattle.quic_fields.specs.Spans.{IsFrameAt, IsNoFrameAt, AreInRow, AreNumbered};
 
@@ -56,4 +59,18 @@ pub fn one_list_of_spans_in_an_entry()
 pub fn where_reading_stops()
     ensures { (field : Field) (before : List Value) (bytes : List ℕ) (reason : Fault) → AreBytes bytes
         → Stops field before bytes reason → StopsInside field before bytes reason (inside field before bytes) }
+{}
+
+/// Under rules, too, bytes begin with a frame that has exactly one list of spans, or exactly one field is at fault.
+pub fn one_answer_by_rules()
+    ensures some { (rules : Rules) (bytes : List ℕ) → AreBytes bytes
+        → ((spans : List Span) × IsAllowedAt rules bytes spans)
+        ⊎ ((spans : List Span) × (at : ℕ) × (reason : Refusal) × IsRefusedAt rules bytes spans at reason) }
+    ensures not_both { (rules : Rules) (bytes : List ℕ) (spans others : List Span) (at : ℕ) (reason : Refusal)
+        → AreBytes bytes → IsAllowedAt rules bytes spans → IsRefusedAt rules bytes others at reason → ⊥ }
+    ensures one_list { (rules : Rules) (bytes : List ℕ) (spans others : List Span) → IsAllowedAt rules bytes spans
+        → IsAllowedAt rules bytes others → spans ≡ others }
+    ensures one_fault { (rules : Rules) (bytes : List ℕ) (spans others : List Span) (at other : ℕ)
+        (reason second : Refusal) → AreBytes bytes → IsRefusedAt rules bytes spans at reason
+        → IsRefusedAt rules bytes others other second → (spans ≡ others) × (at ≡ other) × (reason ≡ second) }
 {}

@@ -30,7 +30,7 @@ pub data Field : Type 0 where
   Rest : Field
   -- no bytes: the number is given
   Implied : ℕ → Field
-  -- no bytes and no value: of the two numbers before, the second is at most the first
+  -- no bytes and no value: the last two values before are numbers, the second of which is at most the first
   Ordered : Field
 
 -- a field that takes all remaining bytes
@@ -40,7 +40,8 @@ is_rest _ = false
 
 abbrev pub is_ordered : List Value → Bool
 is_ordered (Number first ∷ Number second ∷ []) = nat_le second first
-is_ordered _ = false
+is_ordered (value ∷ values) = is_ordered values
+is_ordered [] = false
 
 -- Largest Acknowledged, the first of an ACK's values
 abbrev pub greatest_of : List Value → ℕ

@@ -4,6 +4,7 @@ ghost use Rattle.quic_base.specs.Varint.{Encodes};
 ghost use Rattle.quic_base.specs.Codec.{Follows};
 ghost use Rattle.quic_fields.specs.declared.field.Span.{Span};
 ghost use Rattle.quic_fields.specs.Spans.{AreInRow, AreNumbered};
+ghost use Rattle.quic_fields.specs.Rules.{IsAllowedAt};
 ghost use Rattle.quic_fields.specs.Walk.{stored};
 ghost use Rattle.quic_frame_fields.specs.Payload.{IsFrame, IsNoFrame, TypedFrame};
 ghost use Rattle.quic_header_decode.specs.declared.protected.ProtectedHeader.{ProtectedHeader};
@@ -23,7 +24,9 @@ use quic_fields::entry::entry_spans;
 use quic_fields::field::Span;
 use quic_fields::frame::frame_spans;
 use quic_fields::laws as of_frames;
+use quic_fields::rules::frame_spans_by;
 use quic_frame_fields::frame::fault::Fault;
+use quic_frames::frame::Rules;
 use quic_header_fields::header::header_spans;
 use quic_header_fields::laws as of_headers;
 use quic_header_fields::packet::packet_spans;
@@ -55,6 +58,14 @@ pub fn reason_at_front(payload: &[u8]) -> Option<Fault>
         return None;
     }
     frame_spans(payload, &mut []).fault
+}
+
+/// Whether a frame that the rules allow begins the payload: exactly when none of its fields is at fault.
+pub fn begins_with_allowed(rules: Rules, payload: &[u8]) -> bool
+    ensures { IsTrue result ↔ ((spans : List Span) × IsAllowedAt rules payload.now spans) }
+{
+    of_frames::one_answer_by_rules();
+    frame_spans_by(rules, payload, &mut []).0.is_none()
 }
 
 /// How many bytes the entry at the front of a list of transport parameters has: those of its number, of its value's
@@ -94,7 +105,9 @@ pub fn has_header(bytes: &[u8], id_len: usize, versions: &[u32]) -> bool
 {
     of_headers::one_list_of_spans();
     of_headers::one_field_at_fault();
-    header_spans(bytes, id_len, versions, &mut []).fault.is_none()
+    header_spans(bytes, id_len, versions, &mut [])
+        .fault
+        .is_none()
 }
 
 /// Stores the fields of the header at the front, by its kind, as far as `room` reaches, and returns how many bytes they

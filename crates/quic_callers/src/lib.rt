@@ -3,7 +3,6 @@
 
 pub mod acks;
 pub mod client;
-pub mod fields;
 pub mod frames;
 pub mod headers;
 pub mod ids;

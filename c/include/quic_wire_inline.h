@@ -132,7 +132,8 @@ static inline void *quic_wire_nothing_(void) {
   return &nothing;
 }
 
-/* The functions that check their pointers and call a proved one. */
+/* The functions that check their pointers and call the proved one of their
+ * name, in the order of quic_wire.h. */
 /* Made by scripts/tables: */
 QUIC_WIRE_API uint32_t quic_wire_close_code(int result) {
   return quic_wire_close_code_(result);
@@ -764,7 +765,7 @@ quic_wire_param_value_fields(uint64_t id, const uint8_t *value, size_t valuelen,
 }
 /* End of what is made. */
 
-/* The other functions, in the order of quic_wire.h. */
+/* The others, in this order too. */
 QUIC_WIRE_API size_t quic_wire_padding_count(const uint8_t *payload,
                                              size_t payloadlen,
                                              const quic_wire_frame *frame) {

@@ -132,24 +132,9 @@ static inline void *quic_wire_nothing_(void) {
   return &nothing;
 }
 
-QUIC_WIRE_API uint32_t quic_wire_frame_rules(uint32_t kind) {
-  return quic_wire_frame_rules_(kind);
-}
-
-QUIC_WIRE_API int quic_wire_type_permitted(uint64_t type, uint32_t packet,
-                                           uint32_t sender, uint32_t flags) {
-  return quic_wire_type_permitted_(type, packet, sender, flags);
-}
-
-QUIC_WIRE_API int quic_wire_frame_permitted(const quic_wire_frame *frame,
-                                            uint32_t packet, uint32_t sender,
-                                            uint32_t flags) {
-  /* The first number of each frame with a stream is the stream's id. */
-  return frame ? quic_wire_frame_permitted_(frame->kind, frame->numbers[0],
-                                            packet, sender, flags)
-               : QUIC_WIRE_ERR_ARGUMENT;
-}
-
+/* The functions that check their pointers and call the proved one of their
+ * name, in the order of quic_wire.h. */
+/* Made by scripts/tables: */
 QUIC_WIRE_API uint32_t quic_wire_close_code(int result) {
   return quic_wire_close_code_(result);
 }
@@ -157,10 +142,13 @@ QUIC_WIRE_API uint32_t quic_wire_close_code(int result) {
 QUIC_WIRE_API int quic_wire_frames_init(quic_wire_frame_iter *frames,
                                         const uint8_t *payload,
                                         size_t payloadlen, uint32_t flags) {
-  if (!frames || (!payload && payloadlen))
+  if (!frames)
     return QUIC_WIRE_ERR_ARGUMENT;
-  if (!payload)
+  if (!payload) {
+    if (payloadlen)
+      return QUIC_WIRE_ERR_ARGUMENT;
     payload = (const uint8_t *)quic_wire_nothing_();
+  }
   return quic_wire_frames_init_(frames, payload, payloadlen, flags);
 }
 
@@ -168,10 +156,13 @@ QUIC_WIRE_API int quic_wire_frames_next(quic_wire_frame_iter *frames,
                                         const uint8_t *payload,
                                         size_t payloadlen,
                                         quic_wire_frame *frame) {
-  if (!frames || !frame || (!payload && payloadlen))
+  if (!frames || !frame)
     return QUIC_WIRE_ERR_ARGUMENT;
-  if (!payload)
+  if (!payload) {
+    if (payloadlen)
+      return QUIC_WIRE_ERR_ARGUMENT;
     payload = (const uint8_t *)quic_wire_nothing_();
+  }
   return quic_wire_frames_next_(frames, payload, payloadlen, frame);
 }
 
@@ -179,12 +170,18 @@ QUIC_WIRE_API int quic_wire_frames_fill(quic_wire_frame_iter *frames,
                                         const uint8_t *payload,
                                         size_t payloadlen, quic_wire_frame *out,
                                         size_t room, size_t *count) {
-  if (!frames || !count || (!payload && payloadlen) || (!out && room))
+  if (!frames || !count)
     return QUIC_WIRE_ERR_ARGUMENT;
-  if (!payload)
+  if (!payload) {
+    if (payloadlen)
+      return QUIC_WIRE_ERR_ARGUMENT;
     payload = (const uint8_t *)quic_wire_nothing_();
-  if (!out)
+  }
+  if (!out) {
+    if (room)
+      return QUIC_WIRE_ERR_ARGUMENT;
     out = (quic_wire_frame *)quic_wire_nothing_();
+  }
   return quic_wire_frames_fill_(frames, payload, payloadlen, out, room, count);
 }
 
@@ -193,15 +190,18 @@ QUIC_WIRE_API int quic_wire_frames_first(quic_wire_frame_iter *frames,
                                          size_t payloadlen, uint32_t flags,
                                          quic_wire_frame *out, size_t room,
                                          size_t *count) {
-  if (!frames || !count || (!out && room))
+  if (!frames || !count)
     return QUIC_WIRE_ERR_ARGUMENT;
   if (!payload) {
     if (payloadlen)
       return QUIC_WIRE_ERR_ARGUMENT;
     payload = (const uint8_t *)quic_wire_nothing_();
   }
-  if (!out)
+  if (!out) {
+    if (room)
+      return QUIC_WIRE_ERR_ARGUMENT;
     out = (quic_wire_frame *)quic_wire_nothing_();
+  }
   return quic_wire_frames_first_(frames, payload, payloadlen, flags, out, room,
                                  count);
 }
@@ -210,66 +210,41 @@ QUIC_WIRE_API int64_t quic_wire_frame_read(const uint8_t *payload,
                                            size_t payloadlen, uint32_t flags,
                                            quic_wire_frame *frame,
                                            quic_wire_gap *gaps, size_t room) {
-  if ((!payload && payloadlen) || !frame || (!gaps && room))
+  if (!frame)
     return QUIC_WIRE_ERR_ARGUMENT;
-  if (!payload)
+  if (!payload) {
+    if (payloadlen)
+      return QUIC_WIRE_ERR_ARGUMENT;
     payload = (const uint8_t *)quic_wire_nothing_();
-  if (!gaps)
+  }
+  if (!gaps) {
+    if (room)
+      return QUIC_WIRE_ERR_ARGUMENT;
     gaps = (quic_wire_gap *)quic_wire_nothing_();
+  }
   return quic_wire_frame_read_(payload, payloadlen, flags, frame, gaps, room);
 }
 
 QUIC_WIRE_API int64_t quic_wire_frame_header_read(const uint8_t *bytes,
                                                   size_t len, uint32_t flags,
                                                   quic_wire_frame *frame) {
-  if ((!bytes && len) || !frame)
+  if (!frame)
     return QUIC_WIRE_ERR_ARGUMENT;
-  if (!bytes)
+  if (!bytes) {
+    if (len)
+      return QUIC_WIRE_ERR_ARGUMENT;
     bytes = (const uint8_t *)quic_wire_nothing_();
+  }
   return quic_wire_frame_header_read_(bytes, len, flags, frame);
 }
 
-QUIC_WIRE_API size_t quic_wire_padding_count(const uint8_t *payload,
-                                             size_t payloadlen,
-                                             const quic_wire_frame *frame) {
-  /* The first type may have more than one byte, as its first two bits say. */
-  return payload && frame && frame->kind == QUIC_WIRE_FRAME_PADDING &&
-                 frame->end <= payloadlen && frame->begin < frame->end &&
-                 (frame->end - frame->begin) >> (payload[frame->begin] >> 6)
-             ? (size_t)(frame->end + 1 - frame->begin -
-                        ((size_t)1 << (payload[frame->begin] >> 6)))
-             : 0;
+QUIC_WIRE_API uint32_t quic_wire_frame_rules(uint32_t kind) {
+  return quic_wire_frame_rules_(kind);
 }
 
-QUIC_WIRE_API const uint8_t *
-quic_wire_reset_token(const uint8_t *payload, size_t payloadlen,
-                      const quic_wire_frame *frame) {
-  return payload && frame && frame->kind == QUIC_WIRE_FRAME_NEW_CONNECTION_ID &&
-                 frame->data <= payloadlen &&
-                 frame->datalen <= payloadlen - frame->data &&
-                 payloadlen - frame->data - frame->datalen >= 16
-             ? payload + frame->data + frame->datalen
-             : NULL;
-}
-
-QUIC_WIRE_API int quic_wire_reset_token_equal(const uint8_t *a,
-                                              const uint8_t *b) {
-  return a && b ? (int)quic_wire_reset_token_equal_(a, 16, b, 16) : 0;
-}
-
-QUIC_WIRE_API const uint8_t *quic_wire_path_data(const uint8_t *payload,
-                                                 size_t payloadlen,
-                                                 const quic_wire_frame *frame) {
-  return payload && frame &&
-                 (frame->kind == QUIC_WIRE_FRAME_PATH_CHALLENGE ||
-                  frame->kind == QUIC_WIRE_FRAME_PATH_RESPONSE) &&
-                 frame->end <= payloadlen && frame->end >= 8
-             ? payload + frame->end - 8
-             : NULL;
-}
-
-QUIC_WIRE_API uint64_t quic_wire_error_type(const quic_wire_frame *frame) {
-  return frame ? frame->numbers[0] : QUIC_WIRE_NO_TYPE;
+QUIC_WIRE_API int quic_wire_type_permitted(uint64_t type, uint32_t packet,
+                                           uint32_t sender, uint32_t flags) {
+  return quic_wire_type_permitted_(type, packet, sender, flags);
 }
 
 QUIC_WIRE_API int quic_wire_ack_ranges_init(quic_wire_range_iter *ranges,
@@ -295,31 +270,15 @@ QUIC_WIRE_API int quic_wire_ack_ranges_fill(quic_wire_range_iter *ranges,
                                             size_t payloadlen,
                                             quic_wire_range *out, size_t room,
                                             size_t *count) {
-  if (!ranges || !payload || !count || (!out && room))
+  if (!ranges || !payload || !count)
     return QUIC_WIRE_ERR_ARGUMENT;
-  if (!out)
+  if (!out) {
+    if (room)
+      return QUIC_WIRE_ERR_ARGUMENT;
     out = (quic_wire_range *)quic_wire_nothing_();
+  }
   return quic_wire_ack_ranges_fill_(ranges, payload, payloadlen, out, room,
                                     count);
-}
-
-QUIC_WIRE_API int quic_wire_frame_write(const quic_wire_frame *frame,
-                                        const uint8_t *data, size_t datalen,
-                                        uint32_t flags, uint8_t *dest,
-                                        size_t destlen, size_t *written) {
-  size_t unused;
-  if (!frame || (!dest && destlen))
-    return QUIC_WIRE_ERR_ARGUMENT;
-  if (!data) {
-    if (datalen && frame->datalen)
-      return QUIC_WIRE_ERR_ARGUMENT;
-    data = (const uint8_t *)quic_wire_nothing_();
-    datalen = 0;
-  }
-  if (!dest)
-    dest = (uint8_t *)quic_wire_nothing_();
-  return quic_wire_frame_write_(frame, data, datalen, flags, dest, destlen,
-                                written ? written : &unused);
 }
 
 QUIC_WIRE_API int quic_wire_frame_header_write(const quic_wire_frame *frame,
@@ -327,46 +286,52 @@ QUIC_WIRE_API int quic_wire_frame_header_write(const quic_wire_frame *frame,
                                                size_t destlen,
                                                size_t *written) {
   size_t unused;
-  if (!frame || (!dest && destlen))
+  if (!frame)
     return QUIC_WIRE_ERR_ARGUMENT;
-  if (!dest)
+  if (!dest) {
+    if (destlen)
+      return QUIC_WIRE_ERR_ARGUMENT;
     dest = (uint8_t *)quic_wire_nothing_();
-  return quic_wire_frame_header_write_(frame, flags, dest, destlen,
-                                       written ? written : &unused);
-}
-
-QUIC_WIRE_API int quic_wire_frame_len(const quic_wire_frame *frame,
-                                      const uint8_t *data, size_t datalen,
-                                      uint32_t flags, size_t *len) {
-  /* Every frame has at least one byte, so none fits without room. */
-  int answer =
-      len ? quic_wire_frame_write(frame, data, datalen, flags, NULL, 0, len)
-          : QUIC_WIRE_ERR_ARGUMENT;
-  return answer == QUIC_WIRE_ERR_NOBUF ? QUIC_WIRE_OK : answer;
+  }
+  if (!written)
+    written = &unused;
+  return quic_wire_frame_header_write_(frame, flags, dest, destlen, written);
 }
 
 QUIC_WIRE_API int quic_wire_ack_gaps_write(const quic_wire_frame *ack,
                                            const quic_wire_gap *gaps,
                                            size_t ngaps, uint8_t *dest,
                                            size_t destlen, size_t *written) {
-  if (!ack || (!gaps && ngaps) || (!dest && destlen) || !written)
+  if (!ack || !written)
     return QUIC_WIRE_ERR_ARGUMENT;
-  if (!gaps)
+  if (!gaps) {
+    if (ngaps)
+      return QUIC_WIRE_ERR_ARGUMENT;
     gaps = (const quic_wire_gap *)quic_wire_nothing_();
-  if (!dest)
+  }
+  if (!dest) {
+    if (destlen)
+      return QUIC_WIRE_ERR_ARGUMENT;
     dest = (uint8_t *)quic_wire_nothing_();
+  }
   return quic_wire_ack_gaps_write_(ack, gaps, ngaps, dest, destlen, written);
 }
 
 QUIC_WIRE_API int quic_wire_canonical(const uint8_t *payload, size_t payloadlen,
                                       uint8_t *dest, size_t destlen,
                                       quic_wire_canon *out) {
-  if ((!payload && payloadlen) || (!dest && destlen) || !out)
+  if (!out)
     return QUIC_WIRE_ERR_ARGUMENT;
-  if (!payload)
+  if (!payload) {
+    if (payloadlen)
+      return QUIC_WIRE_ERR_ARGUMENT;
     payload = (const uint8_t *)quic_wire_nothing_();
-  if (!dest)
+  }
+  if (!dest) {
+    if (destlen)
+      return QUIC_WIRE_ERR_ARGUMENT;
     dest = (uint8_t *)quic_wire_nothing_();
+  }
   return quic_wire_canonical_(payload, payloadlen, dest, destlen, out);
 }
 
@@ -374,12 +339,18 @@ QUIC_WIRE_API int quic_wire_canonical_with(const uint8_t *payload,
                                            size_t payloadlen, uint32_t flags,
                                            uint8_t *dest, size_t destlen,
                                            quic_wire_canon *out) {
-  if ((!payload && payloadlen) || (!dest && destlen) || !out)
+  if (!out)
     return QUIC_WIRE_ERR_ARGUMENT;
-  if (!payload)
+  if (!payload) {
+    if (payloadlen)
+      return QUIC_WIRE_ERR_ARGUMENT;
     payload = (const uint8_t *)quic_wire_nothing_();
-  if (!dest)
+  }
+  if (!dest) {
+    if (destlen)
+      return QUIC_WIRE_ERR_ARGUMENT;
     dest = (uint8_t *)quic_wire_nothing_();
+  }
   return quic_wire_canonical_with_(payload, payloadlen, flags, dest, destlen,
                                    out);
 }
@@ -389,27 +360,22 @@ QUIC_WIRE_API int64_t quic_wire_header_read(const uint8_t *bytes, size_t len,
                                             const uint32_t *versions,
                                             size_t nversions, uint32_t flags,
                                             quic_wire_header *header) {
-  static const uint32_t none = 0;
-  if (!bytes || !header || (!versions && nversions))
+  if (!bytes || !header)
     return QUIC_WIRE_ERR_ARGUMENT;
-  return quic_wire_header_read_(bytes, len, cidlen, versions ? versions : &none,
-                                nversions, flags, header);
-}
-
-QUIC_WIRE_API const uint8_t *quic_wire_dcid_read(const uint8_t *packet,
-                                                 size_t packetlen,
-                                                 size_t cidlen,
-                                                 size_t *dcidlen) {
-  size_t place;
-  if (!packet || !dcidlen)
-    return NULL;
-  place = quic_wire_dcid_read_(packet, packetlen, cidlen, dcidlen);
-  return place ? packet + place : NULL;
+  if (!versions) {
+    if (nversions)
+      return QUIC_WIRE_ERR_ARGUMENT;
+    versions = (const uint32_t *)quic_wire_nothing_();
+  }
+  return quic_wire_header_read_(bytes, len, cidlen, versions, nversions, flags,
+                                header);
 }
 
 QUIC_WIRE_API size_t quic_wire_short_read(const uint8_t *packet,
                                           size_t packetlen, uint32_t cidlen) {
-  return packet ? quic_wire_short_read_(packet, packetlen, cidlen) : 0;
+  if (!packet)
+    return 0;
+  return quic_wire_short_read_(packet, packetlen, cidlen);
 }
 
 QUIC_WIRE_API int64_t quic_wire_negotiation_read(const uint8_t *packet,
@@ -418,28 +384,6 @@ QUIC_WIRE_API int64_t quic_wire_negotiation_read(const uint8_t *packet,
   if (!packet || !header)
     return QUIC_WIRE_ERR_ARGUMENT;
   return quic_wire_negotiation_read_(packet, packetlen, header);
-}
-
-QUIC_WIRE_API const uint8_t *quic_wire_dcid(const uint8_t *packet,
-                                            const quic_wire_header *header) {
-  return packet && header
-             ? packet + (header->first & QUIC_WIRE_BIT_LONG ? 6 : 1)
-             : NULL;
-}
-
-QUIC_WIRE_API const uint8_t *quic_wire_scid(const uint8_t *packet,
-                                            const quic_wire_header *header) {
-  return packet && header ? packet + 7 + header->dcidlen
-                          : NULL; /* of a long header */
-}
-
-QUIC_WIRE_API const uint8_t *quic_wire_sample(const uint8_t *packet,
-                                              size_t packetlen, size_t number,
-                                              size_t samplelen) {
-  return packet && packetlen >= number && packetlen - number >= 4 &&
-                 packetlen - number - 4 >= samplelen
-             ? packet + number + 4
-             : NULL;
 }
 
 QUIC_WIRE_API int quic_wire_unprotect(uint8_t *packet, size_t packetlen,
@@ -497,6 +441,445 @@ QUIC_WIRE_API size_t quic_wire_varint_len(uint64_t value) {
   return quic_wire_varint_len_(value);
 }
 
+QUIC_WIRE_API size_t quic_wire_varint_write(uint64_t value, uint32_t width,
+                                            uint8_t *dest, size_t destlen) {
+  if (!dest)
+    return 0;
+  return quic_wire_varint_write_(value, width, dest, destlen);
+}
+
+QUIC_WIRE_API int
+quic_wire_negotiation_write(uint8_t flags, const uint8_t *dcid, size_t dcidlen,
+                            const uint8_t *scid, size_t scidlen,
+                            const uint32_t *versions, size_t nversions,
+                            uint8_t *dest, size_t destlen, size_t *written) {
+  if (!written)
+    return QUIC_WIRE_ERR_ARGUMENT;
+  if (!dcid) {
+    if (dcidlen)
+      return QUIC_WIRE_ERR_ARGUMENT;
+    dcid = (const uint8_t *)quic_wire_nothing_();
+  }
+  if (!scid) {
+    if (scidlen)
+      return QUIC_WIRE_ERR_ARGUMENT;
+    scid = (const uint8_t *)quic_wire_nothing_();
+  }
+  if (!versions) {
+    if (nversions)
+      return QUIC_WIRE_ERR_ARGUMENT;
+    versions = (const uint32_t *)quic_wire_nothing_();
+  }
+  if (!dest) {
+    if (destlen)
+      return QUIC_WIRE_ERR_ARGUMENT;
+    dest = (uint8_t *)quic_wire_nothing_();
+  }
+  return quic_wire_negotiation_write_(flags, dcid, dcidlen, scid, scidlen,
+                                      versions, nversions, dest, destlen,
+                                      written);
+}
+
+QUIC_WIRE_API int quic_wire_set_len(uint8_t *packet, size_t packetlen,
+                                    size_t place, uint32_t lengthlen) {
+  if (!packet)
+    return QUIC_WIRE_ERR_ARGUMENT;
+  return quic_wire_set_len_(packet, packetlen, place, lengthlen);
+}
+
+QUIC_WIRE_API int quic_wire_params_read(uint32_t side, uint32_t flags,
+                                        const uint8_t *list, size_t listlen,
+                                        quic_wire_params *params, size_t size,
+                                        quic_wire_refusal *refusal) {
+  quic_wire_refusal unused;
+  if (!params)
+    return QUIC_WIRE_ERR_ARGUMENT;
+  if (!list) {
+    if (listlen)
+      return QUIC_WIRE_ERR_ARGUMENT;
+    list = (const uint8_t *)quic_wire_nothing_();
+  }
+  if (!refusal)
+    refusal = &unused;
+  if (size != sizeof *params)
+    return QUIC_WIRE_ERR_LENGTH;
+  return quic_wire_params_read_(side, flags, list, listlen, params, refusal);
+}
+
+QUIC_WIRE_API int quic_wire_params_write(uint32_t side,
+                                         const quic_wire_params *params,
+                                         size_t size, uint8_t *dest,
+                                         size_t destlen, size_t *written) {
+  if (!params || !written)
+    return QUIC_WIRE_ERR_ARGUMENT;
+  if (!dest) {
+    if (destlen)
+      return QUIC_WIRE_ERR_ARGUMENT;
+    dest = (uint8_t *)quic_wire_nothing_();
+  }
+  if (size != sizeof *params)
+    return QUIC_WIRE_ERR_LENGTH;
+  /* The proved function takes the side that reads. */
+  return quic_wire_params_write_(side ^ 1, params, dest, destlen, written);
+}
+
+QUIC_WIRE_API int
+quic_wire_params_write_with(uint32_t side, const quic_wire_params *params,
+                            size_t size, const uint8_t *further,
+                            size_t furtherlen, const uint8_t *order,
+                            size_t orderlen, uint8_t *dest, size_t destlen,
+                            size_t *written) {
+  if (!params || !written)
+    return QUIC_WIRE_ERR_ARGUMENT;
+  if (!further) {
+    if (furtherlen)
+      return QUIC_WIRE_ERR_ARGUMENT;
+    further = (const uint8_t *)quic_wire_nothing_();
+  }
+  if (!order) {
+    if (orderlen)
+      return QUIC_WIRE_ERR_ARGUMENT;
+    order = (const uint8_t *)quic_wire_nothing_();
+  }
+  if (!dest) {
+    if (destlen)
+      return QUIC_WIRE_ERR_ARGUMENT;
+    dest = (uint8_t *)quic_wire_nothing_();
+  }
+  if (size != sizeof *params)
+    return QUIC_WIRE_ERR_LENGTH;
+  /* The proved function takes the side that reads. */
+  return quic_wire_params_write_with_(side ^ 1, params, further, furtherlen,
+                                      order, orderlen, dest, destlen, written);
+}
+
+QUIC_WIRE_API int64_t quic_wire_param_read(const uint8_t *list, size_t listlen,
+                                           quic_wire_param *param) {
+  if (!param)
+    return QUIC_WIRE_ERR_ARGUMENT;
+  if (!list) {
+    if (listlen)
+      return QUIC_WIRE_ERR_ARGUMENT;
+    list = (const uint8_t *)quic_wire_nothing_();
+  }
+  return quic_wire_param_read_(list, listlen, param);
+}
+
+QUIC_WIRE_API int quic_wire_param_write(uint64_t id, const uint8_t *value,
+                                        size_t valuelen, uint8_t *dest,
+                                        size_t destlen, size_t *written) {
+  if (!written)
+    return QUIC_WIRE_ERR_ARGUMENT;
+  if (!value) {
+    if (valuelen)
+      return QUIC_WIRE_ERR_ARGUMENT;
+    value = (const uint8_t *)quic_wire_nothing_();
+  }
+  if (!dest) {
+    if (destlen)
+      return QUIC_WIRE_ERR_ARGUMENT;
+    dest = (uint8_t *)quic_wire_nothing_();
+  }
+  return quic_wire_param_write_(id, value, valuelen, dest, destlen, written);
+}
+
+QUIC_WIRE_API int64_t quic_wire_param_read_number(const uint8_t *list,
+                                                  size_t listlen,
+                                                  quic_wire_param *param,
+                                                  uint64_t *value) {
+  if (!param || !value)
+    return QUIC_WIRE_ERR_ARGUMENT;
+  if (!list) {
+    if (listlen)
+      return QUIC_WIRE_ERR_ARGUMENT;
+    list = (const uint8_t *)quic_wire_nothing_();
+  }
+  return quic_wire_param_read_number_(list, listlen, param, value);
+}
+
+QUIC_WIRE_API int quic_wire_param_header_write(uint64_t id, size_t valuelen,
+                                               uint8_t *dest, size_t destlen,
+                                               size_t *written) {
+  if (!written)
+    return QUIC_WIRE_ERR_ARGUMENT;
+  if (!dest) {
+    if (destlen)
+      return QUIC_WIRE_ERR_ARGUMENT;
+    dest = (uint8_t *)quic_wire_nothing_();
+  }
+  return quic_wire_param_header_write_(id, valuelen, dest, destlen, written);
+}
+
+QUIC_WIRE_API int quic_wire_param_write_number(uint64_t id, uint64_t value,
+                                               uint8_t *dest, size_t destlen,
+                                               size_t *written) {
+  if (!written)
+    return QUIC_WIRE_ERR_ARGUMENT;
+  if (!dest) {
+    if (destlen)
+      return QUIC_WIRE_ERR_ARGUMENT;
+    dest = (uint8_t *)quic_wire_nothing_();
+  }
+  return quic_wire_param_write_number_(id, value, dest, destlen, written);
+}
+
+QUIC_WIRE_API int quic_wire_preferred_address_read(const uint8_t *value,
+                                                   size_t valuelen,
+                                                   quic_wire_params *params,
+                                                   size_t size) {
+  if (!params)
+    return QUIC_WIRE_ERR_ARGUMENT;
+  if (!value) {
+    if (valuelen)
+      return QUIC_WIRE_ERR_ARGUMENT;
+    value = (const uint8_t *)quic_wire_nothing_();
+  }
+  if (size != sizeof *params)
+    return QUIC_WIRE_ERR_LENGTH;
+  return quic_wire_preferred_address_read_(value, valuelen, params);
+}
+
+QUIC_WIRE_API int
+quic_wire_preferred_address_write(const quic_wire_params *params, size_t size,
+                                  uint8_t *dest, size_t destlen,
+                                  size_t *written) {
+  if (!params || !written)
+    return QUIC_WIRE_ERR_ARGUMENT;
+  if (!dest) {
+    if (destlen)
+      return QUIC_WIRE_ERR_ARGUMENT;
+    dest = (uint8_t *)quic_wire_nothing_();
+  }
+  if (size != sizeof *params)
+    return QUIC_WIRE_ERR_LENGTH;
+  return quic_wire_preferred_address_write_(params, dest, destlen, written);
+}
+
+QUIC_WIRE_API int quic_wire_param_is_known(uint64_t id) {
+  return (int)quic_wire_param_is_known_(id);
+}
+
+QUIC_WIRE_API int quic_wire_set_insert(quic_wire_range *runs, size_t room,
+                                       size_t *count, uint64_t start,
+                                       uint64_t end) {
+  if (!count)
+    return QUIC_WIRE_ERR_ARGUMENT;
+  if (!runs) {
+    if (room)
+      return QUIC_WIRE_ERR_ARGUMENT;
+    runs = (quic_wire_range *)quic_wire_nothing_();
+  }
+  return quic_wire_set_insert_(runs, room, count, start, end);
+}
+
+QUIC_WIRE_API int quic_wire_set_remove(quic_wire_range *runs, size_t room,
+                                       size_t *count, uint64_t start,
+                                       uint64_t end) {
+  if (!count)
+    return QUIC_WIRE_ERR_ARGUMENT;
+  if (!runs) {
+    if (room)
+      return QUIC_WIRE_ERR_ARGUMENT;
+    runs = (quic_wire_range *)quic_wire_nothing_();
+  }
+  return quic_wire_set_remove_(runs, room, count, start, end);
+}
+
+QUIC_WIRE_API int quic_wire_frame_fields(const uint8_t *payload,
+                                         size_t payloadlen, uint32_t flags,
+                                         quic_wire_span *fields, size_t nfields,
+                                         quic_wire_fields *read) {
+  if (!read)
+    return QUIC_WIRE_ERR_ARGUMENT;
+  if (!payload) {
+    if (payloadlen)
+      return QUIC_WIRE_ERR_ARGUMENT;
+    payload = (const uint8_t *)quic_wire_nothing_();
+  }
+  if (!fields) {
+    if (nfields)
+      return QUIC_WIRE_ERR_ARGUMENT;
+    fields = (quic_wire_span *)quic_wire_nothing_();
+  }
+  return quic_wire_frame_fields_(payload, payloadlen, flags, fields, nfields,
+                                 read);
+}
+
+QUIC_WIRE_API int
+quic_wire_packet_fields(const uint8_t *bytes, size_t len, size_t cidlen,
+                        const uint32_t *versions, size_t nversions,
+                        uint32_t flags, quic_wire_span *fields, size_t nfields,
+                        quic_wire_fields *read) {
+  if (!bytes || !read)
+    return QUIC_WIRE_ERR_ARGUMENT;
+  if (!versions) {
+    if (nversions)
+      return QUIC_WIRE_ERR_ARGUMENT;
+    versions = (const uint32_t *)quic_wire_nothing_();
+  }
+  if (!fields) {
+    if (nfields)
+      return QUIC_WIRE_ERR_ARGUMENT;
+    fields = (quic_wire_span *)quic_wire_nothing_();
+  }
+  return quic_wire_packet_fields_(bytes, len, cidlen, versions, nversions,
+                                  flags, fields, nfields, read);
+}
+
+QUIC_WIRE_API int quic_wire_param_fields(const uint8_t *list, size_t listlen,
+                                         quic_wire_span *fields, size_t nfields,
+                                         quic_wire_fields *read) {
+  if (!read)
+    return QUIC_WIRE_ERR_ARGUMENT;
+  if (!list) {
+    if (listlen)
+      return QUIC_WIRE_ERR_ARGUMENT;
+    list = (const uint8_t *)quic_wire_nothing_();
+  }
+  if (!fields) {
+    if (nfields)
+      return QUIC_WIRE_ERR_ARGUMENT;
+    fields = (quic_wire_span *)quic_wire_nothing_();
+  }
+  return quic_wire_param_fields_(list, listlen, fields, nfields, read);
+}
+
+QUIC_WIRE_API int
+quic_wire_param_value_fields(uint64_t id, const uint8_t *value, size_t valuelen,
+                             uint32_t flags, quic_wire_span *fields,
+                             size_t nfields, quic_wire_fields *read) {
+  if (!read)
+    return QUIC_WIRE_ERR_ARGUMENT;
+  if (!value) {
+    if (valuelen)
+      return QUIC_WIRE_ERR_ARGUMENT;
+    value = (const uint8_t *)quic_wire_nothing_();
+  }
+  if (!fields) {
+    if (nfields)
+      return QUIC_WIRE_ERR_ARGUMENT;
+    fields = (quic_wire_span *)quic_wire_nothing_();
+  }
+  return quic_wire_param_value_fields_(id, value, valuelen, flags, fields,
+                                       nfields, read);
+}
+/* End of what is made. */
+
+/* The others, in this order too. */
+QUIC_WIRE_API size_t quic_wire_padding_count(const uint8_t *payload,
+                                             size_t payloadlen,
+                                             const quic_wire_frame *frame) {
+  /* The first type may have more than one byte, as its first two bits say. */
+  return payload && frame && frame->kind == QUIC_WIRE_FRAME_PADDING &&
+                 frame->end <= payloadlen && frame->begin < frame->end &&
+                 (frame->end - frame->begin) >> (payload[frame->begin] >> 6)
+             ? (size_t)(frame->end + 1 - frame->begin -
+                        ((size_t)1 << (payload[frame->begin] >> 6)))
+             : 0;
+}
+
+QUIC_WIRE_API const uint8_t *
+quic_wire_reset_token(const uint8_t *payload, size_t payloadlen,
+                      const quic_wire_frame *frame) {
+  return payload && frame && frame->kind == QUIC_WIRE_FRAME_NEW_CONNECTION_ID &&
+                 frame->data <= payloadlen &&
+                 frame->datalen <= payloadlen - frame->data &&
+                 payloadlen - frame->data - frame->datalen >= 16
+             ? payload + frame->data + frame->datalen
+             : NULL;
+}
+
+QUIC_WIRE_API int quic_wire_reset_token_equal(const uint8_t *a,
+                                              const uint8_t *b) {
+  return a && b ? (int)quic_wire_reset_token_equal_(a, 16, b, 16) : 0;
+}
+
+QUIC_WIRE_API const uint8_t *quic_wire_path_data(const uint8_t *payload,
+                                                 size_t payloadlen,
+                                                 const quic_wire_frame *frame) {
+  return payload && frame &&
+                 (frame->kind == QUIC_WIRE_FRAME_PATH_CHALLENGE ||
+                  frame->kind == QUIC_WIRE_FRAME_PATH_RESPONSE) &&
+                 frame->end <= payloadlen && frame->end >= 8
+             ? payload + frame->end - 8
+             : NULL;
+}
+
+QUIC_WIRE_API int quic_wire_frame_permitted(const quic_wire_frame *frame,
+                                            uint32_t packet, uint32_t sender,
+                                            uint32_t flags) {
+  /* The first number of each frame with a stream is the stream's id. */
+  return frame ? quic_wire_frame_permitted_(frame->kind, frame->numbers[0],
+                                            packet, sender, flags)
+               : QUIC_WIRE_ERR_ARGUMENT;
+}
+
+QUIC_WIRE_API uint64_t quic_wire_error_type(const quic_wire_frame *frame) {
+  return frame ? frame->numbers[0] : QUIC_WIRE_NO_TYPE;
+}
+
+QUIC_WIRE_API int quic_wire_frame_write(const quic_wire_frame *frame,
+                                        const uint8_t *data, size_t datalen,
+                                        uint32_t flags, uint8_t *dest,
+                                        size_t destlen, size_t *written) {
+  size_t unused;
+  if (!frame || (!dest && destlen))
+    return QUIC_WIRE_ERR_ARGUMENT;
+  if (!data) {
+    if (datalen && frame->datalen)
+      return QUIC_WIRE_ERR_ARGUMENT;
+    data = (const uint8_t *)quic_wire_nothing_();
+    datalen = 0;
+  }
+  if (!dest)
+    dest = (uint8_t *)quic_wire_nothing_();
+  return quic_wire_frame_write_(frame, data, datalen, flags, dest, destlen,
+                                written ? written : &unused);
+}
+
+QUIC_WIRE_API int quic_wire_frame_len(const quic_wire_frame *frame,
+                                      const uint8_t *data, size_t datalen,
+                                      uint32_t flags, size_t *len) {
+  /* Every frame has at least one byte, so none fits without room. */
+  int answer =
+      len ? quic_wire_frame_write(frame, data, datalen, flags, NULL, 0, len)
+          : QUIC_WIRE_ERR_ARGUMENT;
+  return answer == QUIC_WIRE_ERR_NOBUF ? QUIC_WIRE_OK : answer;
+}
+
+QUIC_WIRE_API const uint8_t *quic_wire_dcid_read(const uint8_t *packet,
+                                                 size_t packetlen,
+                                                 size_t cidlen,
+                                                 size_t *dcidlen) {
+  size_t place;
+  if (!packet || !dcidlen)
+    return NULL;
+  place = quic_wire_dcid_read_(packet, packetlen, cidlen, dcidlen);
+  return place ? packet + place : NULL;
+}
+
+QUIC_WIRE_API const uint8_t *quic_wire_dcid(const uint8_t *packet,
+                                            const quic_wire_header *header) {
+  return packet && header
+             ? packet + (header->first & QUIC_WIRE_BIT_LONG ? 6 : 1)
+             : NULL;
+}
+
+QUIC_WIRE_API const uint8_t *quic_wire_scid(const uint8_t *packet,
+                                            const quic_wire_header *header) {
+  return packet && header ? packet + 7 + header->dcidlen
+                          : NULL; /* of a long header */
+}
+
+QUIC_WIRE_API const uint8_t *quic_wire_sample(const uint8_t *packet,
+                                              size_t packetlen, size_t number,
+                                              size_t samplelen) {
+  return packet && packetlen >= number && packetlen - number >= 4 &&
+                 packetlen - number - 4 >= samplelen
+             ? packet + number + 4
+             : NULL;
+}
+
 QUIC_WIRE_API size_t quic_wire_varint_read(const uint8_t *bytes, size_t len,
                                            uint64_t *value) {
   if (!bytes || !value)
@@ -506,11 +889,6 @@ QUIC_WIRE_API size_t quic_wire_varint_read(const uint8_t *bytes, size_t len,
     return 1;
   }
   return quic_wire_varint_read_(bytes, len, value);
-}
-
-QUIC_WIRE_API size_t quic_wire_varint_write(uint64_t value, uint32_t width,
-                                            uint8_t *dest, size_t destlen) {
-  return dest ? quic_wire_varint_write_(value, width, dest, destlen) : 0;
 }
 
 QUIC_WIRE_API size_t quic_wire_header_len(const quic_wire_header_fields *fields,
@@ -551,173 +929,10 @@ QUIC_WIRE_API int64_t quic_wire_header_write(
                                  destlen);
 }
 
-QUIC_WIRE_API int
-quic_wire_negotiation_write(uint8_t flags, const uint8_t *dcid, size_t dcidlen,
-                            const uint8_t *scid, size_t scidlen,
-                            const uint32_t *versions, size_t nversions,
-                            uint8_t *dest, size_t destlen, size_t *written) {
-  static const uint32_t none = 0;
-  if ((!dcid && dcidlen) || (!scid && scidlen) || (!versions && nversions) ||
-      (!dest && destlen) || !written)
-    return QUIC_WIRE_ERR_ARGUMENT;
-  if (!dest)
-    dest = (uint8_t *)quic_wire_nothing_();
-  return quic_wire_negotiation_write_(
-      flags, dcid ? dcid : (const uint8_t *)&none, dcidlen,
-      scid ? scid : (const uint8_t *)&none, scidlen,
-      versions ? versions : &none, nversions, dest, destlen, written);
-}
-
-QUIC_WIRE_API int quic_wire_set_len(uint8_t *packet, size_t packetlen,
-                                    size_t place, uint32_t lengthlen) {
-  return packet ? quic_wire_set_len_(packet, packetlen, place, lengthlen)
-                : QUIC_WIRE_ERR_ARGUMENT;
-}
-
-QUIC_WIRE_API int quic_wire_params_read(uint32_t side, uint32_t flags,
-                                        const uint8_t *list, size_t listlen,
-                                        quic_wire_params *params, size_t size,
-                                        quic_wire_refusal *refusal) {
-  quic_wire_refusal unasked;
-  if ((!list && listlen) || !params)
-    return QUIC_WIRE_ERR_ARGUMENT;
-  if (size != sizeof *params)
-    return QUIC_WIRE_ERR_LENGTH;
-  return quic_wire_params_read_(
-      side, flags, list ? list : (const uint8_t *)quic_wire_nothing_(), listlen,
-      params, refusal ? refusal : &unasked);
-}
-
 QUIC_WIRE_API int quic_wire_params_default(quic_wire_params *params,
                                            size_t size) {
   return quic_wire_params_read(QUIC_WIRE_SIDE_CLIENT, 0, NULL, 0, params, size,
                                NULL);
-}
-
-QUIC_WIRE_API int quic_wire_params_write(uint32_t side,
-                                         const quic_wire_params *params,
-                                         size_t size, uint8_t *dest,
-                                         size_t destlen, size_t *written) {
-  if (!params || (!dest && destlen) || !written)
-    return QUIC_WIRE_ERR_ARGUMENT;
-  if (size != sizeof *params)
-    return QUIC_WIRE_ERR_LENGTH;
-  return quic_wire_params_write_(/* it takes the side that reads */
-                                 side ^ 1, params,
-                                 dest ? dest : (uint8_t *)quic_wire_nothing_(),
-                                 destlen, written);
-}
-
-QUIC_WIRE_API int quic_wire_params_write_with(
-    uint32_t side, const quic_wire_params *params, size_t size,
-    const uint8_t *further, size_t furtherlen, const uint8_t *order,
-    size_t orderlen, uint8_t *dest, size_t destlen, size_t *written) {
-  const uint8_t *none = (const uint8_t *)quic_wire_nothing_();
-  if (!params || (!further && furtherlen) || (!order && orderlen) ||
-      (!dest && destlen) || !written)
-    return QUIC_WIRE_ERR_ARGUMENT;
-  if (size != sizeof *params)
-    return QUIC_WIRE_ERR_LENGTH;
-  return quic_wire_params_write_with_(
-      side ^ 1, params, further ? further : none, furtherlen,
-      order ? order : none, orderlen,
-      dest ? dest : (uint8_t *)quic_wire_nothing_(), destlen, written);
-}
-
-QUIC_WIRE_API int64_t quic_wire_param_read(const uint8_t *list, size_t listlen,
-                                           quic_wire_param *param) {
-  if ((!list && listlen) || !param)
-    return QUIC_WIRE_ERR_ARGUMENT;
-  return quic_wire_param_read_(
-      list ? list : (const uint8_t *)quic_wire_nothing_(), listlen, param);
-}
-
-QUIC_WIRE_API int quic_wire_param_write(uint64_t id, const uint8_t *value,
-                                        size_t valuelen, uint8_t *dest,
-                                        size_t destlen, size_t *written) {
-  if ((!value && valuelen) || (!dest && destlen) || !written)
-    return QUIC_WIRE_ERR_ARGUMENT;
-  return quic_wire_param_write_(
-      id, value ? value : (const uint8_t *)quic_wire_nothing_(), valuelen,
-      dest ? dest : (uint8_t *)quic_wire_nothing_(), destlen, written);
-}
-
-QUIC_WIRE_API int64_t quic_wire_param_read_number(const uint8_t *list,
-                                                  size_t listlen,
-                                                  quic_wire_param *param,
-                                                  uint64_t *value) {
-  if ((!list && listlen) || !param || !value)
-    return QUIC_WIRE_ERR_ARGUMENT;
-  return quic_wire_param_read_number_(
-      list ? list : (const uint8_t *)quic_wire_nothing_(), listlen, param,
-      value);
-}
-
-QUIC_WIRE_API int quic_wire_param_header_write(uint64_t id, size_t valuelen,
-                                               uint8_t *dest, size_t destlen,
-                                               size_t *written) {
-  if ((!dest && destlen) || !written)
-    return QUIC_WIRE_ERR_ARGUMENT;
-  return quic_wire_param_header_write_(
-      id, valuelen, dest ? dest : (uint8_t *)quic_wire_nothing_(), destlen,
-      written);
-}
-
-QUIC_WIRE_API int quic_wire_param_write_number(uint64_t id, uint64_t value,
-                                               uint8_t *dest, size_t destlen,
-                                               size_t *written) {
-  if ((!dest && destlen) || !written)
-    return QUIC_WIRE_ERR_ARGUMENT;
-  return quic_wire_param_write_number_(
-      id, value, dest ? dest : (uint8_t *)quic_wire_nothing_(), destlen,
-      written);
-}
-
-QUIC_WIRE_API int quic_wire_preferred_address_read(const uint8_t *value,
-                                                   size_t valuelen,
-                                                   quic_wire_params *params,
-                                                   size_t size) {
-  if ((!value && valuelen) || !params)
-    return QUIC_WIRE_ERR_ARGUMENT;
-  if (size != sizeof *params)
-    return QUIC_WIRE_ERR_LENGTH;
-  return quic_wire_preferred_address_read_(
-      value ? value : (const uint8_t *)quic_wire_nothing_(), valuelen, params);
-}
-
-QUIC_WIRE_API int quic_wire_preferred_address_write(
-    const quic_wire_params *params, size_t size, uint8_t *dest, size_t destlen,
-    size_t *written) {
-  if (!params || (!dest && destlen) || !written)
-    return QUIC_WIRE_ERR_ARGUMENT;
-  if (size != sizeof *params)
-    return QUIC_WIRE_ERR_LENGTH;
-  return quic_wire_preferred_address_write_(
-      params, dest ? dest : (uint8_t *)quic_wire_nothing_(), destlen, written);
-}
-
-QUIC_WIRE_API int quic_wire_param_is_known(uint64_t id) {
-  return (int)quic_wire_param_is_known_(id);
-}
-
-QUIC_WIRE_API int quic_wire_set_insert(quic_wire_range *runs, size_t room,
-                                       size_t *count, uint64_t start,
-                                       uint64_t end) {
-  if ((!runs && room) || !count)
-    return QUIC_WIRE_ERR_ARGUMENT;
-  return quic_wire_set_insert_(runs ? runs
-                                    : (quic_wire_range *)quic_wire_nothing_(),
-                               room, count, start, end);
-}
-
-QUIC_WIRE_API int quic_wire_set_remove(quic_wire_range *runs, size_t room,
-                                       size_t *count, uint64_t start,
-                                       uint64_t end) {
-  if ((!runs && room) || !count)
-    return QUIC_WIRE_ERR_ARGUMENT;
-  return quic_wire_set_remove_(runs ? runs
-                                    : (quic_wire_range *)quic_wire_nothing_(),
-                               room, count, start, end);
 }
 
 QUIC_WIRE_API int quic_wire_set_contains(const quic_wire_range *runs,
@@ -741,54 +956,6 @@ QUIC_WIRE_API int quic_wire_ack_write(uint64_t delay,
       count, counts ? counts : (const uint64_t *)quic_wire_nothing_(),
       counts ? 3 : 0, dest ? dest : (uint8_t *)quic_wire_nothing_(), destlen,
       written ? written : &unused);
-}
-
-QUIC_WIRE_API int quic_wire_frame_fields(const uint8_t *payload,
-                                         size_t payloadlen, uint32_t flags,
-                                         quic_wire_span *fields, size_t nfields,
-                                         quic_wire_fields *read) {
-  if ((!payload && payloadlen) || (!fields && nfields) || !read)
-    return QUIC_WIRE_ERR_ARGUMENT;
-  return quic_wire_frame_fields_(
-      payload ? payload : (const uint8_t *)quic_wire_nothing_(), payloadlen,
-      flags, fields ? fields : (quic_wire_span *)quic_wire_nothing_(), nfields,
-      read);
-}
-
-QUIC_WIRE_API int
-quic_wire_packet_fields(const uint8_t *bytes, size_t len, size_t cidlen,
-                        const uint32_t *versions, size_t nversions,
-                        uint32_t flags, quic_wire_span *fields, size_t nfields,
-                        quic_wire_fields *read) {
-  if (!bytes || (!versions && nversions) || (!fields && nfields) || !read)
-    return QUIC_WIRE_ERR_ARGUMENT;
-  return quic_wire_packet_fields_(
-      bytes, len, cidlen,
-      versions ? versions : (const uint32_t *)quic_wire_nothing_(), nversions,
-      flags, fields ? fields : (quic_wire_span *)quic_wire_nothing_(), nfields,
-      read);
-}
-
-QUIC_WIRE_API int quic_wire_param_fields(const uint8_t *list, size_t listlen,
-                                         quic_wire_span *fields, size_t nfields,
-                                         quic_wire_fields *read) {
-  if ((!list && listlen) || (!fields && nfields) || !read)
-    return QUIC_WIRE_ERR_ARGUMENT;
-  return quic_wire_param_fields_(
-      list ? list : (const uint8_t *)quic_wire_nothing_(), listlen,
-      fields ? fields : (quic_wire_span *)quic_wire_nothing_(), nfields, read);
-}
-
-QUIC_WIRE_API int
-quic_wire_param_value_fields(uint64_t id, const uint8_t *value, size_t valuelen,
-                             uint32_t flags, quic_wire_span *fields,
-                             size_t nfields, quic_wire_fields *read) {
-  if ((!value && valuelen) || (!fields && nfields) || !read)
-    return QUIC_WIRE_ERR_ARGUMENT;
-  return quic_wire_param_value_fields_(
-      id, value ? value : (const uint8_t *)quic_wire_nothing_(), valuelen,
-      flags, fields ? fields : (quic_wire_span *)quic_wire_nothing_(), nfields,
-      read);
 }
 
 #endif /* QUIC_WIRE_INLINE_H */

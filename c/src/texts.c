@@ -1,6 +1,5 @@
 /* The functions of quic_wire.h that don't call the proved library: the
- * library's version, and the texts of results and frame types, whose cases
- * scripts/tables makes from docs/formats.json. */
+ * library's version, and the texts of results and frame types. */
 #include "quic_wire.h"
 
 uint32_t quic_wire_lib(void) { return QUIC_WIRE_LIB; }
@@ -21,6 +20,7 @@ int quic_wire_check(uint32_t header) {
 
 const char *quic_wire_strerror(int result) {
   switch (result) {
+/* Made by scripts/tables: */
   case QUIC_WIRE_ERR_ARGUMENT: return "invalid argument";
   case QUIC_WIRE_ERR_PLACE: return "place outside of the bytes";
   case QUIC_WIRE_ERR_KIND: return "no such kind";
@@ -50,12 +50,14 @@ const char *quic_wire_strerror(int result) {
   case QUIC_WIRE_ERR_PACKET_RETRY: return "Retry without a token or a tag";
   case QUIC_WIRE_ERR_PARAMS_MALFORMED: return "malformed";
   case QUIC_WIRE_ERR_PARAMS_ILLEGAL: return "illegal value";
+/* End of what is made. */
   default: return result < 0 ? "unknown" : "ok";
   }
 }
 
 const char *quic_wire_type_name(uint64_t type) {
   switch (type) {
+/* Made by scripts/tables: */
   case 0x00: return "PADDING";
   case 0x01: return "PING";
   case 0x02: return "ACK";
@@ -84,6 +86,7 @@ const char *quic_wire_type_name(uint64_t type) {
   case 0x1f: return "IMMEDIATE_ACK";
   case 0x30: case 0x31: return "DATAGRAM";
   case 0xaf: return "ACK_FREQUENCY";
+/* End of what is made. */
   default: return NULL;
   }
 }

@@ -268,7 +268,7 @@ static void frame_any(const uint8_t *bytes, size_t len, uint32_t flags) {
 
 static void packet_any(const uint8_t *bytes, size_t len, uint32_t flags) {
   const size_t room = any() % ROOM, count = any() % 3;
-  const uint32_t cidlen = any() % 24;
+  const uint32_t cidlen = (uint32_t)(any() % 24);
   quic_wire_span *fields = unset(room);
   quic_wire_fields read;
   quic_wire_header header;

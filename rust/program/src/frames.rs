@@ -1,9 +1,12 @@
 //! The frames of payloads.
 use crate::fault;
+use crate::formats::{self, Kind, Shown};
 use crate::output::{Field, Output, Value};
 use Value::{Flag, Number, Ranges, Text};
-use quic_wire::frame::{Ack, ApplicationClose, Close, ConnectionClose, Frame, Iter, NewConnectionId, Rules};
-use quic_wire::varint;
+use quic_wire::fields::{self, Span};
+use quic_wire::frame::{Frame, FrameType, Iter, Rules};
+use quic_wire::transport_error::Code;
+use quic_wire::{Dir, varint};
 use std::io::{self, Write};
 use std::ops::Range;
 
@@ -43,10 +46,10 @@ fn show_frame(
     output: &mut Output<impl Write>,
 ) -> io::Result<()> {
     let bytes = &payload[place.clone()];
+    let raw_type = varint::read(bytes).map_or(0, |(ty, _)| ty);
     // A run of PADDING has its number of frames.
     let count = ("count", Number(padding(bytes)));
-    let fields = if *frame == Frame::Padding { vec![count] } else { fields(frame) };
-    let raw_type = varint::read(bytes).map_or(0, |(ty, _)| ty);
+    let fields = if *frame == Frame::Padding { vec![count] } else { fields(frame, bytes, raw_type) };
     output.item(place, ("type", &frame.ty().to_string()), &fields, &[("raw_type", Number(raw_type))])
 }
 
@@ -60,85 +63,42 @@ fn padding(mut run: &[u8]) -> u64 {
     count
 }
 
-fn fields<'a>(frame: &Frame<'a>) -> Vec<Field<'a>> {
-    match *frame {
-        Frame::Padding | Frame::Ping | Frame::ImmediateAck | Frame::HandshakeDone => vec![],
-        Frame::Ack(ack) => ack_fields(&ack),
-        Frame::ResetStream(r) => {
-            numbers([("id", r.id.into()), ("error_code", r.error_code.into()), ("final_offset", r.final_offset.into())])
+// What is shown of a frame, by its row.
+fn fields<'a>(frame: &Frame<'a>, bytes: &'a [u8], ty: u64) -> Vec<Field<'a>> {
+    let read = fields::of_frame(bytes, Rules::default());
+    let shown = formats::Frame::of(ty).map_or(&[][..], |row| row.shown);
+    shown.iter().flat_map(|one| field(one, &read.spans()[one.field], bytes, frame)).collect()
+}
+
+fn field<'a>(one: &Shown, span: &Span, bytes: &'a [u8], frame: &Frame<'a>) -> Vec<Field<'a>> {
+    let (name, number) = (one.name, span.number);
+    // They end where the field ends.
+    let bytes = || &bytes[span.end - number as usize..span.end];
+    match one.kind {
+        Kind::Number => vec![(name, Number(number))],
+        Kind::Flag => vec![(name, Flag(number != 0))],
+        Kind::Direction => vec![(name, word(if number == 0 { Dir::Bi } else { Dir::Uni }))],
+        Kind::Code => {
+            let code = Code::new(number).map(fault::code_name).unwrap_or_default();
+            vec![(name, Number(number)), ("error_name", word(code))]
         }
-        Frame::StopSending(s) => numbers([("id", s.id.into()), ("error_code", s.error_code.into())]),
-        Frame::Crypto(c) => [vec![("offset", Number(c.offset))], data(c.bytes)].concat(),
-        Frame::NewToken(t) => vec![("token", Value::bytes(t.token))],
-        Frame::Stream(s) => {
-            let front = vec![("id", Number(s.id.into())), ("offset", Number(s.offset)), ("fin", Flag(s.fin))];
-            [front, data(s.bytes)].concat()
+        Kind::Type if number == 0 => vec![],
+        Kind::Type => {
+            let ty = FrameType::new(number).map(|ty| ty.to_string()).unwrap_or_default();
+            vec![(name, Number(number)), ("frame_name", word(ty))]
         }
-        Frame::MaxData(limit) => numbers([("limit", limit.into())]),
-        Frame::MaxStreamData { id, offset } | Frame::StreamDataBlocked { id, offset } => {
-            numbers([("id", id.into()), ("offset", offset)])
-        }
-        Frame::MaxStreams { dir, count } => vec![("dir", word(dir)), ("count", Number(count))],
-        Frame::StreamsBlocked { dir, limit } => vec![("dir", word(dir)), ("limit", Number(limit))],
-        Frame::DataBlocked { offset } => numbers([("offset", offset)]),
-        Frame::NewConnectionId(n) => new_id_fields(&n),
-        Frame::RetireConnectionId { sequence } => numbers([("sequence", sequence)]),
-        Frame::PathChallenge(data) | Frame::PathResponse(data) => vec![("data", Value::few(data.to_be_bytes()))],
-        Frame::Close(Close::Connection(close)) => connection_fields(&close),
-        Frame::Close(Close::Application(close)) => application_fields(&close),
-        Frame::Datagram(d) => data(d.bytes),
-        Frame::AckFrequency(f) => numbers([
-            ("sequence", f.sequence.into()),
-            ("ack_eliciting_threshold", f.ack_eliciting_threshold.into()),
-            ("request_max_ack_delay", f.request_max_ack_delay.into()),
-            ("reordering_threshold", f.reordering_threshold.into()),
-        ]),
+        Kind::Eight => vec![(name, Value::few(number.to_be_bytes()))],
+        Kind::Bytes => vec![(name, Value::bytes(bytes()))],
+        Kind::Data => vec![("len", Number(number)), (name, Value::bytes(bytes()))],
+        Kind::Text => vec![(name, Text(bytes())), ("reason_bytes", Value::bytes(bytes()))],
+        // Only an ACK has ranges, and only a parameter an address.
+        Kind::Ranges | Kind::Address => match *frame {
+            Frame::Ack(ack) => vec![(name, Ranges(ack))],
+            _ => vec![],
+        },
     }
 }
 
 fn word(name: impl ToString) -> Value<'static> {
     Value::Word(name.to_string().into())
-}
-
-fn numbers<'a, const N: usize>(fields: [(&'static str, u64); N]) -> Vec<Field<'a>> {
-    fields.map(|(name, number)| (name, Number(number))).to_vec()
-}
-
-fn new_id_fields<'a>(n: &NewConnectionId) -> Vec<Field<'a>> {
-    let front = numbers([("sequence", n.sequence), ("retire_prior_to", n.retire_prior_to)]);
-    let ids = [("id", Value::few(&n.id[..])), ("reset_token", Value::few(&n.reset_token[..]))];
-    [&front[..], &ids].concat()
-}
-
-fn data(bytes: &[u8]) -> Vec<Field<'_>> {
-    vec![("len", Number(bytes.len() as u64)), ("data", Value::bytes(bytes))]
-}
-
-fn ack_fields<'a>(ack: &Ack<'a>) -> Vec<Field<'a>> {
-    let mut fields = numbers([("largest", ack.largest()), ("delay", ack.delay())]);
-    fields.push(("ranges", Ranges(*ack)));
-    if let Some(ecn) = ack.ecn() {
-        fields.extend([("ect0", Number(ecn.ect0)), ("ect1", Number(ecn.ect1)), ("ce", Number(ecn.ce))]);
-    }
-    fields
-}
-
-fn reason(bytes: &[u8]) -> [Field<'_>; 2] {
-    [("reason", Text(bytes)), ("reason_bytes", Value::bytes(bytes))]
-}
-
-fn connection_fields<'a>(close: &ConnectionClose<'a>) -> Vec<Field<'a>> {
-    let mut fields =
-        vec![("error_code", Number(close.error_code.into())), ("error_name", word(fault::code_name(close.error_code)))];
-    if let Some(ty) = close.frame_type {
-        fields.extend([("frame_type", Number(ty.into())), ("frame_name", word(ty))]);
-    }
-    fields.extend(reason(close.reason));
-    fields
-}
-
-fn application_fields<'a>(close: &ApplicationClose<'a>) -> Vec<Field<'a>> {
-    let mut fields = vec![("error_code", Number(close.error_code.into()))];
-    fields.extend(reason(close.reason));
-    fields
 }

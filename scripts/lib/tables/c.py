@@ -13,11 +13,16 @@ def with_blocks(source, blocks):
     return front + "".join(BEGIN + block + END + part.split(END)[1] for block, part in zip(blocks, parts))
 
 
-def wrapped(front, items, end):
+def without_blocks(source):
+    """A source without what is between its pairs of comments."""
+    return re.sub(f"{re.escape(BEGIN)}.*?{re.escape(END)}", "", source, flags=re.S)
+
+
+def wrapped(front, items, end, between=","):
     """Items after the front of a line; in further lines they are below the first one."""
     lines = [front]
     for number, item in enumerate(items):
-        item += end if number == len(items) - 1 else ","
+        item += end if number == len(items) - 1 else between
         if number and len(lines[-1]) + 1 + len(item) > WIDTH:
             lines.append(" " * len(front) + item)
         else:

@@ -70,12 +70,11 @@ def argument(kind):
 
 
 def calls():
-    """The functions that the crates export for C: of each what it returns, its name, and its arguments in C."""
+    """The functions that the crates export for C: of each its name, what it returns, and what each argument is in C."""
     for _, source in sources("quic_c*"):
         for name, body, result in re.findall(
             r'^pub extern "C" fn (quic_wire_\w+_)\(([^)]*)\) -> (\w+)$', source, re.M):
-            kinds = [kind for kind in re.findall(r"\w+: ([^,\n]+)", body)]
-            yield argument(result)[0], name, [it for kind in kinds for it in argument(kind)]
+            yield name, argument(result)[0], [argument(kind) for kind in re.findall(r"\w+: ([^,\n]+)", body)]
 
 
 def packet_kinds():

@@ -1,10 +1,31 @@
 """rust/program/src/formats.rs."""
 import json
 
+from lib.tables import classes
 from lib.tables.formats import MADE, filled, headers, wanted
 
 PATH = "rust/program/src/formats.rs"
-BEGIN = f"""//! What the RFCs call the fields of frames, headers and parameters, and where they describe them.
+# quinn-proto's names for fields of frames, by the RFC's; where two types of frames differ, by the frame's name too.
+NAMES = {
+    "largest_acknowledged": "largest", "ack_delay": "delay", "ack_ranges": "ranges", "ect0_count": "ect0",
+    "ect1_count": "ect1", "ecn_ce_count": "ce", "stream_id": "id", "application_protocol_error_code": "error_code",
+    "final_size": "final_offset", "crypto_data": "data", "stream_data": "data", "datagram_data": "data",
+    "direction": "dir", "maximum_data": "limit", "maximum_stream_data": "offset", "maximum_streams": "limit",
+    "sequence_number": "sequence", "connection_id": "id", "stateless_reset_token": "reset_token",
+    "reason_phrase": "reason", "requested_max_ack_delay": "request_max_ack_delay",
+    ("MAX_STREAMS", "maximum_streams"): "count", ("DATA_BLOCKED", "maximum_data"): "offset",
+}
+# How fields are shown, by their kind; others by their unit or name.
+KINDS = {
+    "number": "Number", "implied": "Number", "uint64": "Eight", "bytes": "Bytes", "id": "Bytes", "counted": "Bytes",
+    "rest": "Bytes", "ranges": "Ranges", "flag": "Flag", "preferred_address": "Address",
+}
+OTHERS = {
+    "error code": "Code", "frame type, 0 if unknown": "Type", "UTF-8": "Text", "FIN": "Flag", "Direction": "Direction",
+    "Crypto Data": "Data", "Stream Data": "Data", "Datagram Data": "Data",
+}
+BEGIN = f"""//! What the RFCs call the fields of frames, headers and parameters, where they describe them, and how the program shows
+//! them.
 //! {MADE}
 #![allow(dead_code)]
 
@@ -18,12 +39,50 @@ pub struct Field {{
     pub numbers: &'static [&'static str],
 }}
 
+/// How a field is shown.
+#[derive(Clone, Copy)]
+pub enum Kind {{
+    Number,
+    Flag,
+    Direction,
+    /// The transport's code, with its name.
+    Code,
+    /// A type of frame, with its name; 0 isn't shown.
+    Type,
+    /// The eight bytes of a number.
+    Eight,
+    Bytes,
+    /// Bytes with their length.
+    Data,
+    /// As text and as bytes.
+    Text,
+    Ranges,
+    Address,
+}}
+
+/// A field that is shown, under quinn-proto's name.
+pub struct Shown {{
+    pub name: &'static str,
+    pub kind: Kind,
+    /// Its index in its row.
+    pub field: usize,
+}}
+
 /// A type of frame.
 pub struct Frame {{
     pub ty: u64,
     pub name: &'static str,
     pub section: &'static str,
     pub fields: &'static [Field],
+    /// In this order.
+    pub shown: &'static [Shown],
+}}
+
+impl Frame {{
+    /// The one with a type.
+    pub fn of(ty: u64) -> Option<&'static Frame> {{
+        FRAMES.iter().find(|frame| frame.ty == ty)
+    }}
 }}
 
 /// A header; the version and the type's two bits are 0 if it has none.
@@ -44,6 +103,9 @@ pub struct Parameter {{
     pub name: &'static str,
     /// Its name in `quinn-proto`.
     pub quinn_proto: &'static str,
+    pub kind: Kind,
+    /// The number that it has if it isn't there.
+    pub default: Option<u64>,
     /// What its value must be.
     pub wanted: &'static str,
     pub section: &'static str,
@@ -71,6 +133,10 @@ const fn plain(name: &'static str) -> Field {{
 const fn with(name: &'static str, numbers: &'static [&'static str]) -> Field {{
     Field {{ name, numbers }}
 }}
+
+const fn shown(name: &'static str, kind: Kind, field: usize) -> Shown {{
+    Shown {{ name, kind, field }}
+}}
 """
 
 
@@ -97,9 +163,20 @@ def rows(members, fields):
     return {**members, "fields": filled("&[", [field(one, fields) for one in fields], "]", " " * 8)}
 
 
+def kind(one):
+    return "Kind::" + (OTHERS.get(one.get("unit")) or OTHERS.get(one["name"]) or KINDS[one["kind"]])
+
+
+def shown(frame):
+    """The fields that are shown: those with a name, after the type. What data end follows what they begin with."""
+    some = sorted((it for it in frame["fields"][1:] if "name" in it), key=lambda it: it["name"] in ("FIN", "Stream Data"))
+    names = (NAMES.get((frame["name"], it["key"]), NAMES.get(it["key"], it["key"])) for it in some)
+    return [f"shown({text(name)}, {kind(it)}, {it['index']})" for name, it in zip(names, some)]
+
+
 def frame(one):
-    return struct("Frame", rows({
-        "ty": f"{one['type']:#04x}", "name": text(one["name"]), "section": text(one["section"])}, one["fields"]))
+    members = rows({"ty": f"{one['type']:#04x}", "name": text(one["name"]), "section": text(one["section"])}, one["fields"])
+    return struct("Frame", {**members, "shown": filled("&[", shown(one), "]", " " * 8)})
 
 
 def header(version, _, one):
@@ -113,6 +190,7 @@ def header(version, _, one):
 def parameter(one):
     return struct("Parameter", {
         "id": hex(one["id"]), "name": text(one["name"]), "quinn_proto": text(one.get("quinn_proto", one["name"])),
+        "kind": kind(one), "default": f"Some({one['default']})" if "default" in one else "None",
         "wanted": text(wanted(one, "a number of variable length")), "section": text(one["section"]),
         "is_servers": text(one["senders"] == ["server"]), "may_repeat": text(one["repeat"]["quinn_proto"]),
         "is_shortest": text(not one.get("any_width", {"quinn_proto": True})["quinn_proto"]),
@@ -131,8 +209,8 @@ def made(formats):
     tables = {
         "/// The frames, by their types.\npub const FRAMES: &[Frame] = &[": map(frame, formats["frames"]),
         "/// The headers.\npub const HEADERS: &[Header] = &[": (header(*one) for one in headers(formats)),
-        "/// The parameters that the library knows, by their ids.\npub const PARAMETERS: &[Parameter] = &[":
-            (parameter(one) for one in formats["parameters"] if one["kind"] != "skipped"),
+        "/// The parameters that the library knows, in the order in which it writes them.\n"
+        "pub const PARAMETERS: &[Parameter] = &[": map(parameter, classes.parameters(formats)),
         "/// The fields of a preferred address.\npub const PREFERRED_ADDRESS: &[Field] = &[":
             (f"    {field(one, address)},\n" for one in address),
         "/// The reasons.\npub const REASONS: &[Reason] = &[": map(reason, formats["reasons"]),

@@ -1,8 +1,8 @@
 """The texts of errors and the names of frames in c/src/texts.c."""
+from lib.tables import c
 from lib.tables.formats import read
 
 PATH = "c/src/texts.c"
-ERRORS, NAMES, END = "  switch (result) {\n", "  switch (type) {\n", "  default: return "
 # The error of a call that the header itself has.
 LIBRARY = '  case QUIC_WIRE_ERR_LIBRARY: return "library and header differ in version";\n'
 
@@ -19,12 +19,6 @@ def case(labels, text):
     return f"  {' '.join(front[:half])}\n  {' '.join(front[half:])} return \"{text}\";\n"
 
 
-def replaced(source, begin, cases):
-    """The source with other cases of the switch that begins so, except its default."""
-    at = source.index(begin) + len(begin)
-    return source[:at] + cases + source[source.index(END, at):]
-
-
 def made(formats):
     """The file, in which two functions have these texts."""
     errors, names = "", {}
@@ -32,5 +26,4 @@ def made(formats):
         errors += case([f"QUIC_WIRE_ERR_{reason['name']}"], reason["text"]) + LIBRARY * (reason["name"] == "NOBUF")
     for frame in formats["frames"]:
         names.setdefault(frame.get("quinn_proto", frame["name"]), []).append(f"{frame['type']:#04x}")
-    source = replaced(read(PATH), ERRORS, errors)
-    return replaced(source, NAMES, "".join(case(types, name) for name, types in names.items()))
+    return c.with_blocks(read(PATH), [errors, "".join(case(types, name) for name, types in names.items())])

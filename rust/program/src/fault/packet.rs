@@ -49,9 +49,9 @@ pub fn of_header(
         HeaderError::InvalidHeader(RETRY) => (lacking(row, &fields), dropped("RFC 9000, section 17.2.5.2")),
         HeaderError::InvalidHeader(_) => {
             // An id's length above 20, if it is there.
-            let is_long_id = fields.fault().is_some_and(|fault| {
-                IDS.contains(&fault.field) && fault.numbers == 0 && fault.start < packet.len()
-            });
+            let is_long_id = fields
+                .fault()
+                .is_some_and(|fault| IDS.contains(&fault.field) && fault.numbers == 0 && fault.start < packet.len());
             let section = if is_long_id { "RFC 9000, section 17.2" } else { "RFC 9000, section 12.2" };
             (Place::of(row.fields, &fields), dropped(section))
         }

@@ -78,7 +78,7 @@ WIRE = Extension(
     define_macros=[("Py_LIMITED_API", LIMITED_API)] if IS_LIMITED else [],
     extra_compile_args=COMPILE,
     extra_link_args=LINK,
-    depends=["wire/wire.h", "wire/formats.h"],
+    depends=["wire/wire.h", "wire/formats.h", "wire/docs.h"],
     py_limited_api=IS_LIMITED,
 )
 

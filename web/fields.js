@@ -3,11 +3,11 @@
 
 import { toHex } from "./bytes.js";
 import { FRAMES, HEADERS, PREFERRED_ADDRESS } from "./formats.js";
-import { ITEM, OK } from "./layout.js";
 import {
-  headerOf, INITIAL, PACKET_CUT, PACKET_FIXED_BIT, PACKET_MALFORMED_CID, parameterOf, REASON_LONG_TYPE, RETRY, SHORT,
+  INITIAL, ITEM, OK, PACKET_CUT, PACKET_FIXED_BIT, PACKET_MALFORMED_CID, REASON_LONG_TYPE, RETRY, SHORT,
   VERSION_NEGOTIATION,
-} from "./names.js";
+} from "./layout.js";
+import { headerOf, parameterOf } from "./names.js";
 import { bytesText, count, dataText, firstText, numberText } from "./shown.js";
 
 // How many ranges of an ACK, besides the first, are separate fields.

@@ -1,6 +1,7 @@
-// The structs of c/include/quic_wire.h as they are in the module's memory, whose pointers and sizes have 64 bits. No
-// other file knows a field's offset. scripts/tables makes this table from the header; scripts/test-web compares it with
-// what layout.c prints of that.
+// Structs and constants of c/include/quic_wire.h and arguments of calls, as they are in the module, whose pointers
+// and sizes have 64 bits.
+// Made by scripts/tables from the header and the crates: change nothing here. scripts/test-web compares the structs
+// with what layout.c prints.
 
 // For each struct its size, and for each field its offset and how many bytes it has; for an array, all of them.
 export const LAYOUT = {
@@ -28,52 +29,58 @@ export const LAYOUT = {
   fields: {size: 32, fields: {count: [0, 8], end: [8, 8], inside: [16, 8], numbers: [24, 8]}},
 };
 
-// What calls return: QUIC_WIRE_OK, QUIC_WIRE_ITEM, QUIC_WIRE_ERR_PAYLOAD_EMPTY.
+// For each call the bits of its arguments.
+export const CALLS = {
+  ack_ranges_init: [64, 64, 64, 64],
+  frames_fill: [64, 64, 64, 64, 64, 64],
+  ack_ranges_fill: [64, 64, 64, 64, 64, 64],
+  frames_init: [64, 64, 64, 32],
+  frame_read: [64, 64, 32, 64, 64, 64],
+  canonical: [64, 64, 64, 64, 64],
+  frame_fields: [64, 64, 32, 64, 64, 64],
+  param_fields: [64, 64, 64, 64, 64],
+  param_value_fields: [64, 64, 64, 32, 64, 64, 64],
+  packet_fields: [64, 64, 64, 64, 64, 32, 64, 64, 64],
+  header_read: [64, 64, 32, 64, 64, 32, 64],
+  varint_read: [64, 64, 64],
+  varint_len: [64],
+  unprotect_copy: [64, 64, 64, 64, 64, 64, 64, 64],
+  params_read: [32, 32, 64, 64, 64, 64],
+};
+
+// What calls return.
 export const OK = 0;
 export const ITEM = 1;
 export const EMPTY = -20;
+export const REASON_MALFORMED = -23;
+export const REASON_LONG_TYPE = -24;
+export const PACKET_FIXED_BIT = -41;
+export const PACKET_MALFORMED_CID = -43;
+export const PACKET_UNSUPPORTED_VERSION = -45;
+export const PACKET_CUT = -46;
+export const PARAMS_MALFORMED = -60;
+export const PARAMS_ILLEGAL = -61;
 
-// QUIC_WIRE_NO_TYPE.
-export const NO_TYPE = 0xffffffffffffffffn;
+// Kinds of frames.
+export const PADDING = 0x00;
+export const ACK = 0x02;
+export const NEW_CONNECTION_ID = 0x18;
 
-// A struct in a memory. The memory may grow between two calls.
-export class Struct {
-  constructor(memory, name, place) {
-    this.memory = memory;
-    this.place = place;
-    this.size = LAYOUT[name].size;
-    this.fields = LAYOUT[name].fields;
-  }
+// Kinds of packets.
+export const INITIAL = 0;
+export const RETRY = 3;
+export const SHORT = 4;
+export const VERSION_NEGOTIATION = 5;
 
-  // A field's value as a number; offsets, lengths, kinds and flags are below 2^53.
-  number(field) {
-    return Number(this.big(field));
-  }
+// Flags of readers.
+export const READ_SHORT_TYPES = 0x001;
+export const READ_GREASED_BIT = 0x010;
 
-  // A field's value as a BigInt.
-  big(field) {
-    const [offset, bytes] = this.fields[field];
-    const view = new DataView(this.memory.buffer, this.place + offset, bytes);
-    switch (bytes) {
-      case 8: return view.getBigUint64(0, true);
-      case 4: return BigInt(view.getUint32(0, true));
-      case 2: return BigInt(view.getUint16(0, true));
-      default: return BigInt(view.getUint8(0));
-    }
-  }
+// A bit of a first byte.
+export const LONG_FORM = 0x80;
 
-  // An element of an array of 64-bit integers.
-  entry(field, index) {
-    return new DataView(this.memory.buffer).getBigUint64(this.place + this.fields[field][0] + 8 * index, true);
-  }
+// How many fields a call stores at most.
+export const MAX_FIELDS = 8;
 
-  set(field, value) {
-    const [offset, bytes] = this.fields[field];
-    const view = new DataView(this.memory.buffer, this.place + offset, bytes);
-    if (bytes === 8) {
-      view.setBigUint64(0, BigInt(value), true);
-    } else {
-      view.setUint32(0, Number(value), true);
-    }
-  }
-}
+// What stands for no type.
+export const NO_TYPE = 2n ** 64n - 1n;

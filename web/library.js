@@ -1,20 +1,14 @@
 // The calls of the proved library, as c/include/quic_wire.h declares them, on bytes in the module's memory.
 
 import { REASONS } from "./formats.js";
-import { PACKET_MALFORMED_CID, PACKET_UNSUPPORTED_VERSION, PADDING } from "./names.js";
-import { EMPTY, ITEM, LAYOUT, NO_TYPE, OK, Struct } from "./layout.js";
+import {
+  CALLS, EMPTY, ITEM, LAYOUT, LONG_FORM, MAX_FIELDS, NO_TYPE, OK, PACKET_MALFORMED_CID, PACKET_UNSUPPORTED_VERSION,
+  PADDING, READ_GREASED_BIT, READ_SHORT_TYPES,
+} from "./layout.js";
 
 // How many frames, and how many ranges of an ACK, one call returns at most.
 const ROOM = 1024;
 const MAX_VERSIONS = 64;
-// QUIC_WIRE_PACKET_FIELDS: no call stores more.
-const MAX_FIELDS = 10;
-// QUIC_WIRE_READ_SHORT_TYPES.
-const SHORT_TYPES = 0x001;
-// Bits of a first byte.
-const LONG_FORM = 0x80;
-// QUIC_WIRE_READ_GREASED_BIT.
-const READ_GREASED_BIT = 0x10;
 const MAX_ID = 20;
 const PAGE = 65536;
 
@@ -55,6 +49,38 @@ export class Words {
 
   all() {
     return this.words.subarray(0, this.count);
+  }
+}
+
+// A struct in a memory. The memory may grow between two calls.
+class Struct {
+  constructor(memory, name, place) {
+    this.memory = memory;
+    this.place = place;
+    this.size = LAYOUT[name].size;
+    this.fields = LAYOUT[name].fields;
+  }
+
+  // A field's value as a number; offsets, lengths, kinds and flags are below 2^53.
+  number(field) {
+    return Number(this.big(field));
+  }
+
+  // A field's value as a BigInt.
+  big(field) {
+    const [offset, bytes] = this.fields[field];
+    const view = new DataView(this.memory.buffer, this.place + offset, bytes);
+    switch (bytes) {
+      case 8: return view.getBigUint64(0, true);
+      case 4: return BigInt(view.getUint32(0, true));
+      case 2: return BigInt(view.getUint16(0, true));
+      default: return BigInt(view.getUint8(0));
+    }
+  }
+
+  // An element of an array of 64-bit integers.
+  entry(field, index) {
+    return new DataView(this.memory.buffer).getBigUint64(this.place + this.fields[field][0] + 8 * index, true);
   }
 }
 
@@ -104,16 +130,13 @@ export class Library {
   }
 
   call(name, ...words) {
-    return this.calls[`quic_wire_${name}_`](...words);
-  }
-
-  at(place) {
-    return BigInt(place);
+    const numbers = words.map((word, at) => (CALLS[name][at] === 64 ? BigInt(word) : word));
+    return Number(this.calls[`quic_wire_${name}_`](...numbers));
   }
 
   // The bytes between two offsets as a pointer and a length.
   held(begin = 0, end = this.length) {
-    return [BigInt(this.input + begin), BigInt(end - begin)];
+    return [this.input + begin, end - begin];
   }
 
   // The offsets where frames begin, then where the last one ends; their kinds; and the error that ended them, or null.
@@ -121,14 +144,11 @@ export class Library {
   readFrames(strict) {
     const begins = new Words();
     const kinds = new Words();
-    const flags = strict ? SHORT_TYPES : 0;
-    const begun = this.call("frames_init", this.at(this.frame_iter.place), ...this.held(), flags);
+    const { place } = this.frame_iter;
+    const begun = this.call("frames_init", place, ...this.held(), strict ? READ_SHORT_TYPES : 0);
     let error = begun === EMPTY ? { reason: EMPTY, type: null } : null;
     while (!error && this.frame_iter.number("offset") < this.length) {
-      const answer = this.call(
-        "frames_fill", this.at(this.frame_iter.place), ...this.held(), this.at(this.room), BigInt(ROOM),
-        this.at(this.count),
-      );
+      const answer = this.call("frames_fill", place, ...this.held(), this.room, ROOM, this.count);
       if (answer === ITEM) {
         this.addFrames(begins, kinds);
       } else if (REASONS.has(answer)) {
@@ -163,7 +183,7 @@ export class Library {
   // The frame that begins at |offset|.
   frameAt(offset) {
     const { frame } = this;
-    this.call("frame_read", ...this.held(offset), 0, this.at(frame.place), this.at(this.room), 0n);
+    this.call("frame_read", ...this.held(offset), 0, frame.place, this.room, 0);
     return {
       kind: frame.number("kind"), flags: frame.number("flags"), datalen: frame.number("datalen"),
       numbers: [0, 1, 2, 3, 4].map((index) => frame.entry("numbers", index)),
@@ -174,12 +194,9 @@ export class Library {
   rangesAt(offset) {
     this.frameAt(offset);
     const ranges = [];
-    const place = this.at(this.range_iter.place);
-    this.call("ack_ranges_init", place, ...this.held(offset), this.at(this.frame.place));
-    const fill = () => this.call(
-      "ack_ranges_fill", place, ...this.held(offset), this.at(this.room), BigInt(ROOM), this.at(this.count),
-    );
-    while (fill() === ITEM) {
+    const iter = [this.range_iter.place, ...this.held(offset)];
+    this.call("ack_ranges_init", ...iter, this.frame.place);
+    while (this.call("ack_ranges_fill", ...iter, this.room, ROOM, this.count) === ITEM) {
       const view = new DataView(this.memory.buffer);
       const count = Number(view.getBigUint64(this.count, true));
       const { size, fields } = LAYOUT.range;
@@ -195,9 +212,7 @@ export class Library {
   canonical() {
     const output = aligned(this.input + this.length);
     this.reserve(output + this.length);
-    const answer = this.call(
-      "canonical", ...this.held(), this.at(output), BigInt(this.length), this.at(this.canon.place),
-    );
+    const answer = this.call("canonical", ...this.held(), output, this.length, this.canon.place);
     if (answer === OK) {
       return { bytes: new Uint8Array(this.memory.buffer, output, this.canon.number("len")).slice(), error: null };
     }
@@ -207,19 +222,17 @@ export class Library {
   // The variable-length integer at |offset|, which must be whole: where it ends, and how many bytes its shortest
   // encoding has.
   varintAt(offset) {
-    const read = Number(this.call("varint_read", ...this.held(offset), this.at(this.count)));
+    const read = this.call("varint_read", ...this.held(offset), this.count);
     const number = new DataView(this.memory.buffer).getBigUint64(this.count, true);
-    return { number, end: offset + read, shortest: Number(this.call("varint_len", number)) };
+    return { number, end: offset + read, shortest: this.call("varint_len", number) };
   }
 
   // The fields of what begins at |offset|, by a call with this name and these further arguments: why one can't be read,
   // or ITEM; where those before it begin and end, and their numbers, by their indices; where that one begins, and how
   // many numbers in how many bytes of it can be read.
   fieldsAt(call, offset, { before = [], limit = this.length, choices = [] }) {
-    const reason = this.call(
-      call, ...before, ...this.held(offset, limit), ...choices, this.at(this.spans), BigInt(MAX_FIELDS),
-      this.at(this.fields.place),
-    );
+    const room = [this.spans, MAX_FIELDS, this.fields.place];
+    const reason = this.call(call, ...before, ...this.held(offset, limit), ...choices, ...room);
     const view = new DataView(this.memory.buffer);
     const { size, fields: { start: [start], end: [behind], number: [number] } } = LAYOUT.span;
     const word = (place) => Number(view.getBigUint64(place, true));
@@ -239,8 +252,7 @@ export class Library {
   // The fixed bit isn't checked.
   packetFields(offset, { idLength, versions }) {
     const spoken = this.speak(versions);
-    const choices = [this.at(idLength), this.at(this.versions), spoken, READ_GREASED_BIT];
-    return this.fieldsAt("packet_fields", offset, { choices });
+    return this.fieldsAt("packet_fields", offset, { choices: [idLength, this.versions, spoken, READ_GREASED_BIT] });
   }
 
   entryFields(offset) {
@@ -249,7 +261,7 @@ export class Library {
 
   // Where the entry that begins at |offset| ends, or null if it is cut off.
   entryEnd(offset) {
-    const read = this.call("param_fields", ...this.held(offset), this.at(this.spans), 0n, this.at(this.fields.place));
+    const read = this.call("param_fields", ...this.held(offset), this.spans, 0, this.fields.place);
     return read === ITEM ? offset + this.fields.number("end") : null;
   }
 
@@ -262,17 +274,15 @@ export class Library {
   speak(versions) {
     const spoken = versions.slice(0, MAX_VERSIONS);
     new Uint32Array(this.memory.buffer, this.versions, spoken.length).set(spoken);
-    return BigInt(spoken.length);
+    return spoken.length;
   }
 
   // Reads the header of the packet that begins at |offset|, and returns 0 or the reason why there is none. The library
   // leaves it to its caller to reject ids of more than 20 bytes in other versions too.
   cutPacket(offset, { idLength, versions, grease }) {
     const spoken = this.speak(versions);
-    const answer = Number(this.call(
-      "header_read", ...this.held(offset), idLength, this.at(this.versions), spoken, grease ? READ_GREASED_BIT : 0,
-      this.at(this.header.place),
-    ));
+    const choices = [idLength, this.versions, spoken, grease ? READ_GREASED_BIT : 0];
+    const answer = this.call("header_read", ...this.held(offset), ...choices, this.header.place);
     if (answer > 0) {
       return OK;
     }
@@ -327,10 +337,8 @@ export class Library {
     this.reserve(given + 16);
     const memory = new Uint8Array(this.memory.buffer);
     memory.set(mask, given);
-    const answer = this.call(
-      "unprotect_copy", this.at(this.input + begin), this.at(end - begin), this.at(place), this.at(given), 0n,
-      this.at(header), this.at(place + 4), this.at(this.count),
-    );
+    const packet = this.held(begin, end);
+    const answer = this.call("unprotect_copy", ...packet, place, given, 0, header, place + 4, this.count);
     if (answer < OK) {
       return null;
     }
@@ -340,10 +348,8 @@ export class Library {
 
   // Whether a side accepts a list: OK, or why not, and where the entry begins that is rejected.
   readParams(side) {
-    const reason = this.call(
-      "params_read", side === "server" ? 1 : 0, 0, ...this.held(), this.at(this.params.place),
-      this.at(this.refusal.place),
-    );
+    const own = side === "server" ? 1 : 0;
+    const reason = this.call("params_read", own, 0, ...this.held(), this.params.place, this.refusal.place);
     return { reason, offset: this.refusal.number("offset") };
   }
 }

@@ -1,6 +1,7 @@
 // The names that the RFCs give to numbers, of formats.js where that has them, and how the page draws what they name.
 
 import { ERROR_CODES, FRAMES, HEADERS, PARAMETERS, REASONS } from "./formats.js";
+import { SHORT, VERSION_NEGOTIATION } from "./layout.js";
 
 // For each kind of frame the tone that it is drawn in.
 const FRAME_TONES = {
@@ -9,10 +10,6 @@ const FRAME_TONES = {
   0x17: "limit", 0x18: "id", 0x19: "id", 0x1a: "id", 0x1b: "id", 0x1c: "stop", 0x1d: "stop", 0x1e: "signal",
   0x1f: "ack", 0x30: "data", 0xaf: "ack",
 };
-
-export const PADDING = 0x00;
-export const ACK = 0x02;
-export const NEW_CONNECTION_ID = 0x18;
 
 // The name that tells the types of one frame apart, which is quinn-proto's: ACK_ECN.
 export function frameName(type) {
@@ -36,16 +33,6 @@ export function typeName(type) {
   return FRAMES.has(Number(type)) ? frameName(Number(type)) : `<unknown ${type.toString(16)}>`;
 }
 
-// What calls return for what is rejected: QUIC_WIRE_ERR_FRAME_MALFORMED and so on.
-export const REASON_MALFORMED = -23;
-export const REASON_LONG_TYPE = -24;
-export const PARAMS_MALFORMED = -60;
-export const PARAMS_ILLEGAL = -61;
-export const PACKET_UNSUPPORTED_VERSION = -45;
-export const PACKET_MALFORMED_CID = -43;
-export const PACKET_FIXED_BIT = -41;
-export const PACKET_CUT = -46;
-
 export const reasonText = (reason) => REASONS.get(reason).text;
 
 // The code with which a connection is closed for a reason.
@@ -59,10 +46,6 @@ const PACKETS = [
   ["initial", "data"], ["0rtt", "limit"], ["handshake", "crypto"], ["retry", "stop"], ["short", "ack"],
   ["version-negotiation", "signal"],
 ];
-export const INITIAL = 0;
-export const RETRY = 3;
-export const SHORT = 4;
-export const VERSION_NEGOTIATION = 5;
 
 export const packetWord = (kind) => PACKETS[kind][0];
 export const packetTone = (kind) => PACKETS[kind][1];

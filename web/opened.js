@@ -4,7 +4,8 @@
 import { toHex } from "./bytes.js";
 import { readText } from "./entries.js";
 import { hasCiphers, hasInitialKeys, NO_CIPHERS, openInitial } from "./initial.js";
-import { INITIAL, packetName, RETRY, typeName, VERSION_NEGOTIATION } from "./names.js";
+import { INITIAL, RETRY, VERSION_NEGOTIATION } from "./layout.js";
+import { packetName, typeName } from "./names.js";
 import { readBytes } from "./reading.js";
 import { element } from "./rows.js";
 import { spotIn, Views } from "./views.js";

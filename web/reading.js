@@ -5,12 +5,14 @@ import {
   frameFields, openedFields, packetFields, paddingRun, parameterFields, parameterSummary,
 } from "./fields.js";
 import { REASONS } from "./formats.js";
-import { OK } from "./layout.js";
+import {
+  ACK, NEW_CONNECTION_ID, OK, PACKET_FIXED_BIT, PACKET_UNSUPPORTED_VERSION, PADDING, PARAMS_ILLEGAL, PARAMS_MALFORMED,
+  REASON_MALFORMED,
+} from "./layout.js";
 import { Words } from "./library.js";
 import {
-  ACK, allowedOf, closeCode, frameName, frameTone, isOfServers, kindOfType, NEW_CONNECTION_ID, PACKET_FIXED_BIT,
-  PACKET_UNSUPPORTED_VERSION, packetName, packetTone, PADDING, parameterOf, PARAMS_ILLEGAL, PARAMS_MALFORMED,
-  REASON_MALFORMED, reasonText, typeName,
+  allowedOf, closeCode, frameName, frameTone, isOfServers, kindOfType, packetName, packetTone, parameterOf,
+  reasonText, typeName,
 } from "./names.js";
 import { count, frameSummary, packetSummary } from "./shown.js";
 

@@ -1,7 +1,8 @@
 // Where an item or a field is described: the section of an RFC, and its address.
 
 import { FRAMES, PARAMETERS } from "./formats.js";
-import { ACK, headerOf, SHORT } from "./names.js";
+import { ACK, SHORT } from "./layout.js";
+import { headerOf } from "./names.js";
 
 const ACK_FREQUENCY = "draft-ietf-quic-ack-frequency";
 const ACK_FREQUENCY_DRAFT = `${ACK_FREQUENCY}-08`;

@@ -1,7 +1,8 @@
 // How numbers and bytes are written, and what is said of an item in a line.
 
 import { toHex } from "./bytes.js";
-import { errorName, kindOfType, SHORT, typeName, VERSION_NEGOTIATION, versionName } from "./names.js";
+import { SHORT, VERSION_NEGOTIATION } from "./layout.js";
+import { errorName, kindOfType, typeName, versionName } from "./names.js";
 
 const SHOWN_BYTES = 32;
 const SHOWN_OF_TEXT = 200;

@@ -3,7 +3,8 @@
 import { toHex } from "./bytes.js";
 import { paddingEnds } from "./fields.js";
 import { PARAMETERS } from "./formats.js";
-import { frameName, INITIAL, packetWord, PADDING, reasonText, SHORT, typeName } from "./names.js";
+import { INITIAL, PADDING, SHORT } from "./layout.js";
+import { frameName, packetWord, reasonText, typeName } from "./names.js";
 
 const dashed = (bytes) => toHex(bytes) || "-";
 

@@ -104,7 +104,7 @@ static PyObject *read_from(wire_state *state, const wire_reader *how,
 
 static PyObject *read_packets(PyObject *module, PyObject *args,
                               PyObject *keywords) {
-  static char *names[] = {"datagram", "cid_len", "versions", "checks", NULL};
+  static char *names[] = NAMES_read_packets;
   PyObject *datagram, *versions = Py_None;
   wire_reader how = {0};
   if (!PyArg_ParseTupleAndKeywords(args, keywords, "OO&|O$O&:read_packets",
@@ -118,8 +118,7 @@ static PyObject *read_packets(PyObject *module, PyObject *args,
 
 static PyObject *read_packet(PyObject *module, PyObject *args,
                              PyObject *keywords) {
-  static char *names[] = {"datagram", "cid_len", "at",
-                          "versions", "checks",  NULL};
+  static char *names[] = NAMES_read_packet;
   PyObject *datagram, *versions = Py_None;
   Py_ssize_t at = 0;
   wire_reader how = {0};
@@ -135,15 +134,6 @@ static PyObject *read_packet(PyObject *module, PyObject *args,
 }
 
 PyMethodDef wire_packet_functions[] = {
-    {"read_packets", WIRE_FAST(read_packets), METH_VARARGS | METH_KEYWORDS,
-     PyDoc_STR(
-         "read_packets($module, datagram, cid_len, versions=None, *, "
-         "checks=0)\n--\n\nThe packets of a datagram as a list. Ids in "
-         "short headers have cid_len bytes. Raises\nPacketError, with the "
-         "packets before it in its attribute packets.")},
-    {"read_packet", WIRE_FAST(read_packet), METH_VARARGS | METH_KEYWORDS,
-     PyDoc_STR(
-         "read_packet($module, datagram, cid_len, at=0, versions=None, *, "
-         "checks=0)\n--\n\nThe packet that begins at an offset of a "
-         "datagram.")},
+    WIRE_FUNCTION(read_packets, read_packets, WIRE_NAMED),
+    WIRE_FUNCTION(read_packet, read_packet, WIRE_NAMED),
     {NULL, NULL, 0, NULL}};

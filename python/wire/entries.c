@@ -2,13 +2,12 @@
 /* Single entries of lists of transport parameters (RFC 9000, section 18). */
 #include "wire.h"
 
-static PyObject *entry_at(PyObject *module, PyObject *args) {
+static PyObject *entry_at(PyObject *Py_UNUSED(module), PyObject *args) {
   PyObject *list;
   Py_ssize_t at;
   quic_wire_param param;
   wire_bytes bytes;
   int64_t end = QUIC_WIRE_ERR_PLACE;
-  (void)module;
   if (!PyArg_ParseTuple(args, "On:_entry_at", &list, &at) ||
       wire_acquire(list, &bytes) < 0)
     return NULL;
@@ -23,14 +22,13 @@ static PyObject *entry_at(PyObject *module, PyObject *args) {
                        at + (Py_ssize_t)param.value, at + (Py_ssize_t)end);
 }
 
-static PyObject *write_entry(PyObject *module, PyObject *args) {
+static PyObject *write_entry(PyObject *Py_UNUSED(module), PyObject *args) {
   PyObject *number, *value, *out = NULL;
   uint64_t id;
   wire_bytes bytes;
   uint8_t *at;
   size_t len = 0;
   int result = 0;
-  (void)module;
   if (!PyArg_ParseTuple(args, "OO:write_parameter", &number, &value) ||
       wire_varint(number, "id", &id) < 0 || wire_acquire(value, &bytes) < 0)
     return NULL;
@@ -45,9 +43,8 @@ static PyObject *write_entry(PyObject *module, PyObject *args) {
   return result < 0 ? wire_mistake(result) : NULL;
 }
 
-static PyObject *is_known(PyObject *module, PyObject *number) {
+static PyObject *is_known(PyObject *Py_UNUSED(module), PyObject *number) {
   uint64_t id;
-  (void)module;
   if (wire_number(number, "id", &id) < 0)
     return NULL;
   return PyBool_FromLong(quic_wire_param_is_known(id));
@@ -55,10 +52,6 @@ static PyObject *is_known(PyObject *module, PyObject *number) {
 
 PyMethodDef wire_parameter_functions[] = {
     {"_entry_at", entry_at, METH_VARARGS, NULL},
-    {"write_parameter", write_entry, METH_VARARGS,
-     PyDoc_STR("write_parameter($module, id, value, /)\n--\n\nAn entry of a "
-               "list of transport parameters.")},
-    {"is_known_parameter", is_known, METH_O,
-     PyDoc_STR("is_known_parameter($module, id, /)\n--\n\nWhether "
-               "TransportParameters has the parameter of this id.")},
+    WIRE_FUNCTION(write_parameter, write_entry, METH_VARARGS),
+    WIRE_FUNCTION(is_known_parameter, is_known, METH_O),
     {NULL, NULL, 0, NULL}};

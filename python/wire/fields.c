@@ -67,12 +67,11 @@ static int acquire_at(PyObject *data, Py_ssize_t at, wire_bytes *bytes) {
   return -1;
 }
 
-static PyObject *frame_fields(PyObject *module, PyObject *args) {
+static PyObject *frame_fields(PyObject *Py_UNUSED(module), PyObject *args) {
   PyObject *payload, *out;
   Py_ssize_t at;
   uint32_t flags;
   wire_bytes bytes;
-  (void)module;
   if (!PyArg_ParseTuple(args, "OnO&:frame_fields", &payload, &at,
                         wire_to_checks, &flags) ||
       acquire_at(payload, at, &bytes) < 0)
@@ -82,12 +81,11 @@ static PyObject *frame_fields(PyObject *module, PyObject *args) {
   return out;
 }
 
-static PyObject *packet_fields(PyObject *module, PyObject *args) {
+static PyObject *packet_fields(PyObject *Py_UNUSED(module), PyObject *args) {
   PyObject *datagram, *versions, *out;
   Py_ssize_t at;
   wire_reader how = {0};
   wire_bytes bytes;
-  (void)module;
   if (!PyArg_ParseTuple(args, "OO&nOO&:packet_fields", &datagram,
                         wire_to_uint32, &how.cid_len, &at, &versions,
                         wire_to_checks, &how.flags) ||
@@ -99,11 +97,10 @@ static PyObject *packet_fields(PyObject *module, PyObject *args) {
   return out;
 }
 
-static PyObject *parameter_fields(PyObject *module, PyObject *args) {
+static PyObject *parameter_fields(PyObject *Py_UNUSED(module), PyObject *args) {
   PyObject *list, *out;
   Py_ssize_t at;
   wire_bytes bytes;
-  (void)module;
   if (!PyArg_ParseTuple(args, "On:parameter_fields", &list, &at) ||
       acquire_at(list, at, &bytes) < 0)
     return NULL;

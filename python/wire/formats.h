@@ -1,10 +1,16 @@
 /* SPDX-License-Identifier: MIT OR Apache-2.0 */
 /* Made by scripts/tables from docs/formats.json: change nothing here.
- * Rows of tables: the kinds of frames and of packets with their fields, the transport parameters in their order, the
- * results and flags of readers. Before a file includes this one, it defines what a row is; rows that it doesn't define
- * are nothing. Each inclusion forgets the definitions.
+ * Rows of tables: the fields of every frame and of every packet, the kinds of both with their own fields, the
+ * transport parameters in their order, the results and flags of readers. Before a file includes this one, it defines
+ * what a row is; rows that it doesn't define are nothing. Each inclusion forgets the definitions.
  *
  * - FIELD(name, what it is, its slot in the union, documentation) */
+#ifndef FRAME_FIELD
+#define FRAME_FIELD(name, how, bit, doc)
+#endif
+#ifndef PACKET_FIELD
+#define PACKET_FIELD(name, how, bit, doc)
+#endif
 #ifndef FRAME_KIND
 #define FRAME_KIND(word, name, doc, fields)
 #endif
@@ -20,6 +26,44 @@
 #ifndef READ_FLAG
 #define READ_FLAG(word)
 #endif
+
+FRAME_FIELD("begin", begin, 0,
+     "where it begins in its payload; 0 if it wasn't read")
+FRAME_FIELD("end", end, 0,
+     "where it ends in its payload")
+FRAME_FIELD("type", type, 0,
+     "the type in the payload; if it wasn't read, one of its kind")
+FRAME_FIELD("kind", kind, 0,
+     "the type, but one number for every STREAM (0x08), one for every ACK (0x02), one for every DATAGRAM")
+FRAME_FIELD("name", name, 0,
+     "the type's name")
+FRAME_FIELD("is_ack_eliciting", rule_not, QUIC_WIRE_RULE_NOT_ELICITING,
+     "whether a packet with it is acknowledged (RFC 9000, section 13.2.1)")
+FRAME_FIELD("is_counted_in_flight", rule_not, QUIC_WIRE_RULE_NOT_COUNTED,
+     "whether a packet with it counts as bytes in flight")
+FRAME_FIELD("is_probing", rule, QUIC_WIRE_RULE_PROBING,
+     "whether it probes a path (RFC 9000, section 9.1)")
+FRAME_FIELD("is_flow_controlled", rule, QUIC_WIRE_RULE_FLOW_CONTROLLED,
+     "whether its data are flow controlled")
+
+PACKET_FIELD("begin", begin, 0,
+     "where it begins in its datagram")
+PACKET_FIELD("end", end, 0,
+     "where it ends in its datagram")
+PACKET_FIELD("first", first, 0,
+     "the first byte, with its protection")
+PACKET_FIELD("kind", kind, 0,
+     "the packet's type, as in PacketType")
+PACKET_FIELD("number_at", number_at, 0,
+     "where the packet number begins in the datagram, or None")
+PACKET_FIELD("data", data, 0,
+     "all of the packet")
+PACKET_FIELD("version", version, 0,
+     "the version, or 0 if none is known")
+PACKET_FIELD("dcid", dcid, 0,
+     "Destination Connection ID")
+PACKET_FIELD("scid", scid, 0,
+     "Source Connection ID; empty in a short header")
 
 FRAME_KIND(PADDING, "Padding",
      "PADDING (RFC 9000, section 19.1), as many as follow each other.",
@@ -235,6 +279,8 @@ READ_FLAG(ANY_WIDTH)
 READ_FLAG(NO_REPEATS)
 READ_FLAG(RFC)
 
+#undef FRAME_FIELD
+#undef PACKET_FIELD
 #undef FRAME_KIND
 #undef PACKET_KIND
 #undef PARAMETER

@@ -12,6 +12,9 @@ typedef struct maker {
   PyObject *ranges, *token; /* borrowed; NULL if they aren't given */
 } maker;
 
+/* Sets a field to a value: -1 with an exception. */
+typedef int set_field(maker *m, const PyGetSetDef *field, PyObject *value);
+
 static int set_number(maker *m, const PyGetSetDef *field, PyObject *value) {
   return wire_varint(value, field->name,
                      &m->made->f.numbers[(size_t)field->closure]);
@@ -24,9 +27,9 @@ static int set_ecn(maker *m, const PyGetSetDef *field, PyObject *value) {
   return wire_varint(value, field->name, &m->ecn[(size_t)field->closure - 2]);
 }
 
-static int set_fin(maker *m, const PyGetSetDef *field, PyObject *value) {
+static int set_fin(maker *m, const PyGetSetDef *Py_UNUSED(field),
+                   PyObject *value) {
   const int is_fin = PyObject_IsTrue(value);
-  (void)field;
   if (is_fin > 0)
     m->made->f.flags |= QUIC_WIRE_FLAG_FIN;
   return is_fin < 0 ? -1 : 0;
@@ -39,8 +42,8 @@ static int set_owner(maker *m, PyObject *owner) {
   return owner ? 0 : -1;
 }
 
-static int set_data(maker *m, const PyGetSetDef *field, PyObject *value) {
-  (void)field;
+static int set_data(maker *m, const PyGetSetDef *Py_UNUSED(field),
+                    PyObject *value) {
   if (set_owner(m, wire_owner(value)) < 0)
     return -1;
   m->made->f.datalen = (size_t)PyObject_Size(m->made->owner);
@@ -62,10 +65,10 @@ static int set_count(maker *m, const PyGetSetDef *field, PyObject *value) {
   return set_owner(m, zeros);
 }
 
-static int set_path(maker *m, const PyGetSetDef *field, PyObject *value) {
+static int set_path(maker *m, const PyGetSetDef *Py_UNUSED(field),
+                    PyObject *value) {
   wire_bytes bytes;
   size_t i, len;
-  (void)field;
   if (wire_acquire(value, &bytes) < 0)
     return -1;
   len = bytes.len;
@@ -78,35 +81,29 @@ static int set_path(maker *m, const PyGetSetDef *field, PyObject *value) {
   return -1;
 }
 
-static int set_ranges(maker *m, const PyGetSetDef *field, PyObject *value) {
-  (void)field;
+static int set_ranges(maker *m, const PyGetSetDef *Py_UNUSED(field),
+                      PyObject *value) {
   m->ranges = value;
   return 0;
 }
 
-static int set_token(maker *m, const PyGetSetDef *field, PyObject *value) {
-  (void)field;
+static int set_token(maker *m, const PyGetSetDef *Py_UNUSED(field),
+                     PyObject *value) {
   m->token = value;
   return 0;
 }
 
-static int set_field(maker *m, const PyGetSetDef *field, PyObject *value) {
-  static const struct {
-    getter get;
-    int (*set)(maker *, const PyGetSetDef *, PyObject *);
-  } setters[] = {{frame_get_number, set_number}, {frame_get_ecn, set_ecn},
-                 {frame_get_fin, set_fin},       {frame_get_data, set_data},
-                 {frame_get_count, set_count},   {frame_get_path, set_path},
-                 {frame_get_ranges, set_ranges}, {frame_get_token, set_token}};
-  size_t i = 0;
-  while (setters[i].get != field->get)
-    i++;
-  return setters[i].set(m, field, value);
-}
+/* How each field of each kind is set. */
+#define FIELD(name, how, slot, doc) set_##how,
+#define FRAME_KIND(word, name, doc, fields) (set_field *const[]){fields NULL},
+static set_field *const *const setters[KINDS] = {
+#include "formats.h"
+};
 
 /* The fields that are given, by position or by name. */
 static int set_fields(maker *m, const frame_kind *kind, PyObject *args,
                       PyObject *keywords) {
+  set_field *const *set = setters[kind - wire_frame_kinds];
   const Py_ssize_t len = PyTuple_Size(args);
   Py_ssize_t named = 0, i;
   for (i = 0; kind->fields[i].name; i++) {
@@ -118,7 +115,7 @@ static int set_fields(maker *m, const frame_kind *kind, PyObject *args,
       return -1;
     }
     named += i >= len && by_name;
-    if (value && set_field(m, &kind->fields[i], value) < 0)
+    if (value && set[i](m, &kind->fields[i], value) < 0)
       return -1;
   }
   if (len <= i && (!keywords || PyDict_Size(keywords) == named))
@@ -273,7 +270,7 @@ static PyObject *encode_ack(PyObject *self) {
 }
 
 static PyObject *encode_padding(PyObject *self) {
-  PyObject *count = frame_get_count(self, NULL);
+  PyObject *count = PyObject_GetAttrString(self, "count");
   PyObject *out =
       count
           ? PyObject_CallFunctionObjArgs((PyObject *)&PyBytes_Type, count, NULL)
@@ -304,7 +301,7 @@ static PyObject *encode_other(PyObject *self, uint32_t flags) {
 }
 
 PyObject *frame_encode(PyObject *self, PyObject *args, PyObject *keywords) {
-  static char *names[] = {"last", "checks", NULL};
+  static char *names[] = NAMES_Frame_encode;
   int last = 0;
   uint32_t flags = 0;
   if (!PyArg_ParseTupleAndKeywords(args, keywords, "|p$O&:encode", names, &last,

@@ -4,35 +4,32 @@
  * asked for. */
 #include "wire.h"
 
-PyObject *frame_get_number(PyObject *self, void *slot) {
+static PyObject *get_number(PyObject *self, void *slot) {
   return PyLong_FromUnsignedLongLong(FRAME(self)->numbers[(size_t)slot]);
 }
 
-PyObject *frame_get_data(PyObject *self, void *unused) {
-  (void)unused;
-  return wire_part(OWNER(self), FRAME(self)->data, FRAME(self)->datalen);
+static PyObject *get_ecn(PyObject *self, void *slot) {
+  if (!(FRAME(self)->flags & QUIC_WIRE_FLAG_ECN))
+    return Py_NewRef(Py_None);
+  return get_number(self, slot);
 }
 
-PyObject *frame_get_token(PyObject *self, void *unused) {
-  (void)unused;
-  return wire_part(OWNER(self), FRAME(self)->data + FRAME(self)->datalen, 16);
-}
+WIRE_GETTER(get_data,
+            wire_part(OWNER(self), FRAME(self)->data, FRAME(self)->datalen))
+WIRE_GETTER(get_token, wire_part(OWNER(self),
+                                 FRAME(self)->data + FRAME(self)->datalen, 16))
+WIRE_GETTER(get_begin, PyLong_FromSize_t(FRAME(self)->begin))
+WIRE_GETTER(get_end, PyLong_FromSize_t(FRAME(self)->end))
+WIRE_GETTER(get_type, PyLong_FromUnsignedLong(FRAME(self)->type))
+WIRE_GETTER(get_kind, PyLong_FromUnsignedLong(FRAME(self)->kind))
 
-PyObject *frame_get_fin(PyObject *self, void *unused) {
-  (void)unused;
+static PyObject *get_fin(PyObject *self, void *Py_UNUSED(unused)) {
   return PyBool_FromLong((long)(FRAME(self)->flags & QUIC_WIRE_FLAG_FIN));
 }
 
-PyObject *frame_get_ecn(PyObject *self, void *slot) {
-  if (!(FRAME(self)->flags & QUIC_WIRE_FLAG_ECN))
-    return Py_NewRef(Py_None);
-  return frame_get_number(self, slot);
-}
-
-PyObject *frame_get_count(PyObject *self, void *unused) {
+static PyObject *get_count(PyObject *self, void *Py_UNUSED(unused)) {
   wire_bytes bytes;
   size_t count;
-  (void)unused;
   if (wire_acquire(OWNER(self), &bytes) < 0)
     return NULL;
   count = quic_wire_padding_count(bytes.at, bytes.len, FRAME(self));
@@ -40,10 +37,9 @@ PyObject *frame_get_count(PyObject *self, void *unused) {
   return PyLong_FromSize_t(count);
 }
 
-PyObject *frame_get_path(PyObject *self, void *unused) {
+static PyObject *get_path(PyObject *self, void *Py_UNUSED(unused)) {
   uint8_t data[8];
   int i;
-  (void)unused;
   for (i = 0; i < 8; i++)
     data[i] = (uint8_t)(FRAME(self)->path.data >> (56 - 8 * i));
   return PyBytes_FromStringAndSize((char *)data, sizeof data);
@@ -82,11 +78,10 @@ quic_wire_range *frame_ranges(PyObject *self, size_t *count) {
   return runs;
 }
 
-PyObject *frame_get_ranges(PyObject *self, void *unused) {
+static PyObject *get_ranges(PyObject *self, void *Py_UNUSED(unused)) {
   size_t count, i;
   quic_wire_range *runs = frame_ranges(self, &count);
   PyObject *out = runs ? PyTuple_New((Py_ssize_t)count) : NULL;
-  (void)unused;
   for (i = 0; out && i < count; i++) {
     PyObject *range = wire_range(&runs[count - 1 - i]);
     if (!range || PyTuple_SetItem(out, (Py_ssize_t)i, range) < 0)
@@ -96,29 +91,8 @@ PyObject *frame_get_ranges(PyObject *self, void *unused) {
   return out;
 }
 
-static PyObject *get_begin(PyObject *self, void *unused) {
-  (void)unused;
-  return PyLong_FromSize_t(FRAME(self)->begin);
-}
-
-static PyObject *get_end(PyObject *self, void *unused) {
-  (void)unused;
-  return PyLong_FromSize_t(FRAME(self)->end);
-}
-
-static PyObject *get_type(PyObject *self, void *unused) {
-  (void)unused;
-  return PyLong_FromUnsignedLong(FRAME(self)->type);
-}
-
-static PyObject *get_kind(PyObject *self, void *unused) {
-  (void)unused;
-  return PyLong_FromUnsignedLong(FRAME(self)->kind);
-}
-
-static PyObject *get_name(PyObject *self, void *unused) {
+static PyObject *get_name(PyObject *self, void *Py_UNUSED(unused)) {
   const char *name = quic_wire_type_name(FRAME(self)->type);
-  (void)unused;
   return PyUnicode_FromString(name ? name : "");
 }
 
@@ -153,13 +127,13 @@ PyObject *frame_reject(PyObject *self, int result) {
 
 /* By the rules of checks, in a packet of a type from a sender. */
 PyObject *frame_check(PyObject *self, PyObject *args, PyObject *keywords) {
-  static char *names[] = {"packet_type", "sender", "checks", NULL};
+  static char *names[] = NAMES_Frame_check_permitted;
   uint32_t packet, sender, flags = 0;
   int result;
-  if (!PyArg_ParseTupleAndKeywords(
-          args, keywords, "O&O&|$O&:check_permitted", names,
-          wire_to_packet_type, &packet, wire_to_sender, &sender, wire_to_checks,
-          &flags))
+  if (!PyArg_ParseTupleAndKeywords(args, keywords, "O&O&|$O&:check_permitted",
+                                   names, wire_to_packet_type, &packet,
+                                   wire_to_sender, &sender, wire_to_checks,
+                                   &flags))
     return NULL;
   result = quic_wire_frame_permitted(FRAME(self), packet, sender, flags);
   return result == QUIC_WIRE_OK ? Py_NewRef(Py_None)
@@ -167,7 +141,7 @@ PyObject *frame_check(PyObject *self, PyObject *args, PyObject *keywords) {
 }
 
 #define FIELD(name, how, slot, doc)                                            \
-  {name, frame_get_##how, NULL, PyDoc_STR(doc), (void *)(size_t)(slot)},
+  {name, get_##how, NULL, PyDoc_STR(doc), (void *)(size_t)(slot)},
 #define FRAME_KIND(word, name, doc, fields)                                    \
   {QUIC_WIRE_FRAME_##word, name, (PyGetSetDef[]){fields WIRE_END_OF_FIELDS},   \
    doc},
@@ -229,56 +203,15 @@ static PyObject *values_of(PyObject *self) {
   return out;
 }
 
-static PyObject *frame_repr(PyObject *self) {
-  const frame_kind *kind = wire_kind_of(FRAME(self));
-  PyObject *values = values_of(self), *text, *more;
-  Py_ssize_t i;
-  if (!values)
-    return NULL;
-  text = PyUnicode_FromFormat("%s(", kind->name);
-  for (i = 0; text && i < PyTuple_Size(values); i++) {
-    more =
-        PyUnicode_FromFormat("%U%s%s=%R", text, i ? ", " : "",
-                             kind->fields[i].name, PyTuple_GetItem(values, i));
-    Py_DECREF(text);
-    text = more;
-  }
-  Py_DECREF(values);
-  more = text ? PyUnicode_FromFormat("%U)", text) : NULL;
-  Py_XDECREF(text);
-  return more;
-}
-
-static PyObject *frame_compare(PyObject *self, PyObject *other, int op) {
-  PyObject *ours, *theirs, *out;
-  if ((op != Py_EQ && op != Py_NE) || Py_TYPE(self) != Py_TYPE(other))
-    return Py_NewRef(Py_NotImplemented);
-  ours = values_of(self);
-  theirs = ours ? values_of(other) : NULL;
-  out = theirs ? PyObject_RichCompare(ours, theirs, op) : NULL;
-  Py_XDECREF(ours);
-  Py_XDECREF(theirs);
-  return out;
-}
-
-static Py_hash_t frame_hash(PyObject *self) {
+static PyObject *frame_reduce(PyObject *self, PyObject *Py_UNUSED(unused)) {
   PyObject *values = values_of(self);
-  const Py_hash_t hash = values ? PyObject_Hash(values) : -1;
-  Py_XDECREF(values);
-  return hash;
-}
-
-static PyObject *frame_reduce(PyObject *self, PyObject *unused) {
-  PyObject *values = values_of(self);
-  (void)unused;
   return values ? Py_BuildValue("(ON)", Py_TYPE(self), values) : NULL;
 }
 
-static PyObject *frame_as_dict(PyObject *self, PyObject *unused) {
+static PyObject *frame_as_dict(PyObject *self, PyObject *Py_UNUSED(unused)) {
   const PyGetSetDef *fields = wire_kind_of(FRAME(self))->fields;
   PyObject *values = values_of(self), *out = values ? PyDict_New() : NULL;
   Py_ssize_t i;
-  (void)unused;
   for (i = 0; out && i < PyTuple_Size(values); i++)
     if (PyDict_SetItemString(out, fields[i].name, PyTuple_GetItem(values, i)))
       Py_CLEAR(out);
@@ -286,49 +219,30 @@ static PyObject *frame_as_dict(PyObject *self, PyObject *unused) {
   return out;
 }
 
+static PyObject *frame_repr(PyObject *self) {
+  return wire_repr(wire_kind_of(FRAME(self))->name, frame_as_dict(self, NULL));
+}
+
+static PyObject *frame_compare(PyObject *self, PyObject *other, int op) {
+  return wire_compare(self, other, op, values_of);
+}
+
+static Py_hash_t frame_hash(PyObject *self) {
+  return wire_hash(values_of(self));
+}
+
 static PyMethodDef frame_methods[] = {
-    {"encode", WIRE_FAST(frame_encode), METH_VARARGS | METH_KEYWORDS,
-     PyDoc_STR(
-         "encode($self, /, last=False, *, checks=0)\n--\n\nThe frame in its "
-         "shortest form. As the last one of its payload it needs no length. "
-         "Raises\nFrameError if it breaks a rule of checks.")},
-    {"check_permitted", WIRE_FAST(frame_check), METH_VARARGS | METH_KEYWORDS,
-     PyDoc_STR(
-         "check_permitted($self, /, packet_type, sender, *, checks=0)\n--\n\n"
-         "Raises FrameError if packets of this type may not carry the frame "
-         "(RFC 9000, section\n12.4, table 3), or if that side may not send it "
-         "(sections 19.7, 19.20) or not on\nthis stream (sections 19.4, 19.5, "
-         "19.8, 19.10, 19.13). Of checks only\nNO_ACK_FREQUENCY counts.")},
-    {"as_dict", frame_as_dict, METH_NOARGS,
-     PyDoc_STR("as_dict($self, /)\n--\n\nThe fields by name, data as bytes.")},
-    {"is_permitted_in", is_permitted_in, METH_O,
-     PyDoc_STR("is_permitted_in($self, packet_type, /)\n--\n\nWhether packets "
-               "of this type may carry it (RFC 9000, section 12.4, table 3).")},
+    WIRE_METHOD(Frame, encode, frame_encode, WIRE_NAMED),
+    WIRE_METHOD(Frame, check_permitted, frame_check, WIRE_NAMED),
+    WIRE_METHOD(Frame, as_dict, frame_as_dict, METH_NOARGS),
+    WIRE_METHOD(Frame, is_permitted_in, is_permitted_in, METH_O),
     {"__reduce__", frame_reduce, METH_NOARGS, NULL},
     {NULL, NULL, 0, NULL}};
 
-#define RULE(name, get, rule, doc)                                             \
-  { name, get, NULL, PyDoc_STR(doc), (void *)(size_t)(rule) }
+#define FRAME_FIELD(name, how, bit, doc)                                       \
+  {name, get_##how, NULL, PyDoc_STR(doc), (void *)(size_t)(bit)},
 static PyGetSetDef common_fields[] = {
-    {"begin", get_begin, NULL,
-     PyDoc_STR("where it begins in its payload; 0 if it wasn't read"), NULL},
-    {"end", get_end, NULL, PyDoc_STR("where it ends in its payload"), NULL},
-    {"type", get_type, NULL,
-     PyDoc_STR("the type in the payload; if it wasn't read, one of its kind"),
-     NULL},
-    {"kind", get_kind, NULL,
-     PyDoc_STR("the type, but one number for every STREAM (0x08), one for "
-               "every ACK (0x02), one for every DATAGRAM"),
-     NULL},
-    {"name", get_name, NULL, PyDoc_STR("the type's name"), NULL},
-    RULE("is_ack_eliciting", get_rule_not, QUIC_WIRE_RULE_NOT_ELICITING,
-         "whether a packet with it is acknowledged (RFC 9000, section 13.2.1)"),
-    RULE("is_counted_in_flight", get_rule_not, QUIC_WIRE_RULE_NOT_COUNTED,
-         "whether a packet with it counts as bytes in flight"),
-    RULE("is_probing", get_rule, QUIC_WIRE_RULE_PROBING,
-         "whether it probes a path (RFC 9000, section 9.1)"),
-    RULE("is_flow_controlled", get_rule, QUIC_WIRE_RULE_FLOW_CONTROLLED,
-         "whether its data are flow controlled"),
+#include "formats.h"
     WIRE_END_OF_FIELDS};
 
 static PyType_Slot frame_slots[] = {

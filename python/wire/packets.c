@@ -25,10 +25,7 @@ static PyObject *part(PyObject *self, size_t at, size_t len) {
   return wire_part(PACKET(self)->owner, PACKET(self)->begin + at, len);
 }
 
-static PyObject *get_data(PyObject *self, void *unused) {
-  (void)unused;
-  return part(self, 0, HEADER(self)->end);
-}
+WIRE_GETTER(get_data, part(self, 0, HEADER(self)->end))
 
 /* The offset of an id, for which the library returns a pointer. */
 static PyObject *id_of(PyObject *self, int is_source) {
@@ -45,69 +42,47 @@ static PyObject *id_of(PyObject *self, int is_source) {
   return part(self, at, is_source ? h->scidlen : h->dcidlen);
 }
 
-static PyObject *get_dcid(PyObject *self, void *unused) {
-  (void)unused;
-  return id_of(self, 0);
-}
-
-static PyObject *get_scid(PyObject *self, void *unused) {
-  (void)unused;
-  return id_of(self, 1);
-}
-
-static PyObject *get_version(PyObject *self, void *unused) {
-  (void)unused;
-  return PyLong_FromUnsignedLong(HEADER(self)->version);
-}
-
-static PyObject *get_length(PyObject *self, void *unused) {
-  (void)unused;
-  return PyLong_FromUnsignedLongLong(HEADER(self)->len);
-}
-
-static PyObject *get_token(PyObject *self, void *unused) {
-  (void)unused;
-  return part(self, HEADER(self)->token, HEADER(self)->tokenlen);
-}
-
-static PyObject *get_token_at(PyObject *self, void *unused) {
-  (void)unused;
-  return PyLong_FromSize_t(PACKET(self)->begin + HEADER(self)->token);
-}
+WIRE_GETTER(get_dcid, id_of(self, 0))
+WIRE_GETTER(get_scid, id_of(self, 1))
+WIRE_GETTER(get_version, PyLong_FromUnsignedLong(HEADER(self)->version))
+WIRE_GETTER(get_length, PyLong_FromUnsignedLongLong(HEADER(self)->len))
+WIRE_GETTER(get_kind, PyLong_FromLong(HEADER(self)->kind))
+WIRE_GETTER(get_first, PyLong_FromLong(HEADER(self)->first))
+WIRE_GETTER(get_begin, PyLong_FromSize_t(PACKET(self)->begin))
+WIRE_GETTER(get_end, PyLong_FromSize_t(packet_end(self)))
+WIRE_GETTER(get_token, part(self, HEADER(self)->token, HEADER(self)->tokenlen))
+WIRE_GETTER(get_token_at,
+            PyLong_FromSize_t(PACKET(self)->begin + HEADER(self)->token))
 
 enum { RETRY_TAG = 16 }; /* bytes of the Retry Integrity Tag */
 
 /* What follows the ids of a Retry: the token, then the tag if there is one. */
-static PyObject *get_retry_token(PyObject *self, void *unused) {
+static PyObject *get_retry_token(PyObject *self, void *Py_UNUSED(unused)) {
   const quic_wire_header *h = HEADER(self);
   const size_t len = h->end - h->header_end;
-  (void)unused;
   return part(self, h->header_end, len < RETRY_TAG ? len : len - RETRY_TAG);
 }
 
-static PyObject *get_retry_tag(PyObject *self, void *unused) {
+static PyObject *get_retry_tag(PyObject *self, void *Py_UNUSED(unused)) {
   const quic_wire_header *h = HEADER(self);
   const size_t len = h->end - h->header_end;
-  (void)unused;
   if (len < RETRY_TAG)
     return Py_NewRef(Py_None);
   return part(self, h->end - RETRY_TAG, RETRY_TAG);
 }
 
-static PyObject *get_spin(PyObject *self, void *unused) {
-  (void)unused;
+static PyObject *get_spin(PyObject *self, void *Py_UNUSED(unused)) {
   return PyBool_FromLong(HEADER(self)->first & QUIC_WIRE_BIT_SPIN);
 }
 
 /* The versions of a version negotiation. */
-static PyObject *get_versions(PyObject *self, void *unused) {
+static PyObject *get_versions(PyObject *self, void *Py_UNUSED(unused)) {
   const quic_wire_header *h = HEADER(self);
   const size_t count = (h->end - h->header_end) / 4;
   PyObject *out = PyTuple_New((Py_ssize_t)count);
   const uint8_t *at;
   wire_bytes bytes;
   size_t i;
-  (void)unused;
   if (!out || wire_acquire(PACKET(self)->owner, &bytes) < 0) {
     Py_XDECREF(out);
     return NULL;
@@ -124,28 +99,7 @@ static PyObject *get_versions(PyObject *self, void *unused) {
   return out;
 }
 
-static PyObject *get_kind(PyObject *self, void *unused) {
-  (void)unused;
-  return PyLong_FromLong(HEADER(self)->kind);
-}
-
-static PyObject *get_first(PyObject *self, void *unused) {
-  (void)unused;
-  return PyLong_FromLong(HEADER(self)->first);
-}
-
-static PyObject *get_begin(PyObject *self, void *unused) {
-  (void)unused;
-  return PyLong_FromSize_t(PACKET(self)->begin);
-}
-
-static PyObject *get_end(PyObject *self, void *unused) {
-  (void)unused;
-  return PyLong_FromSize_t(PACKET(self)->begin + HEADER(self)->end);
-}
-
-static PyObject *get_number_at(PyObject *self, void *unused) {
-  (void)unused;
+static PyObject *get_number_at(PyObject *self, void *Py_UNUSED(unused)) {
   if (!has_number(HEADER(self)))
     return Py_NewRef(Py_None);
   return PyLong_FromSize_t(PACKET(self)->begin + HEADER(self)->header_end);
@@ -182,21 +136,18 @@ static PyObject *version_text(PyObject *version) {
 
 static PyObject *versions_text(PyObject *versions) {
   const Py_ssize_t count = PyTuple_Size(versions);
-  PyObject *text = PyUnicode_FromString("("), *more;
+  PyObject *text = PyUnicode_FromString("("), *version;
   Py_ssize_t i;
   for (i = 0; text && i < count; i++) {
-    PyObject *version = version_text(PyTuple_GetItem(versions, i));
-    more = version
-               ? PyUnicode_FromFormat("%U%s%U", text, i ? ", " : "", version)
-               : NULL;
-    Py_XDECREF(version);
-    Py_DECREF(text);
-    text = more;
+    version = version_text(PyTuple_GetItem(versions, i));
+    PyUnicode_AppendAndDel(&text, version);
+    if (text && (i < count - 1 || count == 1))
+      PyUnicode_AppendAndDel(&text,
+                             PyUnicode_FromString(count == 1 ? "," : ", "));
   }
-  more =
-      text ? PyUnicode_FromFormat("%U%s)", text, count == 1 ? "," : "") : NULL;
-  Py_XDECREF(text);
-  return more;
+  if (text)
+    PyUnicode_AppendAndDel(&text, PyUnicode_FromString(")"));
+  return text;
 }
 
 /* A field in repr: data as bytes, versions in hexadecimal. */
@@ -222,43 +173,33 @@ static PyObject *packet_repr(PyObject *self) {
       "%s(%zu..%zu", kind->name + MODULE_LEN, PACKET(self)->begin,
       PACKET(self)->begin + HEADER(self)->end);
   for (field = kind->fields; text && field->name; field++) {
-    PyObject *value = field_text(self, field), *more = NULL;
-    if (value)
-      more = PyUnicode_FromFormat("%U, %s=%U", text, field->name, value);
+    PyObject *value = field_text(self, field);
+    PyUnicode_AppendAndDel(
+        &text,
+        value ? PyUnicode_FromFormat(", %s=%U", field->name, value) : NULL);
     Py_XDECREF(value);
-    Py_DECREF(text);
-    text = more;
   }
-  if (text) {
-    PyObject *more = PyUnicode_FromFormat("%U)", text);
-    Py_DECREF(text);
-    text = more;
-  }
+  if (text)
+    PyUnicode_AppendAndDel(&text, PyUnicode_FromString(")"));
   return text;
 }
 
 /* Packets are equal if they are read alike from equal bytes. */
+static PyObject *key_of(PyObject *self) {
+  return Py_BuildValue("(y#N)", (const char *)HEADER(self),
+                       (Py_ssize_t)sizeof(quic_wire_header),
+                       get_data(self, NULL));
+}
+
 static PyObject *packet_compare(PyObject *self, PyObject *other, int op) {
-  PyObject *ours, *theirs, *out;
-  if ((op != Py_EQ && op != Py_NE) || Py_TYPE(self) != Py_TYPE(other))
-    return Py_NewRef(Py_NotImplemented);
-  if (memcmp(HEADER(self), HEADER(other), sizeof(quic_wire_header)) != 0)
-    return PyBool_FromLong(op == Py_NE);
-  ours = get_data(self, NULL);
-  theirs = ours ? get_data(other, NULL) : NULL;
-  out = theirs ? PyObject_RichCompare(ours, theirs, op) : NULL;
-  Py_XDECREF(ours);
-  Py_XDECREF(theirs);
-  return out;
+  return wire_compare(self, other, op, key_of);
 }
 
 static Py_hash_t packet_hash(PyObject *self) {
   PyObject *data = get_data(self, NULL);
   PyObject *bytes = data ? PyBytes_FromObject(data) : NULL;
-  const Py_hash_t hash = bytes ? PyObject_Hash(bytes) : -1;
   Py_XDECREF(data);
-  Py_XDECREF(bytes);
-  return hash;
+  return wire_hash(bytes);
 }
 
 static PyObject *packet_sample(PyObject *self, PyObject *args) {
@@ -279,24 +220,12 @@ static PyObject *packet_sample(PyObject *self, PyObject *args) {
 }
 
 static PyMethodDef packet_methods[] = {
-    {"sample", packet_sample, METH_VARARGS,
-     PyDoc_STR("sample($self, length=16, /)\n--\n\nThe bytes from which the "
-               "mask of the header is made (RFC 9001, section 5.4.2), or None\n"
-               "if the packet is too short or has no packet number.")},
+    WIRE_METHOD(Packet, sample, packet_sample, METH_VARARGS),
     {NULL, NULL, 0, NULL}};
-#define FIELD(name, get, doc)                                                  \
-  { name, get, NULL, PyDoc_STR(doc), NULL }
+#define PACKET_FIELD(name, how, bit, doc)                                      \
+  {name, get_##how, NULL, PyDoc_STR(doc), NULL},
 static PyGetSetDef packet_fields[] = {
-    FIELD("begin", get_begin, "where it begins in its datagram"),
-    FIELD("end", get_end, "where it ends in its datagram"),
-    FIELD("first", get_first, "the first byte, with its protection"),
-    FIELD("kind", get_kind, "the packet's type, as in PacketType"),
-    FIELD("number_at", get_number_at,
-          "where the packet number begins in the datagram, or None"),
-    FIELD("data", get_data, "all of the packet"),
-    FIELD("version", get_version, "the version, or 0 if none is known"),
-    FIELD("dcid", get_dcid, "Destination Connection ID"),
-    FIELD("scid", get_scid, "Source Connection ID; empty in a short header"),
+#include "formats.h"
     WIRE_END_OF_FIELDS};
 static PyType_Slot packet_slots[] = {
     {Py_tp_dealloc, packet_dealloc},

@@ -82,11 +82,10 @@ static PyObject *get_field(PyObject *self, void *closure) {
     return PyBool_FromLong(is_there);
   if (!is_there)
     return Py_NewRef(Py_None);
-  switch (field->kind) {
-  case OPTIONAL: return PyLong_FromUnsignedLongLong(number_at(p, field->at));
-  case ADDRESS: return address_of(p);
-  default: break;
-  }
+  if (field->kind == OPTIONAL)
+    return PyLong_FromUnsignedLongLong(number_at(p, field->at));
+  if (field->kind == ADDRESS)
+    return address_of(p);
   return PyBytes_FromStringAndSize(
       (char *)bytes_at(p, field->at),
       field->kind == TOKEN ? RESET_TOKEN : len_at(p, field->len_at));
@@ -278,15 +277,15 @@ static PyObject *dict_of(PyObject *self, int all) {
   return out;
 }
 
-static PyObject *parameters_as_dict(PyObject *self, PyObject *unused) {
-  (void)unused;
+static PyObject *parameters_as_dict(PyObject *self,
+                                    PyObject *Py_UNUSED(unused)) {
   return dict_of(self, 1);
 }
 
-static PyObject *parameters_reduce(PyObject *self, PyObject *unused) {
+static PyObject *parameters_reduce(PyObject *self,
+                                   PyObject *Py_UNUSED(unused)) {
   PyObject *dict = dict_of(self, 0);
   PyObject *maker = NULL, *from = PyImport_ImportModule("quic_wire.parameters");
-  (void)unused;
   if (from)
     maker = PyObject_GetAttrString(from, "_of_dict");
   Py_XDECREF(from);
@@ -299,43 +298,27 @@ static PyObject *parameters_reduce(PyObject *self, PyObject *unused) {
 }
 
 static PyObject *parameters_repr(PyObject *self) {
-  PyObject *dict = dict_of(self, 0);
-  PyObject *text = dict ? PyUnicode_FromString("TransportParameters(") : NULL;
-  PyObject *name, *value, *more;
-  Py_ssize_t at = 0, count = 0;
-  while (text && PyDict_Next(dict, &at, &name, &value)) {
-    more = PyUnicode_FromFormat("%U%s%U=%R", text, count++ ? ", " : "", name,
-                                value);
-    Py_DECREF(text);
-    text = more;
-  }
-  Py_XDECREF(dict);
-  more = text ? PyUnicode_FromFormat("%U)", text) : NULL;
-  Py_XDECREF(text);
-  return more;
+  return wire_repr("TransportParameters", dict_of(self, 0));
+}
+
+static PyObject *struct_of(PyObject *self) {
+  return PyBytes_FromStringAndSize((char *)PARAMS(self),
+                                   sizeof(quic_wire_params));
 }
 
 static PyObject *parameters_compare(PyObject *self, PyObject *other, int op) {
-  int is_same;
-  if ((op != Py_EQ && op != Py_NE) || Py_TYPE(self) != Py_TYPE(other))
-    return Py_NewRef(Py_NotImplemented);
-  is_same = memcmp(PARAMS(self), PARAMS(other), sizeof(quic_wire_params)) == 0;
-  return PyBool_FromLong(is_same == (op == Py_EQ));
+  return wire_compare(self, other, op, struct_of);
 }
 
 static Py_hash_t parameters_hash(PyObject *self) {
-  PyObject *bytes =
-      PyBytes_FromStringAndSize((char *)PARAMS(self), sizeof(quic_wire_params));
-  const Py_hash_t hash = bytes ? PyObject_Hash(bytes) : -1;
-  Py_XDECREF(bytes);
-  return hash;
+  return wire_hash(struct_of(self));
 }
 
 /* ---- Reading and writing lists */
 
 static PyObject *parameters_read(PyObject *type, PyObject *args,
                                  PyObject *keywords) {
-  static char *names[] = {"", "", "checks", NULL};
+  static char *names[] = NAMES_Parameters_read;
   PyObject *list;
   uint32_t side, flags = 0;
   wire_bytes bytes;
@@ -400,14 +383,9 @@ static PyObject *parameters_write(PyObject *self, PyObject *args) {
 }
 
 static PyMethodDef parameters_methods[] = {
-    {"read", WIRE_FAST(parameters_read),
-     METH_VARARGS | METH_KEYWORDS | METH_CLASS,
-     PyDoc_STR("read($type, side, data, /, *, checks=0)\n--\n\nThe parameters "
-               "in a list. `side` is the side that reads: pass Side.CLIENT "
-               "for a server's list.\nRaises ParameterError.")},
+    WIRE_METHOD(Parameters, read, parameters_read, WIRE_NAMED | METH_CLASS),
     {"_write", parameters_write, METH_VARARGS, NULL},
-    {"as_dict", parameters_as_dict, METH_NOARGS,
-     PyDoc_STR("as_dict($self, /)\n--\n\nAll parameters by name.")},
+    WIRE_METHOD(Parameters, as_dict, parameters_as_dict, METH_NOARGS),
     {"__reduce__", parameters_reduce, METH_NOARGS, NULL},
     {NULL, NULL, 0, NULL}};
 static PyType_Slot parameters_slots[] = {

@@ -35,9 +35,9 @@ static PyObject *reject(int result, const Py_buffer *packet) {
              : wire_mistake(result);
 }
 
-static PyObject *unprotect(PyObject *module, PyObject *args,
+static PyObject *unprotect(PyObject *Py_UNUSED(module), PyObject *args,
                            PyObject *keywords) {
-  static char *names[] = {"packet", "number_at", "mask", "expected", NULL};
+  static char *names[] = NAMES_unprotect;
   Py_buffer packet, mask;
   Py_ssize_t at;
   PyObject *expected = NULL, *header = NULL;
@@ -45,7 +45,6 @@ static PyObject *unprotect(PyObject *module, PyObject *args,
   uint8_t *copy;
   size_t room;
   int result = QUIC_WIRE_ERR_PACKET_SMALL;
-  (void)module;
   if (!PyArg_ParseTupleAndKeywords(args, keywords, "y*ny*|O:unprotect", names,
                                    &packet, &at, &mask, &expected))
     return NULL;
@@ -69,13 +68,13 @@ static PyObject *unprotect(PyObject *module, PyObject *args,
                 : NULL;
 }
 
-static PyObject *protect(PyObject *module, PyObject *args, PyObject *keywords) {
-  static char *names[] = {"packet", "number_at", "mask", NULL};
+static PyObject *protect(PyObject *Py_UNUSED(module), PyObject *args,
+                         PyObject *keywords) {
+  static char *names[] = NAMES_protect;
   Py_buffer packet, mask;
   Py_ssize_t at;
   PyObject *out = NULL;
   int result;
-  (void)module;
   if (!PyArg_ParseTupleAndKeywords(args, keywords, "w*ny*:protect", names,
                                    &packet, &at, &mask))
     return NULL;
@@ -89,14 +88,13 @@ static PyObject *protect(PyObject *module, PyObject *args, PyObject *keywords) {
   return out;
 }
 
-static PyObject *set_length(PyObject *module, PyObject *args,
+static PyObject *set_length(PyObject *Py_UNUSED(module), PyObject *args,
                             PyObject *keywords) {
-  static char *names[] = {"packet", "number_at", "length_len", NULL};
+  static char *names[] = NAMES_set_length;
   Py_buffer packet;
   Py_ssize_t at;
   uint32_t len = 2;
   int result = QUIC_WIRE_ERR_PLACE;
-  (void)module;
   if (!PyArg_ParseTupleAndKeywords(args, keywords, "w*n|O&:set_length", names,
                                    &packet, &at, wire_to_uint32, &len))
     return NULL;
@@ -125,9 +123,7 @@ static void release(header_arguments *a) {
 
 static int parse_header(PyObject *args, PyObject *keywords,
                         header_arguments *a) {
-  static char *names[] = {
-      "packet_type", "dcid",       "scid", "token",     "version",   "number",
-      "number_len",  "length_len", "spin", "key_phase", "fixed_bit", NULL};
+  static char *names[] = NAMES_write_header;
   uint8_t kind, number_len = 4, length_len = 2;
   uint32_t version = QUIC_WIRE_VERSION_1;
   int spin = 0, key_phase = 0, fixed_bit = 1;
@@ -154,14 +150,13 @@ static int parse_header(PyObject *args, PyObject *keywords,
   return 0;
 }
 
-static PyObject *write_header(PyObject *module, PyObject *args,
+static PyObject *write_header(PyObject *Py_UNUSED(module), PyObject *args,
                               PyObject *keywords) {
   header_arguments a;
   PyObject *out = NULL;
   uint8_t *at = NULL;
   int64_t result = 0;
   size_t room;
-  (void)module;
   memset(&a, 0, sizeof a);
   if (parse_header(args, keywords, &a) == 0) {
     room = quic_wire_header_len(&a.fields, (size_t)a.dcid.len,
@@ -202,9 +197,9 @@ static uint32_t *versions_of(PyObject *versions, size_t *count) {
   return out;
 }
 
-static PyObject *write_negotiation(PyObject *module, PyObject *args,
+static PyObject *write_negotiation(PyObject *Py_UNUSED(module), PyObject *args,
                                    PyObject *keywords) {
-  static char *names[] = {"dcid", "scid", "versions", "unused", NULL};
+  static char *names[] = NAMES_write_version_negotiation;
   Py_buffer dcid, scid;
   PyObject *versions, *out = NULL;
   uint8_t unused = QUIC_WIRE_BIT_FIXED;
@@ -212,7 +207,6 @@ static PyObject *write_negotiation(PyObject *module, PyObject *args,
   size_t count, room, len = 0;
   uint8_t *at = NULL;
   int result = 0;
-  (void)module;
   if (!PyArg_ParseTupleAndKeywords(
           args, keywords, "y*y*O|O&:write_version_negotiation", names, &dcid,
           &scid, &versions, wire_to_uint8, &unused))
@@ -238,13 +232,12 @@ static PyObject *write_negotiation(PyObject *module, PyObject *args,
 /* ---- Numbers */
 
 /* The integer at an offset and where it ends, or None. */
-static PyObject *varint_at(PyObject *module, PyObject *args) {
+static PyObject *varint_at(PyObject *Py_UNUSED(module), PyObject *args) {
   PyObject *data;
   Py_ssize_t at;
   uint64_t value = 0;
   size_t len = 0;
   wire_bytes bytes;
-  (void)module;
   if (!PyArg_ParseTuple(args, "On:varint_at", &data, &at) ||
       wire_acquire(data, &bytes) < 0)
     return NULL;
@@ -271,13 +264,12 @@ static PyObject *read_varint(PyObject *module, PyObject *args) {
                    Py_BuildValue("(n)", at));
 }
 
-static PyObject *write_varint(PyObject *module, PyObject *args) {
+static PyObject *write_varint(PyObject *Py_UNUSED(module), PyObject *args) {
   PyObject *value;
   uint32_t width = 0;
   uint64_t number;
   uint8_t out[8];
   size_t len;
-  (void)module;
   if (!PyArg_ParseTuple(args, "O|O&:write_varint", &value, wire_to_uint32,
                         &width) ||
       wire_varint(value, "value", &number) < 0)
@@ -288,19 +280,17 @@ static PyObject *write_varint(PyObject *module, PyObject *args) {
   return PyBytes_FromStringAndSize((char *)out, (Py_ssize_t)len);
 }
 
-static PyObject *varint_len(PyObject *module, PyObject *value) {
+static PyObject *varint_len(PyObject *Py_UNUSED(module), PyObject *value) {
   uint64_t number;
-  (void)module;
   if (wire_varint(value, "value", &number) < 0)
     return NULL;
   return PyLong_FromSize_t(quic_wire_varint_len(number));
 }
 
-static PyObject *number_len(PyObject *module, PyObject *args) {
+static PyObject *number_len(PyObject *Py_UNUSED(module), PyObject *args) {
   PyObject *number, *acked = Py_None;
   uint64_t value, largest = 0;
   int len;
-  (void)module;
   if (!PyArg_ParseTuple(args, "O|O:packet_number_len", &number, &acked) ||
       wire_varint(number, "number", &value) < 0 ||
       (acked != Py_None &&
@@ -310,11 +300,10 @@ static PyObject *number_len(PyObject *module, PyObject *args) {
   return len < 0 ? wire_mistake(len) : PyLong_FromLong(len);
 }
 
-static PyObject *number_expand(PyObject *module, PyObject *args) {
+static PyObject *number_expand(PyObject *Py_UNUSED(module), PyObject *args) {
   PyObject *truncated, *expected;
   uint64_t written, next, number;
   uint32_t len;
-  (void)module;
   if (!PyArg_ParseTuple(args, "OO&O:expand_packet_number", &truncated,
                         wire_to_uint32, &len, &expected) ||
       wire_number(truncated, "truncated", &written) < 0 ||
@@ -325,13 +314,12 @@ static PyObject *number_expand(PyObject *module, PyObject *args) {
                               : PyLong_FromUnsignedLongLong(number);
 }
 
-static PyObject *number_read(PyObject *module, PyObject *args) {
+static PyObject *number_read(PyObject *Py_UNUSED(module), PyObject *args) {
   PyObject *data;
   uint32_t len;
   uint64_t written = 0;
   wire_bytes bytes;
   int result;
-  (void)module;
   if (!PyArg_ParseTuple(args, "OO&:read_packet_number", &data, wire_to_uint32,
                         &len) ||
       wire_acquire(data, &bytes) < 0)
@@ -346,13 +334,12 @@ static PyObject *number_read(PyObject *module, PyObject *args) {
                     : PyLong_FromUnsignedLongLong(written);
 }
 
-static PyObject *number_write(PyObject *module, PyObject *args) {
+static PyObject *number_write(PyObject *Py_UNUSED(module), PyObject *args) {
   PyObject *value;
   uint32_t len;
   uint64_t number;
   uint8_t out[4];
   int result;
-  (void)module;
   if (!PyArg_ParseTuple(args, "OO&:write_packet_number", &value, wire_to_uint32,
                         &len) ||
       wire_number(value, "number", &number) < 0)
@@ -362,56 +349,18 @@ static PyObject *number_write(PyObject *module, PyObject *args) {
                     : PyBytes_FromStringAndSize((char *)out, result);
 }
 
-#define NAMED METH_VARARGS | METH_KEYWORDS
 PyMethodDef wire_number_functions[] = {
-    {"unprotect", WIRE_FAST(unprotect), NAMED,
-     PyDoc_STR(
-         "unprotect($module, packet, number_at, mask, expected=0)\n--\n\n"
-         "The packet number, relative to the one that is expected next, and a "
-         "copy of the header\nwithout its protection, up to the end of that "
-         "number (RFC 9001, section 5.4.1).")},
-    {"protect", WIRE_FAST(protect), NAMED,
-     PyDoc_STR(
-         "protect($module, packet, number_at, mask)\n--\n\nApplies header "
-         "protection to a packet, in place; returns how many bytes the\n"
-         "packet number has.")},
-    {"set_length", WIRE_FAST(set_length), NAMED,
-     PyDoc_STR("set_length($module, packet, number_at, length_len=2)\n--\n\n"
-               "Sets the length in a long header to what follows it in the "
-               "packet, in place.")},
-    {"write_header", WIRE_FAST(write_header), NAMED,
-     PyDoc_STR("write_header($module, packet_type, dcid=b'', scid=b'', "
-               "token=b'', *, version=1, number=0, number_len=4, length_len=2, "
-               "spin=False, key_phase=False, fixed_bit=True)\n--\n\nA header "
-               "without protection. Its length is 0 until set_length.")},
-    {"write_version_negotiation", WIRE_FAST(write_negotiation), NAMED,
-     PyDoc_STR("write_version_negotiation($module, dcid, scid, versions, "
-               "unused=0x40)\n--\n\nA Version Negotiation packet (RFC 9000, "
-               "section 17.2.1), with the unused bits of its\nfirst byte.")},
+    WIRE_FUNCTION(unprotect, unprotect, WIRE_NAMED),
+    WIRE_FUNCTION(protect, protect, WIRE_NAMED),
+    WIRE_FUNCTION(set_length, set_length, WIRE_NAMED),
+    WIRE_FUNCTION(write_header, write_header, WIRE_NAMED),
+    WIRE_FUNCTION(write_version_negotiation, write_negotiation, WIRE_NAMED),
     {"varint_at", varint_at, METH_VARARGS, NULL},
-    {"read_varint", read_varint, METH_VARARGS,
-     PyDoc_STR("read_varint($module, data, at=0, /)\n--\n\nThe "
-               "variable-length integer at an offset, and where it ends (RFC "
-               "9000, section 16).")},
-    {"write_varint", write_varint, METH_VARARGS,
-     PyDoc_STR("write_varint($module, value, width=0, /)\n--\n\nA "
-               "variable-length integer in 1, 2, 4 or 8 bytes; with 0 in as "
-               "few as possible.")},
-    {"varint_len", varint_len, METH_O,
-     PyDoc_STR("varint_len($module, value, /)\n--\n\nHow many bytes the "
-               "shortest encoding of an integer has: 1, 2, 4 or 8.")},
-    {"packet_number_len", number_len, METH_VARARGS,
-     PyDoc_STR("packet_number_len($module, number, largest_acknowledged=None, "
-               "/)\n--\n\nHow many bytes of a packet number are written (RFC "
-               "9000, appendix A.2).")},
-    {"expand_packet_number", number_expand, METH_VARARGS,
-     PyDoc_STR("expand_packet_number($module, truncated, length, expected, /)\n"
-               "--\n\nThe packet number with these low bytes, relative to the "
-               "one that is expected next\n(RFC 9000, appendix A.3).")},
-    {"read_packet_number", number_read, METH_VARARGS,
-     PyDoc_STR("read_packet_number($module, data, length, /)\n--\n\nThe "
-               "truncated packet number in the first bytes of data.")},
-    {"write_packet_number", number_write, METH_VARARGS,
-     PyDoc_STR("write_packet_number($module, number, length, /)\n--\n\nThe low "
-               "bytes of a packet number, 1 to 4 of them.")},
+    WIRE_FUNCTION(read_varint, read_varint, METH_VARARGS),
+    WIRE_FUNCTION(write_varint, write_varint, METH_VARARGS),
+    WIRE_FUNCTION(varint_len, varint_len, METH_O),
+    WIRE_FUNCTION(packet_number_len, number_len, METH_VARARGS),
+    WIRE_FUNCTION(expand_packet_number, number_expand, METH_VARARGS),
+    WIRE_FUNCTION(read_packet_number, number_read, METH_VARARGS),
+    WIRE_FUNCTION(write_packet_number, number_write, METH_VARARGS),
     {NULL, NULL, 0, NULL}};

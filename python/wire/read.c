@@ -72,10 +72,9 @@ static PyObject *iterator_next(PyObject *self) {
   return out;
 }
 
-static PyObject *iterator_offset(PyObject *self, void *unused) {
+static PyObject *iterator_offset(PyObject *self, void *Py_UNUSED(unused)) {
   iterator_object *o = (iterator_object *)self;
   size_t offset;
-  (void)unused;
   WIRE_BEGIN_ALONE(self);
   offset = o->next < o->count ? o->batch[o->next].begin : o->iter.offset;
   WIRE_END_ALONE;
@@ -205,28 +204,23 @@ static size_t end_of_frames(const wire_bytes *bytes, uint32_t flags) {
   return iter.offset;
 }
 
-static PyObject *canonical(PyObject *module, PyObject *const *args,
+static PyObject *canonical(PyObject *Py_UNUSED(module), PyObject *const *args,
                            Py_ssize_t nargs, PyObject *names) {
-  PyObject *owner, *out;
+  PyObject *out;
   quic_wire_canon canon;
   wire_bytes bytes;
   uint8_t *at = NULL;
   uint32_t flags;
   int result = 0;
-  (void)module;
-  if (options(args, nargs, names, &flags) < 0)
+  if (options(args, nargs, names, &flags) < 0 ||
+      wire_acquire(args[0], &bytes) < 0)
     return NULL;
-  owner = wire_owner(args[0]);
-  if (!owner || wire_acquire(owner, &bytes) < 0) {
-    Py_XDECREF(owner);
-    return NULL;
-  }
   out = wire_new_bytes(bytes.len, &at);
   if (out)
-    result = flags ? quic_wire_canonical_with(bytes.at, bytes.len, flags, at,
-                                              bytes.len, &canon)
-                   : quic_wire_canonical(bytes.at, bytes.len, at, bytes.len,
-                                         &canon);
+    result =
+        flags ? quic_wire_canonical_with(bytes.at, bytes.len, flags, at,
+                                         bytes.len, &canon)
+              : quic_wire_canonical(bytes.at, bytes.len, at, bytes.len, &canon);
   if (out && result == QUIC_WIRE_OK)
     out = wire_front(out, canon.len);
   else if (out) {
@@ -237,22 +231,20 @@ static PyObject *canonical(PyObject *module, PyObject *const *args,
                      is_empty ? QUIC_WIRE_NO_TYPE : canon.last_type, Py_None);
   }
   wire_release(&bytes);
-  Py_DECREF(owner);
   return out;
 }
 
-static PyObject *check_type(PyObject *module, PyObject *args,
+static PyObject *check_type(PyObject *Py_UNUSED(module), PyObject *args,
                             PyObject *keywords) {
-  static char *names[] = {"type", "packet_type", "sender", "checks", NULL};
+  static char *names[] = NAMES_check_type;
   uint32_t packet, sender, flags = 0;
   PyObject *number;
   uint64_t type;
   int result;
-  (void)module;
-  if (!PyArg_ParseTupleAndKeywords(
-          args, keywords, "OO&O&|$O&:check_type", names, &number,
-          wire_to_packet_type, &packet, wire_to_sender, &sender, wire_to_checks,
-          &flags) ||
+  if (!PyArg_ParseTupleAndKeywords(args, keywords, "OO&O&|$O&:check_type",
+                                   names, &number, wire_to_packet_type, &packet,
+                                   wire_to_sender, &sender, wire_to_checks,
+                                   &flags) ||
       wire_number(number, "type", &type) < 0)
     return NULL;
   result = quic_wire_type_permitted(type, packet, sender, flags);
@@ -260,10 +252,9 @@ static PyObject *check_type(PyObject *module, PyObject *args,
                                 : wire_rule_error(result, type, Py_None);
 }
 
-static PyObject *type_name(PyObject *module, PyObject *number) {
+static PyObject *type_name(PyObject *Py_UNUSED(module), PyObject *number) {
   uint64_t type;
   const char *name;
-  (void)module;
   if (wire_number(number, "type", &type) < 0)
     return NULL;
   name = quic_wire_type_name(type);
@@ -271,29 +262,9 @@ static PyObject *type_name(PyObject *module, PyObject *number) {
 }
 
 PyMethodDef wire_read_functions[] = {
-    {"frames", WIRE_FAST(frames), METH_FASTCALL | METH_KEYWORDS,
-     PyDoc_STR(
-         "frames($module, payload, /, *, checks=0)\n--\n\n"
-         "The frames of a payload, each read when it is asked for. Consecutive "
-         "PADDING frames\nare one. Raises FrameError if there is no frame, or "
-         "if one is invalid or breaks a\nrule of checks.")},
-    {"read_frames", WIRE_FAST(read_frames), METH_FASTCALL | METH_KEYWORDS,
-     PyDoc_STR("read_frames($module, payload, /, *, checks=0)\n--\n\n"
-               "The frames of a payload as a list. Raises FrameError, with the "
-               "frames before an\ninvalid one in its attribute frames.")},
-    {"canonical", WIRE_FAST(canonical), METH_FASTCALL | METH_KEYWORDS,
-     PyDoc_STR("canonical($module, payload, /, *, checks=0)\n--\n\nThe one "
-               "shortest payload with the same frames in the same order. "
-               "Raises FrameError, also\nif a frame breaks a rule of checks.")},
-    {"check_type", WIRE_FAST(check_type), METH_VARARGS | METH_KEYWORDS,
-     PyDoc_STR("check_type($module, /, type, packet_type, sender, *, "
-               "checks=0)\n--\n\nRaises FrameError if a frame of this type is "
-               "unknown, may not be in packets of\nthis type, or not come from "
-               "that side (RFC 9000, section 12.4), before it is read.\nWith "
-               "NO_ACK_FREQUENCY in checks that extension's types are "
-               "unknown.")},
-    {"type_name", type_name, METH_O,
-     PyDoc_STR(
-         "type_name($module, type, /)\n--\n\nThe name of a frame type, or "
-         "None.")},
+    WIRE_FUNCTION(frames, frames, WIRE_FAST),
+    WIRE_FUNCTION(read_frames, read_frames, WIRE_FAST),
+    WIRE_FUNCTION(canonical, canonical, WIRE_FAST),
+    WIRE_FUNCTION(check_type, check_type, WIRE_NAMED),
+    WIRE_FUNCTION(type_name, type_name, METH_O),
     {NULL, NULL, 0, NULL}};

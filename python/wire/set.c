@@ -70,8 +70,7 @@ static PyObject *set_remove(PyObject *self, PyObject *args) {
   return change_to(self, args, quic_wire_set_remove);
 }
 
-static PyObject *set_clear(PyObject *self, PyObject *unused) {
-  (void)unused;
+static PyObject *set_clear(PyObject *self, PyObject *Py_UNUSED(unused)) {
   WIRE_BEGIN_ALONE(self);
   SET(self)->count = 0;
   WIRE_END_ALONE;
@@ -133,20 +132,11 @@ static PyObject *set_repr(PyObject *self) {
 }
 
 static PyObject *set_compare(PyObject *self, PyObject *other, int op) {
-  PyObject *ours, *theirs, *out;
-  if ((op != Py_EQ && op != Py_NE) || Py_TYPE(self) != Py_TYPE(other))
-    return Py_NewRef(Py_NotImplemented);
-  ours = ranges_of(self);
-  theirs = ours ? ranges_of(other) : NULL;
-  out = theirs ? PyObject_RichCompare(ours, theirs, op) : NULL;
-  Py_XDECREF(ours);
-  Py_XDECREF(theirs);
-  return out;
+  return wire_compare(self, other, op, ranges_of);
 }
 
-static PyObject *set_reduce(PyObject *self, PyObject *unused) {
+static PyObject *set_reduce(PyObject *self, PyObject *Py_UNUSED(unused)) {
   PyObject *list = ranges_of(self);
-  (void)unused;
   return list ? Py_BuildValue("(O(N))", Py_TYPE(self), list) : NULL;
 }
 
@@ -202,16 +192,9 @@ static PyGetSetDef set_fields[] = {
      (void *)1},
     WIRE_END_OF_FIELDS};
 static PyMethodDef set_methods[] = {
-    {"insert", set_insert, METH_VARARGS,
-     PyDoc_STR("insert($self, start, stop=None, /)\n--\n\nInserts a number, or "
-               "those from start to below stop; returns whether the set\n"
-               "changed.")},
-    {"remove", set_remove, METH_VARARGS,
-     PyDoc_STR("remove($self, start, stop=None, /)\n--\n\nRemoves a number, or "
-               "those from start to below stop; returns whether the set\n"
-               "changed.")},
-    {"clear", set_clear, METH_NOARGS,
-     PyDoc_STR("clear($self, /)\n--\n\nRemoves all numbers.")},
+    WIRE_METHOD(RangeSet, insert, set_insert, METH_VARARGS),
+    WIRE_METHOD(RangeSet, remove, set_remove, METH_VARARGS),
+    WIRE_METHOD(RangeSet, clear, set_clear, METH_NOARGS),
     {"__reduce__", set_reduce, METH_NOARGS, NULL},
     {NULL, NULL, 0, NULL}};
 static PyType_Slot set_slots[] = {

@@ -9,6 +9,8 @@
 
 #include <quic_wire.h>
 
+#include "docs.h"
+
 /* A build without the interpreter's lock has objects that several threads may
  * use at once.  With the lock these are nothing. */
 #ifdef Py_BEGIN_CRITICAL_SECTION
@@ -128,6 +130,16 @@ PyObject *wire_parameter_error(int result, uint32_t side, uint32_t flags,
  * it takes; what it returns. */
 PyObject *wire_call(const char *module, const char *function, PyObject *args);
 
+/* ---- objects.c: what objects of several types do alike */
+
+/* Whether two objects of a type are equal: if what |key| makes of them is. */
+PyObject *wire_compare(PyObject *self, PyObject *other, int op,
+                       PyObject *(*key)(PyObject *));
+/* The hash of a key, which it takes. */
+Py_hash_t wire_hash(PyObject *key);
+/* A name with the values in a dictionary, which it takes: Name(a=1, b=2). */
+PyObject *wire_repr(const char *name, PyObject *dict);
+
 /* ---- The types and functions of each file.  These return -1 with an
  * exception. */
 
@@ -162,15 +174,6 @@ typedef struct frame_kind {
 
 extern const frame_kind wire_frame_kinds[KINDS];
 const frame_kind *wire_kind_of(const quic_wire_frame *frame);
-/* Getters of fields, by which the constructor knows what a field is. */
-PyObject *frame_get_number(PyObject *self, void *slot);
-PyObject *frame_get_count(PyObject *self, void *unused);
-PyObject *frame_get_ecn(PyObject *self, void *slot);
-PyObject *frame_get_ranges(PyObject *self, void *unused);
-PyObject *frame_get_data(PyObject *self, void *unused);
-PyObject *frame_get_token(PyObject *self, void *unused);
-PyObject *frame_get_fin(PyObject *self, void *unused);
-PyObject *frame_get_path(PyObject *self, void *unused);
 /* A frame that was read. */
 PyObject *frame_made(wire_state *state, PyObject *owner,
                      const quic_wire_frame *frame);
@@ -199,8 +202,21 @@ extern PyMethodDef wire_number_functions[];
 extern PyMethodDef wire_parameter_functions[];
 extern PyMethodDef wire_field_functions[];
 
-#define WIRE_FAST(function) ((PyCFunction)(void (*)(void))(function))
+/* Rows of tables of functions and of methods, with what docs.h says of them. */
+#define WIRE_CALL(name, call, flags, doc)                                      \
+  { name, (PyCFunction)(void (*)(void))(call), flags, doc }
+#define WIRE_FUNCTION(name, call, flags)                                       \
+  WIRE_CALL(#name, call, flags, DOC_##name)
+#define WIRE_METHOD(of, name, call, flags)                                     \
+  WIRE_CALL(#name, call, flags, DOC_##of##_##name)
+#define WIRE_NAMED (METH_VARARGS | METH_KEYWORDS)
+#define WIRE_FAST (METH_FASTCALL | METH_KEYWORDS)
 #define WIRE_END_OF_FIELDS                                                     \
   { NULL, NULL, NULL, NULL, NULL }
+/* A function that returns what a field of |self| is. */
+#define WIRE_GETTER(name, value)                                               \
+  static PyObject *name(PyObject *self, void *Py_UNUSED(closure)) {            \
+    return value;                                                              \
+  }
 
 #endif

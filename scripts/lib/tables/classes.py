@@ -69,13 +69,42 @@ UNKNOWN = (
 
 
 class Field(NamedTuple):
-    """A field of a class; the slot of a number in the union, and whether bytes must be given."""
+    """A field of a class: how it is read; of a number its slot in the union, of a rule its bit; and whether bytes must
+    be given."""
 
     name: str
     how: str
     doc: str
-    slot: int = 0
+    slot: int | str = 0
     is_needed: bool = False
+
+
+# The fields of every frame and of every packet.
+OF_FRAMES = [
+    Field("begin", "begin", "where it begins in its payload; 0 if it wasn't read"),
+    Field("end", "end", "where it ends in its payload"),
+    Field("type", "type", "the type in the payload; if it wasn't read, one of its kind"),
+    Field("kind", "kind", "the type, but one number for every STREAM (0x08), one for every ACK (0x02), one for every"
+                          " DATAGRAM"),
+    Field("name", "name", "the type's name"),
+    Field("is_ack_eliciting", "rule_not", "whether a packet with it is acknowledged (RFC 9000, section 13.2.1)",
+          "QUIC_WIRE_RULE_NOT_ELICITING"),
+    Field("is_counted_in_flight", "rule_not", "whether a packet with it counts as bytes in flight",
+          "QUIC_WIRE_RULE_NOT_COUNTED"),
+    Field("is_probing", "rule", "whether it probes a path (RFC 9000, section 9.1)", "QUIC_WIRE_RULE_PROBING"),
+    Field("is_flow_controlled", "rule", "whether its data are flow controlled", "QUIC_WIRE_RULE_FLOW_CONTROLLED"),
+]
+OF_PACKETS = [
+    Field("begin", "begin", "where it begins in its datagram"),
+    Field("end", "end", "where it ends in its datagram"),
+    Field("first", "first", "the first byte, with its protection"),
+    Field("kind", "kind", "the packet's type, as in PacketType"),
+    Field("number_at", "number_at", "where the packet number begins in the datagram, or None"),
+    Field("data", "data", "all of the packet"),
+    Field("version", "version", "the version, or 0 if none is known"),
+    Field("dcid", "dcid", "Destination Connection ID"),
+    Field("scid", "scid", "Source Connection ID; empty in a short header"),
+]
 
 
 class Class(NamedTuple):

@@ -14,6 +14,12 @@ PACKET_TYPES = {
     "token": "memoryview", "retry_token": "memoryview", "retry_tag": "Optional[memoryview]", "length": "int",
     "token_at": "int", "spin": "bool", "versions": "tuple[int, ...]",
 }
+# What is in every frame or packet.
+COMMON_TYPES = {
+    "begin": "int", "end": "int", "type": "int", "kind": "int", "name": "str", "rule": "bool", "rule_not": "bool",
+    "first": "int", "number_at": "Optional[int]", "data": "memoryview", "version": "int", "dcid": "memoryview",
+    "scid": "memoryview",
+}
 PARAMETER_TYPES = {
     "id": "Optional[Buffer] = None", "bytes": "Optional[Buffer] = None", "flag": "bool = False",
     "preferred_address": "Optional[PreferredAddress] = None",
@@ -31,6 +37,10 @@ def init(arguments):
 
 def properties(types):
     return "".join(f"    @property\n    def {name}(self) -> {kind}: ...\n" for name, kind in types.items())
+
+
+def common(some):
+    return properties({it.name: COMMON_TYPES[it.how] for it in some})
 
 
 def names(some):
@@ -64,6 +74,8 @@ def made(formats):
     constants = [*classes.results(formats), *(f"READ_{word}" for word in classes.flags())]
     parts = {
         "constants": "".join(f"{word}: int\n" for word in constants),
+        "frame": common(classes.OF_FRAMES),
+        "packet": common(classes.OF_PACKETS),
         "frames": "\n".join(map(frame, classes.frames(formats))),
         "packets": "\n".join(map(packet, classes.packets(formats))),
         "parameters": parameters(formats),

@@ -6,14 +6,15 @@ from lib.tables.formats import MADE
 
 PATH = "python/wire/formats.h"
 MACROS = {
+    "FRAME_FIELD": "name, how, bit, doc", "PACKET_FIELD": "name, how, bit, doc",
     "FRAME_KIND": "word, name, doc, fields", "PACKET_KIND": "name, doc, fields",
     "PARAMETER": "name, kind, at, len_at, present, doc", "RESULT": "word", "READ_FLAG": "word",
 }
 BEGIN = f"""/* SPDX-License-Identifier: MIT OR Apache-2.0 */
 /* {MADE}
- * Rows of tables: the kinds of frames and of packets with their fields, the transport parameters in their order, the
- * results and flags of readers. Before a file includes this one, it defines what a row is; rows that it doesn't define
- * are nothing. Each inclusion forgets the definitions.
+ * Rows of tables: the fields of every frame and of every packet, the kinds of both with their own fields, the
+ * transport parameters in their order, the results and flags of readers. Before a file includes this one, it defines
+ * what a row is; rows that it doesn't define are nothing. Each inclusion forgets the definitions.
  *
  * - FIELD(name, what it is, its slot in the union, documentation) */
 """
@@ -23,6 +24,10 @@ KINDS = {"bytes": "TOKEN", "id": "ID", "flag": "FLAG", "preferred_address": "ADD
 def fields(some):
     rows = (f"\n     FIELD({json.dumps(it.name)}, {it.how}, {it.slot}, {json.dumps(it.doc)})" for it in some)
     return "".join(rows)
+
+
+def common(macro, some):
+    return (f"{macro}({json.dumps(it.name)}, {it.how}, {it.slot},\n     {json.dumps(it.doc)})\n" for it in some)
 
 
 def kind(one):
@@ -45,6 +50,8 @@ def parameter(one):
 
 def made(formats):
     rows = {
+        "FRAME_FIELD": common("FRAME_FIELD", classes.OF_FRAMES),
+        "PACKET_FIELD": common("PACKET_FIELD", classes.OF_PACKETS),
         "FRAME_KIND": map(kind, classes.frames(formats)), "PACKET_KIND": map(packet, classes.packets(formats)),
         "PARAMETER": map(parameter, classes.parameters(formats)),
         "RESULT": (f"RESULT({word})\n" for word in classes.results(formats)),

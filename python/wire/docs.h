@@ -1,0 +1,130 @@
+/* SPDX-License-Identifier: MIT OR Apache-2.0 */
+/* Made by scripts/tables from python/src/quic_wire/_wire.pyi.in: change nothing here.
+ * What Python says of each function of the module, DOC_name, and of each method, DOC_class_name: the signature, then the
+ * documentation. NAMES_ has the names of its arguments, empty for those that aren't passed by name. */
+#define DOC_Frame_is_permitted_in PyDoc_STR( \
+  "is_permitted_in($self, packet_type, /)\n--\n\n" \
+  "Whether packets of this type may carry it (RFC 9000, section 12.4, table 3).")
+#define DOC_Frame_check_permitted PyDoc_STR( \
+  "check_permitted($self, /, packet_type, sender, *, checks=0)\n--\n\n" \
+  "Raises FrameError if packets of this type may not carry the frame (RFC 9000, section\n" \
+  "12.4, table 3), or if that side may not send it (sections 19.7, 19.20) or not on\n" \
+  "this stream (sections 19.4, 19.5, 19.8, 19.10, 19.13). Of checks only\n" \
+  "NO_ACK_FREQUENCY counts.")
+#define NAMES_Frame_check_permitted {"packet_type", "sender", "checks", NULL}
+#define DOC_Frame_encode PyDoc_STR( \
+  "encode($self, /, last=False, *, checks=0)\n--\n\n" \
+  "The frame in its shortest form. As the last one of its payload it needs no length. Raises\n" \
+  "FrameError if it breaks a rule of checks.")
+#define NAMES_Frame_encode {"last", "checks", NULL}
+#define DOC_Frame_as_dict PyDoc_STR( \
+  "as_dict($self, /)\n--\n\n" \
+  "The fields by name, data as bytes.")
+#define DOC_frames PyDoc_STR( \
+  "frames($module, payload, /, *, checks=0)\n--\n\n" \
+  "The frames of a payload, each read when it is asked for. Consecutive PADDING frames\n" \
+  "are one. Raises FrameError if there is no frame, or if one is invalid or breaks a\n" \
+  "rule of checks.")
+#define NAMES_frames {"", "checks", NULL}
+#define DOC_read_frames PyDoc_STR( \
+  "read_frames($module, payload, /, *, checks=0)\n--\n\n" \
+  "The frames of a payload as a list. Raises FrameError, with the frames before an\n" \
+  "invalid one in its attribute frames.")
+#define NAMES_read_frames {"", "checks", NULL}
+#define DOC_canonical PyDoc_STR( \
+  "canonical($module, payload, /, *, checks=0)\n--\n\n" \
+  "The one shortest payload with the same frames in the same order. Raises FrameError, also\n" \
+  "if a frame breaks a rule of checks.")
+#define NAMES_canonical {"", "checks", NULL}
+#define DOC_check_type PyDoc_STR( \
+  "check_type($module, type, packet_type, sender, *, checks=0)\n--\n\n" \
+  "Raises FrameError if a frame of this type is unknown, may not be in packets of\n" \
+  "this type, or not come from that side (RFC 9000, section 12.4), before it is read.\n" \
+  "With NO_ACK_FREQUENCY in checks that extension's types are unknown.")
+#define NAMES_check_type {"type", "packet_type", "sender", "checks", NULL}
+#define DOC_type_name PyDoc_STR( \
+  "type_name($module, type, /)\n--\n\n" \
+  "The name of a frame type, or None.")
+#define DOC_Packet_sample PyDoc_STR( \
+  "sample($self, length=16, /)\n--\n\n" \
+  "The bytes from which the mask of the header is made (RFC 9001, section 5.4.2), or None\n" \
+  "if the packet is too short or has no packet number.")
+#define DOC_read_packets PyDoc_STR( \
+  "read_packets($module, datagram, cid_len, versions=None, *, checks=0)\n--\n\n" \
+  "The packets of a datagram as a list. Ids in short headers have cid_len bytes. Raises\n" \
+  "PacketError, with the packets before it in its attribute packets.")
+#define NAMES_read_packets {"datagram", "cid_len", "versions", "checks", NULL}
+#define DOC_read_packet PyDoc_STR( \
+  "read_packet($module, datagram, cid_len, at=0, versions=None, *, checks=0)\n--\n\n" \
+  "The packet that begins at an offset of a datagram.")
+#define NAMES_read_packet {"datagram", "cid_len", "at", "versions", "checks", NULL}
+#define DOC_unprotect PyDoc_STR( \
+  "unprotect($module, packet, number_at, mask, expected=0)\n--\n\n" \
+  "The packet number, relative to the one that is expected next, and a copy of the header\n" \
+  "without its protection, up to the end of that number (RFC 9001, section 5.4.1).")
+#define NAMES_unprotect {"packet", "number_at", "mask", "expected", NULL}
+#define DOC_protect PyDoc_STR( \
+  "protect($module, packet, number_at, mask)\n--\n\n" \
+  "Applies header protection to a packet, in place; returns how many bytes the\n" \
+  "packet number has.")
+#define NAMES_protect {"packet", "number_at", "mask", NULL}
+#define DOC_set_length PyDoc_STR( \
+  "set_length($module, packet, number_at, length_len=2)\n--\n\n" \
+  "Sets the length in a long header to what follows it in the packet, in place.")
+#define NAMES_set_length {"packet", "number_at", "length_len", NULL}
+#define DOC_write_header PyDoc_STR( \
+  "write_header($module, packet_type, dcid=b'', scid=b'', token=b'', *, version=1, number=0, number_len=4, length_len=2, spin=False, key_phase=False, fixed_bit=True)\n--\n\n" \
+  "A header without protection. Its length is 0 until set_length.")
+#define NAMES_write_header {"packet_type", "dcid", "scid", "token", "version", "number", "number_len", "length_len", "spin", "key_phase", "fixed_bit", NULL}
+#define DOC_write_version_negotiation PyDoc_STR( \
+  "write_version_negotiation($module, dcid, scid, versions, unused=0x40)\n--\n\n" \
+  "A Version Negotiation packet (RFC 9000, section 17.2.1), with the unused bits of its\n" \
+  "first byte.")
+#define NAMES_write_version_negotiation {"dcid", "scid", "versions", "unused", NULL}
+#define DOC_read_varint PyDoc_STR( \
+  "read_varint($module, data, at=0, /)\n--\n\n" \
+  "The variable-length integer at an offset, and where it ends (RFC 9000, section 16).")
+#define DOC_write_varint PyDoc_STR( \
+  "write_varint($module, value, width=0, /)\n--\n\n" \
+  "A variable-length integer in 1, 2, 4 or 8 bytes; with 0 in as few as possible.")
+#define DOC_varint_len PyDoc_STR( \
+  "varint_len($module, value, /)\n--\n\n" \
+  "How many bytes the shortest encoding of an integer has: 1, 2, 4 or 8.")
+#define DOC_packet_number_len PyDoc_STR( \
+  "packet_number_len($module, number, largest_acknowledged=None, /)\n--\n\n" \
+  "How many bytes of a packet number are written (RFC 9000, appendix A.2).")
+#define DOC_expand_packet_number PyDoc_STR( \
+  "expand_packet_number($module, truncated, length, expected, /)\n--\n\n" \
+  "The packet number with these low bytes, relative to the one that is expected next\n" \
+  "(RFC 9000, appendix A.3).")
+#define DOC_read_packet_number PyDoc_STR( \
+  "read_packet_number($module, data, length, /)\n--\n\n" \
+  "The truncated packet number in the first bytes of data.")
+#define DOC_write_packet_number PyDoc_STR( \
+  "write_packet_number($module, number, length, /)\n--\n\n" \
+  "The low bytes of a packet number, 1 to 4 of them.")
+#define DOC_Parameters_read PyDoc_STR( \
+  "read($type, side, data, /, *, checks=0)\n--\n\n" \
+  "The parameters in a list. `side` is the side that reads: pass Side.CLIENT for a server's list.\n" \
+  "Raises ParameterError.")
+#define NAMES_Parameters_read {"", "", "checks", NULL}
+#define DOC_Parameters_as_dict PyDoc_STR( \
+  "as_dict($self, /)\n--\n\n" \
+  "All parameters by name.")
+#define DOC_write_parameter PyDoc_STR( \
+  "write_parameter($module, id, value, /)\n--\n\n" \
+  "An entry of a list of transport parameters.")
+#define DOC_is_known_parameter PyDoc_STR( \
+  "is_known_parameter($module, id, /)\n--\n\n" \
+  "Whether TransportParameters has the parameter of this id.")
+#define DOC_RangeSet_insert PyDoc_STR( \
+  "insert($self, start, stop=None, /)\n--\n\n" \
+  "Inserts a number, or those from start to below stop; returns whether the set\n" \
+  "changed.")
+#define DOC_RangeSet_remove PyDoc_STR( \
+  "remove($self, start, stop=None, /)\n--\n\n" \
+  "Removes a number, or those from start to below stop; returns whether the set\n" \
+  "changed.")
+#define DOC_RangeSet_clear PyDoc_STR( \
+  "clear($self, /)\n--\n\n" \
+  "Removes all numbers.")

@@ -1718,9 +1718,10 @@ quic_wire_frame_fields(const uint8_t *payload, size_t payloadlen,
 /**
  * Where the fields of the header at the front of |bytes| are.  Those of a
  * version negotiation go on with its versions, and those of a Retry with its
- * token and its tag, as far as these are whole.  Except in a version negotiation
- * index 4 of a long header has no bytes: it stands for a version that is known,
- * and is at fault if it isn't.  The arguments are those of quic_wire_header_read.
+ * token and its tag, as far as these are whole.  Except in a version
+ * negotiation index 4 of a long header has no bytes: it stands for a version
+ * that is known, and is at fault if it isn't.  The arguments are those of
+ * quic_wire_header_read.
  *
  * Returns:
  *  - QUIC_WIRE_ITEM, with all fields, if that returns where the packet ends:

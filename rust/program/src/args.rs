@@ -102,6 +102,9 @@ const OPTIONS: [Known; 13] = [
     known("--largest", Some("the largest packet number that was received"), &["number"]),
 ];
 
+const WHEN: [(&str, When); 3] = [("always", When::Always), ("never", When::Never), ("auto", When::Auto)];
+const SIDES: [(&str, Side); 2] = [("client", Side::Client), ("server", Side::Server)];
+
 // What options say.
 #[derive(Default)]
 struct Options {
@@ -172,21 +175,21 @@ impl Options {
                 .and_then(|word| word.into_string().ok())
                 .ok_or_else(|| format!("{name} needs a value: {what}"))?,
         };
-        self.set(name, &value)
+        self.set(option, &value)
     }
 
-    fn set(&mut self, name: &str, value: &str) -> Result<(), String> {
-        match name {
+    fn set(&mut self, option: &Known, value: &str) -> Result<(), String> {
+        match option.name {
             "--json" => self.json = true,
             "--base64" => self.base64 = true,
             "--rfc" => self.rfc = true,
             "--quinn" => self.quinn = true,
             "--strict" => self.strict = true,
             "--grease" => self.grease = true,
-            "--color" => self.colours = when(value)?,
+            "--color" => self.colours = choice(option, value, &WHEN)?,
             "--cid-len" => self.cid_len = Some(cid_len(value)?),
             "--versions" => self.versions = Some(versions(value)?),
-            "--side" => self.side = Some(side(value)?),
+            "--side" => self.side = Some(choice(option, value, &SIDES)?),
             _ => self.largest = Some(largest(value)?),
         }
         Ok(())
@@ -253,24 +256,13 @@ fn largest(text: &str) -> Result<u64, String> {
     })
 }
 
-fn side(text: &str) -> Result<Side, String> {
-    match text {
-        "client" => Ok(Side::Client),
-        "server" => Ok(Side::Server),
-        _ => Err(format!("--side: expected client or server, not {text:?}{}", nearest(text, ["client", "server"]))),
-    }
-}
-
-fn when(text: &str) -> Result<When, String> {
-    match text {
-        "always" => Ok(When::Always),
-        "never" => Ok(When::Never),
-        "auto" => Ok(When::Auto),
-        _ => {
-            let nearest = nearest(text, ["always", "never", "auto"]);
-            Err(format!("--color: expected always, never or auto, not {text:?}{nearest}"))
-        }
-    }
+// The one that a word names.
+fn choice<T: Copy>(option: &Known, word: &str, all: &[(&str, T)]) -> Result<T, String> {
+    let wanted = option.value.unwrap_or_default();
+    all.iter().find(|(name, _)| *name == word).map(|(_, one)| *one).ok_or_else(|| {
+        let nearest = nearest(word, all.iter().map(|(name, _)| *name));
+        format!("{}: expected {wanted}, not {word:?}{nearest}", option.name)
+    })
 }
 
 // A suggestion, as the end of a sentence: a word that begins so, or the nearest one.

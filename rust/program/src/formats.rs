@@ -1,5 +1,5 @@
-//! What the RFCs call the fields of frames, headers and parameters, where they describe them, and how the program shows
-//! them.
+//! What the RFCs call the fields of frames, headers and parameters, where they describe them, and how
+//! these are shown.
 //! Made by scripts/tables from docs/formats.json: change nothing here.
 #![allow(dead_code)]
 

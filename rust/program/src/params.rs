@@ -3,7 +3,7 @@ use crate::fault;
 use crate::formats::{Kind, PARAMETERS};
 use crate::output::{Field, Output, Value, unknown};
 use Value::{Flag, Ids, Number, Unknown, Word};
-use quic_wire::transport_parameters::{Error, PreferredAddress, ReadOptions, TransportParameters, entries};
+use quic_wire::transport_parameters::{Error, PreferredAddress, ReadOptions, TransportParameters, entries, known};
 use quic_wire::{Side, varint};
 use std::io::{self, Write};
 
@@ -26,9 +26,11 @@ pub fn show(list: &[u8], side: Side, options: ReadOptions, output: &mut Output<i
 
 // What differs from its default.
 fn fields<'a>(list: &'a [u8], read: &TransportParameters) -> Vec<Field<'a>> {
+    let named: Vec<_> = entries(list).flatten().filter(|entry| known(entry.id).is_some()).collect();
     let mut fields = Vec::new();
     for known in PARAMETERS {
-        let Some(entry) = entries(list).flatten().filter(|entry| entry.id == known.id).last() else { continue };
+        // Of repeats quinn-proto keeps the last.
+        let Some(entry) = named.iter().rfind(|entry| entry.id == known.id) else { continue };
         let number = varint::read(entry.value).map(|(number, _)| number);
         match known.kind {
             Kind::Number if number == known.default => {}

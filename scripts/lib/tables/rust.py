@@ -1,31 +1,12 @@
 """rust/program/src/formats.rs."""
 import json
 
-from lib.tables import classes
+from lib.tables import classes, shown
 from lib.tables.formats import MADE, filled, headers, wanted
 
 PATH = "rust/program/src/formats.rs"
-# quinn-proto's names for fields of frames, by the RFC's; where two types of frames differ, by the frame's name too.
-NAMES = {
-    "largest_acknowledged": "largest", "ack_delay": "delay", "ack_ranges": "ranges", "ect0_count": "ect0",
-    "ect1_count": "ect1", "ecn_ce_count": "ce", "stream_id": "id", "application_protocol_error_code": "error_code",
-    "final_size": "final_offset", "crypto_data": "data", "stream_data": "data", "datagram_data": "data",
-    "direction": "dir", "maximum_data": "limit", "maximum_stream_data": "offset", "maximum_streams": "limit",
-    "sequence_number": "sequence", "connection_id": "id", "stateless_reset_token": "reset_token",
-    "reason_phrase": "reason", "requested_max_ack_delay": "request_max_ack_delay",
-    ("MAX_STREAMS", "maximum_streams"): "count", ("DATA_BLOCKED", "maximum_data"): "offset",
-}
-# How fields are shown, by their kind; others by their unit or name.
-KINDS = {
-    "number": "Number", "implied": "Number", "uint64": "Eight", "bytes": "Bytes", "id": "Bytes", "counted": "Bytes",
-    "rest": "Bytes", "ranges": "Ranges", "flag": "Flag", "preferred_address": "Address",
-}
-OTHERS = {
-    "error code": "Code", "frame type, 0 if unknown": "Type", "UTF-8": "Text", "FIN": "Flag", "Direction": "Direction",
-    "Crypto Data": "Data", "Stream Data": "Data", "Datagram Data": "Data",
-}
-BEGIN = f"""//! What the RFCs call the fields of frames, headers and parameters, where they describe them, and how the program shows
-//! them.
+BEGIN = f"""//! What the RFCs call the fields of frames, headers and parameters, where they describe them, and how
+//! these are shown.
 //! {MADE}
 #![allow(dead_code)]
 
@@ -163,20 +144,10 @@ def rows(members, fields):
     return {**members, "fields": filled("&[", [field(one, fields) for one in fields], "]", " " * 8)}
 
 
-def kind(one):
-    return "Kind::" + (OTHERS.get(one.get("unit")) or OTHERS.get(one["name"]) or KINDS[one["kind"]])
-
-
-def shown(frame):
-    """The fields that are shown: those with a name, after the type. What data end follows what they begin with."""
-    some = sorted((it for it in frame["fields"][1:] if "name" in it), key=lambda it: it["name"] in ("FIN", "Stream Data"))
-    names = (NAMES.get((frame["name"], it["key"]), NAMES.get(it["key"], it["key"])) for it in some)
-    return [f"shown({text(name)}, {kind(it)}, {it['index']})" for name, it in zip(names, some)]
-
-
 def frame(one):
-    members = rows({"ty": f"{one['type']:#04x}", "name": text(one["name"]), "section": text(one["section"])}, one["fields"])
-    return struct("Frame", {**members, "shown": filled("&[", shown(one), "]", " " * 8)})
+    members = {"ty": f"{one['type']:#04x}", "name": text(one["name"]), "section": text(one["section"])}
+    fields = [f'shown("{name}", Kind::{kind}, {index})' for name, kind, index in shown.fields(one)]
+    return struct("Frame", {**rows(members, one["fields"]), "shown": filled("&[", fields, "]", " " * 8)})
 
 
 def header(version, _, one):
@@ -190,7 +161,7 @@ def header(version, _, one):
 def parameter(one):
     return struct("Parameter", {
         "id": hex(one["id"]), "name": text(one["name"]), "quinn_proto": text(one.get("quinn_proto", one["name"])),
-        "kind": kind(one), "default": f"Some({one['default']})" if "default" in one else "None",
+        "kind": f"Kind::{shown.kind(one)}", "default": f"Some({one['default']})" if "default" in one else "None",
         "wanted": text(wanted(one, "a number of variable length")), "section": text(one["section"]),
         "is_servers": text(one["senders"] == ["server"]), "may_repeat": text(one["repeat"]["quinn_proto"]),
         "is_shortest": text(not one.get("any_width", {"quinn_proto": True})["quinn_proto"]),

@@ -24,7 +24,7 @@ pub fn of_frame(payload: &[u8], begin: usize, rules: Rules, invalid: &InvalidFra
     [place.as_slice().as_flattened(), why.as_slice(), &closed].concat()
 }
 
-// Where a frame's values are limited its own section says so, except for the ranges of an ACK.
+// A frame's section says which values it may have; that of an ACK's ranges is their own.
 fn section(invalid: &InvalidFrame) -> &'static str {
     let row = invalid.ty.and_then(|ty| Frame::of(ty.into_inner()));
     let reason = REASONS.iter().find(|reason| reason.text == invalid.reason);

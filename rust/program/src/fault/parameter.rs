@@ -4,35 +4,14 @@ use crate::formats::{PARAMETERS, Parameter};
 use crate::output::{Field, Value};
 use quic_wire::fields;
 use quic_wire::transport_error::Code;
-use quic_wire::transport_parameters::{ReadOptions, Refusal};
+use quic_wire::transport_parameters::{self, ReadOptions, Refusal};
 use quic_wire::{Side, varint};
-use std::ops::Range;
 
 const REPEATED: &str = "RFC 9000, section 7.4";
 const CUT_OFF: &str = "RFC 9000, section 18";
 
 // How many bytes of a value are printed.
 const MOST: usize = 64;
-
-// An entry of a list: its id, its offset and that of its value.
-struct Entry {
-    id: u64,
-    place: Range<usize>,
-    value: Range<usize>,
-}
-
-// The entries of a list up to one that is cut off.
-fn entries(list: &[u8]) -> impl Iterator<Item = Entry> + '_ {
-    let mut begin = 0;
-    std::iter::from_fn(move || {
-        let fields = fields::of_entry(&list[begin..]);
-        let &[id, value] = fields.spans() else { return None };
-        let place = begin..begin + value.end;
-        begin = place.end;
-        let len = usize::try_from(value.number).ok()?;
-        Some(Entry { id: id.number, value: begin - len..begin, place })
-    })
-}
 
 fn known(id: u64) -> Option<&'static Parameter> {
     PARAMETERS.iter().find(|known| known.id == id)
@@ -46,12 +25,15 @@ pub fn of_parameters(
     refusal: Refusal,
 ) -> (Option<usize>, Vec<Field<'static>>) {
     let at = refusal.offset;
-    let fields = match entries(list).find(|entry| entry.place.start == at) {
-        Some(entry) => match known(entry.id) {
-            Some(known) => of_entry(list, side, options, &entry, known),
+    let fields = match *fields::of_entry(&list[at..]).spans() {
+        [id, value] => match known(id.number) {
+            Some(known) => {
+                let end = at + value.end;
+                of_entry(&list[..at], &list[end - value.number as usize..end], side, options, known)
+            }
             None => closed(Code::TRANSPORT_PARAMETER_ERROR, REPEATED).to_vec(),
         },
-        None => of_cut_off(refusal.id),
+        _ => of_cut_off(refusal.id),
     };
     (Some(at), fields)
 }
@@ -65,13 +47,11 @@ fn of_cut_off(id: Option<u64>) -> Vec<Field<'static>> {
     fields
 }
 
-// Whether it is a repeat that is rejected: quinn-proto accepts two parameters more than once.
-fn is_repeated(list: &[u8], options: ReadOptions, entry: &Entry, known: &Parameter) -> bool {
-    (options.no_repeats || !known.may_repeat) && entries(&list[..entry.place.start]).any(|other| other.id == entry.id)
-}
-
-fn of_entry(list: &[u8], side: Side, options: ReadOptions, entry: &Entry, known: &Parameter) -> Vec<Field<'static>> {
-    let value = &list[entry.value.clone()];
+// Of an entry with this value, and with these entries before it.
+fn of_entry(before: &[u8], value: &[u8], side: Side, options: ReadOptions, known: &Parameter) -> Vec<Field<'static>> {
+    // quinn-proto accepts two parameters more than once.
+    let is_repeated = (options.no_repeats || !known.may_repeat)
+        && transport_parameters::entries(before).flatten().any(|other| other.id == known.id);
     let is_long = matches!(varint::read(value), Some((number, len))
         if len == value.len() && varint::len(number) != Some(len));
     let mut fields = vec![
@@ -80,7 +60,7 @@ fn of_entry(list: &[u8], side: Side, options: ReadOptions, entry: &Entry, known:
         ("value", Value::few(&value[..value.len().min(MOST)])),
     ];
     let mut section = known.section;
-    let why = if is_repeated(list, options, entry, known) {
+    let why = if is_repeated {
         section = REPEATED;
         "it occurs twice"
     } else if side == Side::Server && known.is_servers {
@@ -99,7 +79,6 @@ fn of_entry(list: &[u8], side: Side, options: ReadOptions, entry: &Entry, known:
 #[cfg(test)]
 mod tests {
     use super::*;
-    use quic_wire::transport_parameters;
 
     #[test]
     fn the_table_has_the_parameters_that_the_library_knows() {

@@ -59,23 +59,22 @@ impl Display for Hex<'_> {
     }
 }
 
-// Items with commas between them.
+// Items with commas between them, in JSON in brackets.
 fn list<T>(
     f: &mut Formatter<'_>,
+    is_json: bool,
     items: impl IntoIterator<Item = T>,
     show: impl Fn(&mut Formatter<'_>, T) -> fmt::Result,
 ) -> fmt::Result {
+    let (begin, end) = if is_json { ("[", "]") } else { ("", "") };
+    f.write_str(begin)?;
     for (i, item) in items.into_iter().enumerate() {
         if i > 0 {
             f.write_char(',')?;
         }
         show(f, item)?;
     }
-    Ok(())
-}
-
-fn versions(bytes: &[u8]) -> impl Iterator<Item = Hex<'_>> {
-    bytes.chunks_exact(4).map(Hex)
+    f.write_str(end)
 }
 
 fn ids(list: &[u8]) -> impl Iterator<Item = u64> + '_ {
@@ -86,28 +85,43 @@ fn ranges<'a>(ack: &Ack<'a>) -> impl Iterator<Item = (u64, u64)> + 'a {
     ack.iter().map(|range| (*range.start(), *range.end()))
 }
 
-impl Display for Value<'_> {
-    fn fmt(&self, f: &mut Formatter<'_>) -> fmt::Result {
-        let range = |f: &mut Formatter<'_>, (least, greatest): (u64, u64)| write!(f, "{least}-{greatest}");
+impl Value<'_> {
+    fn show(&self, f: &mut Formatter<'_>, is_json: bool) -> fmt::Result {
+        let quote = if is_json { "\"" } else { "" };
+        let range = |f: &mut Formatter<'_>, (least, greatest): (u64, u64)| match is_json {
+            true => write!(f, "[{least},{greatest}]"),
+            false => write!(f, "{least}-{greatest}"),
+        };
         match self {
             Value::Number(number) => number.fmt(f),
             Value::Flag(flag) => flag.fmt(f),
+            Value::Word(word) if is_json => Quoted(word.as_bytes()).fmt(f),
             Value::Word(word) => f.write_str(word),
-            Value::Bytes(bytes) if bytes.is_empty() => f.write_char('-'),
-            Value::Bytes(bytes) => Hex(bytes).fmt(f),
+            Value::Bytes(bytes) if bytes.is_empty() && !is_json => f.write_char('-'),
+            Value::Bytes(bytes) => write!(f, "{quote}{}{quote}", Hex(bytes)),
+            Value::Text(text) if is_json => Quoted(text).fmt(f),
             Value::Text(text) => spelled(f, text, |f, c| match c {
                 '\'' => f.write_char(c),
                 _ => c.escape_debug().fmt(f),
             }),
-            Value::Version(version) => write!(f, "{version:08x}"),
-            Value::Versions(bytes) => list(f, versions(bytes), |f, version| version.fmt(f)),
-            Value::Ranges(ack) => list(f, ranges(ack), range),
-            Value::Runs(runs) => list(f, runs.iter().copied(), range),
-            Value::Ids(entries) => list(f, ids(entries), |f, id| id.fmt(f)),
-            Value::Unknown(entries) => {
-                list(f, unknown(entries), |f, entry| write!(f, "{:#x}:{}", entry.id, Hex(entry.value)))
+            Value::Version(version) => write!(f, "{quote}{version:08x}{quote}"),
+            Value::Versions(bytes) => {
+                list(f, is_json, bytes.chunks_exact(4), |f, version| write!(f, "{quote}{}{quote}", Hex(version)))
             }
+            Value::Ranges(ack) => list(f, is_json, ranges(ack), range),
+            Value::Runs(runs) => list(f, is_json, runs.iter().copied(), range),
+            Value::Ids(entries) => list(f, is_json, ids(entries), |f, id| id.fmt(f)),
+            Value::Unknown(entries) => list(f, is_json, unknown(entries), |f, entry| match is_json {
+                true => write!(f, "{{\"id\":{},\"value\":\"{}\"}}", entry.id, Hex(entry.value)),
+                false => write!(f, "{:#x}:{}", entry.id, Hex(entry.value)),
+            }),
         }
+    }
+}
+
+impl Display for Value<'_> {
+    fn fmt(&self, f: &mut Formatter<'_>) -> fmt::Result {
+        self.show(f, false)
     }
 }
 
@@ -116,27 +130,7 @@ pub struct Json<'a>(pub &'a Value<'a>);
 
 impl Display for Json<'_> {
     fn fmt(&self, f: &mut Formatter<'_>) -> fmt::Result {
-        let range = |f: &mut Formatter<'_>, (least, greatest): (u64, u64)| write!(f, "[{least},{greatest}]");
-        match self.0 {
-            Value::Number(number) => return number.fmt(f),
-            Value::Flag(flag) => return flag.fmt(f),
-            Value::Word(word) => return Quoted(word.as_bytes()).fmt(f),
-            Value::Bytes(bytes) => return write!(f, "\"{}\"", Hex(bytes)),
-            Value::Text(text) => return Quoted(text).fmt(f),
-            Value::Version(version) => return write!(f, "\"{version:08x}\""),
-            _ => f.write_char('[')?,
-        }
-        match self.0 {
-            Value::Versions(bytes) => list(f, versions(bytes), |f, version| write!(f, "\"{version}\"")),
-            Value::Ranges(ack) => list(f, ranges(ack), range),
-            Value::Runs(runs) => list(f, runs.iter().copied(), range),
-            Value::Ids(entries) => list(f, ids(entries), |f, id| id.fmt(f)),
-            Value::Unknown(entries) => list(f, unknown(entries), |f, entry| {
-                write!(f, "{{\"id\":{},\"value\":\"{}\"}}", entry.id, Hex(entry.value))
-            }),
-            _ => Ok(()),
-        }?;
-        f.write_char(']')
+        self.0.show(f, true)
     }
 }
 

@@ -685,6 +685,19 @@ REASONS: dict[int, Reason] = {
     -60: Reason(-60, "list", "PARAMS_MALFORMED", 8, "RFC 9000, section 7.4", "malformed"),
     -61: Reason(-61, "list", "PARAMS_ILLEGAL", 8, "RFC 9000, sections 7.4, 18.2", "illegal value"),
 }
+# What quinn-proto calls attributes of frames, by their classes, if that is another name.
+OWN_NAMES: dict[str, dict[str, str]] = {
+    "ResetStream": {"stream_id": "id", "final_size": "final_offset"},
+    "StopSending": {"stream_id": "id"},
+    "Stream": {"stream_id": "id"},
+    "MaxStreamData": {"stream_id": "id", "limit": "offset"},
+    "MaxStreamsBidi": {"limit": "count"},
+    "MaxStreamsUni": {"limit": "count"},
+    "DataBlocked": {"limit": "offset"},
+    "StreamDataBlocked": {"stream_id": "id", "limit": "offset"},
+    "NewConnectionId": {"connection_id": "id"},
+    "AckFrequency": {"max_ack_delay": "request_max_ack_delay"},
+}
 PREFERRED_ADDRESS: tuple[Field, ...] = (
     Field(0, "bytes", "IPv4 Address", size=(4, 4)),
     Field(1, "bytes", "IPv4 Port", size=(2, 2)),

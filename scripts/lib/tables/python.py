@@ -1,6 +1,7 @@
 """python/src/quic_wire/_formats.py."""
 import json
 
+from lib.tables import classes, proved
 from lib.tables.formats import MADE, filled, headers, wanted
 
 PATH = "python/src/quic_wire/_formats.py"
@@ -211,6 +212,18 @@ def reason(one):
     return f"    {one['number']}: {call('Reason', needed, {}, '    ')},\n"
 
 
+def own_names(formats):
+    """The attributes of each class of frames to which quinn-proto gives another name, except data."""
+    members = proved.frame_members()
+    for one in classes.frames(formats):
+        own = members.get(one.name.removesuffix("Bidi").removesuffix("Uni"), [])
+        named = zip(one.fields, (name for name in own if name != "dir"))
+        pairs = [(it.name, name) for it, name in named if name not in (it.name, "bytes")]
+        if pairs:
+            listed = ", ".join(f"{text(name)}: {text(other)}" for name, other in pairs)
+            yield f"    {text(one.name)}: {{{listed}}},\n"
+
+
 def made(formats):
     tables = {
         "FRAMES: dict[int, Frame] = {": map(frame, formats["frames"]),
@@ -219,6 +232,8 @@ def made(formats):
         "PARAMETERS: dict[int, Parameter] = {": map(parameter, formats["parameters"]),
         "ERROR_CODES: dict[int, ErrorCode] = {": map(error_code, formats["error_codes"]),
         "REASONS: dict[int, Reason] = {": map(reason, formats["reasons"]),
+        "# What quinn-proto calls attributes of frames, by their classes, if that is another name.\n"
+        "OWN_NAMES: dict[str, dict[str, str]] = {": own_names(formats),
     }
     address = "".join(field(one, "    ", index) for index, one in enumerate(formats["preferred_address"]))
     parts = [f"{begin}\n{''.join(some)}}}\n" for begin, some in tables.items()]

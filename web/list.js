@@ -62,8 +62,7 @@ export class EntryList {
     this.box.setAttribute("aria-activedescendant", `${this.box.id}-${this.at}`);
   }
 
-  choose(index) {
-    const to = Math.max(0, Math.min(this.entries.length - 1, index));
+  choose(to) {
     if (to !== this.at) {
       this.at = to;
       this.rows.reveal(to);
@@ -80,14 +79,10 @@ export class EntryList {
   }
 
   key(event) {
-    const { at } = this;
-    const steps = {
-      ArrowDown: at + 1, ArrowUp: at - 1, Home: 0, End: this.entries.length - 1, PageDown: at + this.rows.page,
-      PageUp: at - this.rows.page,
-    };
-    if (event.key in steps && !event.altKey && !event.metaKey) {
+    const to = event.altKey || event.metaKey ? null : this.rows.step(event.key, this.at);
+    if (to !== null) {
       event.preventDefault();
-      this.choose(steps[event.key]);
+      this.choose(to);
     }
   }
 }

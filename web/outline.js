@@ -1,6 +1,7 @@
 // The items and, under each that is open, its fields: an ARIA tree whose active line moves with the arrow keys.
 
 import { element, Rows } from "./rows.js";
+import { lastWhere } from "./search.js";
 import { stripOf } from "./strip.js";
 
 // At first this many items are open, of those with at most this many lines.
@@ -65,17 +66,7 @@ export class Outline {
 
   // The last open item for which |test| holds, given its index and the lines of open ones before it, or -1.
   lastOpen(test) {
-    let low = 0;
-    let high = this.open.length;
-    while (low < high) {
-      const middle = (low + high) >> 1;
-      if (test(this.open[middle], this.before[middle])) {
-        low = middle + 1;
-      } else {
-        high = middle;
-      }
-    }
-    return low - 1;
+    return lastWhere(this.open.length, (at) => test(this.open[at], this.before[at]));
   }
 
   // The item and the field on a line.
@@ -263,15 +254,11 @@ export class Outline {
   }
 
   moveByKey(key, spot) {
-    const line = spot ? this.lineOf(spot.item, spot.field) : -1;
-    const steps = {
-      ArrowDown: line + 1, ArrowUp: line - 1, Home: 0, End: this.lines - 1, PageDown: line + this.rows.page,
-      PageUp: line - this.rows.page,
-    };
-    if (!(key in steps)) {
+    const line = this.rows.step(key, spot ? this.lineOf(spot.item, spot.field) : -1);
+    if (line === null) {
       return false;
     }
-    const { item, field } = this.at(Math.max(0, Math.min(this.lines - 1, steps[key])));
+    const { item, field } = this.at(line);
     this.on.select(item, field);
     return true;
   }

@@ -198,6 +198,15 @@ export class Rows {
     this.markMore();
   }
 
+  // The row to which a key leads from one, or null if the key doesn't move.
+  step(key, from) {
+    const steps = {
+      ArrowDown: from + 1, ArrowUp: from - 1, Home: 0, End: this.count - 1, PageDown: from + this.page,
+      PageUp: from - this.page,
+    };
+    return key in steps ? Math.max(0, Math.min(this.count - 1, steps[key])) : null;
+  }
+
   // How many rows are seen at once.
   get page() {
     const height = this.isFlowing ? this.sizer.offsetHeight / Math.max(1, this.count) : this.height;

@@ -168,11 +168,7 @@ static PyObject *write_header(PyObject *Py_UNUSED(module), PyObject *args,
           (size_t)a.scid.len, a.token.buf, (size_t)a.token.len, at, room);
   }
   release(&a);
-  if (result < 0) {
-    Py_CLEAR(out);
-    return wire_mistake((int)result);
-  }
-  return out ? wire_front(out, (size_t)result) : NULL;
+  return wire_written(out, (int)result, (size_t)result);
 }
 
 /* The versions of an iterable: free them with PyMem_Free. */
@@ -222,11 +218,7 @@ static PyObject *write_negotiation(PyObject *Py_UNUSED(module), PyObject *args,
   PyMem_Free(list);
   PyBuffer_Release(&dcid);
   PyBuffer_Release(&scid);
-  if (result < 0) {
-    Py_CLEAR(out);
-    return wire_mistake(result);
-  }
-  return out ? wire_front(out, len) : NULL;
+  return wire_written(out, result, len);
 }
 
 /* ---- Numbers */

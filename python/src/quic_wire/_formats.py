@@ -156,6 +156,20 @@ class Code(enum.IntEnum):
     CRYPTO_ERROR = 0x100
 
 
+class PacketType(enum.IntEnum):
+    """The types of packets in Packet.kind."""
+
+    __module__ = "quic_wire.packets"
+
+    INITIAL = 0
+    ZERO_RTT = 1
+    HANDSHAKE = 2
+    RETRY = 3
+    ONE_RTT = 4
+    VERSION_NEGOTIATION = 5
+    UNKNOWN_VERSION = 6
+
+
 FRAMES: dict[int, Frame] = {
     0x00: Frame(0x00, "PADDING", "RFC 9000, section 19.1", (
         Field(0, "number", "Type", unit="frame type"),

@@ -2,7 +2,7 @@
 import ast
 import json
 
-from lib.tables import stub
+from lib.tables import c, stub
 from lib.tables.formats import read
 
 PATH = "python/src/quic_wire/__init__.py"
@@ -52,5 +52,4 @@ def made(formats):
         listed(in_order(names), "()", "from ._wire import "),
         listed(map(json.dumps, in_order([*names, *of_others(source)])), "[]", "__all__ = "),
     ]
-    front, *parts = source.split(BEGIN)
-    return front + "".join(BEGIN + block + END + part.split(END)[1] for block, part in zip(blocks, parts))
+    return c.with_blocks(source, blocks, BEGIN, END)

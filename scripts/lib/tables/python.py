@@ -138,12 +138,13 @@ class Reason(NamedTuple):
 
 
 # fmt: off
-class Code(enum.IntEnum):
-    """The codes of a CONNECTION_CLOSE (RFC 9000, section 20.1). A TLS alert is added to CRYPTO_ERROR."""
-
-    __module__ = "quic_wire.errors"
-
 '''
+# The types of packets that have another name than in C.
+PACKETS = {"0RTT": "ZERO_RTT", "1RTT": "ONE_RTT"}
+# The enumerations of other modules, with what they are.
+PACKET_TYPES = ("PacketType", "packets", "The types of packets in Packet.kind.")
+CODES = (
+    "Code", "errors", "The codes of a CONNECTION_CLOSE (RFC 9000, section 20.1). A TLS alert is added to CRYPTO_ERROR.")
 
 
 def text(value):
@@ -224,7 +225,14 @@ def own_names(formats):
             yield f"    {text(one.name)}: {{{listed}}},\n"
 
 
+def enumeration(name, module, doc, members):
+    lines = "".join(f"    {word} = {number}\n" for word, number in members)
+    return f'class {name}(enum.IntEnum):\n    """{doc}"""\n\n    __module__ = "quic_wire.{module}"\n\n{lines}\n\n'
+
+
 def made(formats):
+    packets = ((PACKETS.get(name, name), number) for name, number in proved.packet_kinds().items())
+    codes = ((one["name"], f"{one['code']:#04x}") for one in formats["error_codes"])
     tables = {
         "FRAMES: dict[int, Frame] = {": map(frame, formats["frames"]),
         "# By their versions and kinds of packets; those without a version of their own have version 0.\n"
@@ -237,5 +245,6 @@ def made(formats):
     }
     address = "".join(field(one, "    ", index) for index, one in enumerate(formats["preferred_address"]))
     parts = [f"{begin}\n{''.join(some)}}}\n" for begin, some in tables.items()]
-    codes = "".join(f"    {one['name']} = {one['code']:#04x}\n" for one in formats["error_codes"])
-    return f"{BEGIN}{codes}\n\n{''.join(parts)}PREFERRED_ADDRESS: tuple[Field, ...] = (\n{address})\n"
+    return (
+        f"{BEGIN}{enumeration(*CODES, codes)}{enumeration(*PACKET_TYPES, packets)}{''.join(parts)}"
+        f"PREFERRED_ADDRESS: tuple[Field, ...] = (\n{address})\n")

@@ -92,7 +92,7 @@ def fields_of(frame: Frame, payload: bytes) -> list[Field]:
 
 
 def _shown(frame: Frame, name: str, value: Any) -> list[Field]:
-    """A field, and what is told besides it; nothing for one that isn't there."""
+    """A field, and what is printed besides it; nothing for one that isn't there."""
     match name, value:
         case (_, None) | ("frame_type", 0):
             return []

@@ -80,7 +80,7 @@ const PARAMETER_TONES = {
 };
 
 // Units as they are written after a number, if not in full.
-const UNITS = {
+const SHORT_UNITS = {
   milliseconds: "ms", "milliseconds, 0 for none": "ms", microseconds: "µs", "connection ids": "ids", "power of 2": "",
 };
 
@@ -98,7 +98,7 @@ export function parameterOf(id) {
   const tone = PARAMETER_TONES[id];
   if (tone) {
     const { name, kind, unit = "" } = PARAMETERS.get(Number(id));
-    return { name, kind, unit: UNITS[unit] ?? unit, tone };
+    return { name, kind, unit: SHORT_UNITS[unit] ?? unit, tone };
   }
   const isReserved = id >= 27n && (id - 27n) % 31n === 0n;
   return { name: isReserved ? "reserved parameter" : "unknown parameter", kind: "other", unit: "", tone: "padding" };

@@ -35,12 +35,10 @@ export class EntryList {
       this.summaries.set(index, fault ? { text: fault, isBad: true } : this.on.summary(bytes));
     }
     const { text, isBad } = this.summaries.get(index);
-    const option = element("div", "line entry");
-    option.id = `${this.box.id}-${index}`;
+    const option = element("div", "line entry", "", {
+      id: `${this.box.id}-${index}`, role: "option", ariaSetSize: this.entries.length, ariaPosInSet: index + 1,
+    });
     option.dataset.index = index;
-    option.setAttribute("role", "option");
-    option.setAttribute("aria-setsize", this.entries.length);
-    option.setAttribute("aria-posinset", index + 1);
     option.classList.toggle("bad", isBad);
     option.append(
       element("span", "number", `${index + 1}`), element("span", "digits", digitsOf(bytes)),
@@ -52,7 +50,7 @@ export class EntryList {
 
   markLine(option, index) {
     option.classList.toggle("chosen", index === this.at);
-    option.setAttribute("aria-selected", index === this.at);
+    option.ariaSelected = index === this.at;
   }
 
   mark() {

@@ -116,37 +116,30 @@ export class Outline {
     const { item, field } = this.at(index);
     const shown = this.reading.item(item);
     const line = field < 0 ? this.itemLine(shown) : this.fieldLine(shown, field);
-    line.id = `${this.box.id}-${index}`;
-    line.dataset.item = item;
-    line.dataset.field = field;
-    line.setAttribute("role", "treeitem");
+    Object.assign(line, { id: `${this.box.id}-${index}`, role: "treeitem" });
+    Object.assign(line.dataset, { item, field });
     line.classList.add("line", "tone", shown.tone);
     this.lightLine(line, item, field);
     return line;
   }
 
   itemLine(item) {
-    const line = element("div", "item");
     const isOpen = this.isOpen(item.index);
-    line.setAttribute("aria-level", 1);
-    line.setAttribute("aria-expanded", isOpen);
-    line.setAttribute("aria-setsize", this.reading.count);
-    line.setAttribute("aria-posinset", item.index + 1);
-    const caret = element("span", "caret", isOpen ? "▾" : "▸");
-    caret.setAttribute("aria-hidden", true);
-    const dot = element("span", "dot");
-    line.append(caret, dot, element("span", "name", item.name), element("span", "value", item.summary));
-    line.append(element("span", "place", `${item.begin}..${item.end}`));
+    const line = element("div", "item", "", {
+      ariaLevel: 1, ariaExpanded: isOpen, ariaSetSize: this.reading.count, ariaPosInSet: item.index + 1,
+    });
+    line.append(
+      element("span", "caret", isOpen ? "▾" : "▸", { ariaHidden: true }), element("span", "dot"),
+      element("span", "name", item.name), element("span", "value", item.summary),
+      element("span", "place", `${item.begin}..${item.end}`),
+    );
     return line;
   }
 
   fieldLine(item, index) {
     const lines = linesOf(item);
     const field = lines[index];
-    const line = element("div", "field");
-    line.setAttribute("aria-level", 2);
-    line.setAttribute("aria-setsize", lines.length);
-    line.setAttribute("aria-posinset", index + 1);
+    const line = element("div", "field", "", { ariaLevel: 2, ariaSetSize: lines.length, ariaPosInSet: index + 1 });
     line.classList.toggle("fault", Boolean(field.fault));
     line.append(element("span", "name", field.name));
     if (field.ranges) {
@@ -171,7 +164,7 @@ export class Outline {
     line.classList.toggle("lit-field", isField);
     const isHere = isField && spot.isActive;
     line.classList.toggle("here", isHere);
-    line.setAttribute("aria-selected", isHere);
+    line.ariaSelected = isHere;
   }
 
   light(spot) {

@@ -29,28 +29,11 @@ class WrongCall(Exception):
 
 
 class Known(NamedTuple):
-    """An option: what its value is, if it has one, and which modes accept it; none are all."""
+    """An option: what its value is, if it has one, which modes accept it, none being all, and how the value is read."""
 
     value: Optional[str] = None
     modes: tuple[str, ...] = ()
-
-
-OPTIONS = {
-    "--help": Known(),
-    "--version": Known(),
-    "--json": Known(),
-    "--base64": Known(),
-    "--color": Known("always, never or auto"),
-    "--rfc": Known(modes=READERS),
-    "--quinn": Known(modes=READERS),
-    "--strict": Known(modes=("frames",)),
-    "--cid-len": Known("how many bytes an id has, 0 to 20", ("datagram",)),
-    "--versions": Known("versions in hexadecimal, with commas between them", ("datagram",)),
-    "--grease": Known(modes=("datagram",)),
-    "--side": Known("client or server", ("params",)),
-    "--largest": Known("the largest packet number that was received", ("number",)),
-    "--keylog": Known("a key log file", ("capture",)),
-}
+    read: Optional[Callable[[str], object]] = None
 
 
 @dataclass
@@ -130,17 +113,8 @@ def _take(args: Args, text: str, rest: Iterator[str]) -> list[str]:
         if given is None:
             raise WrongCall(f"{name} needs a value: {known.value}")
         value = given
-    _set(args, name, value)
+    setattr(args, name[2:].replace("-", "_"), known.read(value) if known.read else True)
     return [name] if known.modes else []
-
-
-def _set(args: Args, name: str, value: str) -> None:
-    attribute = name[2:].replace("-", "_")
-    readers: dict[str, Callable[[str], object]] = {
-        "--color": _when, "--cid-len": _cid_len, "--versions": _versions, "--side": _side, "--largest": _largest,
-        "--keylog": str,
-    }  # fmt: skip
-    setattr(args, attribute, readers[name](value) if name in readers else True)
 
 
 def _cid_len(text: str) -> int:
@@ -184,6 +158,24 @@ def _when(text: str) -> str:
     if text not in all_words:
         raise WrongCall(f"--color: expected always, never or auto, not {_debug(text)}{_nearest(text, all_words)}")
     return text
+
+
+OPTIONS = {
+    "--help": Known(),
+    "--version": Known(),
+    "--json": Known(),
+    "--base64": Known(),
+    "--color": Known("always, never or auto", (), _when),
+    "--rfc": Known(modes=READERS),
+    "--quinn": Known(modes=READERS),
+    "--strict": Known(modes=("frames",)),
+    "--cid-len": Known("how many bytes an id has, 0 to 20", ("datagram",), _cid_len),
+    "--versions": Known("versions in hexadecimal, with commas between them", ("datagram",), _versions),
+    "--grease": Known(modes=("datagram",)),
+    "--side": Known("client or server", ("params",), _side),
+    "--largest": Known("the largest packet number that was received", ("number",), _largest),
+    "--keylog": Known("a key log file", ("capture",), str),
+}
 
 
 def _debug(text: str) -> str:

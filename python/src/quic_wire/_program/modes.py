@@ -2,7 +2,6 @@
 
 from __future__ import annotations
 
-import operator
 from typing import Any, Optional
 
 from .. import (
@@ -106,11 +105,7 @@ def _shown(frame: Frame, name: str, value: Any) -> list[Field]:
             return [("len", out.number(len(value))), (name, out.data(value))]
         case "ranges", _:
             return [(name, out.ranges(value))]
-        case _, bool():
-            return [(name, out.flag(value))]
-        case _, int():
-            return [(name, out.number(value))]
-    return [(name, out.data(value))]
+    return [(name, out.plain(value))]
 
 
 def code_name(code: int) -> str:
@@ -249,7 +244,7 @@ _BY_DEFAULT = TransportParameters()
 
 def _parameter(read: TransportParameters, name: str) -> list[Field]:
     """A parameter that differs from its default."""
-    value = operator.attrgetter(name)(read)
+    value = getattr(read, name)
     if value == getattr(_BY_DEFAULT, name):
         return []
     if name == _PREFERRED:
@@ -260,5 +255,4 @@ def _parameter(read: TransportParameters, name: str) -> list[Field]:
                 fields.append((f"{_PREFERRED}_{version}", out.word(str(Endpoint(address[0].packed, address[1])))))
         return [*fields, (f"{_PREFERRED}_cid", out.data(value.connection_id)),
                 (f"{_PREFERRED}_token", out.data(value.reset_token))]  # fmt: skip
-    shown = out.data if isinstance(value, bytes) else out.flag if isinstance(value, bool) else out.number
-    return [(_SHORT_NAMES.get(name, name), shown(value))]
+    return [(_SHORT_NAMES.get(name, name), out.plain(value))]

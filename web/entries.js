@@ -87,9 +87,7 @@ function* readLog(text) {
     } else {
       left += one.trim() === "" ? 0 : 1;
     }
-    if (pace.isDue(one.length)) {
-      yield;
-    }
+    yield* pace.after(one.length);
   }
   return { entries, left };
 }
@@ -104,9 +102,7 @@ function* withBase64(pieces) {
       return null;
     }
     all.push(piece.fault === null ? piece : { ...piece, bytes, fault: null, kind: BASE64 });
-    if (pace.isDue(piece.text.length)) {
-      yield;
-    }
+    yield* pace.after(piece.text.length);
   }
   return all;
 }

@@ -3,15 +3,15 @@
 // Made by scripts/tables from docs/formats.json: change nothing here.
 // docs/formats.schema.json explains the members. Keys are Numbers; bounds, defaults and values are BigInts.
 
-// Frames by their types.
+// Frames by their types. |kind| is one type for all of STREAM, of ACK and of DATAGRAM.
 export const FRAMES = new Map([
-  [0x00, {type: 0, name: "PADDING", section: "RFC 9000, section 19.1", fields: [
+  [0x00, {kind: 0x00, type: 0, name: "PADDING", section: "RFC 9000, section 19.1", fields: [
     {index: 0, kind: "number", name: "Type", unit: "frame type"},
   ]}],
-  [0x01, {type: 1, name: "PING", section: "RFC 9000, section 19.2", fields: [
+  [0x01, {kind: 0x01, type: 1, name: "PING", section: "RFC 9000, section 19.2", fields: [
     {index: 0, kind: "number", name: "Type", unit: "frame type"},
   ]}],
-  [0x02, {type: 2, name: "ACK", section: "RFC 9000, section 19.3", fields: [
+  [0x02, {kind: 0x02, type: 2, name: "ACK", section: "RFC 9000, section 19.3", fields: [
     {index: 0, kind: "number", name: "Type", unit: "frame type"},
     {index: 1, kind: "number", name: "Largest Acknowledged", unit: "packet number"},
     {index: 2, kind: "number", name: "ACK Delay", unit: "2^ack_delay_exponent microseconds"},
@@ -20,7 +20,7 @@ export const FRAMES = new Map([
       numbers: ["ACK Range Count", "First ACK Range", "Gap", "ACK Range Length"],
     },
   ]}],
-  [0x03, {type: 3, name: "ACK", quinn_proto: "ACK_ECN", section: "RFC 9000, section 19.3", fields: [
+  [0x03, {kind: 0x02, type: 3, name: "ACK", quinn_proto: "ACK_ECN", section: "RFC 9000, section 19.3", fields: [
     {index: 0, kind: "number", name: "Type", unit: "frame type"},
     {index: 1, kind: "number", name: "Largest Acknowledged", unit: "packet number"},
     {index: 2, kind: "number", name: "ACK Delay", unit: "2^ack_delay_exponent microseconds"},
@@ -32,7 +32,7 @@ export const FRAMES = new Map([
     {index: 5, kind: "number", name: "ECT1 Count", unit: "packets"},
     {index: 6, kind: "number", name: "ECN-CE Count", unit: "packets"},
   ]}],
-  [0x04, {type: 4, name: "RESET_STREAM", section: "RFC 9000, section 19.4", fields: [
+  [0x04, {kind: 0x04, type: 4, name: "RESET_STREAM", section: "RFC 9000, section 19.4", fields: [
     {index: 0, kind: "number", name: "Type", unit: "frame type"},
     {index: 1, kind: "number", name: "Stream ID", unit: "stream id"},
     {
@@ -40,125 +40,125 @@ export const FRAMES = new Map([
     },
     {index: 3, kind: "number", name: "Final Size", unit: "bytes"},
   ]}],
-  [0x05, {type: 5, name: "STOP_SENDING", section: "RFC 9000, section 19.5", fields: [
+  [0x05, {kind: 0x05, type: 5, name: "STOP_SENDING", section: "RFC 9000, section 19.5", fields: [
     {index: 0, kind: "number", name: "Type", unit: "frame type"},
     {index: 1, kind: "number", name: "Stream ID", unit: "stream id"},
     {
       index: 2, kind: "number", name: "Application Protocol Error Code", unit: "application error code",
     },
   ]}],
-  [0x06, {type: 6, name: "CRYPTO", section: "RFC 9000, section 19.6", fields: [
+  [0x06, {kind: 0x06, type: 6, name: "CRYPTO", section: "RFC 9000, section 19.6", fields: [
     {index: 0, kind: "number", name: "Type", unit: "frame type"},
     {index: 1, kind: "number", name: "Offset", unit: "bytes"},
     {index: 2, kind: "counted", name: "Crypto Data", length: "Length"},
   ]}],
-  [0x07, {type: 7, name: "NEW_TOKEN", section: "RFC 9000, section 19.7", fields: [
+  [0x07, {kind: 0x07, type: 7, name: "NEW_TOKEN", section: "RFC 9000, section 19.7", fields: [
     {index: 0, kind: "number", name: "Type", unit: "frame type"},
     {index: 1, kind: "counted", name: "Token", length: "Token Length"},
   ]}],
-  [0x08, {type: 8, name: "STREAM", section: "RFC 9000, section 19.8", fields: [
+  [0x08, {kind: 0x08, type: 8, name: "STREAM", section: "RFC 9000, section 19.8", fields: [
     {index: 0, kind: "number", name: "Type", unit: "frame type"},
     {index: 1, kind: "implied", name: "FIN", unit: "1 at the end of the stream", value: 0n},
     {index: 2, kind: "number", name: "Stream ID", unit: "stream id"},
     {index: 3, kind: "implied", name: "Offset", unit: "bytes", value: 0n},
     {index: 4, kind: "rest", name: "Stream Data"},
   ]}],
-  [0x09, {type: 9, name: "STREAM", section: "RFC 9000, section 19.8", fields: [
+  [0x09, {kind: 0x08, type: 9, name: "STREAM", section: "RFC 9000, section 19.8", fields: [
     {index: 0, kind: "number", name: "Type", unit: "frame type"},
     {index: 1, kind: "implied", name: "FIN", unit: "1 at the end of the stream", value: 1n},
     {index: 2, kind: "number", name: "Stream ID", unit: "stream id"},
     {index: 3, kind: "implied", name: "Offset", unit: "bytes", value: 0n},
     {index: 4, kind: "rest", name: "Stream Data"},
   ]}],
-  [0x0a, {type: 10, name: "STREAM", section: "RFC 9000, section 19.8", fields: [
+  [0x0a, {kind: 0x08, type: 10, name: "STREAM", section: "RFC 9000, section 19.8", fields: [
     {index: 0, kind: "number", name: "Type", unit: "frame type"},
     {index: 1, kind: "implied", name: "FIN", unit: "1 at the end of the stream", value: 0n},
     {index: 2, kind: "number", name: "Stream ID", unit: "stream id"},
     {index: 3, kind: "implied", name: "Offset", unit: "bytes", value: 0n},
     {index: 4, kind: "counted", name: "Stream Data", length: "Length"},
   ]}],
-  [0x0b, {type: 11, name: "STREAM", section: "RFC 9000, section 19.8", fields: [
+  [0x0b, {kind: 0x08, type: 11, name: "STREAM", section: "RFC 9000, section 19.8", fields: [
     {index: 0, kind: "number", name: "Type", unit: "frame type"},
     {index: 1, kind: "implied", name: "FIN", unit: "1 at the end of the stream", value: 1n},
     {index: 2, kind: "number", name: "Stream ID", unit: "stream id"},
     {index: 3, kind: "implied", name: "Offset", unit: "bytes", value: 0n},
     {index: 4, kind: "counted", name: "Stream Data", length: "Length"},
   ]}],
-  [0x0c, {type: 12, name: "STREAM", section: "RFC 9000, section 19.8", fields: [
+  [0x0c, {kind: 0x08, type: 12, name: "STREAM", section: "RFC 9000, section 19.8", fields: [
     {index: 0, kind: "number", name: "Type", unit: "frame type"},
     {index: 1, kind: "implied", name: "FIN", unit: "1 at the end of the stream", value: 0n},
     {index: 2, kind: "number", name: "Stream ID", unit: "stream id"},
     {index: 3, kind: "number", name: "Offset", unit: "bytes"},
     {index: 4, kind: "rest", name: "Stream Data"},
   ]}],
-  [0x0d, {type: 13, name: "STREAM", section: "RFC 9000, section 19.8", fields: [
+  [0x0d, {kind: 0x08, type: 13, name: "STREAM", section: "RFC 9000, section 19.8", fields: [
     {index: 0, kind: "number", name: "Type", unit: "frame type"},
     {index: 1, kind: "implied", name: "FIN", unit: "1 at the end of the stream", value: 1n},
     {index: 2, kind: "number", name: "Stream ID", unit: "stream id"},
     {index: 3, kind: "number", name: "Offset", unit: "bytes"},
     {index: 4, kind: "rest", name: "Stream Data"},
   ]}],
-  [0x0e, {type: 14, name: "STREAM", section: "RFC 9000, section 19.8", fields: [
+  [0x0e, {kind: 0x08, type: 14, name: "STREAM", section: "RFC 9000, section 19.8", fields: [
     {index: 0, kind: "number", name: "Type", unit: "frame type"},
     {index: 1, kind: "implied", name: "FIN", unit: "1 at the end of the stream", value: 0n},
     {index: 2, kind: "number", name: "Stream ID", unit: "stream id"},
     {index: 3, kind: "number", name: "Offset", unit: "bytes"},
     {index: 4, kind: "counted", name: "Stream Data", length: "Length"},
   ]}],
-  [0x0f, {type: 15, name: "STREAM", section: "RFC 9000, section 19.8", fields: [
+  [0x0f, {kind: 0x08, type: 15, name: "STREAM", section: "RFC 9000, section 19.8", fields: [
     {index: 0, kind: "number", name: "Type", unit: "frame type"},
     {index: 1, kind: "implied", name: "FIN", unit: "1 at the end of the stream", value: 1n},
     {index: 2, kind: "number", name: "Stream ID", unit: "stream id"},
     {index: 3, kind: "number", name: "Offset", unit: "bytes"},
     {index: 4, kind: "counted", name: "Stream Data", length: "Length"},
   ]}],
-  [0x10, {type: 16, name: "MAX_DATA", section: "RFC 9000, section 19.9", fields: [
+  [0x10, {kind: 0x10, type: 16, name: "MAX_DATA", section: "RFC 9000, section 19.9", fields: [
     {index: 0, kind: "number", name: "Type", unit: "frame type"},
     {index: 1, kind: "number", name: "Maximum Data", unit: "bytes"},
   ]}],
-  [0x11, {type: 17, name: "MAX_STREAM_DATA", section: "RFC 9000, section 19.10", fields: [
+  [0x11, {kind: 0x11, type: 17, name: "MAX_STREAM_DATA", section: "RFC 9000, section 19.10", fields: [
     {index: 0, kind: "number", name: "Type", unit: "frame type"},
     {index: 1, kind: "number", name: "Stream ID", unit: "stream id"},
     {index: 2, kind: "number", name: "Maximum Stream Data", unit: "bytes"},
   ]}],
-  [0x12, {type: 18, name: "MAX_STREAMS", quinn_proto: "MAX_STREAMS_BIDI", section: "RFC 9000, section 19.11", fields: [
+  [0x12, {kind: 0x12, type: 18, name: "MAX_STREAMS", quinn_proto: "MAX_STREAMS_BIDI", section: "RFC 9000, section 19.11", fields: [
     {index: 0, kind: "number", name: "Type", unit: "frame type"},
     {
       index: 1, kind: "implied", name: "Direction", unit: "0 bidirectional, 1 unidirectional", value: 0n,
     },
     {index: 2, kind: "number", name: "Maximum Streams", unit: "streams", max: 1152921504606846976n},
   ]}],
-  [0x13, {type: 19, name: "MAX_STREAMS", quinn_proto: "MAX_STREAMS_UNI", section: "RFC 9000, section 19.11", fields: [
+  [0x13, {kind: 0x13, type: 19, name: "MAX_STREAMS", quinn_proto: "MAX_STREAMS_UNI", section: "RFC 9000, section 19.11", fields: [
     {index: 0, kind: "number", name: "Type", unit: "frame type"},
     {
       index: 1, kind: "implied", name: "Direction", unit: "0 bidirectional, 1 unidirectional", value: 1n,
     },
     {index: 2, kind: "number", name: "Maximum Streams", unit: "streams", max: 1152921504606846976n},
   ]}],
-  [0x14, {type: 20, name: "DATA_BLOCKED", section: "RFC 9000, section 19.12", fields: [
+  [0x14, {kind: 0x14, type: 20, name: "DATA_BLOCKED", section: "RFC 9000, section 19.12", fields: [
     {index: 0, kind: "number", name: "Type", unit: "frame type"},
     {index: 1, kind: "number", name: "Maximum Data", unit: "bytes"},
   ]}],
-  [0x15, {type: 21, name: "STREAM_DATA_BLOCKED", section: "RFC 9000, section 19.13", fields: [
+  [0x15, {kind: 0x15, type: 21, name: "STREAM_DATA_BLOCKED", section: "RFC 9000, section 19.13", fields: [
     {index: 0, kind: "number", name: "Type", unit: "frame type"},
     {index: 1, kind: "number", name: "Stream ID", unit: "stream id"},
     {index: 2, kind: "number", name: "Maximum Stream Data", unit: "bytes"},
   ]}],
-  [0x16, {type: 22, name: "STREAMS_BLOCKED", quinn_proto: "STREAMS_BLOCKED_BIDI", section: "RFC 9000, section 19.14", fields: [
+  [0x16, {kind: 0x16, type: 22, name: "STREAMS_BLOCKED", quinn_proto: "STREAMS_BLOCKED_BIDI", section: "RFC 9000, section 19.14", fields: [
     {index: 0, kind: "number", name: "Type", unit: "frame type"},
     {
       index: 1, kind: "implied", name: "Direction", unit: "0 bidirectional, 1 unidirectional", value: 0n,
     },
     {index: 2, kind: "number", name: "Maximum Streams", unit: "streams", max: 1152921504606846976n},
   ]}],
-  [0x17, {type: 23, name: "STREAMS_BLOCKED", quinn_proto: "STREAMS_BLOCKED_UNI", section: "RFC 9000, section 19.14", fields: [
+  [0x17, {kind: 0x17, type: 23, name: "STREAMS_BLOCKED", quinn_proto: "STREAMS_BLOCKED_UNI", section: "RFC 9000, section 19.14", fields: [
     {index: 0, kind: "number", name: "Type", unit: "frame type"},
     {
       index: 1, kind: "implied", name: "Direction", unit: "0 bidirectional, 1 unidirectional", value: 1n,
     },
     {index: 2, kind: "number", name: "Maximum Streams", unit: "streams", max: 1152921504606846976n},
   ]}],
-  [0x18, {type: 24, name: "NEW_CONNECTION_ID", section: "RFC 9000, section 19.15", fields: [
+  [0x18, {kind: 0x18, type: 24, name: "NEW_CONNECTION_ID", section: "RFC 9000, section 19.15", fields: [
     {index: 0, kind: "number", name: "Type", unit: "frame type"},
     {index: 1, kind: "number", name: "Sequence Number", unit: "sequence number"},
     {index: 2, kind: "number", name: "Retire Prior To", unit: "sequence number"},
@@ -166,19 +166,19 @@ export const FRAMES = new Map([
     {index: 4, kind: "id", name: "Connection ID", length: "Length", bytes: [1, 20]},
     {index: 5, kind: "bytes", name: "Stateless Reset Token", bytes: [16, 16]},
   ]}],
-  [0x19, {type: 25, name: "RETIRE_CONNECTION_ID", section: "RFC 9000, section 19.16", fields: [
+  [0x19, {kind: 0x19, type: 25, name: "RETIRE_CONNECTION_ID", section: "RFC 9000, section 19.16", fields: [
     {index: 0, kind: "number", name: "Type", unit: "frame type"},
     {index: 1, kind: "number", name: "Sequence Number", unit: "sequence number"},
   ]}],
-  [0x1a, {type: 26, name: "PATH_CHALLENGE", section: "RFC 9000, section 19.17", fields: [
+  [0x1a, {kind: 0x1a, type: 26, name: "PATH_CHALLENGE", section: "RFC 9000, section 19.17", fields: [
     {index: 0, kind: "number", name: "Type", unit: "frame type"},
     {index: 1, kind: "uint64", name: "Data", bytes: [8, 8]},
   ]}],
-  [0x1b, {type: 27, name: "PATH_RESPONSE", section: "RFC 9000, section 19.18", fields: [
+  [0x1b, {kind: 0x1b, type: 27, name: "PATH_RESPONSE", section: "RFC 9000, section 19.18", fields: [
     {index: 0, kind: "number", name: "Type", unit: "frame type"},
     {index: 1, kind: "uint64", name: "Data", bytes: [8, 8]},
   ]}],
-  [0x1c, {type: 28, name: "CONNECTION_CLOSE", section: "RFC 9000, section 19.19", fields: [
+  [0x1c, {kind: 0x1c, type: 28, name: "CONNECTION_CLOSE", section: "RFC 9000, section 19.19", fields: [
     {index: 0, kind: "number", name: "Type", unit: "frame type"},
     {index: 1, kind: "number", name: "Error Code", unit: "error code"},
     {index: 2, kind: "number", name: "Frame Type", unit: "frame type, 0 if unknown"},
@@ -186,28 +186,28 @@ export const FRAMES = new Map([
       index: 3, kind: "counted", name: "Reason Phrase", unit: "UTF-8", length: "Reason Phrase Length",
     },
   ]}],
-  [0x1d, {type: 29, name: "CONNECTION_CLOSE", quinn_proto: "APPLICATION_CLOSE", section: "RFC 9000, section 19.19", fields: [
+  [0x1d, {kind: 0x1d, type: 29, name: "CONNECTION_CLOSE", quinn_proto: "APPLICATION_CLOSE", section: "RFC 9000, section 19.19", fields: [
     {index: 0, kind: "number", name: "Type", unit: "frame type"},
     {index: 1, kind: "number", name: "Error Code", unit: "application error code"},
     {
       index: 2, kind: "counted", name: "Reason Phrase", unit: "UTF-8", length: "Reason Phrase Length",
     },
   ]}],
-  [0x1e, {type: 30, name: "HANDSHAKE_DONE", section: "RFC 9000, section 19.20", fields: [
+  [0x1e, {kind: 0x1e, type: 30, name: "HANDSHAKE_DONE", section: "RFC 9000, section 19.20", fields: [
     {index: 0, kind: "number", name: "Type", unit: "frame type"},
   ]}],
-  [0x1f, {type: 31, name: "IMMEDIATE_ACK", section: "draft-ietf-quic-ack-frequency, section 5", fields: [
+  [0x1f, {kind: 0x1f, type: 31, name: "IMMEDIATE_ACK", section: "draft-ietf-quic-ack-frequency, section 5", fields: [
     {index: 0, kind: "number", name: "Type", unit: "frame type"},
   ]}],
-  [0x30, {type: 48, name: "DATAGRAM", section: "RFC 9221, section 4", fields: [
+  [0x30, {kind: 0x30, type: 48, name: "DATAGRAM", section: "RFC 9221, section 4", fields: [
     {index: 0, kind: "number", name: "Type", unit: "frame type"},
     {index: 1, kind: "rest", name: "Datagram Data"},
   ]}],
-  [0x31, {type: 49, name: "DATAGRAM", section: "RFC 9221, section 4", fields: [
+  [0x31, {kind: 0x30, type: 49, name: "DATAGRAM", section: "RFC 9221, section 4", fields: [
     {index: 0, kind: "number", name: "Type", unit: "frame type"},
     {index: 1, kind: "counted", name: "Datagram Data", length: "Length"},
   ]}],
-  [0xaf, {type: 175, name: "ACK_FREQUENCY", section: "draft-ietf-quic-ack-frequency, section 4", fields: [
+  [0xaf, {kind: 0xaf, type: 175, name: "ACK_FREQUENCY", section: "draft-ietf-quic-ack-frequency, section 4", fields: [
     {index: 0, kind: "number", name: "Type", unit: "frame type"},
     {index: 1, kind: "number", name: "Sequence Number", unit: "sequence number"},
     {index: 2, kind: "number", name: "Ack-Eliciting Threshold", unit: "packets"},

@@ -27,8 +27,7 @@ export class Grid {
     this.differs = differs;
     this.box.removeAttribute("aria-activedescendant");
     const lines = Math.ceil(reading.bytes.length / columns);
-    this.box.setAttribute("aria-rowcount", lines);
-    this.box.setAttribute("aria-colcount", columns);
+    Object.assign(this.box, { ariaRowCount: lines, ariaColCount: columns });
     this.rows.setCount(lines);
   }
 
@@ -45,13 +44,9 @@ export class Grid {
   }
 
   line(index) {
-    const line = element("div", "line");
-    line.setAttribute("role", "row");
-    line.setAttribute("aria-rowindex", index + 1);
+    const line = element("div", "line", "", { role: "row", ariaRowIndex: index + 1 });
     const begin = index * this.columns;
-    const offset = element("span", "offset", begin.toString(16).padStart(4, "0"));
-    offset.setAttribute("role", "rowheader");
-    line.append(offset);
+    line.append(element("span", "offset", begin.toString(16).padStart(4, "0"), { role: "rowheader" }));
     const end = Math.min(begin + this.columns, this.reading.bytes.length);
     for (let place = begin; place < end; place += 1) {
       line.append(this.cell(place));
@@ -61,9 +56,8 @@ export class Grid {
 
   cell(place) {
     const { reading } = this;
-    const cell = element("span", "byte", hexOfByte(reading.bytes[place]));
-    cell.setAttribute("role", "gridcell");
-    cell.id = `${this.box.id}-${place}`;
+    const id = `${this.box.id}-${place}`;
+    const cell = element("span", "byte", hexOfByte(reading.bytes[place]), { role: "gridcell", id });
     cell.dataset.place = place;
     const index = reading.indexAt(place);
     cell.classList.toggle("differs", this.isOther(place));
@@ -127,7 +121,7 @@ export class Grid {
       return;
     }
     const other = this.isOther(spot.place) ? ", differs" : "";
-    cell.setAttribute("aria-label", `byte ${spot.place}, ${cell.textContent}, ${spot.label}${other}`);
+    cell.ariaLabel = `byte ${spot.place}, ${cell.textContent}, ${spot.label}${other}`;
     this.box.setAttribute("aria-activedescendant", cell.id);
   }
 

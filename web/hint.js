@@ -1,11 +1,10 @@
 // Whether another mode reads what the chosen one rejects, as `quic-wire` hints.
 
+import { FRAMES } from "./formats.js";
 import { readBytes } from "./reading.js";
 
 // A datagram has fewer bytes.
 const MOST_TRIED = 65536;
-// The types of a STREAM or DATAGRAM without a length: any bytes are one such frame.
-const TAKE_ALL = [0x08, 0x09, 0x0c, 0x0d, 0x30];
 
 // The mode, or null if there is doubt. A long header of a version that is read is neither a frame's type nor a
 // parameter's id.
@@ -14,7 +13,8 @@ export function otherMode(library, { bytes, error }, choices) {
     return null;
   }
   if (choices.mode === "datagram") {
-    const isAny = TAKE_ALL.includes(bytes[0]);
+    // Any bytes after the type of a STREAM or DATAGRAM without a length are one such frame.
+    const isAny = FRAMES.get(bytes[0])?.fields.at(-1).kind === "rest";
     return isAny || readBytes(library, bytes, { ...choices, mode: "frames" }).error ? null : "frames";
   }
   const reading = readBytes(library, bytes, { ...choices, mode: "datagram" });

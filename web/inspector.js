@@ -25,11 +25,7 @@ function valueOf(field, bytes) {
 // A link that is followed only by a click, and sends nothing about this page to the server of the RFC.
 function sectionLink(unit, item, field) {
   const { text, address } = sectionOf(unit, item, field);
-  const link = element("a", "section", text);
-  link.href = address;
-  link.target = "_blank";
-  link.rel = "noreferrer";
-  return link;
+  return element("a", "section", text, { href: address, target: "_blank", rel: "noreferrer" });
 }
 
 export function inspect(box, reading, spot) {

@@ -35,12 +35,10 @@ export class EntryList {
       this.summaries.set(index, fault ? { text: fault, isBad: true } : this.on.summary(bytes));
     }
     const { text, isBad } = this.summaries.get(index);
-    const option = element("div", "line entry");
-    option.id = `${this.box.id}-${index}`;
+    const option = element("div", "line entry", "", {
+      id: `${this.box.id}-${index}`, role: "option", ariaSetSize: this.entries.length, ariaPosInSet: index + 1,
+    });
     option.dataset.index = index;
-    option.setAttribute("role", "option");
-    option.setAttribute("aria-setsize", this.entries.length);
-    option.setAttribute("aria-posinset", index + 1);
     option.classList.toggle("bad", isBad);
     option.append(
       element("span", "number", `${index + 1}`), element("span", "digits", digitsOf(bytes)),
@@ -52,7 +50,7 @@ export class EntryList {
 
   markLine(option, index) {
     option.classList.toggle("chosen", index === this.at);
-    option.setAttribute("aria-selected", index === this.at);
+    option.ariaSelected = index === this.at;
   }
 
   mark() {
@@ -62,8 +60,7 @@ export class EntryList {
     this.box.setAttribute("aria-activedescendant", `${this.box.id}-${this.at}`);
   }
 
-  choose(index) {
-    const to = Math.max(0, Math.min(this.entries.length - 1, index));
+  choose(to) {
     if (to !== this.at) {
       this.at = to;
       this.rows.reveal(to);
@@ -80,14 +77,10 @@ export class EntryList {
   }
 
   key(event) {
-    const { at } = this;
-    const steps = {
-      ArrowDown: at + 1, ArrowUp: at - 1, Home: 0, End: this.entries.length - 1, PageDown: at + this.rows.page,
-      PageUp: at - this.rows.page,
-    };
-    if (event.key in steps && !event.altKey && !event.metaKey) {
+    const to = event.altKey || event.metaKey ? null : this.rows.step(event.key, this.at);
+    if (to !== null) {
       event.preventDefault();
-      this.choose(steps[event.key]);
+      this.choose(to);
     }
   }
 }

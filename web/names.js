@@ -21,12 +21,8 @@ export function frameTone(kind) {
   return FRAME_TONES[kind];
 }
 
-// The kind of a type on the wire: one for all types of STREAM, of ACK and of DATAGRAM.
-export function kindOfType(type) {
-  const kinds = { 0x03: 0x02, 0x31: 0x30 };
-  const kind = type >= 0x08n && type <= 0x0fn ? 0x08 : kinds[type] ?? Number(type);
-  return FRAMES.has(kind) ? kind : null;
-}
+// The kind of a type on the wire, or null.
+export const kindOfType = (type) => FRAMES.get(Number(type))?.kind ?? null;
 
 // The name of a type on the wire.
 export function typeName(type) {
@@ -76,13 +72,16 @@ export function errorName(code) {
   return ERROR_CODES.get(Number(code))?.name ?? "";
 }
 
-// For each known transport parameter its unit as it is written after a number, and its tone.
-const PARAMETER_LOOKS = {
-  0x00: ["", "id"], 0x01: ["ms", "ack"], 0x02: ["", "id"], 0x03: ["bytes", "data"], 0x04: ["bytes", "limit"],
-  0x05: ["bytes", "limit"], 0x06: ["bytes", "limit"], 0x07: ["bytes", "limit"], 0x08: ["streams", "limit"],
-  0x09: ["streams", "limit"], 0x0a: ["", "ack"], 0x0b: ["ms", "ack"], 0x0c: ["", "stop"], 0x0d: ["", "id"],
-  0x0e: ["ids", "id"], 0x0f: ["", "id"], 0x10: ["", "id"], 0x20: ["bytes", "data"], 0x2ab2: ["", "signal"],
-  0xff04de1b: ["µs", "ack"],
+// For each known transport parameter the tone that it is drawn in.
+const PARAMETER_TONES = {
+  0x00: "id", 0x01: "ack", 0x02: "id", 0x03: "data", 0x04: "limit", 0x05: "limit", 0x06: "limit", 0x07: "limit",
+  0x08: "limit", 0x09: "limit", 0x0a: "ack", 0x0b: "ack", 0x0c: "stop", 0x0d: "id", 0x0e: "id", 0x0f: "id", 0x10: "id",
+  0x20: "data", 0x2ab2: "signal", 0xff04de1b: "ack",
+};
+
+// Units as they are written after a number, if not in full.
+const SHORT_UNITS = {
+  milliseconds: "ms", "milliseconds, 0 for none": "ms", microseconds: "µs", "connection ids": "ids", "power of 2": "",
 };
 
 // The bounds of a parameter's value, or nothing.
@@ -96,10 +95,10 @@ export function isOfServers(id) {
 }
 
 export function parameterOf(id) {
-  const looks = PARAMETER_LOOKS[id];
-  if (looks) {
-    const { name, kind } = PARAMETERS.get(Number(id));
-    return { name, kind, unit: looks[0], tone: looks[1] };
+  const tone = PARAMETER_TONES[id];
+  if (tone) {
+    const { name, kind, unit = "" } = PARAMETERS.get(Number(id));
+    return { name, kind, unit: SHORT_UNITS[unit] ?? unit, tone };
   }
   const isReserved = id >= 27n && (id - 27n) % 31n === 0n;
   return { name: isReserved ? "reserved parameter" : "unknown parameter", kind: "other", unit: "", tone: "padding" };

@@ -30,11 +30,8 @@ function bytesIn(text, length) {
 
 function input(tag, name, label, value) {
   const box = element("label", "", `${label} `);
-  const field = element(tag);
+  const field = element(tag, "", "", { value, spellcheck: false, autocapitalize: "off" });
   field.dataset.name = name;
-  field.value = value;
-  field.spellcheck = false;
-  field.autocapitalize = "off";
   box.append(field);
   return { box, field };
 }
@@ -122,8 +119,7 @@ export class Opened {
     const form = element("fieldset", "packet");
     const fields = [input("input", "mask", "Mask, 5 bytes", mask), input("textarea", "plain", "Plain payload", plain)];
     fields[1].field.rows = 2;
-    const note = element("p", "packet-note");
-    note.id = `packet-note-${index}`;
+    const note = element("p", "packet-note", "", { id: `packet-note-${index}` });
     for (const { field } of fields) {
       field.setAttribute("aria-describedby", note.id);
     }
@@ -159,13 +155,9 @@ export class Opened {
     const plain = bytesIn(fields[1].value);
     const header = mask.bytes && this.reading.library.unprotect(packet, mask.bytes);
     const faults = [];
-    fields[0].setAttribute("aria-invalid", Boolean(mask.fault));
-    fields[1].setAttribute("aria-invalid", Boolean(plain.fault));
-    if (mask.fault) {
-      faults.push(`Mask: ${mask.fault}`);
-    }
-    if (plain.fault) {
-      faults.push(`Payload: ${plain.fault}`);
+    for (const [at, name, { fault }] of [[0, "Mask", mask], [1, "Payload", plain]]) {
+      fields[at].ariaInvalid = Boolean(fault);
+      faults.push(...(fault ? [`${name}: ${fault}`] : []));
     }
     if (header && plain.bytes) {
       const room = packet.end - packet.number - header.numberLength - TAG;

@@ -1,6 +1,7 @@
 // The items and, under each that is open, its fields: an ARIA tree whose active line moves with the arrow keys.
 
 import { element, Rows } from "./rows.js";
+import { lastWhere } from "./search.js";
 import { stripOf } from "./strip.js";
 
 // At first this many items are open, of those with at most this many lines.
@@ -65,17 +66,7 @@ export class Outline {
 
   // The last open item for which |test| holds, given its index and the lines of open ones before it, or -1.
   lastOpen(test) {
-    let low = 0;
-    let high = this.open.length;
-    while (low < high) {
-      const middle = (low + high) >> 1;
-      if (test(this.open[middle], this.before[middle])) {
-        low = middle + 1;
-      } else {
-        high = middle;
-      }
-    }
-    return low - 1;
+    return lastWhere(this.open.length, (at) => test(this.open[at], this.before[at]));
   }
 
   // The item and the field on a line.
@@ -125,37 +116,30 @@ export class Outline {
     const { item, field } = this.at(index);
     const shown = this.reading.item(item);
     const line = field < 0 ? this.itemLine(shown) : this.fieldLine(shown, field);
-    line.id = `${this.box.id}-${index}`;
-    line.dataset.item = item;
-    line.dataset.field = field;
-    line.setAttribute("role", "treeitem");
+    Object.assign(line, { id: `${this.box.id}-${index}`, role: "treeitem" });
+    Object.assign(line.dataset, { item, field });
     line.classList.add("line", "tone", shown.tone);
     this.lightLine(line, item, field);
     return line;
   }
 
   itemLine(item) {
-    const line = element("div", "item");
     const isOpen = this.isOpen(item.index);
-    line.setAttribute("aria-level", 1);
-    line.setAttribute("aria-expanded", isOpen);
-    line.setAttribute("aria-setsize", this.reading.count);
-    line.setAttribute("aria-posinset", item.index + 1);
-    const caret = element("span", "caret", isOpen ? "▾" : "▸");
-    caret.setAttribute("aria-hidden", true);
-    const dot = element("span", "dot");
-    line.append(caret, dot, element("span", "name", item.name), element("span", "value", item.summary));
-    line.append(element("span", "place", `${item.begin}..${item.end}`));
+    const line = element("div", "item", "", {
+      ariaLevel: 1, ariaExpanded: isOpen, ariaSetSize: this.reading.count, ariaPosInSet: item.index + 1,
+    });
+    line.append(
+      element("span", "caret", isOpen ? "▾" : "▸", { ariaHidden: true }), element("span", "dot"),
+      element("span", "name", item.name), element("span", "value", item.summary),
+      element("span", "place", `${item.begin}..${item.end}`),
+    );
     return line;
   }
 
   fieldLine(item, index) {
     const lines = linesOf(item);
     const field = lines[index];
-    const line = element("div", "field");
-    line.setAttribute("aria-level", 2);
-    line.setAttribute("aria-setsize", lines.length);
-    line.setAttribute("aria-posinset", index + 1);
+    const line = element("div", "field", "", { ariaLevel: 2, ariaSetSize: lines.length, ariaPosInSet: index + 1 });
     line.classList.toggle("fault", Boolean(field.fault));
     line.append(element("span", "name", field.name));
     if (field.ranges) {
@@ -180,7 +164,7 @@ export class Outline {
     line.classList.toggle("lit-field", isField);
     const isHere = isField && spot.isActive;
     line.classList.toggle("here", isHere);
-    line.setAttribute("aria-selected", isHere);
+    line.ariaSelected = isHere;
   }
 
   light(spot) {
@@ -263,15 +247,11 @@ export class Outline {
   }
 
   moveByKey(key, spot) {
-    const line = spot ? this.lineOf(spot.item, spot.field) : -1;
-    const steps = {
-      ArrowDown: line + 1, ArrowUp: line - 1, Home: 0, End: this.lines - 1, PageDown: line + this.rows.page,
-      PageUp: line - this.rows.page,
-    };
-    if (!(key in steps)) {
+    const line = this.rows.step(key, spot ? this.lineOf(spot.item, spot.field) : -1);
+    if (line === null) {
       return false;
     }
-    const { item, field } = this.at(Math.max(0, Math.min(this.lines - 1, steps[key])));
+    const { item, field } = this.at(line);
     this.on.select(item, field);
     return true;
   }

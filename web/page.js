@@ -17,9 +17,8 @@ import { linesOf } from "./outline.js";
 import { pictureOf, saveText } from "./picture.js";
 import { printInto } from "./printed.js";
 import { readBytes } from "./reading.js";
-import { element } from "./rows.js";
 import { inTasks } from "./slices.js";
-import { showReading, showStatus, summaryOf } from "./status.js";
+import { plainButton, showReading, showStatus, summaryOf } from "./status.js";
 import { Views } from "./views.js";
 import { count } from "./shown.js";
 
@@ -83,10 +82,8 @@ class Page {
     narrow.addEventListener("change", () => this.again());
     window.addEventListener("hashchange", () => this.follow());
     for (const { name, ...example } of EXAMPLES) {
-      const button = element("button", "plain", name);
-      button.type = "button";
-      button.addEventListener("click", () => this.take({ ...this.form.state, ...NOTHING_FURTHER, ...example }));
-      byId("examples").append(button);
+      const take = () => this.take({ ...this.form.state, ...NOTHING_FURTHER, ...example });
+      byId("examples").append(plainButton(name, take));
     }
     const { mode, text } = EXAMPLES[0];
     // The part of the page's address after #, as far as the page understands it.
@@ -343,9 +340,7 @@ class Page {
       byId("shortest-note").replaceChildren("This payload is its own shortest form.");
       return;
     }
-    const copy = element("button", "plain", "Copy it");
-    copy.type = "button";
-    copy.addEventListener("click", () => this.copyShortest(copy, canonical.bytes));
+    const copy = plainButton("Copy it", () => this.copyShortest(copy, canonical.bytes));
     const size = `${count(canonical.bytes.length, "byte")}, ${fewer} fewer, with the same frames in the same order. `;
     byId("shortest-note").replaceChildren(size, copy);
     const shortest = readBytes(this.besideLibrary, canonical.bytes, { mode: "frames", strict: false });

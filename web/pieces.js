@@ -169,9 +169,7 @@ export function* piecesOf(text) {
   const bare = text.startsWith("\ufeff") ? text.slice(1) : text;
   for (const line of text === "" ? [] : eachLine(bare.endsWith("\n") ? bare.slice(0, -1) : bare)) {
     yield* pieces.take(line);
-    if (pace.isDue(line.length)) {
-      yield;
-    }
+    yield* pace.after(line.length);
   }
   yield* pieces.finish();
   return pieces.found;

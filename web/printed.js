@@ -15,11 +15,8 @@ function printBlock(box, chosen, words, text, isCut) {
   if (isOwn) {
     title.append(" with the versions and the fixed bit as chosen here, for which it has no options");
   }
-  const block = element("pre", "", text);
+  const block = element("pre", "", text, { tabIndex: 0, role: "group", ariaLabel: `what quic-show ${words} prints` });
   block.dataset.command = words;
-  block.tabIndex = 0;
-  block.setAttribute("role", "group");
-  block.setAttribute("aria-label", `what quic-show ${words} prints`);
   box.append(title, block);
   if (isCut) {
     box.append(element("p", "printed-title", `The first ${PRINTED_LINES} lines.`));

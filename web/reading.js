@@ -14,6 +14,7 @@ import {
   allowedOf, closeCode, frameName, frameTone, isOfServers, kindOfType, packetName, packetTone, parameterOf,
   reasonText, typeName,
 } from "./names.js";
+import { lastWhere } from "./search.js";
 import { count, frameSummary, packetSummary } from "./shown.js";
 
 const KEPT_ITEMS = 4000;
@@ -65,17 +66,7 @@ class Reading {
     if (place < 0 || place >= this.bytes.length || this.count === 0 || place >= this.end(this.count - 1)) {
       return -1;
     }
-    let low = 0;
-    let high = this.count;
-    while (high - low > 1) {
-      const middle = (low + high) >> 1;
-      if (this.begin(middle) <= place) {
-        low = middle;
-      } else {
-        high = middle;
-      }
-    }
-    return low;
+    return lastWhere(this.count, (index) => this.begin(index) <= place);
   }
 
   item(index) {

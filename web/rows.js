@@ -8,15 +8,14 @@ const BEYOND = 6;
 // This many rows are printed.
 const MOST_PRINTED = 5000;
 
-export function element(tag, className, text) {
+// A new element; |more| are further properties of it.
+export function element(tag, className, text = "", more = {}) {
   const made = document.createElement(tag);
   if (className) {
     made.className = className;
   }
-  if (text !== undefined) {
-    made.textContent = text;
-  }
-  return made;
+  made.textContent = text;
+  return Object.assign(made, more);
 }
 
 export class Rows {
@@ -28,13 +27,9 @@ export class Rows {
     this.count = 0;
     this.drawn = [0, 0];
     this.isPrinting = false;
-    this.sizer = element("div", "sizer");
-    this.layer = element("div", "layer");
-    for (const wrapper of [this.sizer, this.layer]) {
-      wrapper.setAttribute("role", "presentation");
-    }
-    this.mark = element("div", "more");
-    this.mark.setAttribute("aria-hidden", true);
+    this.sizer = element("div", "sizer", "", { role: "presentation" });
+    this.layer = element("div", "layer", "", { role: "presentation" });
+    this.mark = element("div", "more", "", { ariaHidden: true });
     this.sizer.append(this.layer);
     box.classList.add("rows");
     box.append(this.sizer, this.mark);
@@ -196,6 +191,15 @@ export class Rows {
       box.scrollTop = top < box.scrollTop + view + row.offsetHeight ? bottom - view : top - view / 2;
     }
     this.markMore();
+  }
+
+  // The row to which a key leads from one, or null if the key doesn't move.
+  step(key, from) {
+    const steps = {
+      ArrowDown: from + 1, ArrowUp: from - 1, Home: 0, End: this.count - 1, PageDown: from + this.page,
+      PageUp: from - this.page,
+    };
+    return key in steps ? Math.max(0, Math.min(this.count - 1, steps[key])) : null;
   }
 
   // How many rows are seen at once.

@@ -11,14 +11,13 @@ const TASK_TIME = 10;
 export class Pace {
   done = 0;
 
-  // Whether the next pause is due after |count| more characters.
-  isDue(count) {
+  // Pauses if that is due after |count| more characters.
+  * after(count) {
     this.done += count + 1;
-    if (this.done < AT_ONCE) {
-      return false;
+    if (this.done >= AT_ONCE) {
+      this.done = 0;
+      yield;
     }
-    this.done = 0;
-    return true;
   }
 }
 

@@ -36,9 +36,8 @@ export function showReading(box, characters) {
   box.replaceChildren(`Reading ${characters} characters …`);
 }
 
-function plainButton(text, click) {
-  const button = element("button", "plain", text);
-  button.type = "button";
+export function plainButton(text, click) {
+  const button = element("button", "plain", text, { type: "button" });
   button.addEventListener("click", click);
   return button;
 }

@@ -123,9 +123,7 @@ function* hexadecimalOf(text, begin) {
       fail(digits === "" ? "no digits after 0x" : `an odd number of digits, ${digits.length},`, at);
     }
     place = yield* putDigits(bytes, place, digits);
-    if (pace.isDue(word.length)) {
-      yield;
-    }
+    yield* pace.after(word.length);
   }
   return bytes.slice(0, place);
 }
@@ -147,9 +145,7 @@ function* decimalsOf(text, begin) {
     haveTwo &&= word.length === 2;
     bytes[count] = Number(word);
     count += 1;
-    if (pace.isDue(word.length)) {
-      yield;
-    }
+    yield* pace.after(word.length);
   }
   if (haveTwo && count > 0) {
     fail("ambiguous numbers, decimal or hexadecimal; add 0x to each, from the one", first);
@@ -267,9 +263,7 @@ function* base64Digits(text) {
       return null;
     }
     lines.push(digits);
-    if (pace.isDue(line.length)) {
-      yield;
-    }
+    yield* pace.after(line.length);
   }
   return /\s$/.test(whole) ? null : lines.join("");
 }

@@ -86,3 +86,10 @@ PyObject *wire_front(PyObject *bytes, size_t len) {
   Py_DECREF(bytes);
   return out;
 }
+
+PyObject *wire_written(PyObject *bytes, int result, size_t len) {
+  if (result >= 0)
+    return wire_front(bytes, len);
+  Py_XDECREF(bytes);
+  return wire_mistake(result);
+}

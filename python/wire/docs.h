@@ -1,7 +1,7 @@
 /* SPDX-License-Identifier: MIT OR Apache-2.0 */
 /* Made by scripts/tables from python/src/quic_wire/_wire.pyi.in: change nothing here.
- * What Python says of each function of the module, DOC_name, and of each method, DOC_class_name: the signature, then the
- * documentation. NAMES_ has the names of its arguments, empty for those that aren't passed by name. */
+ * What Python says of each function of the module, DOC_name, and of each method, DOC_class_name: the signature, then
+ * the documentation. NAMES_ has the names of its arguments, empty for those that aren't passed by name. */
 #define DOC_Frame_is_permitted_in PyDoc_STR( \
   "is_permitted_in($self, packet_type, /)\n--\n\n" \
   "Whether packets of this type may carry it (RFC 9000, section 12.4, table 3).")

@@ -37,10 +37,7 @@ static PyObject *write_entry(PyObject *Py_UNUSED(module), PyObject *args) {
     result = quic_wire_param_write(id, bytes.at, bytes.len, at, bytes.len + 16,
                                    &len);
   wire_release(&bytes);
-  if (out && result >= 0)
-    return wire_front(out, len);
-  Py_XDECREF(out);
-  return result < 0 ? wire_mistake(result) : NULL;
+  return wire_written(out, result, len);
 }
 
 static PyObject *is_known(PyObject *Py_UNUSED(module), PyObject *number) {

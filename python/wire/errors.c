@@ -34,7 +34,8 @@ static PyObject *type_read(uint64_t type) {
 
 PyObject *wire_frame_error(int result, const wire_bytes *payload, size_t begin,
                            uint32_t flags, uint64_t type, PyObject *before) {
-  PyObject *read = wire_frame_read(payload, begin, flags);
+  const wire_reader how = {.flags = flags};
+  PyObject *read = wire_frame_read(payload, begin, &how);
   if (!read)
     return NULL;
   return raise_by("_frame_error",

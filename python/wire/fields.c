@@ -28,11 +28,12 @@ static PyObject *read_of(int result, size_t begin, const quic_wire_span *spans,
 }
 
 PyObject *wire_frame_read(const wire_bytes *bytes, size_t begin,
-                          uint32_t flags) {
+                          const wire_reader *how) {
   quic_wire_span spans[MOST_FIELDS];
   quic_wire_fields read = {0};
-  const int result = quic_wire_frame_fields(
-      bytes->at + begin, bytes->len - begin, flags, spans, MOST_FIELDS, &read);
+  const int result =
+      quic_wire_frame_fields(bytes->at + begin, bytes->len - begin, how->flags,
+                             spans, MOST_FIELDS, &read);
   return read_of(result, begin, spans, &read);
 }
 
@@ -48,7 +49,8 @@ PyObject *wire_packet_read(const wire_bytes *bytes, size_t begin,
   return read_of(result, begin, spans, &read);
 }
 
-static PyObject *entry_read(const wire_bytes *bytes, size_t begin) {
+static PyObject *entry_read(const wire_bytes *bytes, size_t begin,
+                            const wire_reader *Py_UNUSED(how)) {
   quic_wire_span spans[MOST_FIELDS];
   quic_wire_fields read = {0};
   const int result = quic_wire_param_fields(
@@ -56,57 +58,50 @@ static PyObject *entry_read(const wire_bytes *bytes, size_t begin) {
   return read_of(result, begin, spans, &read);
 }
 
-/* Bytes and an offset in them: -1 with an exception. */
-static int acquire_at(PyObject *data, Py_ssize_t at, wire_bytes *bytes) {
-  if (wire_acquire(data, bytes) < 0)
-    return -1;
-  if (at >= 0 && (size_t)at <= bytes->len)
-    return 0;
-  wire_release(bytes);
-  PyErr_SetString(PyExc_ValueError, "at is outside of the bytes");
-  return -1;
+/* What one of these returns for an offset of a bytes-like object. */
+static PyObject *read_at(PyObject *data, Py_ssize_t at, const wire_reader *how,
+                         PyObject *(*read)(const wire_bytes *, size_t,
+                                           const wire_reader *)) {
+  wire_bytes bytes;
+  PyObject *out = NULL;
+  if (wire_acquire(data, &bytes) < 0)
+    return NULL;
+  if (at >= 0 && (size_t)at <= bytes.len)
+    out = read(&bytes, (size_t)at, how);
+  else
+    PyErr_SetString(PyExc_ValueError, "at is outside of the bytes");
+  wire_release(&bytes);
+  return out;
 }
 
 static PyObject *frame_fields(PyObject *Py_UNUSED(module), PyObject *args) {
-  PyObject *payload, *out;
+  PyObject *payload;
   Py_ssize_t at;
-  uint32_t flags;
-  wire_bytes bytes;
+  wire_reader how = {0};
   if (!PyArg_ParseTuple(args, "OnO&:frame_fields", &payload, &at,
-                        wire_to_checks, &flags) ||
-      acquire_at(payload, at, &bytes) < 0)
+                        wire_to_checks, &how.flags))
     return NULL;
-  out = wire_frame_read(&bytes, (size_t)at, flags);
-  wire_release(&bytes);
-  return out;
+  return read_at(payload, at, &how, wire_frame_read);
 }
 
 static PyObject *packet_fields(PyObject *Py_UNUSED(module), PyObject *args) {
-  PyObject *datagram, *versions, *out;
+  PyObject *datagram, *versions;
   Py_ssize_t at;
   wire_reader how = {0};
-  wire_bytes bytes;
   if (!PyArg_ParseTuple(args, "OO&nOO&:packet_fields", &datagram,
                         wire_to_uint32, &how.cid_len, &at, &versions,
                         wire_to_checks, &how.flags) ||
-      wire_set_versions(&how, versions) < 0 ||
-      acquire_at(datagram, at, &bytes) < 0)
+      wire_set_versions(&how, versions) < 0)
     return NULL;
-  out = wire_packet_read(&bytes, (size_t)at, &how);
-  wire_release(&bytes);
-  return out;
+  return read_at(datagram, at, &how, wire_packet_read);
 }
 
 static PyObject *parameter_fields(PyObject *Py_UNUSED(module), PyObject *args) {
-  PyObject *list, *out;
+  PyObject *list;
   Py_ssize_t at;
-  wire_bytes bytes;
-  if (!PyArg_ParseTuple(args, "On:parameter_fields", &list, &at) ||
-      acquire_at(list, at, &bytes) < 0)
+  if (!PyArg_ParseTuple(args, "On:parameter_fields", &list, &at))
     return NULL;
-  out = entry_read(&bytes, (size_t)at);
-  wire_release(&bytes);
-  return out;
+  return read_at(list, at, NULL, entry_read);
 }
 
 PyMethodDef wire_field_functions[] = {

@@ -101,7 +101,7 @@ static set_field *const *const setters[KINDS] = {
 };
 
 /* The fields that are given, by position or by name. */
-static int set_fields(maker *m, const frame_kind *kind, PyObject *args,
+static int set_fields(maker *m, const wire_kind *kind, PyObject *args,
                       PyObject *keywords) {
   set_field *const *set = setters[kind - wire_frame_kinds];
   const Py_ssize_t len = PyTuple_Size(args);
@@ -157,10 +157,7 @@ static PyObject *ack_bytes(uint64_t delay, const quic_wire_range *runs,
       return NULL;
     result = quic_wire_ack_write(delay, runs, count, ecn, at, len, &len);
   }
-  if (result >= 0)
-    return out;
-  Py_XDECREF(out);
-  return wire_mistake(result);
+  return wire_written(out, result, len);
 }
 
 /* The frame that the bytes of an ACK are. */
@@ -229,7 +226,7 @@ static int finish(maker *m) {
 }
 
 /* Which kind a class is. */
-static const frame_kind *kind_of_class(PyTypeObject *type) {
+static const wire_kind *kind_of_class(PyTypeObject *type) {
   PyObject *number = PyObject_GetAttrString((PyObject *)type, "KIND");
   quic_wire_frame frame;
   memset(&frame, 0, sizeof frame);
@@ -239,7 +236,7 @@ static const frame_kind *kind_of_class(PyTypeObject *type) {
 }
 
 PyObject *frame_new(PyTypeObject *type, PyObject *args, PyObject *keywords) {
-  const frame_kind *kind = kind_of_class(type);
+  const wire_kind *kind = kind_of_class(type);
   maker m = {0};
   if (!kind)
     return NULL;
@@ -292,12 +289,10 @@ static PyObject *encode_other(PyObject *self, uint32_t flags) {
     result = quic_wire_frame_write(FRAME(self), bytes.at, bytes.len, flags, at,
                                    len, &len);
   wire_release(&bytes);
-  if (result >= 0)
-    return out;
+  if (result >= QUIC_WIRE_ERR_PAYLOAD_EMPTY)
+    return wire_written(out, result, len);
   Py_XDECREF(out);
-  if (result < QUIC_WIRE_ERR_PAYLOAD_EMPTY)
-    return frame_reject(self, result);
-  return wire_mistake(result);
+  return frame_reject(self, result);
 }
 
 PyObject *frame_encode(PyObject *self, PyObject *args, PyObject *keywords) {

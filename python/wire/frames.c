@@ -145,7 +145,7 @@ PyObject *frame_check(PyObject *self, PyObject *args, PyObject *keywords) {
 #define FRAME_KIND(word, name, doc, fields)                                    \
   {QUIC_WIRE_FRAME_##word, name, (PyGetSetDef[]){fields WIRE_END_OF_FIELDS},   \
    doc},
-const frame_kind wire_frame_kinds[KINDS] = {
+const wire_kind wire_frame_kinds[KINDS] = {
 #include "formats.h"
 };
 
@@ -159,7 +159,7 @@ static size_t index_of(uint16_t kind) {
   }
 }
 
-const frame_kind *wire_kind_of(const quic_wire_frame *frame) {
+const wire_kind *wire_kind_of(const quic_wire_frame *frame) {
   return &wire_frame_kinds[index_of(frame->kind)];
 }
 
@@ -260,18 +260,12 @@ static PyType_Spec frame_spec = {"quic_wire.Frame", sizeof(frame_object), 0,
                                  frame_slots};
 
 static PyObject *add_kind(PyObject *module, PyObject *bases,
-                          const frame_kind *kind) {
-  char name[64];
-  PyType_Slot slots[] = {{Py_tp_getset, kind->fields},
-                         {Py_tp_new, frame_new},
-                         {Py_tp_dealloc, frame_dealloc},
-                         {Py_tp_doc, (void *)kind->doc},
-                         {0, NULL}};
-  PyType_Spec spec = {name, sizeof(frame_object), 0, Py_TPFLAGS_DEFAULT, slots};
-  PyObject *type, *number = PyLong_FromLong(kind->kind);
-  PyOS_snprintf(name, sizeof name, "quic_wire.%s", kind->name);
-  type = number ? wire_add_type(module, &spec, bases, kind->name, kind->fields)
-                : NULL;
+                          const wire_kind *kind) {
+  PyObject *number = PyLong_FromLong(kind->kind);
+  PyObject *type =
+      number ? wire_add_kind(module, bases, kind, sizeof(frame_object),
+                             frame_dealloc, frame_new)
+             : NULL;
   if (type && PyObject_SetAttrString(type, "KIND", number) < 0)
     Py_CLEAR(type);
   Py_XDECREF(number);

@@ -31,6 +31,21 @@ PyObject *wire_add_type(PyObject *module, PyType_Spec *spec, PyObject *bases,
   return type;
 }
 
+PyObject *wire_add_kind(PyObject *module, PyObject *bases,
+                        const wire_kind *kind, int size, destructor dealloc,
+                        newfunc make) {
+  char name[64];
+  const unsigned flags = make ? 0 : Py_TPFLAGS_DISALLOW_INSTANTIATION;
+  PyType_Slot slots[] = {{Py_tp_getset, kind->fields},
+                         {Py_tp_dealloc, (void *)dealloc},
+                         {Py_tp_doc, (void *)kind->doc},
+                         {make ? Py_tp_new : 0, (void *)make},
+                         {0, NULL}};
+  PyType_Spec spec = {name, size, 0, Py_TPFLAGS_DEFAULT | flags, slots};
+  PyOS_snprintf(name, sizeof name, "quic_wire.%s", kind->name);
+  return wire_add_type(module, &spec, bases, kind->name, kind->fields);
+}
+
 /* Results of readers, and the flags of quic_wire.Checks. */
 static int add_constants(PyObject *module) {
   static const struct {

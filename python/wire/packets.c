@@ -105,19 +105,13 @@ static PyObject *get_number_at(PyObject *self, void *Py_UNUSED(unused)) {
   return PyLong_FromSize_t(PACKET(self)->begin + HEADER(self)->header_end);
 }
 
-static const struct packet_kind {
-  const char *name;
-  PyGetSetDef *fields;
-  const char *doc;
-} packet_kinds[PACKET_KINDS] = {
+static const wire_kind packet_kinds[PACKET_KINDS] = {
 #define FIELD(name, how, slot, doc)                                            \
   {name, get_##how, NULL, PyDoc_STR(doc), NULL},
 #define PACKET_KIND(name, doc, fields)                                         \
-  {"quic_wire." name, (PyGetSetDef[]){fields WIRE_END_OF_FIELDS}, doc},
+  {0, name, (PyGetSetDef[]){fields WIRE_END_OF_FIELDS}, doc},
 #include "formats.h"
 };
-
-enum { MODULE_LEN = 10 }; /* of "quic_wire." */
 
 static void packet_dealloc(PyObject *self) {
   PyTypeObject *type = Py_TYPE(self);
@@ -167,11 +161,11 @@ static PyObject *field_text(PyObject *self, const PyGetSetDef *field) {
 }
 
 static PyObject *packet_repr(PyObject *self) {
-  const struct packet_kind *kind = &packet_kinds[HEADER(self)->kind];
+  const wire_kind *kind = &packet_kinds[HEADER(self)->kind];
   const PyGetSetDef *field;
-  PyObject *text = PyUnicode_FromFormat(
-      "%s(%zu..%zu", kind->name + MODULE_LEN, PACKET(self)->begin,
-      PACKET(self)->begin + HEADER(self)->end);
+  PyObject *text =
+      PyUnicode_FromFormat("%s(%zu..%zu", kind->name, PACKET(self)->begin,
+                           PACKET(self)->begin + HEADER(self)->end);
   for (field = kind->fields; text && field->name; field++) {
     PyObject *value = field_text(self, field);
     PyUnicode_AppendAndDel(
@@ -248,16 +242,9 @@ int wire_add_packets(PyObject *module, wire_state *state) {
   state->packet = wire_add_type(module, &packet_spec, NULL, "Packet", NULL);
   bases = state->packet ? PyTuple_Pack(1, state->packet) : NULL;
   for (i = 0; bases && result == 0 && i < PACKET_KINDS; i++) {
-    const struct packet_kind *kind = &packet_kinds[i];
-    PyType_Slot slots[] = {{Py_tp_getset, kind->fields},
-                           {Py_tp_dealloc, packet_dealloc},
-                           {Py_tp_doc, (void *)kind->doc},
-                           {0, NULL}};
-    PyType_Spec spec = {kind->name, sizeof(packet_object), 0,
-                        Py_TPFLAGS_DEFAULT | Py_TPFLAGS_DISALLOW_INSTANTIATION,
-                        slots};
-    state->packets[i] = wire_add_type(module, &spec, bases,
-                                      kind->name + MODULE_LEN, kind->fields);
+    state->packets[i] =
+        wire_add_kind(module, bases, &packet_kinds[i], sizeof(packet_object),
+                      packet_dealloc, NULL);
     result = state->packets[i] ? 0 : -1;
   }
   Py_XDECREF(bases);

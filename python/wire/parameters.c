@@ -360,10 +360,7 @@ static PyObject *written(PyObject *self, uint32_t side, const Py_buffer *more,
   result = quic_wire_params_write_with(
       side, PARAMS(self), sizeof(quic_wire_params), more->buf,
       (size_t)more->len, order->buf, (size_t)order->len, at, room, &len);
-  if (result >= 0)
-    return wire_front(out, len);
-  Py_DECREF(out);
-  return wire_mistake(result);
+  return wire_written(out, result, len);
 }
 
 static PyObject *parameters_write(PyObject *self, PyObject *args) {

@@ -124,29 +124,28 @@ static void release(header_arguments *a) {
 static int parse_header(PyObject *args, PyObject *keywords,
                         header_arguments *a) {
   static char *names[] = NAMES_write_header;
-  uint8_t kind, number_len = 4, length_len = 2;
-  uint32_t version = QUIC_WIRE_VERSION_1;
+  quic_wire_header_fields *fields = &a->fields;
   int spin = 0, key_phase = 0, fixed_bit = 1;
   PyObject *number = NULL;
+  fields->version = QUIC_WIRE_VERSION_1;
+  fields->numberlen = 4;
+  fields->lengthlen = 2;
   if (!PyArg_ParseTupleAndKeywords(
           args, keywords, "O&|y*y*y*$O&OO&O&ppp:write_header", names,
-          wire_to_uint8, &kind, &a->dcid, &a->scid, &a->token, wire_to_uint32,
-          &version, &number, wire_to_uint8, &number_len, wire_to_uint8,
-          &length_len, &spin, &key_phase, &fixed_bit) ||
-      (number && wire_varint(number, "number", &a->fields.number) < 0))
+          wire_to_uint8, &fields->kind, &a->dcid, &a->scid, &a->token,
+          wire_to_uint32, &fields->version, &number, wire_to_uint8,
+          &fields->numberlen, wire_to_uint8, &fields->lengthlen, &spin,
+          &key_phase, &fixed_bit) ||
+      (number && wire_varint(number, "number", &fields->number) < 0))
     return -1;
-  a->fields.kind = kind;
-  a->fields.version = version;
-  a->fields.numberlen = number_len;
-  a->fields.lengthlen = length_len;
-  if (kind >= QUIC_WIRE_PACKET_VERSION_NEGOTIATION) {
+  if (fields->kind >= QUIC_WIRE_PACKET_VERSION_NEGOTIATION) {
     PyErr_SetString(PyExc_ValueError, "packet_type must be INITIAL, ZERO_RTT, "
                                       "HANDSHAKE, RETRY or ONE_RTT");
     return -1;
   }
-  a->fields.flags = (uint8_t)((fixed_bit ? 0 : QUIC_WIRE_CLEAR_FIXED_BIT) |
-                              (spin ? QUIC_WIRE_BIT_SPIN : 0) |
-                              (key_phase ? QUIC_WIRE_BIT_KEY_PHASE : 0));
+  fields->flags = (uint8_t)((fixed_bit ? 0 : QUIC_WIRE_CLEAR_FIXED_BIT) |
+                            (spin ? QUIC_WIRE_BIT_SPIN : 0) |
+                            (key_phase ? QUIC_WIRE_BIT_KEY_PHASE : 0));
   return 0;
 }
 
@@ -168,11 +167,7 @@ static PyObject *write_header(PyObject *Py_UNUSED(module), PyObject *args,
           (size_t)a.scid.len, a.token.buf, (size_t)a.token.len, at, room);
   }
   release(&a);
-  if (result < 0) {
-    Py_CLEAR(out);
-    return wire_mistake((int)result);
-  }
-  return out ? wire_front(out, (size_t)result) : NULL;
+  return wire_written(out, (int)result, (size_t)result);
 }
 
 /* The versions of an iterable: free them with PyMem_Free. */
@@ -222,11 +217,7 @@ static PyObject *write_negotiation(PyObject *Py_UNUSED(module), PyObject *args,
   PyMem_Free(list);
   PyBuffer_Release(&dcid);
   PyBuffer_Release(&scid);
-  if (result < 0) {
-    Py_CLEAR(out);
-    return wire_mistake(result);
-  }
-  return out ? wire_front(out, len) : NULL;
+  return wire_written(out, result, len);
 }
 
 /* ---- Numbers */

@@ -75,6 +75,9 @@ PyObject *wire_part(PyObject *owner, size_t begin, size_t len);
 PyObject *wire_new_bytes(size_t len, uint8_t **at);
 /* The same bytes, cut off after their beginning. */
 PyObject *wire_front(PyObject *bytes, size_t len);
+/* What a call wrote into new bytes, which this takes; NULL with an exception if
+ * its result is an error, or if there are no bytes. */
+PyObject *wire_written(PyObject *bytes, int result, size_t len);
 
 /* ---- arguments.c: checks of arguments */
 
@@ -105,7 +108,7 @@ PyObject *wire_range(const quic_wire_range *range);
  * (NULL with an exception) */
 
 PyObject *wire_frame_read(const wire_bytes *payload, size_t begin,
-                          uint32_t flags);
+                          const wire_reader *how);
 PyObject *wire_packet_read(const wire_bytes *datagram, size_t begin,
                            const wire_reader *how);
 
@@ -151,6 +154,18 @@ int wire_add_set(PyObject *module, wire_state *state);
 /* A type, added to the module with the names for patterns. */
 PyObject *wire_add_type(PyObject *module, PyType_Spec *spec, PyObject *bases,
                         const char *name, const PyGetSetDef *fields);
+/* A kind of frame or of packet as a class. */
+typedef struct wire_kind {
+  uint16_t kind;
+  const char *name;
+  PyGetSetDef *fields;
+  const char *doc;
+} wire_kind;
+/* Its type, added to the module; without |make| no objects of it can be made.
+ */
+PyObject *wire_add_kind(PyObject *module, PyObject *bases,
+                        const wire_kind *kind, int size, destructor dealloc,
+                        newfunc make);
 
 /* ---- frames.c, frame_new.c */
 
@@ -164,16 +179,8 @@ typedef struct frame_object {
 #define FRAME(self) (&((frame_object *)(self))->f)
 #define OWNER(self) (((frame_object *)(self))->owner)
 
-/* A kind of frame as a class. */
-typedef struct frame_kind {
-  uint16_t kind;
-  const char *name;
-  PyGetSetDef *fields;
-  const char *doc;
-} frame_kind;
-
-extern const frame_kind wire_frame_kinds[KINDS];
-const frame_kind *wire_kind_of(const quic_wire_frame *frame);
+extern const wire_kind wire_frame_kinds[KINDS];
+const wire_kind *wire_kind_of(const quic_wire_frame *frame);
 /* A frame that was read. */
 PyObject *frame_made(wire_state *state, PyObject *owner,
                      const quic_wire_frame *frame);

@@ -17,6 +17,7 @@ from __future__ import annotations
 
 from collections.abc import Iterable
 
+# Made by scripts/tables:
 from ._wire import (
     LIBRARY_VERSION, Ack, AckFrequency, ApplicationClose, ConnectionClose, Crypto, DataBlocked, Datagram, Frame,
     FrameIterator, Handshake, HandshakeDone, ImmediateAck, Initial, MaxData, MaxStreamData, MaxStreamsBidi,
@@ -27,6 +28,7 @@ from ._wire import (
     read_packets, read_varint, set_length, type_name, unprotect, varint_len, write_header, write_packet_number,
     write_parameter, write_varint, write_version_negotiation,
 )  # fmt: skip
+# End of what is made.
 from ._version import VERSION
 from .checks import Checks
 from .errors import Code, Error, FrameError, PacketError, ParameterError
@@ -36,6 +38,7 @@ from .parameters import Parameter, PreferredAddress, Side, TransportParameters, 
 
 __version__ = VERSION
 
+# Made by scripts/tables:
 __all__ = [
     "LIBRARY_VERSION", "Ack", "AckFrequency", "ApplicationClose", "Checks", "Code", "ConnectionClose", "Crypto",
     "DataBlocked", "Datagram", "Error", "Field", "Frame", "FrameError", "FrameIterator", "Handshake",
@@ -50,6 +53,7 @@ __all__ = [
     "varint_len", "write_frames", "write_header", "write_packet_number", "write_parameter", "write_varint",
     "write_version_negotiation",
 ]  # fmt: skip
+# End of what is made.
 
 
 def write_frames(payload: Iterable[Frame], *, checks: Checks = Checks.QUINN) -> bytes:

@@ -156,6 +156,20 @@ class Code(enum.IntEnum):
     CRYPTO_ERROR = 0x100
 
 
+class PacketType(enum.IntEnum):
+    """The types of packets in Packet.kind."""
+
+    __module__ = "quic_wire.packets"
+
+    INITIAL = 0
+    ZERO_RTT = 1
+    HANDSHAKE = 2
+    RETRY = 3
+    ONE_RTT = 4
+    VERSION_NEGOTIATION = 5
+    UNKNOWN_VERSION = 6
+
+
 FRAMES: dict[int, Frame] = {
     0x00: Frame(0x00, "PADDING", "RFC 9000, section 19.1", (
         Field(0, "number", "Type", unit="frame type"),
@@ -684,6 +698,19 @@ REASONS: dict[int, Reason] = {
     ),
     -60: Reason(-60, "list", "PARAMS_MALFORMED", 8, "RFC 9000, section 7.4", "malformed"),
     -61: Reason(-61, "list", "PARAMS_ILLEGAL", 8, "RFC 9000, sections 7.4, 18.2", "illegal value"),
+}
+# What quinn-proto calls attributes of frames, by their classes, if that is another name.
+OWN_NAMES: dict[str, dict[str, str]] = {
+    "ResetStream": {"stream_id": "id", "final_size": "final_offset"},
+    "StopSending": {"stream_id": "id"},
+    "Stream": {"stream_id": "id"},
+    "MaxStreamData": {"stream_id": "id", "limit": "offset"},
+    "MaxStreamsBidi": {"limit": "count"},
+    "MaxStreamsUni": {"limit": "count"},
+    "DataBlocked": {"limit": "offset"},
+    "StreamDataBlocked": {"stream_id": "id", "limit": "offset"},
+    "NewConnectionId": {"connection_id": "id"},
+    "AckFrequency": {"max_ack_delay": "request_max_ack_delay"},
 }
 PREFERRED_ADDRESS: tuple[Field, ...] = (
     Field(0, "bytes", "IPv4 Address", size=(4, 4)),

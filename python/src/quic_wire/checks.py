@@ -53,6 +53,7 @@ class Checks(enum.IntFlag):
     QUINN = 0
     RFC = _wire.READ_RFC
 
+    # Made by scripts/tables:
     SHORT_TYPES = _wire.READ_SHORT_TYPES
     DATA_LIMIT = _wire.READ_DATA_LIMIT
     STREAM_LIMIT = _wire.READ_STREAM_LIMIT
@@ -63,3 +64,4 @@ class Checks(enum.IntFlag):
     WHOLE_RETRY = _wire.READ_WHOLE_RETRY
     ANY_WIDTH = _wire.READ_ANY_WIDTH
     NO_REPEATS = _wire.READ_NO_REPEATS
+    # End of what is made.

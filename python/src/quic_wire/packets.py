@@ -6,23 +6,12 @@ import enum
 from collections.abc import Iterator, Sequence
 from typing import Optional
 
+from ._formats import PacketType as PacketType
 from ._types import Buffer
 from ._wire import Packet, read_packet
 from .checks import Checks
 
 __all__ = ["PacketType", "Version", "packets"]
-
-
-class PacketType(enum.IntEnum):
-    """The types of packets in Packet.kind."""
-
-    INITIAL = 0
-    ZERO_RTT = 1
-    HANDSHAKE = 2
-    RETRY = 3
-    ONE_RTT = 4
-    VERSION_NEGOTIATION = 5
-    UNKNOWN_VERSION = 6
 
 
 class Version(enum.IntEnum):

@@ -182,12 +182,9 @@ def _address_read(
     cid: bytes, token: bytes, v4: Optional[bytes], v4_port: int, v6: Optional[bytes], v6_port: int
 ) -> PreferredAddress:
     """A preferred address as an object, from its parts."""
-    return PreferredAddress(
-        cid,
-        token,
-        None if v4 is None else (ipaddress.IPv4Address(v4), v4_port),
-        None if v6 is None else (ipaddress.IPv6Address(v6), v6_port),
-    )
+    ipv4 = None if v4 is None else (ipaddress.IPv4Address(v4), v4_port)
+    ipv6 = None if v6 is None else (ipaddress.IPv6Address(v6), v6_port)
+    return PreferredAddress(cid, token, ipv4, ipv6)
 
 
 def _address_parts(a: PreferredAddress) -> tuple[bytes, bytes, Optional[bytes], int, Optional[bytes], int]:
@@ -200,15 +197,8 @@ def _address_parts(a: PreferredAddress) -> tuple[bytes, bytes, Optional[bytes], 
     cid, token = bytes(a.connection_id), bytes(a.reset_token)
     if not 1 <= len(cid) <= _MAX_CID_LEN or len(token) != _RESET_TOKEN_LEN:
         raise ValueError("a preferred address has an id of 1 to 20 bytes and a token of 16")
-    v4, v6 = a.v4, a.v6
-    ports = [one[1] for one in (v4, v6) if one]
-    if not all(0 <= port < 1 << 16 for port in ports):
+    v4, v4_port = (a.v4[0].packed, a.v4[1]) if a.v4 else (None, 0)
+    v6, v6_port = (a.v6[0].packed, a.v6[1]) if a.v6 else (None, 0)
+    if not all(0 <= port < 1 << 16 for port in (v4_port, v6_port)):
         raise ValueError("a port must be below 2^16")
-    return (
-        cid,
-        token,
-        v4[0].packed if v4 else None,
-        v4[1] if v4 else 0,
-        v6[0].packed if v6 else None,
-        v6[1] if v6 else 0,
-    )
+    return cid, token, v4, v4_port, v6, v6_port

@@ -1,4 +1,4 @@
-"""What is made in place in headers for C: lines between two comments, at most 80 columns wide."""
+"""What is made in place: lines between two comments. Those of headers for C are at most 80 columns wide."""
 import re
 import textwrap
 
@@ -6,11 +6,11 @@ BEGIN, END = "/* Made by scripts/tables: */\n", "/* End of what is made. */\n"
 WIDTH = 80
 
 
-def with_blocks(source, blocks):
+def with_blocks(source, blocks, begin=BEGIN, end=END):
     """A source with these texts between its pairs of comments."""
-    front, *parts = source.split(BEGIN)
+    front, *parts = source.split(begin)
     assert len(parts) == len(blocks), f"{len(parts)} blocks and not {len(blocks)}"
-    return front + "".join(BEGIN + block + END + part.split(END)[1] for block, part in zip(blocks, parts))
+    return front + "".join(begin + block + end + part.split(end)[1] for block, part in zip(blocks, parts))
 
 
 def without_blocks(source):

@@ -9,8 +9,8 @@ PATH = "python/wire/docs.h"
 STUB = "python/src/quic_wire/_wire.pyi.in"
 BEGIN = f"""/* SPDX-License-Identifier: MIT OR Apache-2.0 */
 /* Made by scripts/tables from {STUB}: change nothing here.
- * What Python says of each function of the module, DOC_name, and of each method, DOC_class_name: the signature, then the
- * documentation. NAMES_ has the names of its arguments, empty for those that aren't passed by name. */
+ * What Python says of each function of the module, DOC_name, and of each method, DOC_class_name: the signature, then
+ * the documentation. NAMES_ has the names of its arguments, empty for those that aren't passed by name. */
 """
 
 

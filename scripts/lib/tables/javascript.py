@@ -1,7 +1,7 @@
 """web/formats.js."""
 import json
 
-from lib.tables.formats import MADE, bound_of, filled, headers, wanted
+from lib.tables.formats import MADE, bound_of, enumeration, filled, headers, wanted
 
 PATH = "web/formats.js"
 BEGIN = f"""// The formats of QUIC as data: the fields of frames and headers, transport parameters, error codes,
@@ -40,8 +40,10 @@ def rows(some, indent):
 
 
 def frame(one):
+    kinds = enumeration("frame_kind", "FRAME")
+    kind = kinds.get(one.get("quinn_proto"), kinds.get(one["name"]))
     words = [word for word in ("type", "name", "quinn_proto", "section") if word in one]
-    front = "".join(f"{word}: {text(one[word])}, " for word in words)
+    front = f"kind: {kind:#04x}, " + "".join(f"{word}: {text(one[word])}, " for word in words)
     return f"  [{one['type']:#04x}, {{{front}fields: [\n{rows(one['fields'], '    ')}  ]}}],\n"
 
 
@@ -68,7 +70,7 @@ def made(formats):
         versions.setdefault(version, []).append(header(kind, one))
     by_version = (f"  [{version:#x}, new Map([\n{''.join(some)}  ])],\n" for version, some in versions.items())
     tables = {
-        "// Frames by their types.\nexport const FRAMES = new Map([": map(frame, formats["frames"]),
+        "// Frames by their types. |kind| is one type for all of STREAM, of ACK and of DATAGRAM.\nexport const FRAMES = new Map([": map(frame, formats["frames"]),
         "// Headers by their versions, then by their kinds of packets; those without a version of their own have"
         " version 0.\nexport const HEADERS = new Map([": by_version,
         "// Transport parameters by their ids. |wanted| is what the value must be, |bound| of a number its bounds.\n"

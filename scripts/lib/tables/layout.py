@@ -68,7 +68,7 @@ def constants(words):
 def made(_):
     declared = compared.c_structs()
     return (
-        f"{BEGIN}// For each struct its size, and for each field its offset and how many bytes it has; for an array, all"
-        " of them.\nexport const LAYOUT = {\n" + "".join(struct(name, declared[name]) for name in STRUCTS) + "};\n\n"
+        f"{BEGIN}// For each struct its size, and for each field its offset and how many bytes it has; for an array,"
+        " all of them.\nexport const LAYOUT = {\n" + "".join(struct(name, declared[name]) for name in STRUCTS) + "};\n\n"
         "// For each call the bits of its arguments.\nexport const CALLS = {\n" + "".join(calls()) + "};\n"
         + "".join(f"\n// {what}.\n{''.join(constants(words))}" for what, words in CONSTANTS.items()))

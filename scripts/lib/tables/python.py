@@ -1,6 +1,7 @@
 """python/src/quic_wire/_formats.py."""
 import json
 
+from lib.tables import classes, proved
 from lib.tables.formats import MADE, filled, headers, wanted
 
 PATH = "python/src/quic_wire/_formats.py"
@@ -137,12 +138,13 @@ class Reason(NamedTuple):
 
 
 # fmt: off
-class Code(enum.IntEnum):
-    """The codes of a CONNECTION_CLOSE (RFC 9000, section 20.1). A TLS alert is added to CRYPTO_ERROR."""
-
-    __module__ = "quic_wire.errors"
-
 '''
+# The types of packets that have another name than in C.
+PACKETS = {"0RTT": "ZERO_RTT", "1RTT": "ONE_RTT"}
+# The enumerations of other modules, with what they are.
+PACKET_TYPES = ("PacketType", "packets", "The types of packets in Packet.kind.")
+CODES = (
+    "Code", "errors", "The codes of a CONNECTION_CLOSE (RFC 9000, section 20.1). A TLS alert is added to CRYPTO_ERROR.")
 
 
 def text(value):
@@ -211,7 +213,26 @@ def reason(one):
     return f"    {one['number']}: {call('Reason', needed, {}, '    ')},\n"
 
 
+def own_names(formats):
+    """The attributes of each class of frames to which quinn-proto gives another name, except data."""
+    members = proved.frame_members()
+    for one in classes.frames(formats):
+        own = members.get(one.name.removesuffix("Bidi").removesuffix("Uni"), [])
+        named = zip(one.fields, (name for name in own if name != "dir"))
+        pairs = [(it.name, name) for it, name in named if name not in (it.name, "bytes")]
+        if pairs:
+            listed = ", ".join(f"{text(name)}: {text(other)}" for name, other in pairs)
+            yield f"    {text(one.name)}: {{{listed}}},\n"
+
+
+def enumeration(name, module, doc, members):
+    lines = "".join(f"    {word} = {number}\n" for word, number in members)
+    return f'class {name}(enum.IntEnum):\n    """{doc}"""\n\n    __module__ = "quic_wire.{module}"\n\n{lines}\n\n'
+
+
 def made(formats):
+    packets = ((PACKETS.get(name, name), number) for name, number in proved.packet_kinds().items())
+    codes = ((one["name"], f"{one['code']:#04x}") for one in formats["error_codes"])
     tables = {
         "FRAMES: dict[int, Frame] = {": map(frame, formats["frames"]),
         "# By their versions and kinds of packets; those without a version of their own have version 0.\n"
@@ -219,8 +240,11 @@ def made(formats):
         "PARAMETERS: dict[int, Parameter] = {": map(parameter, formats["parameters"]),
         "ERROR_CODES: dict[int, ErrorCode] = {": map(error_code, formats["error_codes"]),
         "REASONS: dict[int, Reason] = {": map(reason, formats["reasons"]),
+        "# What quinn-proto calls attributes of frames, by their classes, if that is another name.\n"
+        "OWN_NAMES: dict[str, dict[str, str]] = {": own_names(formats),
     }
     address = "".join(field(one, "    ", index) for index, one in enumerate(formats["preferred_address"]))
     parts = [f"{begin}\n{''.join(some)}}}\n" for begin, some in tables.items()]
-    codes = "".join(f"    {one['name']} = {one['code']:#04x}\n" for one in formats["error_codes"])
-    return f"{BEGIN}{codes}\n\n{''.join(parts)}PREFERRED_ADDRESS: tuple[Field, ...] = (\n{address})\n"
+    return (
+        f"{BEGIN}{enumeration(*CODES, codes)}{enumeration(*PACKET_TYPES, packets)}{''.join(parts)}"
+        f"PREFERRED_ADDRESS: tuple[Field, ...] = (\n{address})\n")

@@ -13,11 +13,11 @@ from ..keylog import KeyLog
 from . import datagrams, modes
 from . import output as out
 from .args import Args
+from .datagrams import NAMES
 from .output import Output
 
 __all__ = ["CaptureError", "show"]
 
-_NAMES = ("initial", "0rtt", "handshake", "retry", "short", "version-negotiation", "unknown")
 _SENDERS = ("c", "s")
 
 
@@ -81,12 +81,12 @@ def _lines(captured: Captured) -> Iterator[str]:
 
 
 def _article(packet: Packet) -> str:
-    return "an Initial" if packet.kind == PacketType.INITIAL else f"a {_NAMES[packet.kind]}"
+    return "an Initial" if packet.kind == PacketType.INITIAL else f"a {NAMES[packet.kind]}"
 
 
 def _header(packet: Packet) -> str:
     """A packet's line up to its number."""
-    text = _NAMES[packet.kind]
+    text = NAMES[packet.kind]
     if not isinstance(packet, OneRtt):
         version = 0 if isinstance(packet, VersionNegotiation) else packet.version
         text += f" version {version:08x}"

@@ -16,6 +16,8 @@ from .args import Args
 from .modes import place_of
 from .output import Field, Output
 
+# What types of packets are called, by their numbers.
+NAMES = ("initial", "0rtt", "handshake", "retry", "short", "version-negotiation", "unknown")
 _MOST_IDS = 256  # that are kept: those that came last
 _MAX_CID_LEN = 20
 _LONG, _FIXED_BIT = 0x80, 0x40
@@ -137,30 +139,26 @@ def _show_unknown_version(packet: UnknownVersion, is_noted: bool, output: Output
     output.error(f"unsupported version {packet.version:x}", packet.begin, fields)
 
 
-def _number_at(packet: Packet) -> Field:
-    return ("number_at", out.number(packet.number_at or 0))
-
-
 def fields_of(packet: Packet) -> tuple[str, list[Field]]:
     """The name of a packet, and its fields."""
     fields = [("dst", out.data(packet.dcid))]
-    if isinstance(packet, OneRtt):
-        return "short", [*fields, ("spin", out.flag(packet.spin)), _number_at(packet)]
-    fields.append(("src", out.data(packet.scid)))
-    if isinstance(packet, VersionNegotiation):
-        return "version-negotiation", [*fields, ("versions", out.versions(packet.versions))]
-    fields.append(("version", out.version(packet.version)))
+    if not isinstance(packet, OneRtt):
+        fields.append(("src", out.data(packet.scid)))
+    if not isinstance(packet, (OneRtt, VersionNegotiation)):
+        fields.append(("version", out.version(packet.version)))
     match packet:
-        case UnknownVersion():
-            return "unknown", fields
-        case Initial():
-            fields += [("token_at", out.number(packet.token_at)), ("token", out.data(packet.token))]
-            return "initial", [*fields, ("len", out.number(packet.length)), _number_at(packet)]
-        case Retry(integrity_tag=None):
-            return "retry", [*fields, ("rest", out.data(packet.token))]
+        case OneRtt(spin=spin):
+            fields.append(("spin", out.flag(spin)))
+        case VersionNegotiation(versions=versions):
+            fields.append(("versions", out.versions(versions)))
+        case Initial(token=token, token_at=token_at):
+            fields += [("token_at", out.number(token_at)), ("token", out.data(token))]
+        case Retry(token=token, integrity_tag=None):
+            fields.append(("rest", out.data(token)))
         case Retry(token=token, integrity_tag=tag):
-            return "retry", [*fields, ("token", out.data(token)), ("tag", out.data(tag))]
-        case Handshake(length=length) | ZeroRtt(length=length):
-            name = "handshake" if isinstance(packet, Handshake) else "0rtt"
-            return name, [*fields, ("len", out.number(length)), _number_at(packet)]
-    raise AssertionError(packet)
+            fields += [("token", out.data(token)), ("tag", out.data(tag))]
+    if isinstance(packet, (Initial, Handshake, ZeroRtt)):
+        fields.append(("len", out.number(packet.length)))
+    if packet.number_at is not None:
+        fields.append(("number_at", out.number(packet.number_at)))
+    return NAMES[packet.kind], fields

@@ -5,10 +5,10 @@ from __future__ import annotations
 from typing import NamedTuple, Optional
 
 from .. import Checks, FrameError, PacketError, UnknownVersion, VersionNegotiation, frames, read_packet
+from .._formats import FRAMES
 from .args import USUAL_VERSIONS, Args
 
 _LONG = 0x80
-_TAKES_ALL = (0x08, 0x09, 0x0C, 0x0D, 0x30)  # types of a STREAM or DATAGRAM without a length
 
 
 class Other(NamedTuple):
@@ -41,7 +41,7 @@ def _is_datagram(data: bytes) -> bool:
 
 def _is_payload(data: bytes, checks: Checks) -> bool:
     """Whether frames are there; any bytes are one frame if they begin with a type that takes all of them."""
-    if data and data[0] in _TAKES_ALL:
+    if data and data[0] in FRAMES and FRAMES[data[0]].fields[-1].kind == "rest":
         return False
     try:
         for _ in frames(data, checks=checks):

@@ -2,17 +2,14 @@
 
 from __future__ import annotations
 
-import operator
 from typing import Any, Optional
 
 from .. import (
-    Ack, AckFrequency, ApplicationClose, Checks, Code, ConnectionClose, Crypto, Datagram, DataBlocked, Error, Frame,
-    FrameError, MaxData, MaxStreamData, MaxStreamsBidi, MaxStreamsUni, NewConnectionId, NewToken, Padding,
-    ParameterError, PathChallenge, PathResponse, RangeSet, ResetStream, RetireConnectionId, Side, StopSending, Stream,
-    StreamDataBlocked, StreamsBlockedBidi, StreamsBlockedUni, TransportParameters, canonical, expand_packet_number,
-    frames, is_known_parameter, parameters, read_varint, varint_len,
+    Ack, Checks, Code, ConnectionClose, Error, Frame, FrameError, MaxStreamsBidi, MaxStreamsUni, Padding,
+    ParameterError, RangeSet, Side, StreamsBlockedBidi, StreamsBlockedUni, TransportParameters, canonical,
+    expand_packet_number, frames, is_known_parameter, parameters, read_varint, varint_len,
 )  # fmt: skip
-from .._formats import PARAMETERS
+from .._formats import OWN_NAMES, PARAMETERS
 from .._wire import varint_at
 from ..errors import frame_name
 from ..pcap import Endpoint
@@ -76,69 +73,39 @@ def _padding_count(payload: bytes, frame: Frame) -> int:
     return count
 
 
-# For each kind of frame the names of its numbers, and the attributes that have them.
-_NUMBERS: dict[type[Frame], list[tuple[str, str]]] = {
-    ResetStream: [("id", "stream_id"), ("error_code", "error_code"), ("final_offset", "final_size")],
-    StopSending: [("id", "stream_id"), ("error_code", "error_code")],
-    Crypto: [("offset", "offset")],
-    MaxData: [("limit", "limit")],
-    MaxStreamData: [("id", "stream_id"), ("offset", "limit")],
-    StreamDataBlocked: [("id", "stream_id"), ("offset", "limit")],
-    DataBlocked: [("offset", "limit")],
-    NewConnectionId: [("sequence", "sequence"), ("retire_prior_to", "retire_prior_to")],
-    RetireConnectionId: [("sequence", "sequence")],
-    AckFrequency: [
-        ("sequence", "sequence"), ("ack_eliciting_threshold", "ack_eliciting_threshold"),
-        ("request_max_ack_delay", "max_ack_delay"), ("reordering_threshold", "reordering_threshold"),
-    ],
-}  # fmt: skip
-
-
-def _data_fields(data: Any) -> list[Field]:
-    return [("len", out.number(len(data))), ("data", out.data(data))]
+_BIDIRECTIONAL, _UNIDIRECTIONAL = (MaxStreamsBidi, StreamsBlockedBidi), (MaxStreamsUni, StreamsBlockedUni)
 
 
 def fields_of(frame: Frame, payload: bytes) -> list[Field]:
     """Every field of a frame of a payload."""
-    fields = [(name, out.number(getattr(frame, attribute))) for name, attribute in _NUMBERS.get(type(frame), [])]
-    match frame:
-        case Padding():
-            fields.append(("count", out.number(_padding_count(payload, frame))))
-        case Ack():
-            fields += _ack_fields(frame)
-        case Stream(stream_id, offset, fin, data):
-            fields += [("id", out.number(stream_id)), ("offset", out.number(offset)), ("fin", out.flag(fin))]
-            fields += _data_fields(data)
-        case Crypto(_, data) | Datagram(data):
-            fields += _data_fields(data)
-        case NewToken(token):
-            fields.append(("token", out.data(token)))
-        case MaxStreamsBidi(limit) | MaxStreamsUni(limit):
-            fields += _direction(frame, "count", limit)
-        case StreamsBlockedBidi(limit) | StreamsBlockedUni(limit):
-            fields += _direction(frame, "limit", limit)
-        case NewConnectionId(connection_id=connection_id, reset_token=token):
-            fields += [("id", out.data(connection_id)), ("reset_token", out.data(token))]
-        case PathChallenge(data) | PathResponse(data):
-            fields.append(("data", out.data(data)))
-        case ConnectionClose() | ApplicationClose():
-            fields += _close_fields(frame)
+    if isinstance(frame, Padding):
+        return [("count", out.number(_padding_count(payload, frame)))]
+    fields: list[Field] = []
+    if isinstance(frame, _BIDIRECTIONAL + _UNIDIRECTIONAL):
+        word = "bidirectional" if isinstance(frame, _BIDIRECTIONAL) else "unidirectional"
+        fields.append(("dir", out.word(word)))
+    own = OWN_NAMES.get(type(frame).__name__, {})
+    for name in frame.__match_args__:
+        fields += _shown(frame, own.get(name, name), getattr(frame, name))
     return fields
 
 
-def _direction(frame: Frame, name: str, limit: int) -> list[Field]:
-    word = "bidirectional" if isinstance(frame, (MaxStreamsBidi, StreamsBlockedBidi)) else "unidirectional"
-    return [("dir", out.word(word)), (name, out.number(limit))]
-
-
-def _ack_fields(ack: Ack) -> list[Field]:
-    fields = [
-        ("largest", out.number(ack.largest)),
-        ("delay", out.number(ack.delay)),
-        ("ranges", out.ranges(ack.ranges)),
-    ]
-    counts = (("ect0", ack.ect0), ("ect1", ack.ect1), ("ce", ack.ce))
-    return fields + [(name, out.number(count)) for name, count in counts if count is not None]
+def _shown(frame: Frame, name: str, value: Any) -> list[Field]:
+    """A field, and what is printed besides it; nothing for one that isn't there."""
+    match name, value:
+        case (_, None) | ("frame_type", 0):
+            return []
+        case "frame_type", number:
+            return [(name, out.number(number)), ("frame_name", out.word(frame_name(number)))]
+        case "error_code", code if isinstance(frame, ConnectionClose):
+            return [(name, out.number(code)), ("error_name", out.word(code_name(code)))]
+        case "reason", _:
+            return [(name, out.text(bytes(value))), ("reason_bytes", out.data(value))]
+        case "data", memoryview():  # of any length
+            return [("len", out.number(len(value))), (name, out.data(value))]
+        case "ranges", _:
+            return [(name, out.ranges(value))]
+    return [(name, out.plain(value))]
 
 
 def code_name(code: int) -> str:
@@ -146,17 +113,6 @@ def code_name(code: int) -> str:
     if Code.CRYPTO_ERROR <= code < Code.CRYPTO_ERROR + 0x100:
         return f"CRYPTO_ERROR {code - Code.CRYPTO_ERROR}"
     return Code(code).name if code in set(Code) else f"<unknown {code:x}>"
-
-
-def _close_fields(close: ConnectionClose | ApplicationClose) -> list[Field]:
-    fields = [("error_code", out.number(close.error_code))]
-    if isinstance(close, ConnectionClose):
-        fields.append(("error_name", out.word(code_name(close.error_code))))
-        if close.frame_type:
-            fields.append(("frame_type", out.number(close.frame_type)))
-            fields.append(("frame_name", out.word(frame_name(close.frame_type))))
-    reason = bytes(close.reason)
-    return [*fields, ("reason", out.text(reason)), ("reason_bytes", out.data(reason))]
 
 
 # ---- Other modes
@@ -288,7 +244,7 @@ _BY_DEFAULT = TransportParameters()
 
 def _parameter(read: TransportParameters, name: str) -> list[Field]:
     """A parameter that differs from its default."""
-    value = operator.attrgetter(name)(read)
+    value = getattr(read, name)
     if value == getattr(_BY_DEFAULT, name):
         return []
     if name == _PREFERRED:
@@ -299,5 +255,4 @@ def _parameter(read: TransportParameters, name: str) -> list[Field]:
                 fields.append((f"{_PREFERRED}_{version}", out.word(str(Endpoint(address[0].packed, address[1])))))
         return [*fields, (f"{_PREFERRED}_cid", out.data(value.connection_id)),
                 (f"{_PREFERRED}_token", out.data(value.reset_token))]  # fmt: skip
-    shown = out.data if isinstance(value, bytes) else out.flag if isinstance(value, bool) else out.number
-    return [(_SHORT_NAMES.get(name, name), shown(value))]
+    return [(_SHORT_NAMES.get(name, name), out.plain(value))]

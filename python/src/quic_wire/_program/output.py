@@ -47,6 +47,13 @@ def data(value: Any) -> Value:
     return Value(digits or "-", f'"{digits}"')
 
 
+def plain(value: Any) -> Value:
+    """A flag, a number or bytes."""
+    if isinstance(value, bool):
+        return flag(value)
+    return number(value) if isinstance(value, int) else data(value)
+
+
 def text(value: bytes) -> Value:
     """What may not be UTF-8, in quotes."""
     read = value.decode("utf-8", "replace")

@@ -1,0 +1,66 @@
+"""What `--help` prints.
+
+Made by scripts/tables from rust/program/src/help.rs and scripts/lib/tables/help_text.py: change nothing here.
+"""
+
+HELP = """\
+Decode QUIC v1 and v2 frames, packets and transport parameters, and print every field.
+
+usage: python -m quic_wire MODE [OPTION..] [FILE..]
+
+MODE says what a line is:
+  frames      an unprotected packet payload: print its frames
+  canon       the same: print the shortest payload with the same frames in the same order
+  datagram    a datagram as it is sent: print its packets, as far as their headers are readable
+  params      a list of transport parameters
+  number      varints or, with --largest, a truncated packet number
+  ranges      packet numbers in decimal, such as 1-3 7 9: print the set of them, and an ACK of it
+or what a FILE is:
+  capture     a capture file, pcap or pcapng: print its QUIC packets, and the frames of those that there are keys for
+
+Output:
+  1: 0..2 PADDING count=1    line 1, bytes 0 and 1: the frame and its fields
+  ranges=9-10,7-7            packet numbers: each range with both its ends
+  order=4,17                 the ids of all parameters of a list, in its order
+  error at 3: ..             the byte at which what is rejected begins. field_at is where the field at fault begins,
+                             close_code the code to close the connection with, section the RFC's section
+If what is rejected is a datagram in another mode, or a payload in the mode datagram, a hint on standard error says so,
+once for each FILE.
+
+Without FILE, and for -, read standard input. A line is hexadecimal, which may contain spaces, tabs, commas, colons,
+quotes, 0x and \\x, or base64 (--base64). Lists as in C, Rust, Python and JSON may have several lines; b'..' is read as
+Python and Rust print it; comments are ignored. The lines of a dump are joined. They are recognized by the offset in
+front of them:
+  00000010: 0102 ..    `xxd`
+  \\t0x0010:  0102 ..   `tcpdump -x`, `tcpdump -X`
+  00000010  01 02 ..   `hexdump -C`
+  0010  01 02 ..       Wireshark (Copy, as a Hex Dump), `tshark -x`
+  000010 01 02 ..      `od -A x -t x1` or, with text, `od -A x -t x1z`
+  0000020 01 02 ..     `od -t x1`: seven octal digits or, with -A d, decimal ones
+`xxd -e`, and `hexdump` without -C, swap bytes and are rejected, and so is what may mean two things, such as a single
+line `000000 01 06`. The manual page of quic-wire, INPUT, has the rule. A datagram may begin with its Ethernet, IP and
+UDP headers, as captures print them.
+A blank line ends a dump, as does its last offset; a row at offset 0 begins another. Each line of output begins with the
+number of its line of input, and is written as soon as that input is whole.
+
+options:
+  --base64             read lines as base64
+  --color WHEN         always, never or auto: on a terminal, unless NO_COLOR is set or TERM is dumb; default auto
+  --json               print a JSON object per line, without colours
+  --rfc                read as RFC 9000 requires, without the ACK frequency extension; the default
+  --quinn              read as the Rust crate quinn-proto does. The manual page of quic-wire,
+                       READINGS, lists the differences
+  --strict             frames, with --quinn: reject a frame type not in its shortest encoding
+  --cid-len N          datagram: length of the ids of short headers in bytes, 0 to 20; default: that of the matching
+                       id in an earlier long header of the same input, or else 0
+  --versions LIST      datagram: versions to read, in hexadecimal, separated by commas;
+                       default 1, the drafts 29 to 34, and 2 (6b3343cf)
+  --grease             datagram: accept a clear fixed bit (RFC 9287)
+  --side client|server params: the side that reads the list; default client, which accepts all parameters
+  --largest N          number: a line is a packet number's last 1 to 4 bytes, and N the largest received so far
+  --keylog FILE        capture: read secrets from a key log file, such as the one that SSLKEYLOGFILE names
+  -h, --help; -V, --version
+
+Exit status: 0 all lines were read, 1 an error was printed, 2 usage error, 3 reading, writing or an allocation failed.
+If a file can't be read, the others are still read.
+"""

@@ -23,7 +23,7 @@ use Rattle.quic_fields.specs.Walk.{Walked, frame_walk}
 use Rattle.quic_fields.proofs.FrameWalks.{frame_again_at, frame_stops_at, frame_takes_at, frame_without, no_frame_again_at, one_list_at, one_stop_at}
 use Rattle.quic_fields.proofs.RuleSpans.{allowed_of, broken_is, same_frame}
 use Rattle.quic_fields.proofs.SpanLaws.{front_width}
-use Rattle.quic_fields.proofs.TypeRules.{is_long, is_type, judged, refused}
+use Rattle.quic_fields.proofs.TypeRules.{is_type, judged, not_long, refused}
 
 -- ---- what the rules say of the type
 
@@ -44,8 +44,8 @@ long_is strict bytes t l false e = absurd (l.long ((is_type strict t l.front l.e
 short_is : (strict : Bool) (t : ℕ) (front : List ℕ) (s : IsType strict t front) (b : Bool)
     → is_long_type strict t (length front) ≡ b → b ≡ false
 short_is strict t front s false e = refl
-short_is strict t front s true e =
-    let l = is_long strict t (front ++ []) front [] refl s.encoded e in absurd (l.long (s.shortest l.counts))
+short_is false t front s true e = absurd cc
+short_is true t front s true e = absurd (not_long t front (s.shortest refl) e)
 
 forbidden_is : (rules : Rules) (bytes : List ℕ) (reason : Fault) → ForbidsType rules bytes reason
     → type_fault_at rules (length bytes) (varint_at bytes) ≡ Some reason
@@ -181,16 +181,19 @@ by_breach : (rules : Rules) (bytes : List ℕ) (found : TypedFrame) (spans : Lis
     (o : Option Breach) → bytes ≡ front ++ back → IsFrameAt false found spans front
     → (is_open found.type ≡ true → back ≡ []) → AllowsType rules bytes → breach_of rules found.frame ≡ o
     → IsAnswered rules bytes
-by_breach rules bytes found spans front back None parts s opens allowed e = inl (spans, record {
-  found = found;
-  front = front;
-  back = back;
-  parts = parts;
-  frame = s;
-  opens = opens;
-  allowed = allowed;
-  kept = e;
-})
+by_breach rules bytes found spans front back None parts s opens allowed e = inl (
+  spans,
+  record {
+    found = found;
+    front = front;
+    back = back;
+    parts = parts;
+    frame = s;
+    opens = opens;
+    allowed = allowed;
+    kept = e;
+  },
+)
 by_breach rules bytes found spans front back (Some breach) parts s opens allowed e =
     let broken = broken_is rules bytes breach allowed (record {
       found = found;

@@ -3,7 +3,7 @@ use Rattle.std.proofs.Common.{◌≡◌, ℕ, ◌-◌, Bool, true, false, cond, 
 use Rattle.std.specs.Prelude.{◌⊎◌, not}
 use Rattle.std.proofs.lemmas.Bool.Decides.{nat_tests}
 use Rattle.quic_base.specs.Number.{AreBytes}
-use Rattle.quic_base.specs.Varint.{Encodes, size}
+use Rattle.quic_base.specs.Varint.{Encodes, shortest_varint, size}
 use Rattle.quic_base.proofs.PublicLaws.{length-short, short_least}
 use Rattle.quic_frame_fields.specs.declared.frame.fault.Fault.{Fault}
 use Rattle.quic_frame_fields.specs.declared.frame.fault.Fault.TheVariants.{InvalidFrameId, LongType}
@@ -35,6 +35,11 @@ is_type true t front s e =
     let same : length front ≡ size t = same_size (length front) (size t) (test_off (eqb (length front) (size t)) e) in
     record { encoded = s; shortest = λ _. (short_least t front s).1 (same ∙ sym (length-short t)) }
 
+pub not_long : (t : ℕ) (front : List ℕ) → front ≡ shortest_varint t → is_long_type true t (length front) ≡ true → ⊥
+not_long t front h e =
+    let same : length front ≡ size t = ap length h ∙ length-short t in
+    true_is_not_false (sym (eq-eqb (length front) (size t) same) ∙ test_on (eqb (length front) (size t)) e)
+
 pub is_long : (strict : Bool) (t : ℕ) (bytes front back : List ℕ) → bytes ≡ front ++ back → Encodes t front
     → is_long_type strict t (length front) ≡ true → HasLongType strict bytes t
 is_long false t bytes front back parts s e = absurd cc
@@ -44,9 +49,7 @@ is_long true t bytes front back parts s e = record {
   back = back;
   parts = parts;
   encoded = s;
-  long = λ h.
-      let same : length front ≡ size t = ap length h ∙ length-short t in
-      true_is_not_false (sym (eq-eqb (length front) (size t) same) ∙ test_on (eqb (length front) (size t)) e);
+  long = λ h. not_long t front h e;
 }
 
 none_of : (long unknown : Bool) → cond long (Some LongType) (cond unknown (Some InvalidFrameId) None) ≡ None

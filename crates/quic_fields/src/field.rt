@@ -78,7 +78,6 @@ impl Seen {
     }
 
     // The first number, 0 if the first value isn't one.
-    #[tactic(auto, using(crate::proofs::Seeing::first_seen))]
     pub(crate) fn first(self) -> u64
         ensures { (before : List Value) → self ≡ seen_of before → result ≡ greatest_of before }
     {
@@ -89,7 +88,6 @@ impl Seen {
     }
 
     // Whether the last two values are numbers, the second of which is at most the first.
-    #[tactic(auto, using(crate::proofs::Seeing::ordered_seen))]
     fn is_ordered(self) -> bool
         ensures { (before : List Value) → self ≡ seen_of before → result ≡ is_ordered before }
     {

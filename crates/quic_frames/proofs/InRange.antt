@@ -1,7 +1,7 @@
 -- What is encoded can be written.
-use Rattle.std.proofs.Common.{◌≡◌, ℕ, ◌^◌, ◌<◌, ◌≤◌, Bool, true, false, List, [], ◌∷◌, length, Option, Some, None, refl, ap, arith}
-use Rattle.std.specs.Prelude.{nat_le}
+use Rattle.std.proofs.Common.{◌≡◌, ℕ, ◌^◌, ◌<◌, Bool, true, false, List, [], ◌∷◌, length, Option, Some, None, refl, ap, arith}
 use Rattle.std.proofs.lemmas.Bool.Decides.{nat_tests}
+use Rattle.std.proofs.lemmas.Grind.{common_steps}
 use Rattle.quic_base.specs.declared.ids.Dir.{Dir}
 use Rattle.quic_base.specs.declared.ids.Dir.TheVariants.{Bi, Uni}
 use Rattle.quic_base.specs.Ids.{dir_number}
@@ -52,40 +52,19 @@ streams_blocked_range : (last : Bool) (dir : Dir) (n : ℕ)
 streams_blocked_range last Bi n f = (in_row refl f).1.0
 streams_blocked_range last Uni n f = (in_row refl f).1.0
 
-at_most : (m n : ℕ) → nat_le n m ≡ true → n ≤ m
-at_most m n e = grind (arith, nat_tests)
-
 pub can_stand : (last : Bool) (frame : Frame) → HasNoTypeZero frame
     → FitsRow last (written_type last (meaning_of frame).name (meaning_of frame).values) (meaning_of frame)
     → CanStand last frame
-can_stand last frames.Padding z f = closed_frame refl tt
-can_stand last frames.Ping z f = closed_frame refl tt
 can_stand last (frames.Ack a) z f = closed_frame refl (ack_range last a a.ecn f)
-can_stand last (frames.ResetStream r) z f = closed_frame refl tt
-can_stand last (frames.StopSending s) z f = closed_frame refl tt
-can_stand last (frames.Crypto c) z f = let v = in_row refl f in closed_frame refl (v.0, (v.1.0, tt))
-can_stand last (frames.NewToken t) z f = closed_frame refl (in_row refl f).0
 can_stand last (frames.Stream s) z f =
     let v = stream_limits last s.fin s.id s.offset s.bytes.now f in record { in_range = v.0; counted = v.1 }
-can_stand last (frames.MaxData n) z f = closed_frame refl tt
-can_stand last (frames.MaxStreamData id offset) z f = closed_frame refl (in_row refl f).1.0
 can_stand last (frames.MaxStreams dir count) z f = closed_frame refl (max_streams_range last dir count f)
-can_stand last (frames.DataBlocked offset) z f = closed_frame refl (in_row refl f).0
-can_stand last (frames.StreamDataBlocked id offset) z f = closed_frame refl (in_row refl f).1.0
 can_stand last (frames.StreamsBlocked dir limit) z f = closed_frame refl (streams_blocked_range last dir limit f)
-can_stand last (frames.NewConnectionId n) z f =
-    let v = in_row refl f in
-    let id = v.1.1.1.0 in
-    closed_frame refl ((v.0, (v.1.0, tt)), at_most n.sequence n.retire_prior_to v.1.1.0, id.0, id.1)
-can_stand last (frames.RetireConnectionId sequence) z f = closed_frame refl (in_row refl f).0
-can_stand last (frames.PathChallenge n) z f = closed_frame refl tt
-can_stand last (frames.PathResponse n) z f = closed_frame refl tt
 can_stand last (frames.Close (closes.Connection c)) z f = closed_frame refl (z, (in_row refl f).1.1.0)
 can_stand last (frames.Close (closes.Application c)) z f = closed_frame refl (in_row refl f).1.0
-can_stand last frames.HandshakeDone z f = closed_frame refl tt
-can_stand last frames.ImmediateAck z f = closed_frame refl tt
 can_stand last (frames.Datagram d) z f = record { in_range = tt; counted = datagram_limit last d.bytes.now f }
-can_stand last (frames.AckFrequency g) z f = closed_frame refl tt
+can_stand last frame z f =
+    let v = in_row refl f in closed_frame refl (grind (arith, common_steps, nat_tests))
 
 -- A frame that is encoded as the last of its payload, or not, can be written so.
 pub encoded_can_stand : (last : Bool) (t : ℕ) (frame : Frame) (bytes : List ℕ) → HasNoTypeZero frame

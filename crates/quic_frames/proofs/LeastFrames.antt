@@ -12,7 +12,7 @@ use Rattle.quic_base.specs.Ids.{dir_number}
 use Rattle.quic_frame_fields.specs.Field.{Value, Number, Bytes, IsField, AreFields}
 use Rattle.quic_frame_fields.specs.Table.{Name, Ack, Stream, Datagram, MaxStreams, StreamsBlocked, Row, rows, row_of, is_open, offset_field, data_field, stream_row, datagram_row, streams_row, ack_row, ack_ecn_row}
 use Rattle.quic_frame_fields.specs.Payload.{Meaning, TypedFrame, IsFrame}
-use Rattle.quic_frame_fields.specs.Parts.{frame_of, flag}
+use Rattle.quic_frame_fields.specs.Parts.{frame_of, flag, named_type}
 use Rattle.quic_frame_fields.specs.Shortest.{shortest_fields, shortest_row, written_type, shortest_frame}
 use Rattle.quic_frames.specs.Least.{AreOrExceed, as_written}
 use Rattle.quic_frame_fields.proofs.Steps.{true_is_not_false}
@@ -442,10 +442,50 @@ streams_blocked_type : (dir : Dir) (last : Bool) (values : List Value) (bytes : 
     → written_type last StreamsBlocked values ≡ 0x16 + dir_number dir
 streams_blocked_type dir last values bytes s = rw (s.5.5.0, s.4.0) refl
 
--- a row whose name has one type
-plain : {t : ℕ} {r : Row} → row_of t ≡ Some r
-    → ((last : Bool) (values : List Value) → written_type last r.name values ≡ t) → IsLeastRow t r
-plain in_table e = one_type in_table (λ last values bytes s. e last values)
+-- rows whose names have one type
+abbrev has_one_type : Name → ℕ → Bool
+has_one_type Ack t = false
+has_one_type Stream t = false
+has_one_type MaxStreams t = false
+has_one_type StreamsBlocked t = false
+has_one_type Datagram t = false
+has_one_type name t = eqb (named_type name []) t
+
+same_number : (m n : ℕ) → eqb m n ≡ true → m ≡ n
+same_number m n e = grind (arith, nat_tests)
+
+the_type : (name : Name) (t : ℕ) → has_one_type name t ≡ true → (last : Bool) (values : List Value)
+    → written_type last name values ≡ t
+the_type Ack t e last values = absurd (true_is_not_false (sym e))
+the_type Stream t e last values = absurd (true_is_not_false (sym e))
+the_type MaxStreams t e last values = absurd (true_is_not_false (sym e))
+the_type StreamsBlocked t e last values = absurd (true_is_not_false (sym e))
+the_type Datagram t e last values = absurd (true_is_not_false (sym e))
+the_type name t e last values = same_number (named_type name []) t e
+
+-- the rows from the first one on whose name has several types, and those after a type
+abbrev after_plain : List (ℕ × Row) → List (ℕ × Row)
+after_plain [] = []
+after_plain (entry ∷ entries) = cond (has_one_type entry.1.name entry.0) (after_plain entries) (entry ∷ entries)
+
+abbrev after : ℕ → List (ℕ × Row) → List (ℕ × Row)
+after t [] = []
+after t (entry ∷ entries) = cond (eqb entry.0 t) entries (after t entries)
+
+and_plain : (entries : List (ℕ × Row)) → Each IsLeastRow (after_plain entries) → Each IsLeastRow entries
+and_plain [] others = others
+and_plain (entry ∷ entries) others =
+    by_test (has_one_type entry.1.name entry.0) refl others (λ left. and_plain entries left)
+  where
+    by_test : (b : Bool) → has_one_type entry.1.name entry.0 ≡ b
+        → Each IsLeastRow (cond b (after_plain entries) (entry ∷ entries))
+        → (Each IsLeastRow (after_plain entries) → Each IsLeastRow entries) → Each IsLeastRow (entry ∷ entries)
+    by_test true one left others = (
+      λ last values type_bytes field_bytes s. same_type last entry.0 entry.1 values type_bytes field_bytes s
+          (the_type entry.1.name entry.0 one last values),
+      others left,
+    )
+    by_test false several left others = left
 
 infixr 5 ◌&◌
 ◌&◌ : {A B : Type 0} → A → B → A × B
@@ -454,20 +494,13 @@ a & b = (a, b)
 -- in the order of the table
 each_least : Each IsLeastRow rows
 each_least =
-    plain refl (λ last values. refl) & plain refl (λ last values. refl) & one_type refl ack_type & one_type refl ack_ecn_type
-    & plain refl (λ last values. refl) & plain refl (λ last values. refl) & plain refl (λ last values. refl) & plain
-    refl (λ last values. refl)
-    & stream_least true true false & stream_least true true true & stream_least true false false & stream_least true false true
+    and_plain rows (one_type refl ack_type & one_type refl ack_ecn_type & and_plain (after 0x03 rows)
+    (stream_least true true false & stream_least true true true & stream_least true false false & stream_least true false true
     & stream_least false true false & stream_least false true true & stream_least false false false & stream_least false false true
-    & plain refl (λ last values. refl) & plain refl (λ last values. refl) & one_type refl (max_streams_type Bi) &
-    one_type refl (max_streams_type Uni)
-    & plain refl (λ last values. refl) & plain refl (λ last values. refl) & one_type refl (streams_blocked_type Bi) &
-    one_type refl (streams_blocked_type Uni)
-    & plain refl (λ last values. refl) & plain refl (λ last values. refl) & plain refl (λ last values. refl) & plain
-    refl (λ last values. refl)
-    & plain refl (λ last values. refl) & plain refl (λ last values. refl) & plain refl (λ last values. refl) & plain
-    refl (λ last values. refl)
-    & datagram_least true & datagram_least false & plain refl (λ last values. refl) & tt
+    & and_plain (after 0x0f rows)
+    (one_type refl (max_streams_type Bi) & one_type refl (max_streams_type Uni) & and_plain (after 0x13 rows)
+    (one_type refl (streams_blocked_type Bi) & one_type refl (streams_blocked_type Uni) & and_plain (after 0x17 rows)
+    (datagram_least true & datagram_least false & and_plain (after 0x31 rows) tt)))))
 
 pub frame_least : (last : Bool) (found : TypedFrame) (bytes : List ℕ) → IsFrame false found bytes
     → (is_open found.type ≡ true → last ≡ true) → LeastFrame last found.frame bytes

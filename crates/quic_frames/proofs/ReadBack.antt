@@ -1,7 +1,7 @@
 -- What is written for frames is read back as these frames.
-use Rattle.std.proofs.Common.{◌≡◌, ◌≢◌, length, ap, ℕ, ◌^◌, ◌<◌, ◌≤◌, Bool, true, false, List, [], ◌∷◌, map, Option, Some, None, refl, sym, subst, ◌∙◌, arith}
-use Rattle.std.specs.Prelude.{nat_le}
+use Rattle.std.proofs.Common.{◌≡◌, ◌≢◌, length, ap, ℕ, ◌^◌, ◌<◌, Bool, true, false, List, [], ◌∷◌, map, Option, Some, None, refl, sym, subst, ◌∙◌, arith}
 use Rattle.std.proofs.lemmas.Bool.Decides.{nat_tests}
+use Rattle.std.proofs.lemmas.Grind.{common_steps}
 use Rattle.std.proofs.lemmas.List.{length-append}
 use Rattle.quic_base.specs.declared.ids.Dir.{Dir}
 use Rattle.quic_base.specs.declared.ids.Dir.TheVariants.{Bi, Uni}
@@ -79,40 +79,19 @@ streams_blocked_fit : (last : Bool) (dir : Dir) (n : ℕ) → n < 2 ^ 62
 streams_blocked_fit last Bi n lt = of_row (omega arith) refl refl (refl, (lt, refl))
 streams_blocked_fit last Uni n lt = of_row (omega arith) refl refl (refl, (lt, refl))
 
-is_at_most : (m n : ℕ) → n ≤ m → nat_le n m ≡ true
-is_at_most m n le = grind (arith, nat_tests)
-
 -- a frame that can be written fits the row of the type by which it is written
 pub frame_fits : (last : Bool) (frame : Frame) → IsTypedFrame frame → CanStand last frame
     → FitsRow last (written_type last (meaning_of frame).name (meaning_of frame).values) (meaning_of frame)
-frame_fits last frames.Padding t c = of_row (omega arith) refl refl refl
-frame_fits last frames.Ping t c = of_row (omega arith) refl refl refl
 frame_fits last (frames.Ack a) t c =
     let r = c.in_range in
     ack_row_fits last a.largest a.delay (ranges_acked a) a.ecn r.0.0 r.0.1.0 (ranges_fit a r.0.0) r.1
-frame_fits last (frames.ResetStream r) t c = of_row (omega arith) refl refl (t.0, (t.1.0, (t.1.1.0, refl)))
-frame_fits last (frames.StopSending s) t c = of_row (omega arith) refl refl (t.0, (t.1.0, refl))
-frame_fits last (frames.Crypto d) t c = of_row (omega arith) refl refl (c.in_range.0, (c.in_range.1.0, refl))
-frame_fits last (frames.NewToken d) t c = of_row (omega arith) refl refl (c.in_range, refl)
 frame_fits last (frames.Stream s) t c = stream_row_fits last s.fin s.id s.offset s.bytes.now t c.in_range c.counted
-frame_fits last (frames.MaxData n) t c = of_row (omega arith) refl refl (t, refl)
-frame_fits last (frames.MaxStreamData id offset) t c = of_row (omega arith) refl refl (t, (c.in_range, refl))
 frame_fits last (frames.MaxStreams dir count) t c = max_streams_fit last dir count c.in_range
-frame_fits last (frames.DataBlocked offset) t c = of_row (omega arith) refl refl (c.in_range, refl)
-frame_fits last (frames.StreamDataBlocked id offset) t c = of_row (omega arith) refl refl (t, (c.in_range, refl))
 frame_fits last (frames.StreamsBlocked dir limit) t c = streams_blocked_fit last dir limit c.in_range
-frame_fits last (frames.NewConnectionId n) t c =
-    let r = c.in_range in
-    of_row (omega arith) refl refl (r.0.0, (r.0.1.0, (is_at_most n.sequence n.retire_prior_to r.1, ((r.2, r.3), (t, refl)))))
-frame_fits last (frames.RetireConnectionId sequence) t c = of_row (omega arith) refl refl (c.in_range, refl)
-frame_fits last (frames.PathChallenge n) t c = of_row (omega arith) refl refl (t, refl)
-frame_fits last (frames.PathResponse n) t c = of_row (omega arith) refl refl (t, refl)
 frame_fits last (frames.Close d) t c = close_fits last d t c.in_range
-frame_fits last frames.HandshakeDone t c = of_row (omega arith) refl refl refl
-frame_fits last frames.ImmediateAck t c = of_row (omega arith) refl refl refl
 frame_fits last (frames.Datagram d) t c = datagram_row_fits last d.bytes.now c.counted
-frame_fits last (frames.AckFrequency f) t c =
-    of_row (omega arith) refl refl (t.0, (t.1.0, (t.1.1.0, (t.1.1.1.0, refl))))
+frame_fits last frame t c =
+    let r = c.in_range in of_row (omega arith) refl refl (grind (arith, common_steps, nat_tests))
 
 -- What is written for a frame is read back as this frame.
 pub frame_read_back : (strict last : Bool) (frame : Frame) → IsTypedFrame frame → CanStand last frame

@@ -61,6 +61,24 @@ abbrev pub IsNoAck : Frame → Type 0
 IsNoAck (frames.Ack a) = ⊥
 IsNoAck frame = ⊤
 
+-- A frame of the kinds that one body writes: they have nothing but numbers, and are rare.
+abbrev pub IsWrittenAsNumbers : Frame → Type 0
+IsWrittenAsNumbers frames.Padding = ⊥
+IsWrittenAsNumbers frames.Ping = ⊥
+IsWrittenAsNumbers (frames.Ack a) = ⊥
+IsWrittenAsNumbers (frames.Crypto c) = ⊥
+IsWrittenAsNumbers (frames.NewToken t) = ⊥
+IsWrittenAsNumbers (frames.Stream s) = ⊥
+IsWrittenAsNumbers (frames.MaxData n) = ⊥
+IsWrittenAsNumbers (frames.MaxStreamData id offset) = ⊥
+IsWrittenAsNumbers (frames.MaxStreams dir count) = ⊥
+IsWrittenAsNumbers (frames.NewConnectionId n) = ⊥
+IsWrittenAsNumbers (frames.PathChallenge n) = ⊥
+IsWrittenAsNumbers (frames.PathResponse n) = ⊥
+IsWrittenAsNumbers (frames.Close c) = ⊥
+IsWrittenAsNumbers (frames.Datagram d) = ⊥
+IsWrittenAsNumbers frame = ⊤
+
 -- the data whose length is written only if the frame isn't the last
 abbrev pub open_data : Frame → List ℕ
 open_data (frames.Stream s) = s.bytes.now

@@ -12,6 +12,7 @@ mod field;
 mod found;
 mod in_range;
 mod iter;
+mod numbers;
 mod reading;
 mod rules;
 mod size_bound;

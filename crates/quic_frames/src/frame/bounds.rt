@@ -10,23 +10,13 @@ impl Frame<'_> {
         ensures { IsTypedFrame self.now }
     {
         match self {
-            Frame::ResetStream(r) => {
-                let _ = (
-                    u64::from(r.id),
-                    r.error_code.into_inner(),
-                    r.final_offset.into_inner(),
-                );
-            }
-            Frame::StopSending(s) => {
-                let _ = (u64::from(s.id), s.error_code.into_inner());
-            }
             Frame::Stream(s) => {
                 let _ = u64::from(s.id);
             }
             Frame::MaxData(n) => {
                 let _ = n.into_inner();
             }
-            Frame::MaxStreamData { id, .. } | Frame::StreamDataBlocked { id, .. } => {
+            Frame::MaxStreamData { id, .. } => {
                 let _ = u64::from(*id);
             }
             Frame::NewConnectionId(n) => {
@@ -41,29 +31,16 @@ impl Frame<'_> {
             Frame::Close(Close::Application(c)) => {
                 let _ = c.error_code.into_inner();
             }
-            Frame::AckFrequency(f) => {
-                let _ = (
-                    f.sequence.into_inner(),
-                    f.ack_eliciting_threshold.into_inner(),
-                );
-                let _ = (
-                    f.request_max_ack_delay.into_inner(),
-                    f.reordering_threshold.into_inner(),
-                );
-            }
-            // The parts of these have no bounds that a law needs. A new kind must be listed here or above.
             Frame::Padding
             | Frame::Ping
             | Frame::Ack(_)
             | Frame::Crypto(_)
             | Frame::NewToken(_)
-            | Frame::DataBlocked { .. }
             | Frame::MaxStreams { .. }
-            | Frame::StreamsBlocked { .. }
-            | Frame::RetireConnectionId { .. }
-            | Frame::HandshakeDone
-            | Frame::ImmediateAck
             | Frame::Datagram(_) => {}
+            _ => {
+                let _ = self.numbers();
+            }
         }
     }
 }

@@ -1,21 +1,20 @@
 //! Frames of every kind, written in their shortest form, as the last of a payload or not (RFC 9000, section 19).
 ghost use Rattle.std.specs.Prelude.{◌≡◌, ◌<◌, ◌≤◌, ◌+◌, ◌^◌, ◌++◌, ℕ, Bool, List, length, false, if◌then◌else◌};
-ghost use Rattle.quic_base.specs.Ids.{dir_number};
 ghost use Rattle.quic_base.specs.Number.{bytes_of};
 ghost use Rattle.quic_base.specs.Varint.{shortest_varint, size};
-ghost use Rattle.quic_frames.specs.InRange.{CanStand, InRange};
+ghost use Rattle.quic_frames.specs.InRange.{CanStand, IsWrittenAsNumbers, InRange};
 ghost use Rattle.quic_frame_fields.specs.Parts.{close_meaning};
 ghost use Rattle.quic_frames.specs.Meaning.{meaning_of};
 ghost use Rattle.quic_frame_fields.specs.Shortest.{shortest_frame, close_reason};
 ghost use Rattle.quic_base.specs.Writing.{WritesTo};
 ghost use Rattle.quic_frames.specs.declared.frame.Frame.TheVariants as frames;
 
+use super::numbers::bit_of;
 use super::{
     ApplicationClose, Close, ConnectionClose, Crypto, Datagram, Frame, NewConnectionId, Stream,
 };
 use bytes::BufMut;
 use quic_base::coding::NoRoom;
-use quic_base::ids::Dir;
 use quic_base::varint::var_size;
 use quic_frame_fields::frame::ack_encode::{ack_len, encode_ack};
 use quic_frame_fields::frame::encode::type_or_zero;
@@ -37,8 +36,6 @@ impl Frame<'_> {
             Frame::Padding => write::numbers(out, &[0x00]),
             Frame::Ping => write::numbers(out, &[0x01]),
             Frame::Ack(ack) => encode_ack(ack, out),
-            Frame::ResetStream(reset) => reset.encode(out),
-            Frame::StopSending(stop) => stop.encode(out),
             Frame::Crypto(crypto) => crypto.encode(out),
             Frame::NewToken(token) => token.encode(out),
             Frame::Stream(stream) => encode_stream(stream, last, out),
@@ -49,22 +46,12 @@ impl Frame<'_> {
             Frame::MaxStreams { dir, count } => {
                 write::numbers(out, &[0x12 + bit_of(*dir), *count])
             }
-            Frame::DataBlocked { offset } => write::numbers(out, &[0x14, *offset]),
-            Frame::StreamDataBlocked { id, offset } => {
-                write::numbers(out, &[0x15, u64::from(*id), *offset])
-            }
-            Frame::StreamsBlocked { dir, limit } => {
-                write::numbers(out, &[0x16 + bit_of(*dir), *limit])
-            }
             Frame::NewConnectionId(new) => new.encode(out),
-            Frame::RetireConnectionId { sequence } => write::numbers(out, &[0x19, *sequence]),
             Frame::PathChallenge(n) => encode_path(0x1a, *n, out),
             Frame::PathResponse(n) => encode_path(0x1b, *n, out),
             Frame::Close(close) => encode_close(close, out),
             Frame::Datagram(datagram) => encode_datagram(datagram, last, out),
-            Frame::AckFrequency(frequency) => frequency.encode(out),
-            Frame::ImmediateAck => write::numbers(out, &[0x1f]),
-            Frame::HandshakeDone => write::numbers(out, &[0x1e]),
+            _ => encode_numbers(self, out),
         }
     }
 
@@ -79,8 +66,6 @@ impl Frame<'_> {
             Frame::Padding => write::numbers_len(&[0x00]),
             Frame::Ping => write::numbers_len(&[0x01]),
             Frame::Ack(ack) => ack_len(ack),
-            Frame::ResetStream(reset) => write::numbers_len(&reset.numbers()),
-            Frame::StopSending(stop) => write::numbers_len(&stop.numbers()),
             Frame::Crypto(Crypto { offset, bytes }) => {
                 write::numbers_and_bytes_len(&[0x06, *offset, bytes.len() as u64], bytes)
             }
@@ -91,34 +76,37 @@ impl Frame<'_> {
                 write::numbers_len(&[0x11, u64::from(*id), *offset])
             }
             Frame::MaxStreams { dir, count } => write::numbers_len(&[0x12 + bit_of(*dir), *count]),
-            Frame::DataBlocked { offset } => write::numbers_len(&[0x14, *offset]),
-            Frame::StreamDataBlocked { id, offset } => {
-                write::numbers_len(&[0x15, u64::from(*id), *offset])
-            }
-            Frame::StreamsBlocked { dir, limit } => {
-                write::numbers_len(&[0x16 + bit_of(*dir), *limit])
-            }
             Frame::NewConnectionId(new) => new_id_len(new),
-            Frame::RetireConnectionId { sequence } => write::numbers_len(&[0x19, *sequence]),
             Frame::PathChallenge(_) => 1 + 8,
             Frame::PathResponse(_) => 1 + 8,
             Frame::Close(close) => close_len(close),
             Frame::Datagram(datagram) => datagram_len(datagram, last),
-            Frame::AckFrequency(frequency) => write::numbers_len(&frequency.numbers()),
-            Frame::ImmediateAck => write::numbers_len(&[0x1f]),
-            Frame::HandshakeDone => write::numbers_len(&[0x1e]),
+            _ => numbers_len(self),
         }
     }
 }
 
-// The bit of a direction in the types of MAX_STREAMS and STREAMS_BLOCKED.
-pub(super) fn bit_of(dir: Dir) -> u64
-    ensures { result ≡ dir_number dir }
+// A frame that has only numbers.
+#[inline(never)]
+fn encode_numbers<B: BufMut>(frame: &Frame<'_>, out: &mut B) -> Result<(), NoRoom>
+    requires kind { IsWrittenAsNumbers frame.now }
+    requires in_range { InRange frame.now }
+    ensures { (last : Bool) → WritesTo B.written B.spare (shortest_frame last (meaning_of frame.now))
+        out.old out.new result }
 {
-    match dir {
-        Dir::Bi => 0,
-        Dir::Uni => 1,
-    }
+    let (numbers, count) = frame.numbers();
+    write::numbers(out, &numbers[..count])
+}
+
+// How many bytes `encode_numbers` appends.
+#[inline(never)]
+fn numbers_len(frame: &Frame<'_>) -> u128
+    requires kind { IsWrittenAsNumbers frame.now }
+    requires in_range { InRange frame.now }
+    ensures { (last : Bool) → result ≡ length (shortest_frame last (meaning_of frame.now)) }
+{
+    let (numbers, count) = frame.numbers();
+    write::numbers_len(&numbers[..count])
 }
 
 // A STREAM, the last frame of its payload or not.

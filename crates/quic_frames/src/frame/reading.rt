@@ -281,16 +281,16 @@ fn read_datagram(has_length: bool, bytes: &[u8]) -> Result<(Frame<'_>, &[u8]), F
 }
 
 // ACK_FREQUENCY, read by a call for the same reason.
-#[tactic(auto, unfolding(quic_frame_fields::specs::Reading::row_at, quic_frame_fields::specs::Reading::varint_at))]
+#[tactic(auto, unfolding(quic_frame_fields::specs::Reading::row_at))]
 #[inline(never)]
 fn ack_frequency(bytes: &[u8]) -> Result<(AckFrequency, &[u8]), Fault>
     ensures { Gives (λ x. (meaning_of (frames.AckFrequency x.0), x.1.now)) result
         (row_at table.ack_frequency_row bytes.now) }
 {
-    let (sequence, rest) = split_var_by_word(bytes)?;
-    let (threshold, rest) = split_var_by_word(rest)?;
-    let (delay, rest) = split_var_by_word(rest)?;
-    let (reordering, rest) = split_var_by_word(rest)?;
+    let (sequence, rest) = field::number(bytes)?;
+    let (threshold, rest) = field::number(rest)?;
+    let (delay, rest) = field::number(rest)?;
+    let (reordering, rest) = field::number(rest)?;
     let frequency = AckFrequency {
         sequence: VarInt::from_u64_unchecked(sequence),
         ack_eliciting_threshold: VarInt::from_u64_unchecked(threshold),

@@ -6,11 +6,11 @@
 // ghost use Rattle.quic_frame_fields.specs.Parts.{close_meaning, new_id_meaning};
 // ghost use Rattle.quic_frame_fields.specs.Putting.{Puts};
 // ghost use Rattle.quic_frame_fields.specs.Shortest.{shortest_frame, close_reason};
-// ghost use Rattle.quic_frames.specs.InRange.{CanStand, InRange};
+// ghost use Rattle.quic_frames.specs.InRange.{CanStand, IsWrittenAsNumbers, InRange};
 // ghost use Rattle.quic_frames.specs.Meaning.{meaning_of};
 // ghost use Rattle.quic_frames.specs.declared.frame.Frame.TheVariants as frames;
 use crate::kit::prelude::*;
-use super::encode::bit_of;
+use super::numbers::bit_of;
 use super::{Close, Datagram, Frame, NewConnectionId, Stream};
 use crate::proved::quic_frame_fields::frame::write_into;
 
@@ -29,8 +29,6 @@ impl Frame<'_> {
             Frame::Padding => write_into::numbers(dest, &[0x00]),
             Frame::Ping => write_into::numbers(dest, &[0x01]),
             Frame::Ack(ack) => write_into::ack(dest, ack),
-            Frame::ResetStream(reset) => write_into::numbers(dest, &reset.numbers()),
-            Frame::StopSending(stop) => write_into::numbers(dest, &stop.numbers()),
             Frame::Crypto(c) => {
                 let numbers = [0x06, c.offset, c.bytes.len() as u64];
                 write_into::numbers_and_bytes(dest, &numbers, c.bytes)
@@ -46,24 +44,25 @@ impl Frame<'_> {
             Frame::MaxStreams { dir, count } => {
                 write_into::numbers(dest, &[0x12 + bit_of(*dir), *count])
             }
-            Frame::DataBlocked { offset } => write_into::numbers(dest, &[0x14, *offset]),
-            Frame::StreamDataBlocked { id, offset } => {
-                write_into::numbers(dest, &[0x15, u64::from(*id), *offset])
-            }
-            Frame::StreamsBlocked { dir, limit } => {
-                write_into::numbers(dest, &[0x16 + bit_of(*dir), *limit])
-            }
             Frame::NewConnectionId(new) => put_new_id(new, dest),
-            Frame::RetireConnectionId { sequence } => write_into::numbers(dest, &[0x19, *sequence]),
             Frame::PathChallenge(n) => put_path(0x1a, *n, dest),
             Frame::PathResponse(n) => put_path(0x1b, *n, dest),
             Frame::Close(close) => put_close(close, dest),
             Frame::Datagram(datagram) => put_datagram(datagram, last, dest),
-            Frame::AckFrequency(frequency) => write_into::numbers(dest, &frequency.numbers()),
-            Frame::ImmediateAck => write_into::numbers(dest, &[0x1f]),
-            Frame::HandshakeDone => write_into::numbers(dest, &[0x1e]),
+            _ => put_numbers(self, dest),
         }
     }
+}
+
+// A frame that has only numbers.
+#[inline(never)]
+fn put_numbers(frame: &Frame<'_>, dest: &mut [u8]) -> Result<usize, usize>
+    // requires kind { IsWrittenAsNumbers frame.now }
+    // requires in_range { InRange frame.now }
+    // ensures { (last : Bool) → Puts result (shortest_frame last (meaning_of frame.now)) dest.old dest.new }
+{
+    let (numbers, count) = frame.numbers();
+    write_into::numbers(dest, &numbers[..count])
 }
 
 // A STREAM, the last frame of its payload or not.

@@ -5,7 +5,7 @@
 // ghost use Rattle.quic_frame_fields.specs.Reading.{Gives, varint_at, bytes_at, counted_at, id_at, eight_at, field_at};
 // ghost use Rattle.quic_fields.specs.Kinds.{field_of};
 // ghost use Rattle.quic_fields.specs.Inside.{stop_at};
-// ghost use Rattle.quic_fields.specs.Walk.{seen_after, seen_of, with_value, stored, walk_at, last_end, EndsAs};
+// ghost use Rattle.quic_fields.specs.Walk.{are_ordered, seen_after, seen_of, with_value, stored, walk_at, last_end, EndsAs};
 
 use crate::proved::quic_fields::inside::stop_in;
 use crate::proved::quic_fields::row::Kind;
@@ -43,13 +43,20 @@ pub struct Reach {
     pub numbers: u64,
 }
 
-/// What later fields need of those that were read: the first number of an ACK, and the two of a NEW_CONNECTION_ID.
+/// What later fields need of the values that were read.
 #[derive(Clone, Copy, Debug, PartialEq, Eq)]
 pub enum Seen {
+    /// There are none.
     Nothing,
-    One(u64),
-    Two(u64, u64),
-    More(u64),
+    /// There are some.
+    Values {
+        /// The first, if it is a number; else 0.
+        first: u64,
+        /// The last, if it is a number.
+        last: Option<u64>,
+        /// Whether the last two are numbers, the second of which is at most the first.
+        ordered: bool,
+    },
 }
 
 impl Seen {
@@ -58,16 +65,16 @@ impl Seen {
         // ensures { result ≡ with_value self value }
     {
         match self {
-            Seen::Nothing => match value {
-                Some(a) => Seen::One(a),
-                None => Seen::More(0),
+            Seen::Nothing => Seen::Values {
+                first: value.unwrap_or(0),
+                last: value,
+                ordered: false,
             },
-            Seen::One(a) => match value {
-                Some(b) => Seen::Two(a, b),
-                None => Seen::More(a),
+            Seen::Values { first, last, .. } => Seen::Values {
+                first,
+                last: value,
+                ordered: are_ordered(last, value),
             },
-            Seen::Two(a, _) => Seen::More(a),
-            Seen::More(a) => Seen::More(a),
         }
     }
 
@@ -77,20 +84,28 @@ impl Seen {
     {
         match self {
             Seen::Nothing => 0,
-            Seen::One(a) => a,
-            Seen::Two(a, _) => a,
-            Seen::More(a) => a,
+            Seen::Values { first, .. } => first,
         }
     }
 
-    // Whether there are two numbers and the second is at most the first.
+    // Whether the last two values are numbers, the second of which is at most the first.
     fn is_ordered(self) -> bool
         // ensures { (before : List Value) → self ≡ seen_of before → result ≡ is_ordered before }
     {
         match self {
-            Seen::Two(a, b) => b <= a,
-            _ => false,
+            Seen::Nothing => false,
+            Seen::Values { ordered, .. } => ordered,
         }
+    }
+}
+
+// Whether these are numbers, the second of which is at most the first.
+fn are_ordered(first: Option<u64>, second: Option<u64>) -> bool
+    // ensures { result ≡ are_ordered first second }
+{
+    match (first, second) {
+        (Some(a), Some(b)) => b <= a,
+        _ => false,
     }
 }
 
@@ -279,10 +294,10 @@ pub struct Walked {
     pub numbers: u64,
 }
 
-// Stores a span, if there is room for it.
-pub(crate) fn put(room: &mut [Span], index: usize, span: Span)
-    // ensures { room.new ≡ slice_set room.old index span }
-{
+/// Stores a span, if there is room for it.
+pub fn put(room: &mut [Span], index: usize, span: Span) { #![doc = "# Contract\n```text"]
+    //! ensures { room.new ≡ slice_set room.old index span }
+    //! ```
     if index < room.len() {
         room[index] = span;
     }

@@ -22,7 +22,7 @@ pub enum Kind {
     Rest,
     /// No bytes: the type determines the number.
     Implied(u64),
-    /// No bytes: of the two numbers before, the second is at most the first.
+    /// No bytes: the last two fields before are numbers, the second of which is at most the first.
     Ordered,
 }
 

@@ -9,10 +9,10 @@
 // ghost use Rattle.quic_header_fields.specs.Kinds.{field_of};
 // ghost use Rattle.quic_header_fields.specs.Spans.{IsHeaderAt};
 
-use crate::proved::quic_header_fields::field::{Given, Seen, is_known, put, walk, word};
+use crate::proved::quic_header_fields::field::{Given, Seen, is_known, walk, word};
 use crate::proved::quic_header_fields::header::walk_header;
 use crate::proved::quic_header_fields::row::{Kind, row};
-use crate::proved::quic_fields::field::{Reach, Span};
+use crate::proved::quic_fields::field::{Reach, Span, put};
 
 // All kinds except the last.
 fn but_last(kinds: &[Kind]) -> &[Kind]

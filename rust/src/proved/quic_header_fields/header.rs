@@ -6,10 +6,10 @@
 // ghost use Rattle.quic_header_fields.specs.Inside.{stop_in_header};
 // ghost use Rattle.quic_header_fields.specs.Walk.{header_walk, HasHeader, LacksHeader};
 
-use crate::proved::quic_header_fields::field::{Given, Seen, is_known, put, walk, word};
+use crate::proved::quic_header_fields::field::{Given, Seen, is_known, walk, word};
 use crate::proved::quic_header_fields::row::row;
 use crate::proved::quic_base::ids::MAX_CID_SIZE;
-use crate::proved::quic_fields::field::Span;
+use crate::proved::quic_fields::field::{Span, put};
 pub use crate::proved::quic_header_decode::places::ReadError;
 use crate::proved::quic_header_decode::places::read_header;
 

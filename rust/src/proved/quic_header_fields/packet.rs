@@ -7,10 +7,9 @@
 // ghost use Rattle.quic_header_fields.specs.Inside.{stop_in_header};
 // ghost use Rattle.quic_header_fields.specs.Walk.{LacksHeader};
 
-use crate::proved::quic_header_fields::field::put;
 use crate::proved::quic_header_fields::header::{Walked, walk_header};
 use crate::proved::quic_base::ids::MAX_CID_SIZE;
-use crate::proved::quic_fields::field::Span;
+use crate::proved::quic_fields::field::{Span, put};
 use crate::proved::quic_header_decode::places::{HeaderKind, read_header};
 
 // Stores the spans of what follows a header, from an index and an offset on. Returns how many fields there are with

@@ -1,5 +1,7 @@
 //! Frames, and reading a payload frame by frame (RFC 9000, section 19).
-ghost use Rattle.std.specs.Prelude.{◌≡◌};
+ghost use Rattle.std.specs.Prelude.{◌≡◌, ◌≤◌, Bool, take};
+ghost use Rattle.quic_frame_fields.specs.Numbers.{AreNumeric, shortest_varints};
+ghost use Rattle.quic_frame_fields.specs.Shortest.{shortest_frame};
 
 use quic_base::ids::{Dir, StreamId};
 use quic_base::varint::VarInt;
@@ -19,6 +21,7 @@ mod size_bound;
 
 pub use checked::{Checked, first_error};
 pub use iter::Iter;
+use numbers::{bit_of, padded};
 pub use quic_errors::frame_type::FrameType;
 pub use quic_errors::invalid_frame::InvalidFrame;
 pub use quic_frame_fields::frame::{
@@ -108,6 +111,7 @@ pub enum Frame<'a> {
 }
 
 impl Frame<'_> {
+    ghost use Rattle.quic_frames.specs.InRange.{InRange, IsTypedFrame, IsWrittenAsNumbers};
     ghost use Rattle.quic_frames.specs.Meaning.{meaning_of, type_of, is_eliciting};
 
     /// The type that names the frame: ACK also if it has ECN counts, 0x30 for each DATAGRAM. That of a STREAM has the
@@ -142,6 +146,31 @@ impl Frame<'_> {
             Frame::AckFrequency(_) => FrameType::ACK_FREQUENCY,
             Frame::ImmediateAck => FrameType::IMMEDIATE_ACK,
             Frame::HandshakeDone => FrameType::HANDSHAKE_DONE,
+        }
+    }
+
+    // The numbers that make up the frame, its type first, in front of zeros, and how many there are. Frames of the other
+    // kinds hold bytes, or are frequent and have writers of their own.
+    #[tactic(auto, unfolding(quic_frame_fields::specs::Shortest::shortest_frame))]
+    fn numbers(&self) -> ([u64; 5], usize)
+        requires { IsWrittenAsNumbers self.now }
+        ensures few { result.1 ≤ 5 }
+        ensures shortest { (last : Bool) → shortest_frame last (meaning_of self.now)
+            ≡ shortest_varints (take result.1 result.0) }
+        ensures numeric { InRange self.now → AreNumeric (take result.1 result.0) }
+        ensures typed { IsTypedFrame self.now }
+    {
+        match self {
+            Frame::ResetStream(reset) => padded(&reset.numbers()),
+            Frame::StopSending(stop) => padded(&stop.numbers()),
+            Frame::DataBlocked { offset } => padded(&[0x14, *offset]),
+            Frame::StreamDataBlocked { id, offset } => padded(&[0x15, u64::from(*id), *offset]),
+            Frame::StreamsBlocked { dir, limit } => padded(&[0x16 + bit_of(*dir), *limit]),
+            Frame::RetireConnectionId { sequence } => padded(&[0x19, *sequence]),
+            Frame::HandshakeDone => padded(&[0x1e]),
+            Frame::ImmediateAck => padded(&[0x1f]),
+            Frame::AckFrequency(frequency) => padded(&frequency.numbers()),
+            _ => padded(&[]),
         }
     }
 

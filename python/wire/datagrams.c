@@ -5,9 +5,7 @@
 #include <string.h>
 
 /* Versions 1 and 2, and the drafts that version 1 was, as in the Rust crate. */
-static const uint32_t usual_versions[] = {
-    QUIC_WIRE_VERSION_1, 0xff00001d, 0xff00001e, 0xff00001f,
-    0xff000020,          0xff000021, 0xff000022, QUIC_WIRE_VERSION_2};
+static const uint32_t usual_versions[] = USUAL_VERSIONS;
 
 int wire_set_versions(wire_reader *how, PyObject *versions) {
   PyObject *list;

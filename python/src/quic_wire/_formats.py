@@ -720,3 +720,7 @@ PREFERRED_ADDRESS: tuple[Field, ...] = (
     Field(4, "id", "Connection ID", length="Connection ID Length", size=(1, 20)),
     Field(5, "bytes", "Stateless Reset Token", size=(16, 16)),
 )
+# The versions that are read by default.
+USUAL_VERSIONS: tuple[int, ...] = (
+    0x00000001, 0xff00001d, 0xff00001e, 0xff00001f, 0xff000020, 0xff000021, 0xff000022, 0x6b3343cf,
+)

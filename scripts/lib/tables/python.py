@@ -247,4 +247,6 @@ def made(formats):
     parts = [f"{begin}\n{''.join(some)}}}\n" for begin, some in tables.items()]
     return (
         f"{BEGIN}{enumeration(*CODES, codes)}{enumeration(*PACKET_TYPES, packets)}{''.join(parts)}"
-        f"PREFERRED_ADDRESS: tuple[Field, ...] = (\n{address})\n")
+        f"PREFERRED_ADDRESS: tuple[Field, ...] = (\n{address})\n"
+        "# The versions that are read by default.\n"
+        f"{filled('USUAL_VERSIONS: tuple[int, ...] = (', proved.versions(), ')', '')}\n")

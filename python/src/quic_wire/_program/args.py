@@ -16,10 +16,10 @@ from ..parameters import Side
 from .help import HELP
 from .plain import spelled
 
-USAGE = "usage: python -m quic_wire frames|canon|datagram|params|number|ranges|capture [OPTION..] [FILE..]"
 MODES = ("frames", "canon", "datagram", "params", "number", "ranges", "capture")
 # Those that read by rules.
-READERS = ("frames", "canon", "datagram", "params", "number", "capture")
+READERS = tuple(mode for mode in MODES if mode != "ranges")
+USAGE = f"usage: python -m quic_wire {'|'.join(MODES)} [OPTION..] [FILE..]"
 _VARINT_MAX = (1 << 62) - 1
 _MAX_CID_LEN = 20
 

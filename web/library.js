@@ -57,7 +57,6 @@ class Struct {
   constructor(memory, name, place) {
     this.memory = memory;
     this.place = place;
-    this.size = LAYOUT[name].size;
     this.fields = LAYOUT[name].fields;
   }
 

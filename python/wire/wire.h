@@ -186,7 +186,6 @@ PyObject *frame_made(wire_state *state, PyObject *owner,
                      const quic_wire_frame *frame);
 PyObject *frame_new(PyTypeObject *type, PyObject *args, PyObject *keywords);
 PyObject *frame_encode(PyObject *self, PyObject *args, PyObject *keywords);
-PyObject *frame_check(PyObject *self, PyObject *args, PyObject *keywords);
 /* FrameError: the frame breaks a rule.  Returns NULL. */
 PyObject *frame_reject(PyObject *self, int result);
 /* The ranges of an ACK that was read, ascending, and how many: free them with

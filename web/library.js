@@ -128,6 +128,7 @@ export class Library {
     this.length = bytes.length;
   }
 
+  // What a function of the library returns, as a Number, for Numbers or BigInts.
   call(name, ...words) {
     const numbers = words.map((word, at) => (CALLS[name][at] === 64 ? BigInt(word) : word));
     return Number(this.calls[`quic_wire_${name}_`](...numbers));

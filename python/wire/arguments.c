@@ -29,6 +29,18 @@ int wire_varint(PyObject *value, const char *name, uint64_t *out) {
   return number_of(value, name, 62, out);
 }
 
+int wire_version(PyObject *value, uint32_t *out) {
+  uint64_t version;
+  if (wire_number(value, "a version", &version) < 0)
+    return -1;
+  if (version <= UINT32_MAX) {
+    *out = (uint32_t)version;
+    return 0;
+  }
+  PyErr_SetString(PyExc_ValueError, "a version must be below 2^32");
+  return -1;
+}
+
 int wire_to_uint32(PyObject *value, void *out) {
   uint64_t number;
   if (number_of(value, "this argument", 32, &number) < 0)

@@ -19,14 +19,8 @@ int wire_set_versions(wire_reader *how, PyObject *versions) {
   len = list ? PyList_Size(list) : 0;
   if (len > MOST_VERSIONS)
     PyErr_Format(PyExc_ValueError, "at most %d versions", (int)MOST_VERSIONS);
-  for (i = 0; !PyErr_Occurred() && i < len; i++) {
-    uint64_t version;
-    if (wire_number(PyList_GetItem(list, i), "a version", &version) == 0 &&
-        version > UINT32_MAX)
-      PyErr_SetString(PyExc_ValueError, "a version must be below 2^32");
-    else if (!PyErr_Occurred())
-      how->versions[i] = (uint32_t)version;
-  }
+  for (i = 0; !PyErr_Occurred() && i < len; i++)
+    wire_version(PyList_GetItem(list, i), &how->versions[i]);
   how->count = (size_t)len;
   Py_XDECREF(list);
   return PyErr_Occurred() ? -1 : 0;

@@ -372,10 +372,8 @@ static PyObject *parameters_write(PyObject *self, PyObject *args) {
                         &order))
     return NULL;
   out = written(self, side, &more, &order);
-  if (more.obj)
-    PyBuffer_Release(&more);
-  if (order.obj)
-    PyBuffer_Release(&order);
+  PyBuffer_Release(&more);
+  PyBuffer_Release(&order);
   return out;
 }
 

@@ -85,6 +85,8 @@ PyObject *wire_written(PyObject *bytes, int result, size_t len);
 int wire_number(PyObject *value, const char *name, uint64_t *out);
 /* A number below 2^62. */
 int wire_varint(PyObject *value, const char *name, uint64_t *out);
+/* A version. */
+int wire_version(PyObject *value, uint32_t *out);
 /* For "O&" of PyArg_ParseTuple: a number below 2^32, a byte, the side `side` or
  * `sender`, a type of packets that have frames, the argument `checks` as flags
  * of readers. */

@@ -135,11 +135,9 @@ static int parse_header(PyObject *args, PyObject *keywords,
           &key_phase, &fixed_bit) ||
       (number && wire_varint(number, "number", &fields->number) < 0))
     return -1;
-  if (fields->kind >= QUIC_WIRE_PACKET_VERSION_NEGOTIATION) {
-    PyErr_SetString(PyExc_ValueError, "packet_type must be INITIAL, ZERO_RTT, "
-                                      "HANDSHAKE, RETRY or ONE_RTT");
-    return -1;
-  }
+  if (fields->kind >= QUIC_WIRE_PACKET_VERSION_NEGOTIATION)
+    return wire_fail(PyExc_ValueError, "packet_type must be INITIAL, ZERO_RTT, "
+                                       "HANDSHAKE, RETRY or ONE_RTT");
   fields->flags = (uint8_t)((fixed_bit ? 0 : QUIC_WIRE_CLEAR_FIXED_BIT) |
                             (spin ? QUIC_WIRE_BIT_SPIN : 0) |
                             (key_phase ? QUIC_WIRE_BIT_KEY_PHASE : 0));

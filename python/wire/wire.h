@@ -114,10 +114,12 @@ PyObject *wire_frame_read(const wire_bytes *payload, size_t begin,
 PyObject *wire_packet_read(const wire_bytes *datagram, size_t begin,
                            const wire_reader *how);
 
-/* ---- errors.c: exceptions.  Each returns NULL. */
+/* ---- errors.c: exceptions.  Each returns NULL, one -1. */
 
 /* ValueError, for the caller's mistake. */
 PyObject *wire_mistake(int result);
+/* An exception of this type, with a text as for PyErr_Format: -1. */
+int wire_fail(PyObject *type, const char *format, ...);
 /* |flags| are those with which the payload was read. */
 PyObject *wire_frame_error(int result, const wire_bytes *payload, size_t begin,
                            uint32_t flags, uint64_t type, PyObject *before);

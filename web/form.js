@@ -1,7 +1,7 @@
 // The form: reads it into a state, and puts a state into it.
 
+import { VERSIONS } from "./formats.js";
 import { versionsOf, versionsText } from "./link.js";
-import { VERSIONS } from "./names.js";
 
 // If a text has more characters than this, the box holds only its beginning, since browsers take seconds to lay it out.
 const MOST_IN_BOX = 1 << 18;

@@ -679,3 +679,8 @@ export const PREFERRED_ADDRESS = [
   {name: "Connection ID", kind: "id", length: "Connection ID Length", bytes: [1, 20]},
   {name: "Stateless Reset Token", kind: "bytes", bytes: [16, 16]},
 ];
+
+// The versions that are read by default: 1, the drafts 29 to 34, 2.
+export const VERSIONS = [
+  0x00000001, 0xff00001d, 0xff00001e, 0xff00001f, 0xff000020, 0xff000021, 0xff000022, 0x6b3343cf,
+];

@@ -57,7 +57,6 @@ class Struct {
   constructor(memory, name, place) {
     this.memory = memory;
     this.place = place;
-    this.size = LAYOUT[name].size;
     this.fields = LAYOUT[name].fields;
   }
 
@@ -129,6 +128,7 @@ export class Library {
     this.length = bytes.length;
   }
 
+  // What a function of the library returns, as a Number, for Numbers or BigInts.
   call(name, ...words) {
     const numbers = words.map((word, at) => (CALLS[name][at] === 64 ? BigInt(word) : word));
     return Number(this.calls[`quic_wire_${name}_`](...numbers));

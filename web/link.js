@@ -2,7 +2,7 @@
 
 import { toHex } from "./bytes.js";
 import { readText } from "./entries.js";
-import { VERSIONS } from "./names.js";
+import { VERSIONS } from "./formats.js";
 
 // Longer inputs are left out of the link.
 const MAX_LINKED = 65536;

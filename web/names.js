@@ -50,11 +50,6 @@ export const packetTone = (kind) => PACKETS[kind][1];
 export const headerOf = (kind) => HEADERS.get(kind === SHORT || kind === VERSION_NEGOTIATION ? 0 : 1).get(kind);
 export const packetName = (kind) => headerOf(kind).name;
 
-// The versions that quic-show supports: 1, the drafts 29 to 34, 2.
-export const VERSIONS = [
-  0x00000001, 0xff00001d, 0xff00001e, 0xff00001f, 0xff000020, 0xff000021, 0xff000022, 0x6b3343cf,
-];
-
 export function versionName(version) {
   const known = { 0: "version negotiation", 1: "version 1", 0x6b3343cf: "version 2" };
   const isReserved = (version & 0x0f0f0f0f) === 0x0a0a0a0a;

@@ -5,11 +5,12 @@ import { toHex } from "./bytes.js";
 import { readText } from "./entries.js";
 import { hasCiphers, hasInitialKeys, NO_CIPHERS, openInitial } from "./initial.js";
 import { INITIAL, RETRY, VERSION_NEGOTIATION } from "./layout.js";
-import { packetName, typeName } from "./names.js";
+import { packetName } from "./names.js";
 import { readBytes } from "./reading.js";
 import { element } from "./rows.js";
-import { spotIn, Views } from "./views.js";
 import { count } from "./shown.js";
+import { summaryOf } from "./status.js";
+import { spotIn, Views } from "./views.js";
 
 const MASK_LENGTH = 5;
 const SAMPLE_LENGTH = 16;
@@ -199,12 +200,10 @@ export class Opened {
     }
     const { packet } = this.notes[index];
     this.payload = this.readPayload(bytes);
-    const { error, bad } = this.payload;
-    const what = `${count(bad, "frame")} in ${count(bytes.length, "byte")}`;
-    const type = (error?.type ?? null) === null ? "" : ` in ${typeName(error.type)}`;
-    const wrong = error ? `, error at byte ${error.place}: ${error.reason}${type}` : "";
+    const what = `${count(this.payload.bad, "frame")} in ${count(bytes.length, "byte")}`;
+    const { text, isBad } = summaryOf(this.payload);
     this.boxes.title.textContent = `Payload of ${packetName(packet.kind)}, ${packet.begin}..${packet.end}`;
-    this.boxes.note.textContent = `${what}${wrong}.`;
+    this.boxes.note.textContent = isBad ? `${what}, ${text}.` : `${what}.`;
     this.views.show(this.payload, this.columns);
   }
 

@@ -1,7 +1,7 @@
 // The panel with what quic-show prints of the same bytes.
 
+import { VERSIONS } from "./formats.js";
 import { versionsText } from "./link.js";
-import { VERSIONS } from "./names.js";
 import { element } from "./rows.js";
 import { canonicalLine, command, textOf } from "./text.js";
 

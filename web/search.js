@@ -1,6 +1,6 @@
 // Searches in what is sorted.
 
-// The last of the indices below |count| for which a test holds, or -1. It holds for none after one for which it doesn't.
+// The last index below |count| for which a test holds, or -1. It holds for none after one for which it doesn't.
 export function lastWhere(count, test) {
   let low = 0;
   let high = count;

@@ -6,16 +6,14 @@
 static int number_of(PyObject *value, const char *name, int bits,
                      uint64_t *out) {
   unsigned long long number;
-  if (!PyLong_Check(value)) {
-    PyErr_Format(PyExc_TypeError, "%s must be an int", name);
-    return -1;
-  }
+  if (!PyLong_Check(value))
+    return wire_fail(PyExc_TypeError, "%s must be an int", name);
   number = PyLong_AsUnsignedLongLong(value);
   if ((number == (unsigned long long)-1 && PyErr_Occurred()) ||
       (bits < 64 && number >> bits)) {
     PyErr_Clear();
-    PyErr_Format(PyExc_ValueError, "%s must be from 0 to 2^%d - 1", name, bits);
-    return -1;
+    return wire_fail(PyExc_ValueError, "%s must be from 0 to 2^%d - 1", name,
+                     bits);
   }
   *out = number;
   return 0;
@@ -27,6 +25,17 @@ int wire_number(PyObject *value, const char *name, uint64_t *out) {
 
 int wire_varint(PyObject *value, const char *name, uint64_t *out) {
   return number_of(value, name, 62, out);
+}
+
+int wire_version(PyObject *value, uint32_t *out) {
+  uint64_t version;
+  if (wire_number(value, "a version", &version) < 0)
+    return -1;
+  if (version <= UINT32_MAX) {
+    *out = (uint32_t)version;
+    return 0;
+  }
+  return wire_fail(PyExc_ValueError, "a version must be below 2^32");
 }
 
 int wire_to_uint32(PyObject *value, void *out) {
@@ -97,10 +106,8 @@ int wire_checks(PyObject *const *args, Py_ssize_t nargs, PyObject *names,
   *flags = 0;
   for (i = 0; i < count; i++) {
     PyObject *name = PyTuple_GetItem(names, i);
-    if (PyUnicode_CompareWithASCIIString(name, "checks") != 0) {
-      PyErr_Format(PyExc_TypeError, "no such keyword argument: %U", name);
-      return -1;
-    }
+    if (PyUnicode_CompareWithASCIIString(name, "checks") != 0)
+      return wire_fail(PyExc_TypeError, "no such keyword argument: %U", name);
     if (!wire_to_checks(args[nargs + i], flags))
       return -1;
   }

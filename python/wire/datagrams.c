@@ -5,9 +5,7 @@
 #include <string.h>
 
 /* Versions 1 and 2, and the drafts that version 1 was, as in the Rust crate. */
-static const uint32_t usual_versions[] = {
-    QUIC_WIRE_VERSION_1, 0xff00001d, 0xff00001e, 0xff00001f,
-    0xff000020,          0xff000021, 0xff000022, QUIC_WIRE_VERSION_2};
+static const uint32_t usual_versions[] = USUAL_VERSIONS;
 
 int wire_set_versions(wire_reader *how, PyObject *versions) {
   PyObject *list;
@@ -21,14 +19,8 @@ int wire_set_versions(wire_reader *how, PyObject *versions) {
   len = list ? PyList_Size(list) : 0;
   if (len > MOST_VERSIONS)
     PyErr_Format(PyExc_ValueError, "at most %d versions", (int)MOST_VERSIONS);
-  for (i = 0; !PyErr_Occurred() && i < len; i++) {
-    uint64_t version;
-    if (wire_number(PyList_GetItem(list, i), "a version", &version) == 0 &&
-        version > UINT32_MAX)
-      PyErr_SetString(PyExc_ValueError, "a version must be below 2^32");
-    else if (!PyErr_Occurred())
-      how->versions[i] = (uint32_t)version;
-  }
+  for (i = 0; !PyErr_Occurred() && i < len; i++)
+    wire_version(PyList_GetItem(list, i), &how->versions[i]);
   how->count = (size_t)len;
   Py_XDECREF(list);
   return PyErr_Occurred() ? -1 : 0;

@@ -2,9 +2,19 @@
 /* Exceptions, which functions of quic_wire.errors make. */
 #include "wire.h"
 
+#include <stdarg.h>
+
 PyObject *wire_mistake(int result) {
   PyErr_SetString(PyExc_ValueError, quic_wire_strerror(result));
   return NULL;
+}
+
+int wire_fail(PyObject *type, const char *format, ...) {
+  va_list values;
+  va_start(values, format);
+  PyErr_FormatV(type, format, values);
+  va_end(values);
+  return -1;
 }
 
 PyObject *wire_call(const char *module, const char *function, PyObject *args) {

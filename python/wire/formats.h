@@ -5,6 +5,8 @@
  * what a row is; rows that it doesn't define are nothing. Each inclusion forgets the definitions.
  *
  * - FIELD(name, what it is, its slot in the union, documentation) */
+/* The versions that are read by default. */
+#define USUAL_VERSIONS {0x00000001, 0xff00001d, 0xff00001e, 0xff00001f, 0xff000020, 0xff000021, 0xff000022, 0x6b3343cf}
 #ifndef FRAME_FIELD
 #define FRAME_FIELD(name, how, bit, doc)
 #endif

@@ -55,10 +55,8 @@ static int set_count(maker *m, const PyGetSetDef *field, PyObject *value) {
   PyObject *zeros;
   if (wire_number(value, field->name, &count) < 0)
     return -1;
-  if (count == 0 || count > PY_SSIZE_T_MAX) {
-    PyErr_SetString(PyExc_ValueError, "count must be 1 or more");
-    return -1;
-  }
+  if (count == 0 || count > PY_SSIZE_T_MAX)
+    return wire_fail(PyExc_ValueError, "count must be 1 or more");
   zeros =
       PyObject_CallFunction((PyObject *)&PyBytes_Type, "n", (Py_ssize_t)count);
   m->made->f.end = (size_t)count;
@@ -77,8 +75,7 @@ static int set_path(maker *m, const PyGetSetDef *Py_UNUSED(field),
   wire_release(&bytes);
   if (len == 8)
     return 0;
-  PyErr_SetString(PyExc_ValueError, "data must have 8 bytes");
-  return -1;
+  return wire_fail(PyExc_ValueError, "data must have 8 bytes");
 }
 
 static int set_ranges(maker *m, const PyGetSetDef *Py_UNUSED(field),
@@ -110,29 +107,26 @@ static int set_fields(maker *m, const wire_kind *kind, PyObject *args,
     const char *name = kind->fields[i].name;
     PyObject *by_name = keywords ? PyDict_GetItemString(keywords, name) : NULL;
     PyObject *value = i < len ? PyTuple_GetItem(args, i) : by_name;
-    if (i < len && by_name) {
-      PyErr_Format(PyExc_TypeError, "%s: %s is given twice", kind->name, name);
-      return -1;
-    }
+    if (i < len && by_name)
+      return wire_fail(PyExc_TypeError, "%s: %s is given twice", kind->name,
+                       name);
     named += i >= len && by_name;
     if (value && set[i](m, &kind->fields[i], value) < 0)
       return -1;
   }
   if (len <= i && (!keywords || PyDict_Size(keywords) == named))
     return 0;
-  PyErr_Format(PyExc_TypeError, "%s has %zd fields: more are given, or others",
-               kind->name, i);
-  return -1;
+  return wire_fail(PyExc_TypeError,
+                   "%s has %zd fields: more are given, or others", kind->name,
+                   i);
 }
 
 /* The id with its token after it. */
 static int finish_new_connection_id(maker *m) {
   PyObject *id, *token = NULL, *both = NULL;
-  if (!m->token || !m->made->owner) {
-    PyErr_SetString(PyExc_TypeError,
-                    "NewConnectionId needs connection_id and reset_token");
-    return -1;
-  }
+  if (!m->token || !m->made->owner)
+    return wire_fail(PyExc_TypeError,
+                     "NewConnectionId needs connection_id and reset_token");
   id = PyBytes_FromObject(m->made->owner);
   token = id ? PyBytes_FromObject(m->token) : NULL;
   if (token && PyBytes_Size(token) != 16)
@@ -203,10 +197,9 @@ static int finish_other(maker *m) {
   wire_release(&bytes);
   if (result >= 0)
     return 0;
-  PyErr_Format(PyExc_ValueError,
-               "%s: its fields together are none that it may have",
-               wire_kind_of(&m->made->f)->name);
-  return -1;
+  return wire_fail(PyExc_ValueError,
+                   "%s: its fields together are none that it may have",
+                   wire_kind_of(&m->made->f)->name);
 }
 
 static int finish(maker *m) {

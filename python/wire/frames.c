@@ -126,7 +126,8 @@ PyObject *frame_reject(PyObject *self, int result) {
 }
 
 /* By the rules of checks, in a packet of a type from a sender. */
-PyObject *frame_check(PyObject *self, PyObject *args, PyObject *keywords) {
+static PyObject *frame_check(PyObject *self, PyObject *args,
+                             PyObject *keywords) {
   static char *names[] = NAMES_Frame_check_permitted;
   uint32_t packet, sender, flags = 0;
   int result;

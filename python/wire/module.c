@@ -66,11 +66,9 @@ static int add_constants(PyObject *module) {
 
 static int exec(PyObject *module) {
   wire_state *state = PyModule_GetState(module);
-  if (quic_wire_check(QUIC_WIRE_LIB) != QUIC_WIRE_OK) {
-    PyErr_SetString(PyExc_ImportError,
-                    quic_wire_strerror(QUIC_WIRE_ERR_LIBRARY));
-    return -1;
-  }
+  if (quic_wire_check(QUIC_WIRE_LIB) != QUIC_WIRE_OK)
+    return wire_fail(PyExc_ImportError, "%s",
+                     quic_wire_strerror(QUIC_WIRE_ERR_LIBRARY));
   if (add_constants(module) < 0 ||
       PyModule_AddFunctions(module, wire_read_functions) < 0 ||
       PyModule_AddFunctions(module, wire_packet_functions) < 0 ||

@@ -124,8 +124,7 @@ static int check_address(const address_parts *a) {
   if (a->cid_len <= CID && a->token_len == RESET_TOKEN &&
       (!a->v4 || a->v4_len == 4) && (!a->v6 || a->v6_len == 16))
     return 0;
-  PyErr_SetString(PyExc_ValueError, "an address, id or token has other bytes");
-  return -1;
+  return wire_fail(PyExc_ValueError, "an address, id or token has other bytes");
 }
 
 static void copy_address(quic_wire_params *p, const address_parts *a) {
@@ -372,10 +371,8 @@ static PyObject *parameters_write(PyObject *self, PyObject *args) {
                         &order))
     return NULL;
   out = written(self, side, &more, &order);
-  if (more.obj)
-    PyBuffer_Release(&more);
-  if (order.obj)
-    PyBuffer_Release(&order);
+  PyBuffer_Release(&more);
+  PyBuffer_Release(&order);
   return out;
 }
 

@@ -113,12 +113,9 @@ typedef struct header_arguments {
 } header_arguments;
 
 static void release(header_arguments *a) {
-  if (a->dcid.obj)
-    PyBuffer_Release(&a->dcid);
-  if (a->scid.obj)
-    PyBuffer_Release(&a->scid);
-  if (a->token.obj)
-    PyBuffer_Release(&a->token);
+  PyBuffer_Release(&a->dcid);
+  PyBuffer_Release(&a->scid);
+  PyBuffer_Release(&a->token);
 }
 
 static int parse_header(PyObject *args, PyObject *keywords,
@@ -138,11 +135,9 @@ static int parse_header(PyObject *args, PyObject *keywords,
           &key_phase, &fixed_bit) ||
       (number && wire_varint(number, "number", &fields->number) < 0))
     return -1;
-  if (fields->kind >= QUIC_WIRE_PACKET_VERSION_NEGOTIATION) {
-    PyErr_SetString(PyExc_ValueError, "packet_type must be INITIAL, ZERO_RTT, "
-                                      "HANDSHAKE, RETRY or ONE_RTT");
-    return -1;
-  }
+  if (fields->kind >= QUIC_WIRE_PACKET_VERSION_NEGOTIATION)
+    return wire_fail(PyExc_ValueError, "packet_type must be INITIAL, ZERO_RTT, "
+                                       "HANDSHAKE, RETRY or ONE_RTT");
   fields->flags = (uint8_t)((fixed_bit ? 0 : QUIC_WIRE_CLEAR_FIXED_BIT) |
                             (spin ? QUIC_WIRE_BIT_SPIN : 0) |
                             (key_phase ? QUIC_WIRE_BIT_KEY_PHASE : 0));
@@ -176,17 +171,11 @@ static uint32_t *versions_of(PyObject *versions, size_t *count) {
   const Py_ssize_t len = list ? PyList_Size(list) : 0;
   uint32_t *out = list ? PyMem_Calloc((size_t)len + 1, sizeof *out) : NULL;
   Py_ssize_t i;
-  uint64_t version;
-  for (i = 0; out && i < len; i++) {
-    if (wire_number(PyList_GetItem(list, i), "a version", &version) == 0 &&
-        version > UINT32_MAX)
-      PyErr_SetString(PyExc_ValueError, "a version must be below 2^32");
-    if (PyErr_Occurred()) {
+  for (i = 0; out && i < len; i++)
+    if (wire_version(PyList_GetItem(list, i), &out[i]) < 0) {
       PyMem_Free(out);
       out = NULL;
-    } else
-      out[i] = (uint32_t)version;
-  }
+    }
   Py_XDECREF(list);
   *count = (size_t)len;
   return out;

@@ -85,6 +85,8 @@ PyObject *wire_written(PyObject *bytes, int result, size_t len);
 int wire_number(PyObject *value, const char *name, uint64_t *out);
 /* A number below 2^62. */
 int wire_varint(PyObject *value, const char *name, uint64_t *out);
+/* A version. */
+int wire_version(PyObject *value, uint32_t *out);
 /* For "O&" of PyArg_ParseTuple: a number below 2^32, a byte, the side `side` or
  * `sender`, a type of packets that have frames, the argument `checks` as flags
  * of readers. */
@@ -112,10 +114,12 @@ PyObject *wire_frame_read(const wire_bytes *payload, size_t begin,
 PyObject *wire_packet_read(const wire_bytes *datagram, size_t begin,
                            const wire_reader *how);
 
-/* ---- errors.c: exceptions.  Each returns NULL. */
+/* ---- errors.c: exceptions.  Each returns NULL, one -1. */
 
 /* ValueError, for the caller's mistake. */
 PyObject *wire_mistake(int result);
+/* An exception of this type, with a text as for PyErr_Format: -1. */
+int wire_fail(PyObject *type, const char *format, ...);
 /* |flags| are those with which the payload was read. */
 PyObject *wire_frame_error(int result, const wire_bytes *payload, size_t begin,
                            uint32_t flags, uint64_t type, PyObject *before);
@@ -186,7 +190,6 @@ PyObject *frame_made(wire_state *state, PyObject *owner,
                      const quic_wire_frame *frame);
 PyObject *frame_new(PyTypeObject *type, PyObject *args, PyObject *keywords);
 PyObject *frame_encode(PyObject *self, PyObject *args, PyObject *keywords);
-PyObject *frame_check(PyObject *self, PyObject *args, PyObject *keywords);
 /* FrameError: the frame breaks a rule.  Returns NULL. */
 PyObject *frame_reject(PyObject *self, int result);
 /* The ranges of an ACK that was read, ascending, and how many: free them with

@@ -47,6 +47,7 @@ class Frame(NamedTuple):
     fields: tuple[Field, ...]
     quinn_proto: str
     """quinn-proto's name, which tells the types of one frame apart: ACK_ECN."""
+    senders: tuple[str, ...]
 
 
 class Bits(NamedTuple):
@@ -173,10 +174,10 @@ class PacketType(enum.IntEnum):
 FRAMES: dict[int, Frame] = {
     0x00: Frame(0x00, "PADDING", "RFC 9000, section 19.1", (
         Field(0, "number", "Type", unit="frame type"),
-    ), "PADDING"),
+    ), "PADDING", ("client", "server")),
     0x01: Frame(0x01, "PING", "RFC 9000, section 19.2", (
         Field(0, "number", "Type", unit="frame type"),
-    ), "PING"),
+    ), "PING", ("client", "server")),
     0x02: Frame(0x02, "ACK", "RFC 9000, section 19.3", (
         Field(0, "number", "Type", unit="frame type"),
         Field(1, "number", "Largest Acknowledged", unit="packet number"),
@@ -185,7 +186,7 @@ FRAMES: dict[int, Frame] = {
             3, "ranges", "ACK Ranges", unit="packet numbers",
             numbers=("ACK Range Count", "First ACK Range", "Gap", "ACK Range Length"),
         ),
-    ), "ACK"),
+    ), "ACK", ("client", "server")),
     0x03: Frame(0x03, "ACK", "RFC 9000, section 19.3", (
         Field(0, "number", "Type", unit="frame type"),
         Field(1, "number", "Largest Acknowledged", unit="packet number"),
@@ -197,121 +198,121 @@ FRAMES: dict[int, Frame] = {
         Field(4, "number", "ECT0 Count", unit="packets"),
         Field(5, "number", "ECT1 Count", unit="packets"),
         Field(6, "number", "ECN-CE Count", unit="packets"),
-    ), "ACK_ECN"),
+    ), "ACK_ECN", ("client", "server")),
     0x04: Frame(0x04, "RESET_STREAM", "RFC 9000, section 19.4", (
         Field(0, "number", "Type", unit="frame type"),
         Field(1, "number", "Stream ID", unit="stream id"),
         Field(2, "number", "Application Protocol Error Code", unit="application error code"),
         Field(3, "number", "Final Size", unit="bytes"),
-    ), "RESET_STREAM"),
+    ), "RESET_STREAM", ("client", "server")),
     0x05: Frame(0x05, "STOP_SENDING", "RFC 9000, section 19.5", (
         Field(0, "number", "Type", unit="frame type"),
         Field(1, "number", "Stream ID", unit="stream id"),
         Field(2, "number", "Application Protocol Error Code", unit="application error code"),
-    ), "STOP_SENDING"),
+    ), "STOP_SENDING", ("client", "server")),
     0x06: Frame(0x06, "CRYPTO", "RFC 9000, section 19.6", (
         Field(0, "number", "Type", unit="frame type"),
         Field(1, "number", "Offset", unit="bytes"),
         Field(2, "counted", "Crypto Data", length="Length"),
-    ), "CRYPTO"),
+    ), "CRYPTO", ("client", "server")),
     0x07: Frame(0x07, "NEW_TOKEN", "RFC 9000, section 19.7", (
         Field(0, "number", "Type", unit="frame type"),
         Field(1, "counted", "Token", length="Token Length"),
-    ), "NEW_TOKEN"),
+    ), "NEW_TOKEN", ("server",)),
     0x08: Frame(0x08, "STREAM", "RFC 9000, section 19.8", (
         Field(0, "number", "Type", unit="frame type"),
         Field(1, "implied", "FIN", unit="1 at the end of the stream", value=0),
         Field(2, "number", "Stream ID", unit="stream id"),
         Field(3, "implied", "Offset", unit="bytes", value=0),
         Field(4, "rest", "Stream Data"),
-    ), "STREAM"),
+    ), "STREAM", ("client", "server")),
     0x09: Frame(0x09, "STREAM", "RFC 9000, section 19.8", (
         Field(0, "number", "Type", unit="frame type"),
         Field(1, "implied", "FIN", unit="1 at the end of the stream", value=1),
         Field(2, "number", "Stream ID", unit="stream id"),
         Field(3, "implied", "Offset", unit="bytes", value=0),
         Field(4, "rest", "Stream Data"),
-    ), "STREAM"),
+    ), "STREAM", ("client", "server")),
     0x0a: Frame(0x0a, "STREAM", "RFC 9000, section 19.8", (
         Field(0, "number", "Type", unit="frame type"),
         Field(1, "implied", "FIN", unit="1 at the end of the stream", value=0),
         Field(2, "number", "Stream ID", unit="stream id"),
         Field(3, "implied", "Offset", unit="bytes", value=0),
         Field(4, "counted", "Stream Data", length="Length"),
-    ), "STREAM"),
+    ), "STREAM", ("client", "server")),
     0x0b: Frame(0x0b, "STREAM", "RFC 9000, section 19.8", (
         Field(0, "number", "Type", unit="frame type"),
         Field(1, "implied", "FIN", unit="1 at the end of the stream", value=1),
         Field(2, "number", "Stream ID", unit="stream id"),
         Field(3, "implied", "Offset", unit="bytes", value=0),
         Field(4, "counted", "Stream Data", length="Length"),
-    ), "STREAM"),
+    ), "STREAM", ("client", "server")),
     0x0c: Frame(0x0c, "STREAM", "RFC 9000, section 19.8", (
         Field(0, "number", "Type", unit="frame type"),
         Field(1, "implied", "FIN", unit="1 at the end of the stream", value=0),
         Field(2, "number", "Stream ID", unit="stream id"),
         Field(3, "number", "Offset", unit="bytes"),
         Field(4, "rest", "Stream Data"),
-    ), "STREAM"),
+    ), "STREAM", ("client", "server")),
     0x0d: Frame(0x0d, "STREAM", "RFC 9000, section 19.8", (
         Field(0, "number", "Type", unit="frame type"),
         Field(1, "implied", "FIN", unit="1 at the end of the stream", value=1),
         Field(2, "number", "Stream ID", unit="stream id"),
         Field(3, "number", "Offset", unit="bytes"),
         Field(4, "rest", "Stream Data"),
-    ), "STREAM"),
+    ), "STREAM", ("client", "server")),
     0x0e: Frame(0x0e, "STREAM", "RFC 9000, section 19.8", (
         Field(0, "number", "Type", unit="frame type"),
         Field(1, "implied", "FIN", unit="1 at the end of the stream", value=0),
         Field(2, "number", "Stream ID", unit="stream id"),
         Field(3, "number", "Offset", unit="bytes"),
         Field(4, "counted", "Stream Data", length="Length"),
-    ), "STREAM"),
+    ), "STREAM", ("client", "server")),
     0x0f: Frame(0x0f, "STREAM", "RFC 9000, section 19.8", (
         Field(0, "number", "Type", unit="frame type"),
         Field(1, "implied", "FIN", unit="1 at the end of the stream", value=1),
         Field(2, "number", "Stream ID", unit="stream id"),
         Field(3, "number", "Offset", unit="bytes"),
         Field(4, "counted", "Stream Data", length="Length"),
-    ), "STREAM"),
+    ), "STREAM", ("client", "server")),
     0x10: Frame(0x10, "MAX_DATA", "RFC 9000, section 19.9", (
         Field(0, "number", "Type", unit="frame type"),
         Field(1, "number", "Maximum Data", unit="bytes"),
-    ), "MAX_DATA"),
+    ), "MAX_DATA", ("client", "server")),
     0x11: Frame(0x11, "MAX_STREAM_DATA", "RFC 9000, section 19.10", (
         Field(0, "number", "Type", unit="frame type"),
         Field(1, "number", "Stream ID", unit="stream id"),
         Field(2, "number", "Maximum Stream Data", unit="bytes"),
-    ), "MAX_STREAM_DATA"),
+    ), "MAX_STREAM_DATA", ("client", "server")),
     0x12: Frame(0x12, "MAX_STREAMS", "RFC 9000, section 19.11", (
         Field(0, "number", "Type", unit="frame type"),
         Field(1, "implied", "Direction", unit="0 bidirectional, 1 unidirectional", value=0),
         Field(2, "number", "Maximum Streams", unit="streams", most=1152921504606846976),
-    ), "MAX_STREAMS_BIDI"),
+    ), "MAX_STREAMS_BIDI", ("client", "server")),
     0x13: Frame(0x13, "MAX_STREAMS", "RFC 9000, section 19.11", (
         Field(0, "number", "Type", unit="frame type"),
         Field(1, "implied", "Direction", unit="0 bidirectional, 1 unidirectional", value=1),
         Field(2, "number", "Maximum Streams", unit="streams", most=1152921504606846976),
-    ), "MAX_STREAMS_UNI"),
+    ), "MAX_STREAMS_UNI", ("client", "server")),
     0x14: Frame(0x14, "DATA_BLOCKED", "RFC 9000, section 19.12", (
         Field(0, "number", "Type", unit="frame type"),
         Field(1, "number", "Maximum Data", unit="bytes"),
-    ), "DATA_BLOCKED"),
+    ), "DATA_BLOCKED", ("client", "server")),
     0x15: Frame(0x15, "STREAM_DATA_BLOCKED", "RFC 9000, section 19.13", (
         Field(0, "number", "Type", unit="frame type"),
         Field(1, "number", "Stream ID", unit="stream id"),
         Field(2, "number", "Maximum Stream Data", unit="bytes"),
-    ), "STREAM_DATA_BLOCKED"),
+    ), "STREAM_DATA_BLOCKED", ("client", "server")),
     0x16: Frame(0x16, "STREAMS_BLOCKED", "RFC 9000, section 19.14", (
         Field(0, "number", "Type", unit="frame type"),
         Field(1, "implied", "Direction", unit="0 bidirectional, 1 unidirectional", value=0),
         Field(2, "number", "Maximum Streams", unit="streams", most=1152921504606846976),
-    ), "STREAMS_BLOCKED_BIDI"),
+    ), "STREAMS_BLOCKED_BIDI", ("client", "server")),
     0x17: Frame(0x17, "STREAMS_BLOCKED", "RFC 9000, section 19.14", (
         Field(0, "number", "Type", unit="frame type"),
         Field(1, "implied", "Direction", unit="0 bidirectional, 1 unidirectional", value=1),
         Field(2, "number", "Maximum Streams", unit="streams", most=1152921504606846976),
-    ), "STREAMS_BLOCKED_UNI"),
+    ), "STREAMS_BLOCKED_UNI", ("client", "server")),
     0x18: Frame(0x18, "NEW_CONNECTION_ID", "RFC 9000, section 19.15", (
         Field(0, "number", "Type", unit="frame type"),
         Field(1, "number", "Sequence Number", unit="sequence number"),
@@ -319,51 +320,51 @@ FRAMES: dict[int, Frame] = {
         Field(3, "ordered", "", at_most=(2, 1)),
         Field(4, "id", "Connection ID", length="Length", size=(1, 20)),
         Field(5, "bytes", "Stateless Reset Token", size=(16, 16)),
-    ), "NEW_CONNECTION_ID"),
+    ), "NEW_CONNECTION_ID", ("client", "server")),
     0x19: Frame(0x19, "RETIRE_CONNECTION_ID", "RFC 9000, section 19.16", (
         Field(0, "number", "Type", unit="frame type"),
         Field(1, "number", "Sequence Number", unit="sequence number"),
-    ), "RETIRE_CONNECTION_ID"),
+    ), "RETIRE_CONNECTION_ID", ("client", "server")),
     0x1a: Frame(0x1a, "PATH_CHALLENGE", "RFC 9000, section 19.17", (
         Field(0, "number", "Type", unit="frame type"),
         Field(1, "uint64", "Data", size=(8, 8)),
-    ), "PATH_CHALLENGE"),
+    ), "PATH_CHALLENGE", ("client", "server")),
     0x1b: Frame(0x1b, "PATH_RESPONSE", "RFC 9000, section 19.18", (
         Field(0, "number", "Type", unit="frame type"),
         Field(1, "uint64", "Data", size=(8, 8)),
-    ), "PATH_RESPONSE"),
+    ), "PATH_RESPONSE", ("client", "server")),
     0x1c: Frame(0x1c, "CONNECTION_CLOSE", "RFC 9000, section 19.19", (
         Field(0, "number", "Type", unit="frame type"),
         Field(1, "number", "Error Code", unit="error code"),
         Field(2, "number", "Frame Type", unit="frame type, 0 if unknown"),
         Field(3, "counted", "Reason Phrase", unit="UTF-8", length="Reason Phrase Length"),
-    ), "CONNECTION_CLOSE"),
+    ), "CONNECTION_CLOSE", ("client", "server")),
     0x1d: Frame(0x1d, "CONNECTION_CLOSE", "RFC 9000, section 19.19", (
         Field(0, "number", "Type", unit="frame type"),
         Field(1, "number", "Error Code", unit="application error code"),
         Field(2, "counted", "Reason Phrase", unit="UTF-8", length="Reason Phrase Length"),
-    ), "APPLICATION_CLOSE"),
+    ), "APPLICATION_CLOSE", ("client", "server")),
     0x1e: Frame(0x1e, "HANDSHAKE_DONE", "RFC 9000, section 19.20", (
         Field(0, "number", "Type", unit="frame type"),
-    ), "HANDSHAKE_DONE"),
+    ), "HANDSHAKE_DONE", ("server",)),
     0x1f: Frame(0x1f, "IMMEDIATE_ACK", "draft-ietf-quic-ack-frequency, section 5", (
         Field(0, "number", "Type", unit="frame type"),
-    ), "IMMEDIATE_ACK"),
+    ), "IMMEDIATE_ACK", ("client", "server")),
     0x30: Frame(0x30, "DATAGRAM", "RFC 9221, section 4", (
         Field(0, "number", "Type", unit="frame type"),
         Field(1, "rest", "Datagram Data"),
-    ), "DATAGRAM"),
+    ), "DATAGRAM", ("client", "server")),
     0x31: Frame(0x31, "DATAGRAM", "RFC 9221, section 4", (
         Field(0, "number", "Type", unit="frame type"),
         Field(1, "counted", "Datagram Data", length="Length"),
-    ), "DATAGRAM"),
+    ), "DATAGRAM", ("client", "server")),
     0xaf: Frame(0xaf, "ACK_FREQUENCY", "draft-ietf-quic-ack-frequency, section 4", (
         Field(0, "number", "Type", unit="frame type"),
         Field(1, "number", "Sequence Number", unit="sequence number"),
         Field(2, "number", "Ack-Eliciting Threshold", unit="packets"),
         Field(3, "number", "Requested Max Ack Delay", unit="microseconds"),
         Field(4, "number", "Reordering Threshold", unit="packets"),
-    ), "ACK_FREQUENCY"),
+    ), "ACK_FREQUENCY", ("client", "server")),
 }
 # By their versions and kinds of packets; those without a version of their own have version 0.
 HEADERS: dict[tuple[int, int], Header] = {
@@ -719,4 +720,8 @@ PREFERRED_ADDRESS: tuple[Field, ...] = (
     Field(3, "bytes", "IPv6 Port", size=(2, 2)),
     Field(4, "id", "Connection ID", length="Connection ID Length", size=(1, 20)),
     Field(5, "bytes", "Stateless Reset Token", size=(16, 16)),
+)
+# The versions that are read by default.
+USUAL_VERSIONS: tuple[int, ...] = (
+    0x00000001, 0xff00001d, 0xff00001e, 0xff00001f, 0xff000020, 0xff000021, 0xff000022, 0x6b3343cf,
 )

@@ -22,10 +22,7 @@ if TYPE_CHECKING:
 _NEW_TOKEN = 0x07
 _OF_TYPES = (FRAME_TYPE, FRAME_LONG_TYPE)  # results for a type that was read
 _LONG_FORM = 0x80  # of a first byte
-_ACK_FREQUENCY = (0x1F, 0xAF)  # unknown only with Checks.NO_ACK_FREQUENCY
 _PERMISSIONS = (FRAME_PACKET, FRAME_SENDER, FRAME_STREAM)
-# Types that only a server sends; and those of ACK, of which a section of their own says what is malformed.
-_OF_SERVERS, _ACKS = (_NEW_TOKEN, 0x1E), (0x02, 0x03)
 
 
 class Error(ValueError):
@@ -149,14 +146,15 @@ def _frame_section(result: int, frame_type: Optional[int]) -> str:
     if result in (FRAME_LIMIT, FRAME_STREAM):
         return own
     if result == FRAME_MALFORMED:
-        return f"{own}.1" if frame_type in _ACKS else own
+        return f"{own}.1" if known and known.name == "ACK" else own
     if result == FRAME_SENDER:
-        return own if frame_type in _OF_SERVERS else "RFC 9000, section 17.2.3"
+        return own if known and "client" not in known.senders else "RFC 9000, section 17.2.3"
     return "RFC 9000, section 20.1"
 
 
 def _why_unknown(result: int, frame_type: Optional[int]) -> Optional[str]:
-    is_of_extension = result == FRAME_TYPE and frame_type in _ACK_FREQUENCY
+    known = FRAMES.get(frame_type or 0)
+    is_of_extension = result == FRAME_TYPE and known is not None and known.section.startswith("draft-")
     return "the ACK frequency extension wasn't negotiated" if is_of_extension else None
 
 

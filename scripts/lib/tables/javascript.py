@@ -1,6 +1,7 @@
 """web/formats.js."""
 import json
 
+from lib.tables import proved
 from lib.tables.formats import MADE, bound_of, enumeration, filled, headers, wanted
 
 PATH = "web/formats.js"
@@ -83,4 +84,6 @@ def made(formats):
     parts = [f"{begin}\n{''.join(some)}]);\n\n" for begin, some in tables.items()]
     return (
         f"{BEGIN}{''.join(parts)}"
-        f"export const PREFERRED_ADDRESS = [\n{rows(formats['preferred_address'], '  ')}];\n")
+        f"export const PREFERRED_ADDRESS = [\n{rows(formats['preferred_address'], '  ')}];\n\n"
+        "// The versions that are read by default: 1, the drafts 29 to 34, 2.\n"
+        f"{filled('export const VERSIONS = [', proved.versions(), ']', '', '  ')};\n")

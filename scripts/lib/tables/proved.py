@@ -17,6 +17,7 @@ NUMBERS = {
     "usize": ("quic_wire_size", 8), "i32": ("int32_t", 4), "i64": ("int64_t", 8),
 }
 KINDS, PRESENT = "crates/quic_c_headers/src/words.rt", "crates/quic_c_params/specs/Shown.antt"
+VERSIONS = "crates/quic_base/src/ids.rt"
 
 
 def sources(crates):
@@ -51,6 +52,12 @@ def frame_members():
         for name, body in re.findall(begin + r"(.*?)^(?:    )?\},?$", read(path), re.S | re.M):
             found[name] = re.findall(r"^ +(?:pub )?(\w+): ", body, re.M)
     return found
+
+
+def versions():
+    """The versions that are read by default, as hexadecimal numbers."""
+    body = re.search(r"^pub const DEFAULT_SUPPORTED_VERSIONS: &\[u32\] = &\[(.*?)\];", read(VERSIONS), re.M | re.S)[1]
+    return [number.replace("_", "") for number in re.findall(r"0x\w+", body)]
 
 
 def placed(fields):

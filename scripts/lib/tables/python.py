@@ -54,6 +54,7 @@ class Frame(NamedTuple):
     fields: tuple[Field, ...]
     quinn_proto: str
     """quinn-proto's name, which tells the types of one frame apart: ACK_ECN."""
+    senders: tuple[str, ...]
 
 
 class Bits(NamedTuple):
@@ -181,7 +182,7 @@ def frame(one):
     number, quinn_proto = f"{one['type']:#04x}", one.get("quinn_proto", one["name"])
     return (
         f"    {number}: Frame({number}, {text(one['name'])}, {text(one['section'])}, (\n"
-        f"{rows(one['fields'])}    ), {text(quinn_proto)}),\n")
+        f"{rows(one['fields'])}    ), {text(quinn_proto)}, {text(one['senders'])}),\n")
 
 
 def header(version, kind, one):
@@ -247,4 +248,6 @@ def made(formats):
     parts = [f"{begin}\n{''.join(some)}}}\n" for begin, some in tables.items()]
     return (
         f"{BEGIN}{enumeration(*CODES, codes)}{enumeration(*PACKET_TYPES, packets)}{''.join(parts)}"
-        f"PREFERRED_ADDRESS: tuple[Field, ...] = (\n{address})\n")
+        f"PREFERRED_ADDRESS: tuple[Field, ...] = (\n{address})\n"
+        "# The versions that are read by default.\n"
+        f"{filled('USUAL_VERSIONS: tuple[int, ...] = (', proved.versions(), ')', '')}\n")

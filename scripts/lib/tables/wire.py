@@ -1,7 +1,7 @@
 """python/wire/formats.h."""
 import json
 
-from lib.tables import classes
+from lib.tables import classes, proved
 from lib.tables.formats import MADE
 
 PATH = "python/wire/formats.h"
@@ -17,6 +17,8 @@ BEGIN = f"""/* SPDX-License-Identifier: MIT OR Apache-2.0 */
  * what a row is; rows that it doesn't define are nothing. Each inclusion forgets the definitions.
  *
  * - FIELD(name, what it is, its slot in the union, documentation) */
+/* The versions that are read by default. */
+#define USUAL_VERSIONS {{{', '.join(proved.versions())}}}
 """
 KINDS = {"bytes": "TOKEN", "id": "ID", "flag": "FLAG", "preferred_address": "ADDRESS"}
 

@@ -10,16 +10,16 @@ from dataclasses import dataclass, field
 from typing import NamedTuple, Optional, Union
 
 from .. import __version__
+from .._formats import USUAL_VERSIONS
 from ..checks import Checks
 from ..parameters import Side
 from .help import HELP
 from .plain import spelled
 
-USAGE = "usage: python -m quic_wire frames|canon|datagram|params|number|ranges|capture [OPTION..] [FILE..]"
 MODES = ("frames", "canon", "datagram", "params", "number", "ranges", "capture")
 # Those that read by rules.
-READERS = ("frames", "canon", "datagram", "params", "number", "capture")
-USUAL_VERSIONS = (0x00000001, *range(0xFF00001D, 0xFF000023), 0x6B3343CF)
+READERS = tuple(mode for mode in MODES if mode != "ranges")
+USAGE = f"usage: python -m quic_wire {'|'.join(MODES)} [OPTION..] [FILE..]"
 _VARINT_MAX = (1 << 62) - 1
 _MAX_CID_LEN = 20
 

@@ -5,8 +5,8 @@ from __future__ import annotations
 from typing import NamedTuple, Optional
 
 from .. import Checks, FrameError, PacketError, UnknownVersion, VersionNegotiation, frames, read_packet
-from .._formats import FRAMES
-from .args import USUAL_VERSIONS, Args
+from .._formats import FRAMES, USUAL_VERSIONS
+from .args import Args
 
 _LONG = 0x80
 

@@ -27,6 +27,8 @@ int32_t quic_wire_ack_ranges_next_(quic_wire_range_iter *, const uint8_t *,
 uint32_t quic_wire_close_code_(int32_t);
 int32_t quic_wire_frame_header_write_(const quic_wire_frame *, uint32_t,
                                       uint8_t *, size_t, size_t *);
+size_t quic_wire_frame_write_fault_(const quic_wire_frame *, const uint8_t *,
+                                    size_t, uint32_t);
 int32_t quic_wire_frames_fill_(quic_wire_frame_iter *, const uint8_t *, size_t,
                                quic_wire_frame *, size_t, size_t *);
 int32_t quic_wire_frames_first_(quic_wire_frame_iter *, const uint8_t *, size_t,
@@ -54,6 +56,8 @@ int32_t quic_wire_param_fields_(const uint8_t *, size_t, quic_wire_span *,
 int32_t quic_wire_param_value_fields_(uint64_t, const uint8_t *, size_t,
                                       uint32_t, quic_wire_span *, size_t,
                                       quic_wire_fields *);
+size_t quic_wire_header_write_fault_(const quic_wire_header_fields *, size_t,
+                                     size_t, size_t);
 int32_t quic_wire_packet_fields_(const uint8_t *, size_t, size_t,
                                  const uint32_t *, size_t, uint32_t,
                                  quic_wire_span *, size_t, quic_wire_fields *);
@@ -101,6 +105,8 @@ int32_t quic_wire_param_header_write_(uint64_t, size_t, uint8_t *, size_t,
                                       size_t *);
 int32_t quic_wire_param_write_number_(uint64_t, uint64_t, uint8_t *, size_t,
                                       size_t *);
+int32_t quic_wire_params_write_fault_(uint32_t, const quic_wire_params *,
+                                      uint64_t *);
 int32_t quic_wire_params_write_with_(uint32_t, const quic_wire_params *,
                                      const uint8_t *, size_t, const uint8_t *,
                                      size_t, uint8_t *, size_t, size_t *);
@@ -358,6 +364,19 @@ QUIC_WIRE_API int quic_wire_ack_gaps_write(const quic_wire_frame *ack,
   return quic_wire_ack_gaps_write_(ack, gaps, ngaps, dest, destlen, written);
 }
 
+QUIC_WIRE_API size_t quic_wire_frame_write_fault(const quic_wire_frame *frame,
+                                                 const uint8_t *data,
+                                                 size_t datalen,
+                                                 uint32_t flags) {
+  if (!frame)
+    return QUIC_WIRE_NO_FIELD;
+  if (!data) {
+    data = (const uint8_t *)quic_wire_nothing_();
+    datalen = 0;
+  }
+  return quic_wire_frame_write_fault_(frame, data, datalen, flags);
+}
+
 QUIC_WIRE_API int quic_wire_canonical(const uint8_t *payload, size_t payloadlen,
                                       uint8_t *dest, size_t destlen,
                                       quic_wire_canon *out) {
@@ -574,6 +593,14 @@ QUIC_WIRE_API int quic_wire_set_len(uint8_t *packet, size_t packetlen,
                 : QUIC_WIRE_ERR_ARGUMENT;
 }
 
+QUIC_WIRE_API size_t
+quic_wire_header_write_fault(const quic_wire_header_fields *fields,
+                             size_t dcidlen, size_t scidlen, size_t tokenlen) {
+  if (!fields)
+    return QUIC_WIRE_NO_FIELD;
+  return quic_wire_header_write_fault_(fields, dcidlen, scidlen, tokenlen);
+}
+
 QUIC_WIRE_API int quic_wire_params_read(uint32_t side, uint32_t flags,
                                         const uint8_t *list, size_t listlen,
                                         quic_wire_params *params, size_t size,
@@ -698,6 +725,16 @@ QUIC_WIRE_API int quic_wire_preferred_address_write(
 
 QUIC_WIRE_API int quic_wire_param_is_known(uint64_t id) {
   return (int)quic_wire_param_is_known_(id);
+}
+
+QUIC_WIRE_API int
+quic_wire_params_write_fault(uint32_t side, const quic_wire_params *params,
+                             size_t size, uint64_t *id) {
+  if (!params || !id)
+    return QUIC_WIRE_ERR_ARGUMENT;
+  if (size != sizeof *params)
+    return QUIC_WIRE_ERR_LENGTH;
+  return quic_wire_params_write_fault_(side ^ 1, params, id);
 }
 
 QUIC_WIRE_API int quic_wire_set_insert(quic_wire_range *runs, size_t room,

@@ -399,6 +399,23 @@ static PyObject *parameters_write(PyObject *self, PyObject *args) {
   return out;
 }
 
+/* What is wrong with the first parameter that the peer would reject, and its
+ * id. */
+static PyObject *parameters_write_fault(PyObject *self, PyObject *args) {
+  uint32_t side;
+  uint64_t id = UINT64_MAX;
+  int fault;
+  if (!PyArg_ParseTuple(args, "O&:write_fault", wire_to_side, &side))
+    return NULL;
+  fault = quic_wire_params_write_fault(side, PARAMS(self),
+                                       sizeof(quic_wire_params), &id);
+  if (fault < 0)
+    return wire_mistake(fault);
+  if (id == UINT64_MAX)
+    Py_RETURN_NONE;
+  return Py_BuildValue("iK", fault, (unsigned long long)id);
+}
+
 static PyMethodDef parameters_methods[] = {
     {"read", WIRE_FAST(parameters_read),
      METH_VARARGS | METH_KEYWORDS | METH_CLASS,
@@ -406,6 +423,7 @@ static PyMethodDef parameters_methods[] = {
                "in a list. `side` is the side that reads: pass Side.CLIENT "
                "for a server's list.\nRaises ParameterError.")},
     {"_write", parameters_write, METH_VARARGS, NULL},
+    {"_write_fault", parameters_write_fault, METH_VARARGS, NULL},
     {"as_dict", parameters_as_dict, METH_NOARGS,
      PyDoc_STR("as_dict($self, /)\n--\n\nAll parameters by name.")},
     {"__reduce__", parameters_reduce, METH_NOARGS, NULL},

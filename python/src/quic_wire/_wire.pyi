@@ -41,6 +41,10 @@ READ_WHOLE_RETRY: int
 READ_ANY_WIDTH: int
 READ_NO_REPEATS: int
 READ_RFC: int
+FAULT_LOW: int
+FAULT_HIGH: int
+FAULT_DELAY: int
+FAULT_SENDER: int
 
 # ---- Frames
 
@@ -517,6 +521,7 @@ class _Parameters:
     @classmethod
     def read(cls: type[_Self], side: int, data: Buffer, /, *, checks: Checks = ...) -> _Self: ...
     def _write(self, side: int, further: bytes = b"", order: bytes = b"", /) -> bytes: ...
+    def _write_fault(self, side: int, /) -> Optional[tuple[int, int]]: ...
     def as_dict(self) -> dict[str, Any]: ...
     def __hash__(self) -> int: ...
 

@@ -1,6 +1,6 @@
 -- No field of a header is at fault if and only if the header can be written.
-use Rattle.std.proofs.Common.{◌≡◌, ℕ, ◌+◌, ◌<◌, ◌≤◌, ◌^◌, ◌⊎◌, List, [], ◌∷◌, length, Bool, true, false, Option, Some, None, refl, sym, ap, subst, ◌∙◌, inl, inr, arith}
-use Rattle.std.specs.Prelude.{⊤, ◌≢◌, ◌==◌, ◌||◌, ◌&&◌, not, nat_lt, nat_le, if◌then◌else◌}
+use Rattle.std.proofs.Common.{◌≡◌, ℕ, ◌+◌, ◌<◌, ◌≤◌, ◌^◌, ◌⊎◌, List, [], ◌∷◌, length, Bool, true, false, Option, Some, None, refl, sym, ap, ◌∙◌, inl, inr, arith}
+use Rattle.std.specs.Prelude.{⊤, ◌≢◌, ◌&&◌, nat_lt, nat_le}
 use Rattle.std.proofs.lemmas.Bool.Decides.{nat_tests}
 use Rattle.quic_base.specs.Varint.{IsWidth}
 use Rattle.quic_header_encode.specs.declared.long_type.HeaderKind.{HeaderKind}
@@ -9,7 +9,7 @@ use Rattle.quic_header_encode.specs.declared.header.Header.{Header}
 use Rattle.quic_header_encode.specs.Kinds.{row}
 use Rattle.quic_c_headers.specs.declared.words.HeaderFields.{HeaderFields}
 use Rattle.quic_c_headers.specs.Faults.{is_width, can_have_number, all_can, first_false, AreLengths}
-use Rattle.quic_c_headers.specs.Headers.{word_of, CanWriteHeader, DescribesNoHeader, IsNumbered, AreParts, IsShaped}
+use Rattle.quic_c_headers.specs.Headers.{word_of, CanWriteHeader, DescribesNoHeader, IsNumbered, IsShaped}
 use Rattle.quic_c_headers.proofs.Shaping.{shaped}
 use Rattle.quic_c_headers.proofs.Writing.{can_described, clear_by, header_described}
 

@@ -1,11 +1,9 @@
 -- Nothing is found of a struct if and only if its list can be written.
-use Rattle.std.proofs.Common.{◌≡◌, ℕ, ◌<◌, ◌^◌, List, [], ◌∷◌, refl, sym, ◌∙◌, ap, subst, inl, inr, arith}
+use Rattle.std.proofs.Common.{◌≡◌, ℕ, ◌<◌, ◌^◌, List, [], ◌∷◌, refl, sym, ◌∙◌, subst, inl, inr, arith}
 use Rattle.std.specs.Prelude.{⊤, ◌⊎◌, Bool, true, false, nat_lt, Option, Some, None, Ok, pos, IfSome, IsNone, if◌then◌else◌}
 use Rattle.std.proofs.lemmas.Bool.Decides.{nat_tests}
 use Rattle.quic_base.specs.declared.ids.Side.{Side}
 use Rattle.quic_params.proofs.Rules.{unbroken_valid}
-use Rattle.quic_params.specs.Answer.{rules}
-use Rattle.quic_params.specs.Refusal.{first_broken}
 use Rattle.quic_params.specs.Range.{IsRecordInRange, IsTypedRecord}
 use Rattle.quic_params.specs.declared.parameter.TransportParameterId.{TransportParameterId}
 use Rattle.quic_params.specs.declared.parameter.TransportParameterId.TheVariants as ids
@@ -15,7 +13,7 @@ use Rattle.quic_c_params.specs.declared.faults.Reason.{Reason}
 use Rattle.quic_c_params.specs.declared.faults.Reason.TheVariants as reasons
 use Rattle.quic_c_params.specs.declared.faults.Found.{Found}
 use Rattle.quic_c_params.specs.declared.faults.Found.TheVariants as found
-use Rattle.quic_c_params.specs.Faults.{first_large, integers, number_of, IsRecordFault, IsWriteFault, DescribesPlain}
+use Rattle.quic_c_params.specs.Faults.{first_large, integers, number_of, IsRecordFault, IsWriteFault}
 use Rattle.quic_c_params.specs.Shown.{number_word, params_words}
 use Rattle.quic_c_params.specs.Written.{CanWriteParams, DescribesNoParams, DescribesParams}
 use Rattle.quic_c_params.specs.Answers.{IsSide}

@@ -1,5 +1,5 @@
 -- The transport parameter whose value the peer would reject (RFC 9000, section 18.2).
-use Rattle.std.specs.Prelude.{◌≡◌, ℕ, ◌<◌, ◌≤◌, ◌^◌, ◌⊎◌, List, [], ◌∷◌, nat_lt, Option, Some, None, IfSome, if◌then◌else◌}
+use Rattle.std.specs.Prelude.{◌≡◌, ℕ, ◌^◌, ◌⊎◌, List, [], ◌∷◌, nat_lt, Option, Some, None, IfSome, if◌then◌else◌}
 use Rattle.std.specs.Net.Socket.{v6_flowinfo, v6_scope_id}
 use Rattle.std.specs.declared.net.socket_addr.SocketAddrV6.{SocketAddrV6}
 use Rattle.quic_base.specs.declared.ids.Side.{Side}

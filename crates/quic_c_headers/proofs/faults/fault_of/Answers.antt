@@ -1,5 +1,5 @@
-use Rattle.std.proofs.Common.{sym, ◌∙◌, inr}
-use Rattle.quic_c_headers.proofs.FirstFaults.{possible_by, refused_by}
+use Rattle.std.proofs.Common.{sym, ◌∙◌}
+use Rattle.quic_c_headers.proofs.FirstFaults.{possible_by}
 use Rattle.quic_c_headers.proofs.faults.fault_of.Goals as goal
 
 pub returns-in-None-clause-possible : goal.returns-in-None-clause-possible

@@ -1,4 +1,4 @@
-use Rattle.std.proofs.Common.{rules, sym, ap, subst, ◌∙◌, inl, inr}
+use Rattle.std.proofs.Common.{rules, sym, subst, ◌∙◌, inl, inr}
 use Rattle.quic_params.specs.Range.{IsRecordInRange}
 use Rattle.quic_c_params.specs.Faults.{DescribesPlain}
 use Rattle.quic_c_params.specs.Written.{DescribesParams}

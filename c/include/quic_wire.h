@@ -1152,8 +1152,8 @@ quic_wire_frame_len(const quic_wire_frame *frame, const uint8_t *data,
  *  - 0, the type's, for an ACK or no kind
  *  - the index of a number of 2^62 or more, of data outside |data| or of 2^62
  *    bytes or more whose length is written, of a FIN that isn't 0 or 1; in a
- *    NEW_CONNECTION_ID 3 if |retire_prior_to| is above |sequence|, 4 if the id is
- *    empty or longer than 20 bytes, 5 if the token isn't whole in |data|
+ *    NEW_CONNECTION_ID 3 if |retire_prior_to| is above |sequence|, 4 if the id
+ *    is empty or longer than 20 bytes, 5 if the token isn't whole in |data|
  *  - QUIC_WIRE_NO_FIELD if there is none.  If |frame| can't be written then, it
  *    has a number, data or flags that its kind lacks, or breaks a rule of
  *    |flags|; also for NULL
@@ -1472,9 +1472,10 @@ QUIC_WIRE_CHECKED QUIC_WIRE_API int quic_wire_set_len(uint8_t *packet,
 
 /**
  * Why quic_wire_header_write returns QUIC_WIRE_ERR_KIND, QUIC_WIRE_ERR_NUMBER
- * or QUIC_WIRE_ERR_LENGTH for ids and a token of these lengths: the index of the
- * first field that can't have its value, as quic_wire_packet_fields numbers the
- * fields of a packet of |fields->kind|.  The packet number comes after these.
+ * or QUIC_WIRE_ERR_LENGTH for ids and a token of these lengths: the index of
+ * the first field that can't have its value, as quic_wire_packet_fields numbers
+ * the fields of a packet of |fields->kind|.  The packet number comes after
+ * these.
  *
  * Returns:
  *  - 0, the first byte's, if there is no such kind
@@ -1681,8 +1682,8 @@ QUIC_WIRE_API int quic_wire_param_is_known(uint64_t id);
 
 /**
  * Why quic_wire_params_write returns QUIC_WIRE_ERR_PARAM for these parameters,
- * and in |*id| the id of the first one whose value the peer would reject, in the
- * order in which a reader finds it.
+ * and in |*id| the id of the first one whose value the peer would reject, in
+ * the order in which a reader finds it.
  *
  * Returns:
  *  - QUIC_WIRE_FAULT_... from 1 to 6, and |*id|

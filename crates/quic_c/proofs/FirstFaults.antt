@@ -1,13 +1,13 @@
 -- Which field of a frame can't be written: the function and the relation.
 use Rattle.std.proofs.Common.{◌≡◌, ℕ, ◌+◌, ◌^◌, ◌<◌, ◌≤◌, List, [], ◌∷◌, ◌++◌, length, map, take, drop, Bool, true, false, Option, Some, None, refl, sym, ap, subst, ◌∙◌, inl, inr, arith, append_assoc}
-use Rattle.std.specs.Prelude.{slice_index_or, ◌⊎◌, ◌≢◌, ◌==◌, ◌&&◌, nat_lt, nat_le, if◌then◌else◌}
+use Rattle.std.specs.Prelude.{slice_index_or, ◌≢◌, ◌==◌, ◌&&◌, nat_lt, nat_le, if◌then◌else◌}
 use Rattle.std.proofs.lemmas.Bool.{cases_lt}
 use Rattle.std.proofs.lemmas.Bool.Decides.{nat_tests}
 use Rattle.std.proofs.lemmas.List.{append-nil, append_cancel_left, length-take, length-drop}
 use Rattle.quic_base.specs.Number.{IsNumber, num, bytes_of}
-use Rattle.quic_base.specs.Varint.{Encodes, shortest_varint}
+use Rattle.quic_base.specs.Varint.{shortest_varint}
 use Rattle.quic_base.proofs.PublicLaws.{shortest_encodes, encoded_bound, is_number_8, num_below}
-use Rattle.quic_frame_fields.specs.Field.{Value, Number, Bytes, Ranges, Field, Varint, Counted, Id, Uint64, Bytes16, Blocks, Rest, Implied, Ordered, is_ordered, IsField, AreFields}
+use Rattle.quic_frame_fields.specs.Field.{Value, Number, Bytes, Ranges, Field, Varint, Counted, Id, Uint64, Bytes16, Blocks, Rest, Implied, Ordered, IsField, AreFields}
 use Rattle.quic_c.specs.declared.words.CFrame.{CFrame}
 use Rattle.std.specs.List.{list_any}
 use Rattle.quic_frame_fields.specs.Table.{Row, row_of}

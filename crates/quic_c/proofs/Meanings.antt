@@ -1,9 +1,7 @@
 -- Words describe one meaning at most.
-use Rattle.std.proofs.Common.{◌≡◌, ℕ, ◌%◌, List, [], map, take, drop, Bool, Option, None, Some, refl, sym, ap, ◌∙◌}
-use Rattle.std.specs.Prelude.{slice_index_or}
+use Rattle.std.proofs.Common.{◌≡◌, ℕ, List, [], map, take, drop, Bool, Option, None, Some, refl, sym, ap, ◌∙◌}
 use Rattle.quic_base.specs.declared.ids.Dir.TheVariants as dirs
 use Rattle.quic_frame_fields.specs.declared.frame.close.Close.TheVariants as closes
-use Rattle.quic_frame_fields.specs.Field.{Value, Number, Bytes}
 use Rattle.quic_frame_fields.specs.Table.{Row}
 use Rattle.quic_frame_fields.specs.Table as names
 use Rattle.quic_frame_fields.specs.Payload.{Meaning}
@@ -12,7 +10,7 @@ use Rattle.quic_frames.specs.declared.frame.Frame.TheVariants as frames
 use Rattle.quic_frames.specs.InRange.{IsNoAck}
 use Rattle.quic_frames.specs.Meaning.{meaning_of, frame_of}
 use Rattle.quic_c.specs.declared.words.CFrame.{CFrame}
-use Rattle.quic_c.specs.Slots.{Slot, Nth, Fin, Direction, Data, Token, slots_of, row_of_kind}
+use Rattle.quic_c.specs.Slots.{slots_of, row_of_kind}
 use Rattle.quic_c.specs.Shapes.{token_room}
 use Rattle.quic_c.specs.Faults.{data_at, token_at, value_by, value_in}
 use Rattle.quic_c.specs.Shown.{frame_kind_of, flags_of, frame_numbers_of, data_of, tail_of}

@@ -1,6 +1,6 @@
 -- The field of a frame to be written whose value has no encoding (RFC 9000, sections 16 and 19).
 use Rattle.std.specs.Prelude.{◌≡◌, ◌≢◌, ⊤, ℕ, ◌+◌, ◌<◌, ◌≤◌, ◌^◌, ◌%◌, ◌==◌, ◌&&◌, ◌⊎◌, List, [], ◌∷◌, ◌++◌, length, map, take, drop, slice_index_or, nat_lt, nat_le, Bool, true, false, Option, Some, None, if◌then◌else◌}
-use Rattle.quic_frame_fields.specs.Field.{Value, Number, Bytes, Ranges, Field, Varint, Counted, Id, Uint64, Bytes16, Blocks, Rest, Implied, Ordered, IsField, is_ordered}
+use Rattle.quic_frame_fields.specs.Field.{Value, Number, Bytes, Field, Varint, Counted, Id, Uint64, Bytes16, Blocks, Rest, Implied, Ordered, IsField, is_ordered}
 use Rattle.quic_frame_fields.specs.Shortest.{written_type}
 use Rattle.quic_frame_fields.specs.Table.{Name, Row, row_of}
 use Rattle.quic_c.specs.declared.words.CFrame.{CFrame}

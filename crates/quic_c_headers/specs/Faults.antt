@@ -11,8 +11,8 @@ use Rattle.quic_c_headers.specs.Headers.{word_of}
 abbrev pub is_width : ℕ → Bool
 is_width len = (len == 1) || (len == 2) || (len == 4) || (len == 8)
 
--- whether the field can have its value, by how many bytes the ids and the token have. Of a type of header the version isn't 0, which means a version negotiation
--- (section 17.2.1); the length isn't known yet, only how many bytes it has.
+-- whether the field can have its value, by how many bytes the ids and the token have. Of a type of header the version
+-- isn't 0, which means a version negotiation (section 17.2.1); the length isn't known yet, only how many bytes it has.
 abbrev pub can_have : HeaderKind → HeaderFields → ℕ → ℕ → ℕ → HeaderField → Bool
 can_have kind words dst src token Version = not (is_some (row kind).type) || nat_lt 0 words.version
 can_have kind words dst src token DestinationId = nat_le dst 20
@@ -49,7 +49,8 @@ first_false index (holds ∷ others) = if holds then first_false (index + 1) oth
 abbrev pub IsWriteFault : HeaderFields → ℕ → ℕ → ℕ → Option ℕ → Type 0
 IsWriteFault words dst src token found =
     (5 < words.kind) × (found ≡ Some 0)
-    ⊎ ((kind : HeaderKind) × (word_of (row kind) ≡ words.kind) × (found ≡ first_false 1 (all_can kind words dst src token)))
+    ⊎ ((kind : HeaderKind) × (word_of (row kind) ≡ words.kind)
+    × (found ≡ first_false 1 (all_can kind words dst src token)))
 
 -- ids and a token, and how many bytes they have
 pub record AreLengths (dst src token : List ℕ) (dst_len src_len token_len : ℕ) : Type 0 where

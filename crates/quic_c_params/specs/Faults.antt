@@ -76,7 +76,8 @@ IsRecordFault side params what =
     ((id : TransportParameterId) × (first_broken (rules side params) ≡ Some id)
     × (what ≡ found.Parameter id (reason_of id params)))
     ⊎ (first_broken (rules side params) ≡ None)
-    × ((IfSome params.preferred_address IsEncodableAddress → ⊥) × (what ≡ found.Parameter ids.PreferredAddress reasons.NoAddress)
+    × ((IfSome params.preferred_address IsEncodableAddress → ⊥)
+    × (what ≡ found.Parameter ids.PreferredAddress reasons.NoAddress)
     ⊎ IsRecordInRange side params × (what ≡ found.Nothing))
 
 -- What is found of a struct, for the side that reads it: the first integer that has no encoding; else what is found of

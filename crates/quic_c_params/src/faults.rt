@@ -164,11 +164,11 @@ fn store_id(found: Found, id: &mut u64)
 
 /// Why `quic_wire_params_write_` returns `Parameter` for these arguments, as a number, and in `id` the first parameter
 /// whose value the side would reject, in the order in which a reader finds it: 1 if it is below the parameter's least
-/// value; 2 if it is above its greatest, or 2^62 or more; 3 if a `min_ack_delay` is above `max_ack_delay`; 4 if a client
-/// must not send it; 5 if a preferred address has an empty id; 6 if it has no address, or one of zeros with port 0. 7
-/// means that it is no parameter's value: a bit or a byte of an absent value is not 0, or an id is longer than 20 bytes.
-/// It returns 0 exactly if the list can be written, and `Kind` exactly if `side` is above 1. `id` changes only with 1 to
-/// 6.
+/// value; 2 if it is above its greatest, or 2^62 or more; 3 if a `min_ack_delay` is above `max_ack_delay`; 4 if a
+/// client must not send it; 5 if a preferred address has an empty id; 6 if it has no address, or one of zeros with port
+/// 0. 7 means that it is no parameter's value: a bit or a byte of an absent value is not 0, or an id is longer than 20
+/// bytes. It returns 0 exactly if the list can be written, and `Kind` exactly if `side` is above 1. `id` changes only
+/// with 1 to 6.
 #[unsafe(no_mangle)]
 pub extern "C" fn quic_wire_params_write_fault_(side: u32, words: &CParams, id: &mut u64) -> i32
     ensures kind { (result ≡ failed Failure.Kind) ↔ (1 < side) }

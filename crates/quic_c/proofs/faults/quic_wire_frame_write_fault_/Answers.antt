@@ -1,4 +1,4 @@
-use Rattle.std.proofs.Common.{ℕ, false, Option, Some, None, subst, inr}
+use Rattle.std.proofs.Common.{ℕ, false, Option, subst, inr}
 use Rattle.quic_frame_fields.specs.Shortest.{shortest_frame}
 use Rattle.quic_frames.specs.Meaning.{meaning_of}
 use Rattle.quic_c.specs.Faults.{IsWriteFault, data_at, token_at}

@@ -693,6 +693,19 @@ typedef struct quic_wire_refusal {
  * ones are those of the parameters of quic_wire_params. */
 #define QUIC_WIRE_PARAM_ROWS 21
 
+/** What is wrong with a parameter that the peer would reject (RFC 9000, section
+ * 18.2). */
+#define QUIC_WIRE_FAULT_LOW 1 /* the number is below the least one */
+#define QUIC_WIRE_FAULT_HIGH 2 /* it is above the greatest one, or 2^62 or
+                                  more */
+#define QUIC_WIRE_FAULT_DELAY 3 /* min_ack_delay is above max_ack_delay */
+#define QUIC_WIRE_FAULT_SENDER 4 /* a client must not send it */
+#define QUIC_WIRE_FAULT_NO_CID 5 /* preferred_address has an empty id */
+#define QUIC_WIRE_FAULT_NO_ADDRESS 6 /* it has no address, or one of zeros with
+                                        port 0 */
+#define QUIC_WIRE_FAULT_ABSENT 7 /* something else than a value isn't 0, or an
+                                    id is longer than 20 bytes */
+
 /* ---- Fields of what is read */
 
 /** A field of a frame, of a packet or of an entry of transport parameters:
@@ -730,6 +743,9 @@ typedef struct quic_wire_fields {
 #define QUIC_WIRE_FRAME_FIELDS 7
 #define QUIC_WIRE_PACKET_FIELDS 8
 #define QUIC_WIRE_PARAM_FIELDS 2
+
+/** The index of no field. */
+#define QUIC_WIRE_NO_FIELD SIZE_MAX
 
 /* ---- The linked library */
 
@@ -1127,6 +1143,26 @@ QUIC_WIRE_CHECKED QUIC_WIRE_API int
 quic_wire_frame_len(const quic_wire_frame *frame, const uint8_t *data,
                     size_t datalen, uint32_t flags, size_t *len);
 
+/**
+ * Why quic_wire_frame_write returns QUIC_WIRE_ERR_ARGUMENT for these arguments:
+ * the index of the first field that can't have its value, as
+ * quic_wire_frame_fields numbers the fields of |frame->kind|.
+ *
+ * Returns:
+ *  - 0, the type's, for an ACK or no kind
+ *  - the index of a number of 2^62 or more, of data outside |data| or of 2^62
+ *    bytes or more whose length is written, of a FIN that isn't 0 or 1; in a
+ *    NEW_CONNECTION_ID 3 if |retire_prior_to| is above |sequence|, 4 if the id
+ *    is empty or longer than 20 bytes, 5 if the token isn't whole in |data|
+ *  - QUIC_WIRE_NO_FIELD if there is none.  If |frame| can't be written then, it
+ *    has a number, data or flags that its kind lacks, or breaks a rule of
+ *    |flags|; also for NULL
+ */
+QUIC_WIRE_API size_t quic_wire_frame_write_fault(const quic_wire_frame *frame,
+                                                 const uint8_t *data,
+                                                 size_t datalen,
+                                                 uint32_t flags);
+
 /* ---- Shortest payloads */
 
 /**
@@ -1434,6 +1470,24 @@ QUIC_WIRE_CHECKED QUIC_WIRE_API int quic_wire_set_len(uint8_t *packet,
                                                       size_t place,
                                                       uint32_t lengthlen);
 
+/**
+ * Why quic_wire_header_write returns QUIC_WIRE_ERR_KIND, QUIC_WIRE_ERR_NUMBER
+ * or QUIC_WIRE_ERR_LENGTH for ids and a token of these lengths: the index of
+ * the first field that can't have its value, as quic_wire_packet_fields numbers
+ * the fields of a packet of |fields->kind|.  The packet number comes after
+ * these.
+ *
+ * Returns:
+ *  - 0, the first byte's, if there is no such kind
+ *  - the index of a version of 0, an id longer than 20 bytes, a token of 2^62
+ *    bytes or more, a length that isn't written in 1, 2, 4 or 8 bytes, or a
+ *    packet number of 2^62 or more, or that isn't written in 1 to 4 bytes
+ *  - QUIC_WIRE_NO_FIELD if such a header can be written; also for NULL
+ */
+QUIC_WIRE_API size_t
+quic_wire_header_write_fault(const quic_wire_header_fields *fields,
+                             size_t dcidlen, size_t scidlen, size_t tokenlen);
+
 /* ---- Reading and writing transport parameters.  |side| is the side that
  * calls. */
 
@@ -1625,6 +1679,26 @@ quic_wire_preferred_address_write(const quic_wire_params *params, size_t size,
 /** Whether quic_wire_params has a field for the parameter with this id: 1 or 0.
  */
 QUIC_WIRE_API int quic_wire_param_is_known(uint64_t id);
+
+/**
+ * Why quic_wire_params_write returns QUIC_WIRE_ERR_PARAM for these parameters,
+ * and in |*id| the id of the first one whose value the peer would reject, in
+ * the order in which a reader finds it.
+ *
+ * Returns:
+ *  - QUIC_WIRE_FAULT_... from 1 to 6, and |*id|
+ *  - QUIC_WIRE_FAULT_ABSENT if something that is absent isn't 0, or an id is
+ *    longer than 20 bytes
+ *  - 0 if the peer would accept and read them
+ *  - QUIC_WIRE_ERR_KIND if |side| is neither
+ *  - QUIC_WIRE_ERR_LENGTH for another |size| than `sizeof *params`
+ *  - QUIC_WIRE_ERR_ARGUMENT for NULL
+ *
+ * |*id| changes only with the first.
+ */
+QUIC_WIRE_CHECKED QUIC_WIRE_API int
+quic_wire_params_write_fault(uint32_t side, const quic_wire_params *params,
+                             size_t size, uint64_t *id);
 
 /* ---- Sets of packet numbers, and ACKs of them.  A set is the first |count|
  * entries of an array of |room| entries: sorted runs, none empty, none touching

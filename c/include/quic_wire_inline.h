@@ -27,6 +27,8 @@ int32_t quic_wire_ack_ranges_next_(quic_wire_range_iter *, const uint8_t *,
 uint32_t quic_wire_close_code_(int32_t);
 int32_t quic_wire_frame_header_write_(const quic_wire_frame *, uint32_t,
                                       uint8_t *, size_t, size_t *);
+size_t quic_wire_frame_write_fault_(const quic_wire_frame *, const uint8_t *,
+                                    size_t, uint32_t);
 int32_t quic_wire_frames_fill_(quic_wire_frame_iter *, const uint8_t *, size_t,
                                quic_wire_frame *, size_t, size_t *);
 int32_t quic_wire_frames_first_(quic_wire_frame_iter *, const uint8_t *, size_t,
@@ -54,6 +56,8 @@ int32_t quic_wire_param_fields_(const uint8_t *, size_t, quic_wire_span *,
 int32_t quic_wire_param_value_fields_(uint64_t, const uint8_t *, size_t,
                                       uint32_t, quic_wire_span *, size_t,
                                       quic_wire_fields *);
+size_t quic_wire_header_write_fault_(const quic_wire_header_fields *, size_t,
+                                     size_t, size_t);
 int32_t quic_wire_packet_fields_(const uint8_t *, size_t, size_t,
                                  const uint32_t *, size_t, uint32_t,
                                  quic_wire_span *, size_t, quic_wire_fields *);
@@ -101,6 +105,8 @@ int32_t quic_wire_param_header_write_(uint64_t, size_t, uint8_t *, size_t,
                                       size_t *);
 int32_t quic_wire_param_write_number_(uint64_t, uint64_t, uint8_t *, size_t,
                                       size_t *);
+int32_t quic_wire_params_write_fault_(uint32_t, const quic_wire_params *,
+                                      uint64_t *);
 int32_t quic_wire_params_write_with_(uint32_t, const quic_wire_params *,
                                      const uint8_t *, size_t, const uint8_t *,
                                      size_t, uint8_t *, size_t, size_t *);
@@ -659,6 +665,17 @@ QUIC_WIRE_API int quic_wire_param_is_known(uint64_t id) {
   return (int)quic_wire_param_is_known_(id);
 }
 
+QUIC_WIRE_API int quic_wire_params_write_fault(uint32_t side,
+                                               const quic_wire_params *params,
+                                               size_t size, uint64_t *id) {
+  if (!params || !id)
+    return QUIC_WIRE_ERR_ARGUMENT;
+  if (size != sizeof *params)
+    return QUIC_WIRE_ERR_LENGTH;
+  /* The proved function takes the side that reads. */
+  return quic_wire_params_write_fault_(side ^ 1, params, id);
+}
+
 QUIC_WIRE_API int quic_wire_set_insert(quic_wire_range *runs, size_t room,
                                        size_t *count, uint64_t start,
                                        uint64_t end) {
@@ -847,6 +864,19 @@ QUIC_WIRE_API int quic_wire_frame_len(const quic_wire_frame *frame,
   return answer == QUIC_WIRE_ERR_NOBUF ? QUIC_WIRE_OK : answer;
 }
 
+QUIC_WIRE_API size_t quic_wire_frame_write_fault(const quic_wire_frame *frame,
+                                                 const uint8_t *data,
+                                                 size_t datalen,
+                                                 uint32_t flags) {
+  if (!frame)
+    return QUIC_WIRE_NO_FIELD;
+  if (!data) {
+    data = (const uint8_t *)quic_wire_nothing_();
+    datalen = 0;
+  }
+  return quic_wire_frame_write_fault_(frame, data, datalen, flags);
+}
+
 QUIC_WIRE_API const uint8_t *quic_wire_dcid_read(const uint8_t *packet,
                                                  size_t packetlen,
                                                  size_t cidlen,
@@ -927,6 +957,14 @@ QUIC_WIRE_API int64_t quic_wire_header_write(
   return quic_wire_header_write_(fields, dcid, dcidlen, scid ? scid : &none,
                                  scidlen, token ? token : &none, tokenlen, dest,
                                  destlen);
+}
+
+QUIC_WIRE_API size_t
+quic_wire_header_write_fault(const quic_wire_header_fields *fields,
+                             size_t dcidlen, size_t scidlen, size_t tokenlen) {
+  return fields
+             ? quic_wire_header_write_fault_(fields, dcidlen, scidlen, tokenlen)
+             : QUIC_WIRE_NO_FIELD;
 }
 
 QUIC_WIRE_API int quic_wire_params_default(quic_wire_params *params,

@@ -46,7 +46,8 @@ PyObject *wire_add_kind(PyObject *module, PyObject *bases,
   return wire_add_type(module, &spec, bases, kind->name, kind->fields);
 }
 
-/* Results of readers, and the flags of quic_wire.Checks. */
+/* Results of readers, the flags of quic_wire.Checks, and what can be wrong with
+ * a parameter to be written. */
 static int add_constants(PyObject *module) {
   static const struct {
     const char *name;
@@ -55,7 +56,8 @@ static int add_constants(PyObject *module) {
 #define RESULT(word) {#word, QUIC_WIRE_ERR_##word},
 #define READ_FLAG(word) {"READ_" #word, QUIC_WIRE_READ_##word},
 #include "formats.h"
-  };
+#define FAULT(word) {"FAULT_" #word, QUIC_WIRE_FAULT_##word}
+      FAULT(LOW), FAULT(HIGH), FAULT(DELAY), FAULT(SENDER)};
   size_t i;
   for (i = 0; i < sizeof constants / sizeof *constants; i++)
     if (PyModule_AddIntConstant(module, constants[i].name, constants[i].value) <

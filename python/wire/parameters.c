@@ -376,9 +376,27 @@ static PyObject *parameters_write(PyObject *self, PyObject *args) {
   return out;
 }
 
+/* What is wrong with the first parameter that the peer would reject, and its
+ * id. */
+static PyObject *parameters_write_fault(PyObject *self, PyObject *args) {
+  uint32_t side;
+  uint64_t id = UINT64_MAX;
+  int fault;
+  if (!PyArg_ParseTuple(args, "O&:write_fault", wire_to_side, &side))
+    return NULL;
+  fault = quic_wire_params_write_fault(side, PARAMS(self),
+                                       sizeof(quic_wire_params), &id);
+  if (fault < 0)
+    return wire_mistake(fault);
+  if (id == UINT64_MAX)
+    Py_RETURN_NONE;
+  return Py_BuildValue("iK", fault, (unsigned long long)id);
+}
+
 static PyMethodDef parameters_methods[] = {
     WIRE_METHOD(Parameters, read, parameters_read, WIRE_NAMED | METH_CLASS),
     {"_write", parameters_write, METH_VARARGS, NULL},
+    {"_write_fault", parameters_write_fault, METH_VARARGS, NULL},
     WIRE_METHOD(Parameters, as_dict, parameters_as_dict, METH_NOARGS),
     {"__reduce__", parameters_reduce, METH_NOARGS, NULL},
     {NULL, NULL, 0, NULL}};

@@ -28,18 +28,6 @@ pub use crate::proved::quic_params::transport_parameters::{
     TransportParameters, Value, WriteOrder, known, split_entry, value_number,
 };
 
-impl TransportParameterId {
-    /// The parameter's number on the wire.
-    ///
-    /// ```
-    /// use quic_wire::transport_parameters::TransportParameterId;
-    /// assert_eq!(TransportParameterId::MaxAckDelay.number(), 0x0b);
-    /// ```
-    pub fn number(self) -> u64 {
-        self.row().number
-    }
-}
-
 impl ReservedTransportParameter {
     /// The nth parameter without a meaning, whose number is `31 * n + 27`, with this payload (RFC 9000, section 18.1).
     /// `None` if that number is 2^62 or more, or the payload has more than 16 bytes.

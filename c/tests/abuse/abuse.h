@@ -144,4 +144,10 @@ extern void fields_nulls(void);
 extern void fields_examples(void);
 extern void fields_any(const uint8_t *bytes, size_t len);
 
+/* faults.c: which field can't be written. */
+extern void faults_nulls(void);
+extern void faults_examples(void);
+extern void frame_fault(const quic_wire_frame *frame, const uint8_t *data,
+                        size_t len, uint32_t flags);
+
 #endif /* ABUSE_H */

@@ -226,7 +226,7 @@ int header_written(void) {
   quic_wire_header_fields h;
   uint8_t model[512], *parts[3], *dest;
   const uint8_t *given[3];
-  size_t lens[3], room, want, k, i;
+  size_t lens[3], room, want, index, k, i;
   int64_t answer, refusal;
   any_fields(&h);
   lens[0] = any() % 40 ? any() % 21 : 21;
@@ -244,6 +244,9 @@ int header_written(void) {
   memset(dest, 0xa5, room);
   answer = quic_wire_header_write(&h, parts[0], lens[0], parts[1], lens[1],
                                   parts[2], lens[2], dest, room);
+  index = quic_wire_header_write_fault(&h, lens[0], lens[1], lens[2]);
+  WANT((index == QUIC_WIRE_NO_FIELD) == (refusal == 0));
+  WANT((index == 0) == (refusal == QUIC_WIRE_ERR_KIND));
   if (!want) {
     WANT(answer == refusal);
   } else if (room < want) {

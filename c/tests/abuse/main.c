@@ -63,6 +63,8 @@ static void nulls(void) {
   sets_nulls();
   fields_nulls();
   fields_examples();
+  faults_nulls();
+  faults_examples();
 }
 
 static void rubbish(int rounds) {

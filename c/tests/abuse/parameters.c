@@ -364,11 +364,16 @@ int params_written(uint32_t side) {
   quic_wire_params given, got;
   uint8_t room[512], *dest;
   size_t n = 0, less = 0;
-  int answer;
+  uint64_t id = 77;
+  int answer, fault;
   params_rubbish(&given);
   memset(room, 0xaa, sizeof room);
   answer = quic_wire_params_write(side ^ 1, &given, sizeof given, room,
                                   sizeof room, &n);
+  fault = quic_wire_params_write_fault(side ^ 1, &given, sizeof given, &id);
+  WANT(fault >= 0 && fault <= QUIC_WIRE_FAULT_ABSENT);
+  WANT((fault == 0) == (answer == QUIC_WIRE_OK));
+  WANT((fault == 0 || fault == QUIC_WIRE_FAULT_ABSENT) == (id == 77));
   if (answer != QUIC_WIRE_OK) {
     WANT(answer == QUIC_WIRE_ERR_PARAM && n == 0 && room[0] == 0xaa);
     return 0;

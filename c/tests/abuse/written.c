@@ -167,6 +167,7 @@ void write_rubbish(const uint8_t *data, size_t len) {
   frame.datalen = place();
   for (k = 0; k < 5; k++)
     frame.numbers[k] = any() % 3 ? 0 : edge();
+  frame_fault(&frame, data, len, flags);
   answer = quic_wire_frame_write(&frame, data, len, flags, out, room, &written);
   if (breaks_rule(&frame, data, len, flags)) {
     WANT(REFUSED(answer) && written == 0 && !memcmp(out, before, room));

@@ -23,3 +23,4 @@ mod AckRanges
 mod RangeWalks
 mod ReadingOn
 mod Types
+pub mod FirstFaults

@@ -6,6 +6,7 @@ mod ack_gaps;
 mod acks;
 mod codes;
 mod data_headers;
+mod faults;
 mod fill;
 mod fill_ranges;
 mod flags;

@@ -1,5 +1,6 @@
 mod Answered
 mod Covered
+mod FirstFaults
 mod Masks
 mod Negotiated
 mod Packets

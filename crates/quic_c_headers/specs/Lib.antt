@@ -4,3 +4,4 @@ pub mod Reading
 pub mod Protection
 pub mod Walks
 pub mod Fields
+pub mod Faults

@@ -2,6 +2,7 @@
 //! function is safe with any argument values.
 #![tactic(auto)]
 
+mod faults;
 mod fields;
 mod headers;
 pub mod laws;

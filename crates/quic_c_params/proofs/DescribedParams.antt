@@ -5,7 +5,7 @@ use Rattle.std.specs.Net.Addr.{segments_of, octets_of, ipv6_segments}
 use Rattle.std.specs.Net.Socket.{v6_ip, v6_port, v6_flowinfo, v6_scope_id}
 use Rattle.std.specs.declared.net.ipv6_addr.Ipv6Addr.{Ipv6Addr}
 use Rattle.std.specs.declared.net.socket_addr.SocketAddrV6.{SocketAddrV6}
-use Rattle.quic_params.specs.Range.{IsEncodableV6, IsTypedAs, IsTypedAddress, plain}
+use Rattle.quic_params.specs.Range.{IsEncodableV6, IsEncodableAddress, IsRecordInRange, IsTypedAs, IsTypedAddress, plain}
 use Rattle.std.specs.Option.{option_map}
 use Rattle.quic_params.specs.Reserved.{Reserved}
 use Rattle.quic_params.specs.Table.{row_of}
@@ -13,6 +13,10 @@ use Rattle.quic_params.specs.declared.parameter.TransportParameterId.TheVariants
 use Rattle.quic_params.specs.declared.value.PreferredAddress.{PreferredAddress}
 use Rattle.quic_params.specs.declared.value.Value.TheVariants as V
 use Rattle.quic_params.specs.declared.record.TransportParameters.{TransportParameters}
+use Rattle.quic_c_params.specs.Faults.{DescribesPlain, HasNoFlow, IsPlainAddress}
+use Rattle.quic_c_params.specs.Written.{DescribesParams}
+use Rattle.quic_c_params.specs.declared.words.CParams.{CParams}
+use Rattle.quic_base.specs.declared.ids.Side.{Side}
 use Rattle.quic_c_params.specs.Shown.{octets_of_v6, port_of_v6}
 
 segments_back : (l : List ℕ) → segments_of (octets_of l) ≡ l
@@ -44,13 +48,13 @@ same_v6 a s ip port flow scope =
 
 pub described_v6 : (o : Option SocketAddrV6) (a : SocketAddrV6) (ip : Ipv6Addr) (octets : List ℕ) (port : ℕ)
     → ipv6_segments ip ≡ segments_of octets → v6_ip a ≡ ip → v6_port a ≡ port
-    → v6_flowinfo a ≡ 0 → v6_scope_id a ≡ 0 → IfSome o IsEncodableV6 → true ≡ is_some o → octets ≡ octets_of_v6 o
+    → v6_flowinfo a ≡ 0 → v6_scope_id a ≡ 0 → IfSome o HasNoFlow → true ≡ is_some o → octets ≡ octets_of_v6 o
     → port ≡ port_of_v6 o → Some a ≡ o
 described_v6 None a ip octets port s i p f c reported there from at = cc
 described_v6 (Some x) a ip octets port s i p f c reported there from at =
     let segments : ipv6_segments ip ≡ ipv6_segments (v6_ip x) =
     s ∙ ap segments_of from ∙ segments_back (ipv6_segments (v6_ip x)) in
-    ap Some (same_v6 a x (i ∙ same_ip ip (v6_ip x) segments) (p ∙ at) (f ∙ sym reported.1) (c ∙ sym reported.2))
+    ap Some (same_v6 a x (i ∙ same_ip ip (v6_ip x) segments) (p ∙ at) (f ∙ sym reported.0) (c ∙ sym reported.1))
 
 -- a record by its fields
 pub plain_is : (p : TransportParameters) → p.grease_transport_parameter ≡ None → p.write_order ≡ None → plain p ≡ p
@@ -149,3 +153,16 @@ pub typed_address : (o : Option PreferredAddress)
     → IfSome (option_map V.Address o) (IsTypedAs (row_of ids.PreferredAddress).kind) → IfSome o IsTypedAddress
 typed_address None t = tt
 typed_address (Some a) t = t
+
+-- a record in range has no more than its struct says
+plain_v6 : (o : Option SocketAddrV6) → IfSome o IsEncodableV6 → IfSome o HasNoFlow
+plain_v6 None e = tt
+plain_v6 (Some socket) e = (e.1, e.2)
+
+plain_address : (o : Option PreferredAddress) → IfSome o IsEncodableAddress → IfSome o IsPlainAddress
+plain_address None e = tt
+plain_address (Some address) e = plain_v6 address.address_v6 e.v6
+
+pub plain_of : (side : Side) (words : CParams) (p : TransportParameters) → DescribesParams words p → IsRecordInRange side p
+    → DescribesPlain words p
+plain_of side words p says range = record { described = says; plain = plain_address p.preferred_address range.address }

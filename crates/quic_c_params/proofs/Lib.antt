@@ -2,3 +2,4 @@ mod DescribedParams
 mod Places
 mod Others
 mod StoredEntries
+mod FirstFaults

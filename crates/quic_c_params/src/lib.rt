@@ -4,6 +4,7 @@
 
 mod address;
 mod entries;
+mod faults;
 mod further;
 pub mod laws;
 mod lists;

@@ -3,12 +3,13 @@ ghost use Rattle.std.specs.Prelude.{◌≡◌, ◌⊎◌, ◌<◌, ◌≤◌, �
 ghost use Rattle.std.specs.declared.net.socket_addr.SocketAddrV4.{SocketAddrV4};
 ghost use Rattle.std.specs.declared.net.socket_addr.SocketAddrV6.{SocketAddrV6};
 ghost use Rattle.quic_base.specs.declared.ids.Side.{Side};
-ghost use Rattle.quic_params.specs.Range.{IsEncodableV6, IsEncodableAddress, IsTypedAddress, IsRecordInRange};
+ghost use Rattle.quic_params.specs.Range.{IsTypedAddress, IsRecordInRange};
 ghost use Rattle.quic_params.specs.Meaning.{IsReadAnswer};
 ghost use Rattle.quic_params.specs.Options.{as_quinn};
 ghost use Rattle.quic_params.specs.Writing.{written};
 ghost use Rattle.quic_params.specs.declared.record.TransportParameters.{TransportParameters};
 ghost use Rattle.quic_c_params.specs.Shown.{flag_bit, bits, present_in, number_word, reset_token_of, padded, id_of, len_of, octets_of_v4, port_of_v4, octets_of_v6, port_of_v6, params_words};
+ghost use Rattle.quic_c_params.specs.Faults.{DescribesPlain, HasNoFlow, IsPlainAddress};
 ghost use Rattle.quic_c_params.specs.Written.{DescribesParams, CanWriteParams, WroteParams, ParamsNeedMore, DescribesNoParams, HasFlags};
 ghost use Rattle.quic_results.specs.Results.{failed};
 
@@ -122,8 +123,9 @@ fn v4_in(there: bool, octets: [u8; 4], port: u16) -> Option<SocketAddrV4>
 }
 
 fn v6_in(there: bool, octets: [u8; 16], port: u16) -> Option<SocketAddrV6>
-    ensures { (o : Option SocketAddrV6) → IfSome o IsEncodableV6 → there ≡ is_some o → octets ≡ octets_of_v6 o
+    ensures described { (o : Option SocketAddrV6) → IfSome o HasNoFlow → there ≡ is_some o → octets ≡ octets_of_v6 o
         → port ≡ port_of_v6 o → result ≡ o }
+    ensures plain { IfSome result HasNoFlow }
 {
     if there {
         Some(SocketAddrV6::new(Ipv6Addr::from_octets(octets), port, 0, 0))
@@ -140,9 +142,10 @@ fn maybe_id(there: bool, len: u32, bytes: &[u8; 20]) -> Option<ConnectionId>
 }
 
 fn address_in(words: &CParams, flags: Flags) -> Option<PreferredAddress>
-    ensures { (p : TransportParameters) → words.now ≡ params_words p → HasFlags flags p
-        → IfSome p.preferred_address IsTypedAddress → IfSome p.preferred_address IsEncodableAddress
+    ensures described { (p : TransportParameters) → words.now ≡ params_words p → HasFlags flags p
+        → IfSome p.preferred_address IsTypedAddress → IfSome p.preferred_address IsPlainAddress
         → result ≡ p.preferred_address }
+    ensures plain { IfSome result IsPlainAddress }
 {
     if !flags.address {
         return None;
@@ -158,9 +161,9 @@ fn address_in(words: &CParams, flags: Flags) -> Option<PreferredAddress>
 }
 
 // The record that the struct describes, if it describes one.
-fn record_in(words: &CParams) -> TransportParameters
-    ensures described { (side : Side) (p : TransportParameters) → DescribesParams words.now p → IsRecordInRange side p
-        → result ≡ p }
+pub(crate) fn record_in(words: &CParams) -> TransportParameters
+    ensures described { (p : TransportParameters) → DescribesPlain words.now p → result ≡ p }
+    ensures plain { IfSome result.preferred_address IsPlainAddress }
     ensures no_grease { result.grease_transport_parameter ≡ None }
     ensures no_order { result.write_order ≡ None }
 {
@@ -200,7 +203,7 @@ fn record_in(words: &CParams) -> TransportParameters
     }
 }
 
-fn same_words(a: &CParams, b: &CParams) -> bool
+pub(crate) fn same_words(a: &CParams, b: &CParams) -> bool
     ensures { IsTrue result ↔ (a.now ≡ b.now) }
 {
     a == b

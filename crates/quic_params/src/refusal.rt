@@ -107,11 +107,13 @@ fn is_no_address_kept(side: Side, address: &Option<PreferredAddress>) -> bool
 }
 
 impl TransportParameters {
-    // The parameter of the first rule that the record breaks, from the last rule to the first.
-    fn broken(&self, side: Side) -> Option<TransportParameterId>
+    /// The first parameter whose value the side doesn't accept, in the order in which values are validated; `None` if
+    /// it accepts the record (RFC 9000, section 18.2). It doesn't allocate.
+    pub fn broken(&self, side: Side) -> Option<TransportParameterId>
         ensures { result ≡ first_broken (rules side self.now) }
     {
         use TransportParameterId::*;
+        // From the last rule to the first.
         let kept = is_token_kept(side, &self.stateless_reset_token);
         let broken = or_broken(StatelessResetToken, kept, None);
         let kept = is_id_kept(side, &self.retry_src_cid);

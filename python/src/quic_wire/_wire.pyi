@@ -41,6 +41,10 @@ READ_WHOLE_RETRY: int
 READ_ANY_WIDTH: int
 READ_NO_REPEATS: int
 READ_RFC: int
+FAULT_LOW: int
+FAULT_HIGH: int
+FAULT_DELAY: int
+FAULT_SENDER: int
 
 # ---- Frames
 
@@ -559,6 +563,7 @@ class _Parameters:
         """The parameters in a list. `side` is the side that reads: pass Side.CLIENT for a server's list.
         Raises ParameterError."""
     def _write(self, side: int, further: bytes = b"", order: bytes = b"", /) -> bytes: ...
+    def _write_fault(self, side: int, /) -> Optional[tuple[int, int]]: ...
     def as_dict(self) -> dict[str, Any]:
         """All parameters by name."""
     def __hash__(self) -> int: ...

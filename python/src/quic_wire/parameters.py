@@ -9,16 +9,24 @@ from dataclasses import dataclass
 from typing import Any, NamedTuple, Optional
 
 from ._formats import PARAMETERS
-from ._parameters import KNOWN, OF_SERVERS, cut_off, entries
+from ._parameters import KNOWN, cut_off, entries
 from ._types import Buffer
-from ._wire import _Parameters, is_known_parameter, varint_at, write_parameter
+from ._wire import (
+    FAULT_DELAY,
+    FAULT_HIGH,
+    FAULT_LOW,
+    FAULT_SENDER,
+    _Parameters,
+    is_known_parameter,
+    varint_at,
+    write_parameter,
+)
 from .errors import Code, _parameter_fault
 
 __all__ = ["Parameter", "PreferredAddress", "Side", "TransportParameters", "parameters"]
 
 _FURTHER_ROW = len(PARAMETERS)
 _MOST_FURTHER = 256 - _FURTHER_ROW  # a row is a byte
-_MICROSECONDS = 1000  # in a millisecond
 _SMALL = 1000  # greater bounds are written as powers of 2
 _MAX_CID_LEN = 20
 _RESET_TOKEN_LEN = 16
@@ -72,10 +80,10 @@ class TransportParameters(_Parameters):
         try:
             return self._write(side, listed, bytes(first + rest) if first else b"")
         except ValueError:
-            fault = _fault_in(self, side)
+            fault = self._write_fault(side)
             if fault is None:
                 raise
-            raise ValueError(fault) from None
+            raise ValueError(_why_rejected(self, *fault)) from None
 
 
 def _shown(number: int) -> str:
@@ -107,23 +115,20 @@ def _bound(number: int) -> str:
     return f"2^{number.bit_length() - 1}" if number & 1 == 0 else f"2^{number.bit_length()} - 1"
 
 
-def _fault_in(values: TransportParameters, side: Side) -> Optional[str]:
-    """Why the peer would reject these parameters of a side, or None."""
-    bounds = [(known.name, *known.bounds) for known in KNOWN.values()]
-    for name, least, _ in bounds:
-        if least is not None and getattr(values, name) < least:
-            return f"{name} must be at least {least}"
-    for name, _, most in bounds:
-        if most is not None and getattr(values, name) > most:
-            return f"{name} must be at most {_bound(most)}"
-    most_delay = values.max_ack_delay * _MICROSECONDS
-    if values.min_ack_delay is not None and values.min_ack_delay > most_delay:
-        return f"min_ack_delay must be at most max_ack_delay, {most_delay} microseconds"
-    for number in OF_SERVERS:
-        name = KNOWN[number].name
-        if side == Side.CLIENT and getattr(values, name) is not None:
-            return f"a client must not send {name}"
-    return None
+def _why_rejected(values: TransportParameters, fault: int, number: int) -> str:
+    """Why the peer would reject the value of the parameter with this id."""
+    known = KNOWN[number]
+    least, most = known.bounds
+    if fault == FAULT_LOW and least is not None:
+        return f"{known.name} must be at least {least}"
+    if fault == FAULT_HIGH and most is not None:
+        return f"{known.name} must be at most {_bound(most)}"
+    if fault == FAULT_DELAY and known.max_of:
+        times, other = known.max_of
+        return f"{known.name} must be at most {other}, {times * getattr(values, other)} {known.unit}"
+    if fault == FAULT_SENDER:
+        return f"a client must not send {known.name}"
+    return f"{known.name} must be {known.wanted}"
 
 
 class Parameter(NamedTuple):

@@ -20,7 +20,7 @@ OPTIONAL = {"written": ["frame_header_write"], "refusal": ["params_read"]}
 # The size of the struct before it, which is compared and not passed.
 SIZE = ("size_t", "size")
 # Those whose proved function takes the other side.
-GIVEN_READER = ["params_write", "params_write_with"]
+GIVEN_READER = ["params_write", "params_write_with", "params_write_fault"]
 
 
 def same(kind):

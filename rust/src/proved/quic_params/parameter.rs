@@ -147,6 +147,13 @@ impl TransportParameterId {
 }
 
 impl TransportParameterId {
+    /// The parameter's number on the wire.
+    pub fn number(self) -> u64 { #![doc = "# Contract\n```text"]
+        //! ensures { result ≡ (row_of self).number }
+        //! ```
+        self.row().number
+    }
+
     /// Whether this is the parameter's number on the wire.
     pub fn is(self, number: u64) -> bool { #![doc = "# Contract\n```text"]
         //! ensures { IsTrue result ↔ ((row_of self).number ≡ number) }

@@ -6,13 +6,13 @@ use Rattle.quic_params.specs.Writing.{written}
 use Rattle.quic_params.specs.declared.record.TransportParameters.{TransportParameters}
 use Rattle.quic_c_params.specs.Shown.{params_words}
 use Rattle.quic_c_params.specs.Written.{DescribesParams}
-use Rattle.quic_c_params.proofs.DescribedParams.{plain_is}
+use Rattle.quic_c_params.proofs.DescribedParams.{plain_is, plain_of}
 use Rattle.quic_c_params.proofs.write.described.Goals.{then-not-same_words-via-then-not-same_words, then-not-same_words-via-else-not-same_words+then-not-in_range}
 use Rattle.quic_c_params.proofs.write.described.Goals as goal
 
 pub returns-then-not-same_words-clause-none : goal.returns-then-not-same_words-clause-none
 returns-then-not-same_words-clause-none c = λ _ p says range.
-    let same = c.record_in-params.ensures.described c.args.side p says range in
+    let same = c.record_in-params.ensures.described p (plain_of c.args.side c.args.words.now p says range) in
     elim c.then-not-same_words.branch [
       | then-not-same_words-via-then-not-same_words w ↦
           (let yes = c.same_words.ensures.1 (says.words_are ∙ ap params_words (sym same) ∙ sym c.show.ensures) in

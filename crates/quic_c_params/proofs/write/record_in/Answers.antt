@@ -5,7 +5,8 @@ use Rattle.quic_c_params.proofs.DescribedParams.{same_fields, typed_number, type
 use Rattle.quic_c_params.proofs.write.record_in.Goals as goal
 
 pub returns-clause-described : goal.returns-clause-described
-returns-clause-described c = λ side p says range.
+returns-clause-described c = λ p plain.
+    let says = plain.described in
     let w = says.words_are in
     let t = says.typed.values in
     let f = c.flags_in-flags.ensures p (ap (λ (x : CParams). x.present) w) in
@@ -29,7 +30,7 @@ returns-clause-described c = λ side p says range.
     f.stays
     (c.number_in.ensures p.max_datagram_frame_size (typed_number p.max_datagram_frame_size (t ids.MaxDatagramFrameSize))
     f.datagram (ap (λ (x : CParams). x.max_datagram_frame_size) w))
-    (c.address_in.ensures p w f (typed_address p.preferred_address (t ids.PreferredAddress)) range.address)
+    (c.address_in.ensures.described p w f (typed_address p.preferred_address (t ids.PreferredAddress)) plain.plain)
     (c.maybe_id.ensures p.original_dst_cid (typed_id p.original_dst_cid (t ids.OriginalDestinationConnectionId))
     f.original (ap (λ (x : CParams). x.original_dst_cid_len) w) (ap (λ (x : CParams). x.original_dst_cid) w))
     (c.maybe_id-2.ensures p.initial_src_cid (typed_id p.initial_src_cid (t ids.InitialSourceConnectionId)) f.initial

@@ -1,8 +1,8 @@
 -- What the words of a frame of any kind but ACK are.
-use Rattle.std.proofs.Common.{◌≡◌, ℕ, ◌<◌, ◌^◌, List, [], ◌∷◌, length, Option, None, Some, Bool, true, false, refl, sym, ◌∙◌, ap, arith}
+use Rattle.std.proofs.Common.{◌≡◌, ℕ, List, [], length, Option, None, Some, Bool, true, false, refl, sym, ◌∙◌, ap, arith}
+use Rattle.std.proofs.lemmas.Grind.{common_steps}
 use Rattle.std.specs.Prelude.{◌==◌, ◌&&◌, if◌then◌else◌}
 use Rattle.quic_base.specs.declared.ids.Dir.TheVariants as dirs
-use Rattle.quic_frame_fields.specs.Numbers.{AreNumeric}
 use Rattle.quic_frame_fields.specs.declared.frame.close.Close.TheVariants as closes
 use Rattle.quic_frames.specs.declared.frame.Frame.{Frame}
 use Rattle.quic_frames.specs.declared.frame.Frame.TheVariants as frames
@@ -13,100 +13,16 @@ use Rattle.std.specs.List.{list_any}
 use Rattle.quic_c.specs.Slots.{Slot, slots_of, is_data}
 use Rattle.quic_c.specs.Shapes.{IsSound, shape_of, kept_by, kept_numbers, kept_data, token_room}
 
-zero_fits : 0 < 2 ^ 62
-zero_fits = omega arith
-
-four : (a b c d : ℕ) → a < 2 ^ 62 → b < 2 ^ 62 → c < 2 ^ 62 → d < 2 ^ 62 → AreNumeric (a ∷ b ∷ c ∷ d ∷ 0 ∷ [])
-four a b c d p q r s = (p, (q, (r, (s, (zero_fits, tt)))))
-
-two : (a b : ℕ) → a < 2 ^ 62 → b < 2 ^ 62 → AreNumeric (a ∷ b ∷ 0 ∷ 0 ∷ 0 ∷ [])
-two a b p q = four a b 0 0 p q zero_fits zero_fits
-
-plain : (kind : ℕ) (numbers : List ℕ) (len : ℕ) → AreNumeric numbers → len < 2 ^ 62 → (kind ≡ 0x18 → ⊥)
-    → IsSound kind numbers len
-plain kind numbers len n l other =
-    record {
-      numeric = λ _. n;
-      counted = λ _. l;
-      ordered = λ e. absurd (other e);
-      some = λ e. absurd (other e);
-      few = λ e. absurd (other e);
-    }
-
 pub sound : (frame : Frame) → IsNoAck frame → IsTypedFrame frame → InRange frame
     → IsSound (frame_kind_of frame) (frame_numbers_of frame) (length (data_of frame))
-sound frames.Padding here typed ok = plain _ _ _ (two 0 0 zero_fits zero_fits) (zero_fits) (λ e. absurd (omega arith))
 sound (frames.Ack _) here typed ok = elim here [ ]
-sound frames.Ping here typed ok = plain _ _ _ (two 0 0 zero_fits zero_fits) (zero_fits) (λ e. absurd (omega arith))
-sound (frames.ResetStream r) here typed ok =
-    plain _ _ _ (four _ _ _ 0 typed.0 typed.1.0 typed.1.1.0 zero_fits) (zero_fits) (λ e. absurd (omega arith))
-sound (frames.StopSending s) here typed ok =
-    plain _ _ _ (two _ _ typed.0 typed.1.0) (zero_fits) (λ e. absurd (omega arith))
-sound (frames.Crypto x) here typed ok = plain _ _ _ (two 0 _ zero_fits ok.0) (ok.1.0) (λ e. absurd (omega arith))
-sound (frames.NewToken t) here typed ok = plain _ _ _ (two 0 0 zero_fits zero_fits) (ok) (λ e. absurd (omega arith))
-sound (frames.Stream s) here typed ok = record {
-  numeric = λ _. two _ _ typed ok;
-  counted = λ e. cc;
-  ordered = λ e. absurd (omega arith);
-  some = λ e. absurd (omega arith);
-  few = λ e. absurd (omega arith);
-}
-sound (frames.MaxData n) here typed ok = plain _ _ _ (two 0 _ zero_fits typed) (zero_fits) (λ e. absurd (omega arith))
-sound (frames.MaxStreamData id offset) here typed ok =
-    plain _ _ _ (two _ _ typed ok) (zero_fits) (λ e. absurd (omega arith))
-sound (frames.MaxStreams dirs.Bi count) here typed ok =
-    plain _ _ _ (two 0 _ zero_fits ok) (zero_fits) (λ e. absurd (omega arith))
-sound (frames.MaxStreams dirs.Uni count) here typed ok =
-    plain _ _ _ (two 0 _ zero_fits ok) (zero_fits) (λ e. absurd (omega arith))
-sound (frames.DataBlocked offset) here typed ok =
-    plain _ _ _ (two 0 _ zero_fits ok) (zero_fits) (λ e. absurd (omega arith))
-sound (frames.StreamDataBlocked id offset) here typed ok =
-    plain _ _ _ (two _ _ typed ok) (zero_fits) (λ e. absurd (omega arith))
-sound (frames.StreamsBlocked dirs.Bi limit) here typed ok =
-    plain _ _ _ (two 0 _ zero_fits ok) (zero_fits) (λ e. absurd (omega arith))
-sound (frames.StreamsBlocked dirs.Uni limit) here typed ok =
-    plain _ _ _ (two 0 _ zero_fits ok) (zero_fits) (λ e. absurd (omega arith))
-sound (frames.NewConnectionId n) here typed ok =
-    record {
-      numeric = λ _. two _ _ ok.0.0 ok.0.1.0;
-      counted = λ _. omega (arith, ok.3);
-      ordered = λ _. ok.1;
-      some = λ _. ok.2;
-      few = λ _. ok.3;
-    }
-sound (frames.RetireConnectionId sequence) here typed ok =
-    plain _ _ _ (two _ 0 ok zero_fits) (zero_fits) (λ e. absurd (omega arith))
-sound (frames.PathChallenge n) here typed ok = record {
-  numeric = λ e. cc;
-  counted = λ _. zero_fits;
-  ordered = λ e. absurd (omega arith);
-  some = λ e. absurd (omega arith);
-  few = λ e. absurd (omega arith);
-}
-sound (frames.PathResponse n) here typed ok = record {
-  numeric = λ e. cc;
-  counted = λ _. zero_fits;
-  ordered = λ e. absurd (omega arith);
-  some = λ e. absurd (omega arith);
-  few = λ e. absurd (omega arith);
-}
-sound (frames.Close (closes.Connection x)) here typed ok =
-    plain _ _ _ (two _ _ typed.0 typed.1.0) (ok.1) (λ e. absurd (omega arith))
-sound (frames.Close (closes.Application x)) here typed ok =
-    plain _ _ _ (two _ 0 typed zero_fits) (ok) (λ e. absurd (omega arith))
-sound (frames.Datagram d) here typed ok = record {
-  numeric = λ _. two 0 0 zero_fits zero_fits;
-  counted = λ e. cc;
-  ordered = λ e. absurd (omega arith);
-  some = λ e. absurd (omega arith);
-  few = λ e. absurd (omega arith);
-}
-sound (frames.AckFrequency f) here typed ok =
-    plain _ _ _ (four _ _ _ _ typed.0 typed.1.0 typed.1.1.0 typed.1.1.1.0) (zero_fits) (λ e. absurd (omega arith))
-sound frames.ImmediateAck here typed ok =
-    plain _ _ _ (two 0 0 zero_fits zero_fits) (zero_fits) (λ e. absurd (omega arith))
-sound frames.HandshakeDone here typed ok =
-    plain _ _ _ (two 0 0 zero_fits zero_fits) (zero_fits) (λ e. absurd (omega arith))
+sound (frames.MaxStreams dirs.Bi count) here typed ok = grind (arith, common_steps)
+sound (frames.MaxStreams dirs.Uni count) here typed ok = grind (arith, common_steps)
+sound (frames.StreamsBlocked dirs.Bi limit) here typed ok = grind (arith, common_steps)
+sound (frames.StreamsBlocked dirs.Uni limit) here typed ok = grind (arith, common_steps)
+sound (frames.Close (closes.Connection x)) here typed ok = grind (arith, common_steps)
+sound (frames.Close (closes.Application x)) here typed ok = grind (arith, common_steps)
+sound frame here typed ok = grind (arith, common_steps)
 
 -- which of its words a frame takes
 pub record Keeps (frame : Frame) : Type 0 where

@@ -1,5 +1,5 @@
 //! Where the fields of frames, entries and headers are: what callers learn from the laws on spans.
-ghost use Rattle.std.specs.Prelude.{◌≡◌, ◌≤◌, ◌⊎◌, ◌↔◌, ◌++◌, ◌-◌, ◌+◌, ℕ, List, [], Option, Some, None, IfSome, IsTrue, MatchOption, length, slice_index, ⊤};
+ghost use Rattle.std.specs.Prelude.{◌≡◌, ◌≤◌, ◌⊎◌, ◌↔◌, ◌++◌, ◌-◌, ◌+◌, ℕ, List, [], Option, None, IfSome, IsTrue, length, slice_index, false};
 ghost use Rattle.quic_base.specs.Varint.{Encodes};
 ghost use Rattle.quic_base.specs.Codec.{Follows};
 ghost use Rattle.quic_fields.specs.declared.field.Span.{Span};
@@ -47,7 +47,10 @@ pub fn reason_at_front(payload: &[u8]) -> Option<Fault>
     if payload.is_empty() {
         return None;
     }
-    frame_spans(payload, &mut []).fault
+    match frame_spans(payload, &mut []).fault {
+        None => None,
+        Some(reason) => Some(reason),
+    }
 }
 
 /// Whether a frame that the rules allow begins the payload: exactly when none of its fields is at fault.
@@ -55,7 +58,10 @@ pub fn begins_with_allowed(rules: Rules, payload: &[u8]) -> bool
     ensures { IsTrue result ↔ ((spans : List Span) × IsAllowedAt rules payload.now spans) }
 {
     of_frames::one_answer_by_rules();
-    frame_spans_by(rules, payload, &mut []).0.is_none()
+    match frame_spans_by(rules, payload, &mut []).0 {
+        None => true,
+        Some(_) => false,
+    }
 }
 
 /// How many bytes the entry at the front of a list of transport parameters has: those of its number, of its value's
@@ -81,9 +87,10 @@ pub fn has_header(bytes: &[u8], id_len: usize, versions: &[u32]) -> bool
 {
     of_headers::one_list_of_spans();
     of_headers::one_field_at_fault();
-    header_spans(bytes, id_len, versions, &mut [])
-        .fault
-        .is_none()
+    match header_spans(bytes, id_len, versions, &mut []).fault {
+        None => true,
+        Some(_) => false,
+    }
 }
 
 /// Stores the fields of the header at the front, by its kind, as far as `room` reaches, and returns how many bytes they

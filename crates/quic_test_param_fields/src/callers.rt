@@ -1,5 +1,5 @@
 //! Where the fields of a value are: what callers learn from the laws on spans.
-ghost use Rattle.std.specs.Prelude.{◌≡◌, ◌≤◌, ◌⊎◌, ◌↔◌, ◌++◌, ◌-◌, ◌+◌, ℕ, List, [], Option, Some, None, IfSome, IsTrue, MatchOption, length, slice_index, ⊤};
+ghost use Rattle.std.specs.Prelude.{◌≡◌, ◌⊎◌, ℕ, List, Option, IfSome, MatchOption, length, ⊤, false};
 ghost use Rattle.quic_fields.specs.declared.field.Span.{Span};
 ghost use Rattle.quic_fields.specs.Spans.{AreInRow, AreNumbered};
 ghost use Rattle.quic_fields.specs.Walk.{stored};

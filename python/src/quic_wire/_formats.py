@@ -13,7 +13,7 @@ from typing import NamedTuple, Optional
 class Field(NamedTuple):
     """A field of a frame, a header or a preferred address."""
 
-    index: int
+    position: int
     """The index of its span; 0 is the type or the first byte. In a preferred address the number of the field."""
     kind: str
     name: str

@@ -14,7 +14,6 @@ KNOWN = {number: known for number, known in PARAMETERS.items() if known.kind != 
 # Those that a client must not send.
 OF_SERVERS = [number for number, known in KNOWN.items() if "client" not in known.senders]
 _LONG = "its integer isn't in its shortest encoding, which RFC 9000, section 16, allows and quinn-proto rejects"
-_EXTENSION = ("draft-ietf-quic-ack-frequency", "the ACK frequency extension")
 
 
 class Fault(NamedTuple):
@@ -82,7 +81,7 @@ def fault_of(side: int, checks: Checks, data: memoryview, begin: int, number: Op
     if entry is None or known is None:
         return cut_off(begin, number)
     value = data[begin + entry.value : begin + entry.end]
-    found = Fault(begin, entry.id, bytes(value), section=known.section.replace(*_EXTENSION))
+    found = Fault(begin, entry.id, bytes(value), section=known.section)
     if _is_repeat(checks, data[:begin], entry.id):
         return found._replace(why="it occurs twice", section="RFC 9000, section 7.4")
     if side == SERVER and entry.id in OF_SERVERS:

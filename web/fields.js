@@ -104,6 +104,13 @@ class Fields {
     return kind === "id" || left === 0 ? 1 : 1 << (this.bytes[place] >> 6);
   }
 
+  // The bytes that follow the last field, if there are any.
+  rest() {
+    if (this.last.end < this.limit) {
+      this.data({ name: "not read", opaque: true }, this.last.end, this.limit);
+    }
+  }
+
   // The fields of these rows, as far as they were read.
   draw(rows, { reason, spans, ...reach }) {
     spans.slice(0, rows.length).forEach((span, index) => this.whole(rows[index], span));

@@ -310,6 +310,7 @@ class ParamsReading extends Reading {
     const { name, tone } = { ...parameterOf(id), ...(id === null ? { name: "not a parameter" } : {}) };
     const summary = parameterSummary(fields, id);
     if (index !== this.bad) {
+      fields.rest();
       return { kind: id, name, tone, summary, fields: fields.all };
     }
     fields.mark(this.faultOf(fields, id));

@@ -745,7 +745,7 @@ typedef struct quic_wire_fields {
 #define QUIC_WIRE_PARAM_FIELDS 2
 
 /** The index of no field. */
-#define QUIC_WIRE_NO_FIELD SIZE_MAX
+#define QUIC_WIRE_NO_FIELD ((size_t)-1)
 
 /* ---- The linked library */
 

@@ -85,7 +85,7 @@ def frame_structs(formats):
         for slot, field in zip(slots.split(" ∷ "), fields):
             if slot.startswith("Nth "):
                 struct, number = struct_of(name), int(slot.removeprefix("Nth "))
-                member = [*declared[struct], *[""] * 5][number]
+                member = [*declared.get(struct, []), *[""] * 5][number]
                 if not member or member.replace("limit", "maximum") not in field["key"]:
                     yield f"{HEADER}: quic_wire_{struct} has no {field['key']} of {name} as its number {number}"
 

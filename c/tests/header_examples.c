@@ -1,13 +1,14 @@
 /* The examples at the top of quic_wire.h, which scripts/callers cuts out of it
  * as example-1.h to example-3.h: the third seals a packet, the second opens it,
- * and the first reads its frames, and those of a payload with a STREAM.  The
- * cipher hides nothing: it inverts each bit, and its tag is the packet
- * number. */
+ * and the first reads its frames, and those of a payload with a STREAM.  That of
+ * quic_wire_near.h, near-1.h, reads such a frame too.  The cipher hides nothing:
+ * it inverts each bit, and its tag is the packet number. */
 #include <stdio.h>
 #include <stdlib.h>
 #include <string.h>
 
 #include "quic_wire.h"
+#include "quic_wire_near.h"
 
 static void check(int is_so, const char *what) {
   if (!is_so) {
@@ -37,6 +38,15 @@ static void read_what_is_forbidden(const uint8_t *payload, size_t len,
                                    uint32_t kind, uint32_t sender, int result) {
 #include "example-1.h"
   check(answer == result && delivered == 1, "another answer");
+}
+
+/* A STREAM, and bytes that are left to the call. */
+static void read_near(const uint8_t *payload, size_t payloadlen,
+                      int64_t result) {
+  const uint32_t flags = QUIC_WIRE_READ_RFC;
+  quic_wire_frame frame;
+#include "near-1.h"
+  check(answer == result, "another end");
 }
 
 static void make_mask(uint8_t *mask, const uint8_t *sample) {
@@ -105,6 +115,9 @@ int main(void) {
                          QUIC_WIRE_SIDE_CLIENT, QUIC_WIRE_ERR_FRAME_PACKET);
   read_what_is_forbidden(clients, sizeof clients, QUIC_WIRE_PACKET_1RTT,
                          QUIC_WIRE_SIDE_SERVER, QUIC_WIRE_ERR_FRAME_STREAM);
-  puts("the examples of quic_wire.h: two packets sealed, opened and read");
+  read_near(stream, sizeof stream, sizeof stream);
+  read_near(stream, 2, QUIC_WIRE_ERR_FRAME_END);
+  check(delivered == 2, "one more STREAM");
+  puts("the headers' examples: two packets sealed, opened and read");
   return 0;
 }

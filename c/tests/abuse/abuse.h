@@ -128,6 +128,13 @@ extern void number_len_any(void);
 extern void number_expand_any(void);
 extern void number_bytes_any(void);
 
+/* near.c: what is read and written without a call.  Returns whether a frame
+ * was. */
+extern void near_nulls(void);
+extern int near_frames(const uint8_t *bytes, size_t len);
+extern int near_written(void);
+extern void near_numbers(const uint8_t *bytes, size_t len);
+
 /* parameters.c: transport parameters. */
 extern void params_nulls(void);
 extern void params_with(void);

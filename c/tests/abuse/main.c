@@ -58,6 +58,7 @@ static void nulls(void) {
   long_tokens();
   negotiation_nulls();
   numbers_nulls();
+  near_nulls();
   params_nulls();
   params_with();
   sets_nulls();
@@ -69,6 +70,7 @@ static void nulls(void) {
 
 static void rubbish(int rounds) {
   int i, fields = 0, headers = 0, forms = 0, longs = 0, refused = 0;
+  int near = 0, near_ones = 0;
   for (i = 0; i < rounds; i++) {
     size_t len = any() % 40, k;
     uint8_t *bytes = block(len);
@@ -95,6 +97,9 @@ static void rubbish(int rounds) {
     number_bytes_any();
     negotiation_any();
     varint_any();
+    near += near_frames(bytes, len);
+    near_ones += near_written();
+    near_numbers(bytes, len);
     results_any();
     place_any(bytes, len);
     params_any(bytes, len);
@@ -108,6 +113,7 @@ static void rubbish(int rounds) {
   }
   WANT(fields > rounds / 20 && headers > rounds / 3 && forms > rounds / 50);
   WANT(longs > rounds / 5 && refused > rounds / 20);
+  WANT(near > rounds / 10 && near_ones > rounds / 5);
 }
 
 int main(int argc, char **argv) {

@@ -36,11 +36,11 @@ def functions(source, end):
         yield result, name, [re.fullmatch(r" ?(.*?) ?(\w+)", it).groups() for it in arguments.split(",")]
 
 
-def opening(result, name, arguments):
+def opening(result, name, arguments, front="QUIC_WIRE_API"):
     """The first lines of a function. Its result is in a line of its own if that saves two lines or more."""
     words = [f"{kind}{'' if kind.endswith('*') else ' '}{word}" for kind, word in arguments]
-    beside = c.wrapped(f"QUIC_WIRE_API {result} quic_wire_{name}(", words, ") {")
-    above = f"QUIC_WIRE_API {result}\n" + c.wrapped(f"quic_wire_{name}(", words, ") {")
+    beside = c.wrapped(f"{front} {result} quic_wire_{name}(", words, ") {")
+    above = f"{front} {result}\n" + c.wrapped(f"quic_wire_{name}(", words, ") {")
     fits = all(len(line) <= c.WIDTH for line in beside.splitlines())
     return beside if fits and beside.count("\n") <= above.count("\n") + 1 else above
 

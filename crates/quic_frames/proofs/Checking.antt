@@ -1,12 +1,12 @@
 -- Steps of an iterator under rules.
-use Rattle.std.proofs.Common.{◌≡◌, ℕ, List, Bool, true, Option, Some, None, refl, sym, ap, subst, ◌∙◌, inl, inr}
+use Rattle.std.proofs.Common.{◌≡◌, ℕ, true, Option, Some, None, sym, ap, subst, ◌∙◌, inl, inr}
 use Rattle.quic_frame_fields.specs.Reading.{Invalid, invalid}
 use Rattle.quic_frames.specs.declared.frame.Frame.{Frame}
 use Rattle.quic_frames.specs.declared.frame.rules.Rules.{Rules}
 use Rattle.quic_frames.specs.declared.frame.rules.Breach.{Breach}
 use Rattle.quic_frames.specs.IterState.{IterState}
 use Rattle.quic_frames.specs.Meaning.{meaning_of}
-use Rattle.quic_frames.specs.Rules.{Keeps, breach_of, breach_text, fault_by, invalid_by}
+use Rattle.quic_frames.specs.Rules.{breach_of, breach_text, fault_by}
 use Rattle.quic_frames.specs.Checking.{CheckedState, BreaksRule, FindsKept, IsRefusedFrame, LacksBy}
 use Rattle.quic_frames.specs.Walk.{Finds, LacksFrame}
 

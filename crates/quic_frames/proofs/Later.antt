@@ -1,5 +1,5 @@
 -- What bytes that come later can't change.
-use Rattle.std.proofs.Common.{◌≡◌, ◌≢◌, ℕ, zero, suc, ◌+◌, ◌-◌, ◌<◌, Bool, true, false, cond, ltb, eqb, List, [], ◌∷◌, ◌++◌, length, map, Option, None, Some, Result, Ok, Err, refl, sym, ap, subst, ◌∙◌, append_assoc, inl, inr, arith}
+use Rattle.std.proofs.Common.{◌≡◌, ◌≢◌, ℕ, zero, suc, ◌+◌, ◌-◌, Bool, true, false, cond, ltb, eqb, List, [], ◌∷◌, ◌++◌, length, map, Option, None, Some, Result, Ok, Err, refl, sym, ap, subst, ◌∙◌, append_assoc, inl, inr, arith}
 use Rattle.std.specs.Prelude.{◌||◌}
 use Rattle.std.proofs.lemmas.List.{length-append}
 use Rattle.quic_base.specs.Number.{AreBytes}
@@ -7,7 +7,6 @@ use Rattle.quic_base.proofs.PublicLaws.{front_bytes, back_bytes}
 use Rattle.quic_frame_fields.specs.declared.frame.fault.Fault.{Fault}
 use Rattle.quic_frame_fields.specs.declared.frame.fault.Fault.TheVariants.{UnexpectedEnd, InvalidFrameId, Malformed, LongType}
 use Rattle.quic_frame_fields.specs.Field.{Value, Field, Varint, Counted, Id, Uint64, Bytes16, Blocks, Rest, Implied, Ordered, is_ordered, greatest_of, NumberStops, BelowStops, BlocksStop, StopsWithin}
-use Rattle.quic_frame_fields.specs.Table.{is_open}
 use Rattle.quic_frame_fields.specs.Payload.{TypedFrame, AreFrames, AreClosed, last_type, BeginsWithType, IsNoFrame, IsBroken, Reading, Complete, FailsAfter, IsReadingAfter, IsReadingOf, followed_by}
 use Rattle.quic_frames.specs.Placed.{Placed, ArePlaced, found_in}
 use Rattle.quic_base.specs.Reading.{◌>>=◌}

@@ -61,21 +61,29 @@ abbrev pub IsNoAck : Frame → Type 0
 IsNoAck (frames.Ack a) = ⊥
 IsNoAck frame = ⊤
 
--- A frame of the kinds that one body writes: they have nothing but numbers, and are rare.
+-- A frame of the kinds that one body writes: they have nothing but numbers, and are very rare.
 abbrev pub IsWrittenAsNumbers : Frame → Type 0
 IsWrittenAsNumbers frames.Padding = ⊥
 IsWrittenAsNumbers frames.Ping = ⊥
 IsWrittenAsNumbers (frames.Ack a) = ⊥
+IsWrittenAsNumbers (frames.ResetStream r) = ⊥
+IsWrittenAsNumbers (frames.StopSending s) = ⊥
 IsWrittenAsNumbers (frames.Crypto c) = ⊥
 IsWrittenAsNumbers (frames.NewToken t) = ⊥
 IsWrittenAsNumbers (frames.Stream s) = ⊥
 IsWrittenAsNumbers (frames.MaxData n) = ⊥
 IsWrittenAsNumbers (frames.MaxStreamData id offset) = ⊥
 IsWrittenAsNumbers (frames.MaxStreams dir count) = ⊥
+IsWrittenAsNumbers (frames.DataBlocked offset) = ⊥
+IsWrittenAsNumbers (frames.StreamDataBlocked id offset) = ⊥
+IsWrittenAsNumbers (frames.StreamsBlocked dir limit) = ⊥
 IsWrittenAsNumbers (frames.NewConnectionId n) = ⊥
+IsWrittenAsNumbers (frames.RetireConnectionId sequence) = ⊥
 IsWrittenAsNumbers (frames.PathChallenge n) = ⊥
 IsWrittenAsNumbers (frames.PathResponse n) = ⊥
 IsWrittenAsNumbers (frames.Close c) = ⊥
+IsWrittenAsNumbers frames.HandshakeDone = ⊥
+IsWrittenAsNumbers frames.ImmediateAck = ⊥
 IsWrittenAsNumbers (frames.Datagram d) = ⊥
 IsWrittenAsNumbers frame = ⊤
 

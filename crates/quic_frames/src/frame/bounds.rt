@@ -10,13 +10,23 @@ impl Frame<'_> {
         ensures { IsTypedFrame self.now }
     {
         match self {
+            Frame::ResetStream(r) => {
+                let _ = (
+                    u64::from(r.id),
+                    r.error_code.into_inner(),
+                    r.final_offset.into_inner(),
+                );
+            }
+            Frame::StopSending(s) => {
+                let _ = (u64::from(s.id), s.error_code.into_inner());
+            }
             Frame::Stream(s) => {
                 let _ = u64::from(s.id);
             }
             Frame::MaxData(n) => {
                 let _ = n.into_inner();
             }
-            Frame::MaxStreamData { id, .. } => {
+            Frame::MaxStreamData { id, .. } | Frame::StreamDataBlocked { id, .. } => {
                 let _ = u64::from(*id);
             }
             Frame::NewConnectionId(n) => {
@@ -36,7 +46,12 @@ impl Frame<'_> {
             | Frame::Ack(_)
             | Frame::Crypto(_)
             | Frame::NewToken(_)
+            | Frame::DataBlocked { .. }
             | Frame::MaxStreams { .. }
+            | Frame::StreamsBlocked { .. }
+            | Frame::RetireConnectionId { .. }
+            | Frame::HandshakeDone
+            | Frame::ImmediateAck
             | Frame::Datagram(_) => {}
             _ => {
                 let _ = self.numbers();

@@ -36,6 +36,8 @@ impl Frame<'_> {
             Frame::Padding => write::numbers(out, &[0x00]),
             Frame::Ping => write::numbers(out, &[0x01]),
             Frame::Ack(ack) => encode_ack(ack, out),
+            Frame::ResetStream(reset) => reset.encode(out),
+            Frame::StopSending(stop) => stop.encode(out),
             Frame::Crypto(crypto) => crypto.encode(out),
             Frame::NewToken(token) => token.encode(out),
             Frame::Stream(stream) => encode_stream(stream, last, out),
@@ -46,11 +48,21 @@ impl Frame<'_> {
             Frame::MaxStreams { dir, count } => {
                 write::numbers(out, &[0x12 + bit_of(*dir), *count])
             }
+            Frame::DataBlocked { offset } => write::numbers(out, &[0x14, *offset]),
+            Frame::StreamDataBlocked { id, offset } => {
+                write::numbers(out, &[0x15, u64::from(*id), *offset])
+            }
+            Frame::StreamsBlocked { dir, limit } => {
+                write::numbers(out, &[0x16 + bit_of(*dir), *limit])
+            }
             Frame::NewConnectionId(new) => new.encode(out),
+            Frame::RetireConnectionId { sequence } => write::numbers(out, &[0x19, *sequence]),
             Frame::PathChallenge(n) => encode_path(0x1a, *n, out),
             Frame::PathResponse(n) => encode_path(0x1b, *n, out),
             Frame::Close(close) => encode_close(close, out),
             Frame::Datagram(datagram) => encode_datagram(datagram, last, out),
+            Frame::ImmediateAck => write::numbers(out, &[0x1f]),
+            Frame::HandshakeDone => write::numbers(out, &[0x1e]),
             _ => encode_numbers(self, out),
         }
     }
@@ -66,6 +78,8 @@ impl Frame<'_> {
             Frame::Padding => write::numbers_len(&[0x00]),
             Frame::Ping => write::numbers_len(&[0x01]),
             Frame::Ack(ack) => ack_len(ack),
+            Frame::ResetStream(reset) => write::numbers_len(&reset.numbers()),
+            Frame::StopSending(stop) => write::numbers_len(&stop.numbers()),
             Frame::Crypto(Crypto { offset, bytes }) => {
                 write::numbers_and_bytes_len(&[0x06, *offset, bytes.len() as u64], bytes)
             }
@@ -76,18 +90,28 @@ impl Frame<'_> {
                 write::numbers_len(&[0x11, u64::from(*id), *offset])
             }
             Frame::MaxStreams { dir, count } => write::numbers_len(&[0x12 + bit_of(*dir), *count]),
+            Frame::DataBlocked { offset } => write::numbers_len(&[0x14, *offset]),
+            Frame::StreamDataBlocked { id, offset } => {
+                write::numbers_len(&[0x15, u64::from(*id), *offset])
+            }
+            Frame::StreamsBlocked { dir, limit } => {
+                write::numbers_len(&[0x16 + bit_of(*dir), *limit])
+            }
             Frame::NewConnectionId(new) => new_id_len(new),
+            Frame::RetireConnectionId { sequence } => write::numbers_len(&[0x19, *sequence]),
             Frame::PathChallenge(_) => 1 + 8,
             Frame::PathResponse(_) => 1 + 8,
             Frame::Close(close) => close_len(close),
             Frame::Datagram(datagram) => datagram_len(datagram, last),
+            Frame::ImmediateAck => write::numbers_len(&[0x1f]),
+            Frame::HandshakeDone => write::numbers_len(&[0x1e]),
             _ => numbers_len(self),
         }
     }
 }
 
 // A frame that has only numbers.
-#[inline(never)]
+#[inline(always)]
 fn encode_numbers<B: BufMut>(frame: &Frame<'_>, out: &mut B) -> Result<(), NoRoom>
     requires kind { IsWrittenAsNumbers frame.now }
     requires in_range { InRange frame.now }
@@ -99,7 +123,7 @@ fn encode_numbers<B: BufMut>(frame: &Frame<'_>, out: &mut B) -> Result<(), NoRoo
 }
 
 // How many bytes `encode_numbers` appends.
-#[inline(never)]
+#[inline(always)]
 fn numbers_len(frame: &Frame<'_>) -> u128
     requires kind { IsWrittenAsNumbers frame.now }
     requires in_range { InRange frame.now }

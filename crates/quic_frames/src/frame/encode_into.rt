@@ -28,6 +28,8 @@ impl Frame<'_> {
             Frame::Padding => write_into::numbers(dest, &[0x00]),
             Frame::Ping => write_into::numbers(dest, &[0x01]),
             Frame::Ack(ack) => write_into::ack(dest, ack),
+            Frame::ResetStream(reset) => write_into::numbers(dest, &reset.numbers()),
+            Frame::StopSending(stop) => write_into::numbers(dest, &stop.numbers()),
             Frame::Crypto(c) => {
                 let numbers = [0x06, c.offset, c.bytes.len() as u64];
                 write_into::numbers_and_bytes(dest, &numbers, c.bytes)
@@ -43,18 +45,28 @@ impl Frame<'_> {
             Frame::MaxStreams { dir, count } => {
                 write_into::numbers(dest, &[0x12 + bit_of(*dir), *count])
             }
+            Frame::DataBlocked { offset } => write_into::numbers(dest, &[0x14, *offset]),
+            Frame::StreamDataBlocked { id, offset } => {
+                write_into::numbers(dest, &[0x15, u64::from(*id), *offset])
+            }
+            Frame::StreamsBlocked { dir, limit } => {
+                write_into::numbers(dest, &[0x16 + bit_of(*dir), *limit])
+            }
             Frame::NewConnectionId(new) => put_new_id(new, dest),
+            Frame::RetireConnectionId { sequence } => write_into::numbers(dest, &[0x19, *sequence]),
             Frame::PathChallenge(n) => put_path(0x1a, *n, dest),
             Frame::PathResponse(n) => put_path(0x1b, *n, dest),
             Frame::Close(close) => put_close(close, dest),
             Frame::Datagram(datagram) => put_datagram(datagram, last, dest),
+            Frame::ImmediateAck => write_into::numbers(dest, &[0x1f]),
+            Frame::HandshakeDone => write_into::numbers(dest, &[0x1e]),
             _ => put_numbers(self, dest),
         }
     }
 }
 
 // A frame that has only numbers.
-#[inline(never)]
+#[inline(always)]
 fn put_numbers(frame: &Frame<'_>, dest: &mut [u8]) -> Result<usize, usize>
     requires kind { IsWrittenAsNumbers frame.now }
     requires in_range { InRange frame.now }

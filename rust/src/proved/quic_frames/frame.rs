@@ -22,7 +22,7 @@ mod size_bound;
 
 pub use checked::{Checked, first_error};
 pub use iter::Iter;
-use numbers::{bit_of, padded};
+use numbers::padded;
 pub use crate::proved::quic_errors::frame_type::FrameType;
 pub use crate::proved::quic_errors::invalid_frame::InvalidFrame;
 pub use crate::proved::quic_frame_fields::frame::{
@@ -162,14 +162,6 @@ impl Frame<'_> {
         // ensures typed { IsTypedFrame self.now }
     {
         match self {
-            Frame::ResetStream(reset) => padded(&reset.numbers()),
-            Frame::StopSending(stop) => padded(&stop.numbers()),
-            Frame::DataBlocked { offset } => padded(&[0x14, *offset]),
-            Frame::StreamDataBlocked { id, offset } => padded(&[0x15, u64::from(*id), *offset]),
-            Frame::StreamsBlocked { dir, limit } => padded(&[0x16 + bit_of(*dir), *limit]),
-            Frame::RetireConnectionId { sequence } => padded(&[0x19, *sequence]),
-            Frame::HandshakeDone => padded(&[0x1e]),
-            Frame::ImmediateAck => padded(&[0x1f]),
             Frame::AckFrequency(frequency) => padded(&frequency.numbers()),
             _ => padded(&[]),
         }

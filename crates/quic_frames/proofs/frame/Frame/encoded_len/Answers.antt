@@ -1,6 +1,6 @@
 use Rattle.std.proofs.Common.{sym}
 use Rattle.quic_frame_fields.specs.Shortest.{shortest_frame}
-use Rattle.quic_frames.proofs.Encoding.{max_streams_parts, challenge_length, response_length}
+use Rattle.quic_frames.proofs.Encoding.{max_streams_parts, streams_blocked_parts, challenge_length, response_length}
 use Rattle.quic_frames.proofs.frame.Frame.encoded_len.Goals as goal
 
 pub returns-in-Ack : goal.returns-in-Ack
@@ -26,6 +26,16 @@ pub returns-in-Ping : goal.returns-in-Ping
 unfolding shortest_frame
 returns-in-Ping c = rw c.in-Ping.is c.numbers_len-in-Ping.ensures.value
 
+pub returns-in-ResetStream : goal.returns-in-ResetStream
+unfolding shortest_frame
+returns-in-ResetStream c =
+    rw c.in-ResetStream.is (rw c.numbers.ensures.numbers at c.numbers_len-in-ResetStream.ensures.value)
+
+pub returns-in-StopSending : goal.returns-in-StopSending
+unfolding shortest_frame
+returns-in-StopSending c =
+    rw c.in-StopSending.is (rw c.numbers-in-StopSending.ensures.numbers at c.numbers_len-in-StopSending.ensures.value)
+
 pub returns-in-Stream : goal.returns-in-Stream
 returns-in-Stream c = rw c.in-Stream.is c.stream_len.ensures
 
@@ -44,6 +54,32 @@ unfolding shortest_frame
 returns-in-MaxStreamData c =
     rw c.in-MaxStreamData.is (rw c.from.ensures.0 at c.numbers_len-in-MaxStreamData.ensures.value)
 
+pub returns-in-DataBlocked : goal.returns-in-DataBlocked
+unfolding shortest_frame
+returns-in-DataBlocked c = rw c.in-DataBlocked.is c.numbers_len-in-DataBlocked.ensures.value
+
+pub returns-in-StreamDataBlocked : goal.returns-in-StreamDataBlocked
+unfolding shortest_frame
+returns-in-StreamDataBlocked c =
+    rw c.in-StreamDataBlocked.is (rw c.from-in-StreamDataBlocked.ensures.0 at c.numbers_len-in-StreamDataBlocked.ensures.value)
+
+pub returns-in-RetireConnectionId : goal.returns-in-RetireConnectionId
+unfolding shortest_frame
+returns-in-RetireConnectionId c = rw c.in-RetireConnectionId.is c.numbers_len-in-RetireConnectionId.ensures.value
+
+pub returns-in-ImmediateAck : goal.returns-in-ImmediateAck
+unfolding shortest_frame
+returns-in-ImmediateAck c = rw c.in-ImmediateAck.is c.numbers_len-in-ImmediateAck.ensures.value
+
+pub returns-in-HandshakeDone : goal.returns-in-HandshakeDone
+unfolding shortest_frame
+returns-in-HandshakeDone c = rw c.in-HandshakeDone.is c.numbers_len-in-HandshakeDone.ensures.value
+
 pub returns-in-MaxStreams : goal.returns-in-MaxStreams
 returns-in-MaxStreams c =
     rw (c.in-MaxStreams.is, max_streams_parts) (rw c.bit_of.ensures at c.numbers_len-in-MaxStreams.ensures.value)
+
+pub returns-in-StreamsBlocked : goal.returns-in-StreamsBlocked
+returns-in-StreamsBlocked c =
+    rw (c.in-StreamsBlocked.is, streams_blocked_parts) (rw c.bit_of-in-StreamsBlocked.ensures at
+    c.numbers_len-in-StreamsBlocked.ensures.value)

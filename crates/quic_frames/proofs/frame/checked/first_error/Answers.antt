@@ -1,5 +1,4 @@
-use Rattle.std.proofs.Common.{[], ◌∷◌, ◌++◌, Option, None, Some, ap, subst, ◌∙◌}
-use Rattle.quic_frame_fields.specs.Reading.{Invalid}
+use Rattle.std.proofs.Common.{[], ◌∷◌, ◌++◌, None, Some, ap, subst, ◌∙◌}
 use Rattle.quic_frames.specs.Checking.{AdvancesBy}
 use Rattle.quic_frames.specs.Rules.{Checked}
 use Rattle.quic_frames.specs.Walk.{invalid_of}

@@ -11,7 +11,7 @@ ghost use Rattle.quic_c.specs.declared.words.CFrame.{CFrame};
 
 use crate::words::CFrame;
 use quic_base::varint::{split_var, var_size};
-use quic_frames::frame::Rules;
+use quic_frames::frame::{Rules, is_known_type};
 use quic_results::results::Failure;
 
 // The greatest offset of data.
@@ -59,8 +59,11 @@ fn kind_of(ty: u64) -> Result<u16, Failure>
         0x06 => Ok(0x06),
         0x08..=0x0f => Ok(0x08),
         0x30 | 0x31 => Ok(0x30),
-        0x00..=0x1f | 0xaf => Err(Failure::Kind),
-        _ => Err(Failure::FrameType),
+        _ => Err(if is_known_type(ty) {
+            Failure::Kind
+        } else {
+            Failure::FrameType
+        }),
     }
 }
 

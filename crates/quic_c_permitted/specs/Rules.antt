@@ -41,9 +41,13 @@ spec_bits name = 0
 abbrev pub is_kind : ℕ → Bool
 is_kind t = not (t == 0x03 || nat_lt 0x08 t && nat_lt t 0x10 || t == 0x31)
 
+abbrev pub spec_of : Option Row → ℕ
+spec_of None = 0
+spec_of (Some r) = spec_bits r.name
+
 abbrev pub row_bits : Option Row → ℕ
 row_bits None = 0
-row_bits (Some r) = pkts (permission_of r.name).packets + spec_bits r.name
+row_bits (Some r) = pkts (permission_of r.name).packets + spec_of (Some r)
 
 -- the row of a kind; 0 of what is no kind
 abbrev pub rules_of : ℕ → ℕ

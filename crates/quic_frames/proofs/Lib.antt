@@ -4,9 +4,9 @@ pub mod Readings
 pub mod Checks
 mod Later
 mod Reasons
-mod Finding
+pub mod Finding
 mod Placing
-mod Places
+pub mod Places
 mod Padding
 pub mod Turns
 pub mod Checking
@@ -18,3 +18,4 @@ mod LeastPayloads
 mod ReadBack
 mod InRange
 mod Encoding
+pub mod Quick

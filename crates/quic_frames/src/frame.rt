@@ -29,6 +29,7 @@ pub use quic_frame_fields::frame::{
     Datagram, EcnCounts, NewConnectionId, NewToken, ResetStream, StopSending, Stream, StreamMeta,
     StreamMetaVec, split_first_range,
 };
+pub use reading::is_known_type;
 pub use rules::{Breach, Rules};
 pub use size_bound::{FrameStruct, RETIRE_CONNECTION_ID_SIZE_BOUND};
 

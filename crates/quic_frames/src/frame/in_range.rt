@@ -30,17 +30,7 @@ impl Frame<'_> {
             Frame::Close(Close::Connection(close)) => is_varint(close.reason.len() as u64)
                 && close.frame_type != Some(FrameType::PADDING),
             Frame::Close(Close::Application(close)) => is_varint(close.reason.len() as u64),
-            Frame::Padding
-            | Frame::Ping
-            | Frame::ResetStream(_)
-            | Frame::StopSending(_)
-            | Frame::MaxData(_)
-            | Frame::PathChallenge(_)
-            | Frame::PathResponse(_)
-            | Frame::Datagram(_)
-            | Frame::AckFrequency(_)
-            | Frame::ImmediateAck
-            | Frame::HandshakeDone => true,
+            _ => true,
         }
     }
 }

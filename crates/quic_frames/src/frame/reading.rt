@@ -1,5 +1,5 @@
 //! The fields of each type of frame.
-ghost use Rattle.std.specs.Prelude.{◌≡◌, ◌≤◌, Bool, IfOk, length, if◌then◌else◌};
+ghost use Rattle.std.specs.Prelude.{◌≡◌, ◌≢◌, ◌≤◌, ◌↔◌, Bool, None, IfOk, IsTrue, length, if◌then◌else◌};
 ghost use Rattle.quic_frame_fields.specs.Table as table;
 ghost use Rattle.quic_frames.specs.Found.{GivesFrame};
 ghost use Rattle.quic_frames.specs.InRange.{HasNoTypeZero};
@@ -340,4 +340,11 @@ pub(super) fn read_frame(ty: u64, bytes: &[u8]) -> Result<(Frame<'_>, &[u8]), Fa
         0xaf => read_ack_frequency(bytes),
         _ => Err(Fault::InvalidFrameId),
     }
+}
+
+/// Whether a type is one of RFC 9000 (section 19), of DATAGRAM (RFC 9221) or of the ACK frequency extension.
+pub fn is_known_type(ty: u64) -> bool
+    ensures { IsTrue result ↔ (table.row_of ty ≢ None) }
+{
+    matches!(ty, 0x00..=0x1f | 0x30 | 0x31 | 0xaf)
 }

@@ -26,39 +26,6 @@ returns-in-NewConnectionId c = grind (arith, common_steps)
 pub returns-in-NewToken : goal.returns-in-NewToken
 returns-in-NewToken c = grind (arith, common_steps)
 
-pub returns-in-Padding : goal.returns-in-Padding
-returns-in-Padding c = grind (arith, common_steps)
-
-pub returns-in-Padding-10 : goal.returns-in-Padding-10
-returns-in-Padding-10 c = grind (arith, common_steps)
-
-pub returns-in-Padding-11 : goal.returns-in-Padding-11
-returns-in-Padding-11 c = grind (arith, common_steps)
-
-pub returns-in-Padding-2 : goal.returns-in-Padding-2
-returns-in-Padding-2 c = grind (arith, common_steps)
-
-pub returns-in-Padding-3 : goal.returns-in-Padding-3
-returns-in-Padding-3 c = grind (arith, common_steps)
-
-pub returns-in-Padding-4 : goal.returns-in-Padding-4
-returns-in-Padding-4 c = grind (arith, common_steps)
-
-pub returns-in-Padding-5 : goal.returns-in-Padding-5
-returns-in-Padding-5 c = grind (arith, common_steps)
-
-pub returns-in-Padding-6 : goal.returns-in-Padding-6
-returns-in-Padding-6 c = grind (arith, common_steps)
-
-pub returns-in-Padding-7 : goal.returns-in-Padding-7
-returns-in-Padding-7 c = grind (arith, common_steps)
-
-pub returns-in-Padding-8 : goal.returns-in-Padding-8
-returns-in-Padding-8 c = grind (arith, common_steps)
-
-pub returns-in-Padding-9 : goal.returns-in-Padding-9
-returns-in-Padding-9 c = grind (arith, common_steps)
-
 pub returns-in-RetireConnectionId : goal.returns-in-RetireConnectionId
 returns-in-RetireConnectionId c = grind (arith, common_steps)
 

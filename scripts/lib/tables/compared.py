@@ -23,21 +23,21 @@ def differences(what, found, wanted):
 
 
 def rules(formats):
-    """What the proved code for C says of each kind of frame: the letters of table 3, and the packets as their bits."""
+    """What the proved code for C says of each kind of frame, the letters of table 3, and its bits for packets."""
     path = "crates/quic_c_permitted/src/rules.rt"
     source, kinds = read(path), packet_kinds()
     bits = {name: int(number, 16) for name, number in re.findall(r"^const (\w+): u32 = (0x\w+);", source, re.M)}
     letters = {"N": "NOT_ELICITING", "C": "NOT_COUNTED", "P": "PROBING", "F": "FLOW_CONTROLLED"}
-    found, wanted = {}, {}
-    for numbers, words in re.findall(r"^        (0x[^_]*?) => ([A-Z0-9_ +]+),$", source, re.M):
-        for first, last in re.findall(r"(0x\w+)(?:\.\.=(0x\w+))?", numbers):
-            for kind in range(int(first, 16), int(last or first, 16) + 1):
-                found[kind] = sum(bits[word] for word in words.split(" + "))
-    for frame in formats["frames"]:
-        if frame["type"] in enumeration("frame_kind", "FRAME").values():
-            wanted[frame["type"]] = sum(bits[letters[letter]] for letter in frame["spec"]) + sum(
-                1 << kinds[packet] for packet in frame["packets"])
-    yield from differences(path, found, wanted)
+    found = {}
+    for numbers, words in re.findall(r"^        (0x[^_]*?) => ([A-Z_ +]+),$", source, re.M):
+        found |= {int(kind, 16): sum(bits[word] for word in words.split(" + ")) for kind in numbers.split(" | ")}
+    wanted = {frame["type"]: sum(bits[letters[letter]] for letter in frame["spec"]) for frame in formats["frames"]}
+    of_kinds = {kind: wanted[kind] for kind in enumeration("frame_kind", "FRAME").values()}
+    yield from differences(path, found, {kind: spec for kind, spec in of_kinds.items() if spec})
+    columns = {sum(1 << kinds[packet] for packet in frame["packets"]) for frame in formats["frames"]}
+    in_code = {int(number, 16) for number in re.findall(r"^        Packets::\w+ => (0x\w+),$", source, re.M)}
+    if columns != in_code:
+        yield f"{path}: the packets are {sorted(in_code)} and not {sorted(columns)}"
 
 
 def c_structs(branch=1):

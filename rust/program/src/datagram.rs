@@ -1,6 +1,7 @@
 //! The packets of datagrams.
 use crate::args::{Datagrams, Reading};
 use crate::fault::{self, FIXED_BIT};
+use crate::formats::HEADERS;
 use crate::link::{self, Packet};
 use crate::output::{Field, Output, Value};
 use Value::{Flag, Number, Version, Versions};
@@ -119,27 +120,44 @@ fn reported<'a>(error: &HeaderError, rest: &'a [u8], begin: usize) -> Vec<Field<
     }
 }
 
-fn fields<'a>(places: &HeaderPlaces, packet: &'a [u8], begin: usize) -> (&'static str, Vec<Field<'a>>) {
-    let at = |offset: usize| Number((begin + offset) as u64);
-    let (dst, src) = (("dst", Value::bytes(places.dst_cid(packet))), ("src", Value::bytes(places.src_cid(packet))));
-    let version = ("version", Version(places.version()));
-    let (len, number_at) = (("len", Number(places.len_field())), ("number_at", at(places.header_end())));
-    let rest = &packet[places.header_end()..];
-    match places.kind() {
-        HeaderKind::Initial => {
-            let (token_at, token) = (at(places.token_pos().start), Value::bytes(places.token(packet)));
-            ("initial", vec![dst, src, version, ("token_at", token_at), ("token", token), len, number_at])
-        }
-        HeaderKind::Handshake => ("handshake", vec![dst, src, version, len, number_at]),
-        HeaderKind::ZeroRtt => ("0rtt", vec![dst, src, version, len, number_at]),
-        HeaderKind::Retry => {
-            let more = match places.retry(packet) {
-                Some((token, tag)) => vec![("token", Value::bytes(token)), ("tag", Value::few(*tag))],
-                None => vec![("rest", Value::bytes(rest))],
-            };
-            ("retry", [&[dst, src, version], &more[..]].concat())
-        }
-        HeaderKind::Short => ("short", vec![dst, ("spin", Flag(places.spin())), number_at]),
-        HeaderKind::VersionNegotiate => ("version-negotiation", vec![dst, src, ("versions", Versions(rest))]),
+// What a kind of packet is called here and by the RFC.
+fn names(kind: HeaderKind) -> (&'static str, &'static str) {
+    match kind {
+        HeaderKind::Initial => ("initial", "Initial"),
+        HeaderKind::ZeroRtt => ("0rtt", "0-RTT"),
+        HeaderKind::Handshake => ("handshake", "Handshake"),
+        HeaderKind::Retry => ("retry", "Retry"),
+        HeaderKind::Short => ("short", "1-RTT"),
+        HeaderKind::VersionNegotiate => ("version-negotiation", "Version Negotiation"),
     }
+}
+
+fn fields<'a>(places: &HeaderPlaces, packet: &'a [u8], begin: usize) -> (&'static str, Vec<Field<'a>>) {
+    let (name, of_rfc) = names(places.kind());
+    let shown = HEADERS.iter().find(|row| row.name == of_rfc).map_or(&[][..], |row| row.shown);
+    let value = |&name: &&'static str| Some((name, value(name, places, packet, begin)?));
+    let mut fields: Vec<_> = shown.iter().filter_map(value).collect();
+    if places.kind() == HeaderKind::Retry && places.retry(packet).is_none() {
+        fields.push(("rest", Value::bytes(&packet[places.header_end()..])));
+    }
+    (name, fields)
+}
+
+// What a header has under a name, if it has that: a Retry that isn't whole has no token and no tag.
+fn value<'a>(name: &str, places: &HeaderPlaces, packet: &'a [u8], begin: usize) -> Option<Value<'a>> {
+    let at = |offset: usize| Number((begin + offset) as u64);
+    Some(match name {
+        "dst" => Value::bytes(places.dst_cid(packet)),
+        "src" => Value::bytes(places.src_cid(packet)),
+        "version" => Version(places.version()),
+        "versions" => Versions(&packet[places.header_end()..]),
+        "spin" => Flag(places.spin()),
+        "token_at" => at(places.token_pos().start),
+        "token" if places.kind() == HeaderKind::Retry => Value::bytes(places.retry(packet)?.0),
+        "token" => Value::bytes(places.token(packet)),
+        "tag" => Value::few(*places.retry(packet)?.1),
+        "len" => Number(places.len_field()),
+        "number_at" => at(places.header_end()),
+        _ => return None,
+    })
 }

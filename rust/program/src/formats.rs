@@ -68,6 +68,8 @@ pub struct Header {
     pub fields: &'static [Field],
     /// The names of what follows the header.
     pub after: &'static [&'static str],
+    /// What is shown of it, under these names, in this order.
+    pub shown: &'static [&'static str],
 }
 
 /// A transport parameter.
@@ -345,7 +347,7 @@ pub const HEADERS: &[Header] = &[
     Header {
         version: 0x0, type_bits: 0, name: "1-RTT", section: "RFC 9000, section 17.3.1",
         fields: &[plain("First Byte"), plain("Destination Connection ID")],
-        after: &["Packet Number", "Packet Payload"],
+        after: &["Packet Number", "Packet Payload"], shown: &["dst", "spin", "number_at"],
     },
     Header {
         version: 0x0, type_bits: 0, name: "Version Negotiation", section: "RFC 9000, section 17.2.1",
@@ -354,7 +356,7 @@ pub const HEADERS: &[Header] = &[
             with("Destination Connection ID", &["Destination Connection ID Length"]),
             with("Source Connection ID", &["Source Connection ID Length"]),
         ],
-        after: &["Supported Version"],
+        after: &["Supported Version"], shown: &["dst", "src", "versions"],
     },
     Header {
         version: 0x1, type_bits: 0, name: "Initial", section: "RFC 9000, section 17.2.2",
@@ -365,6 +367,7 @@ pub const HEADERS: &[Header] = &[
             plain("Token"), plain("Length"),
         ],
         after: &["Packet Number", "Packet Payload"],
+        shown: &["dst", "src", "version", "token_at", "token", "len", "number_at"],
     },
     Header {
         version: 0x1, type_bits: 1, name: "0-RTT", section: "RFC 9000, section 17.2.3",
@@ -373,7 +376,7 @@ pub const HEADERS: &[Header] = &[
             with("Destination Connection ID", &["Destination Connection ID Length"]),
             with("Source Connection ID", &["Source Connection ID Length"]), plain("Version"), plain("Length"),
         ],
-        after: &["Packet Number", "Packet Payload"],
+        after: &["Packet Number", "Packet Payload"], shown: &["dst", "src", "version", "len", "number_at"],
     },
     Header {
         version: 0x1, type_bits: 2, name: "Handshake", section: "RFC 9000, section 17.2.4",
@@ -382,7 +385,7 @@ pub const HEADERS: &[Header] = &[
             with("Destination Connection ID", &["Destination Connection ID Length"]),
             with("Source Connection ID", &["Source Connection ID Length"]), plain("Version"), plain("Length"),
         ],
-        after: &["Packet Number", "Packet Payload"],
+        after: &["Packet Number", "Packet Payload"], shown: &["dst", "src", "version", "len", "number_at"],
     },
     Header {
         version: 0x1, type_bits: 3, name: "Retry", section: "RFC 9000, section 17.2.5",
@@ -391,7 +394,7 @@ pub const HEADERS: &[Header] = &[
             with("Destination Connection ID", &["Destination Connection ID Length"]),
             with("Source Connection ID", &["Source Connection ID Length"]), plain("Version"),
         ],
-        after: &["Retry Token", "Retry Integrity Tag"],
+        after: &["Retry Token", "Retry Integrity Tag"], shown: &["dst", "src", "version", "token", "tag"],
     },
     Header {
         version: 0x6b3343cf, type_bits: 1, name: "Initial", section: "RFC 9000, section 17.2.2",
@@ -402,6 +405,7 @@ pub const HEADERS: &[Header] = &[
             plain("Token"), plain("Length"),
         ],
         after: &["Packet Number", "Packet Payload"],
+        shown: &["dst", "src", "version", "token_at", "token", "len", "number_at"],
     },
     Header {
         version: 0x6b3343cf, type_bits: 2, name: "0-RTT", section: "RFC 9000, section 17.2.3",
@@ -410,7 +414,7 @@ pub const HEADERS: &[Header] = &[
             with("Destination Connection ID", &["Destination Connection ID Length"]),
             with("Source Connection ID", &["Source Connection ID Length"]), plain("Version"), plain("Length"),
         ],
-        after: &["Packet Number", "Packet Payload"],
+        after: &["Packet Number", "Packet Payload"], shown: &["dst", "src", "version", "len", "number_at"],
     },
     Header {
         version: 0x6b3343cf, type_bits: 3, name: "Handshake", section: "RFC 9000, section 17.2.4",
@@ -419,7 +423,7 @@ pub const HEADERS: &[Header] = &[
             with("Destination Connection ID", &["Destination Connection ID Length"]),
             with("Source Connection ID", &["Source Connection ID Length"]), plain("Version"), plain("Length"),
         ],
-        after: &["Packet Number", "Packet Payload"],
+        after: &["Packet Number", "Packet Payload"], shown: &["dst", "src", "version", "len", "number_at"],
     },
     Header {
         version: 0x6b3343cf, type_bits: 0, name: "Retry", section: "RFC 9000, section 17.2.5",
@@ -428,7 +432,7 @@ pub const HEADERS: &[Header] = &[
             with("Destination Connection ID", &["Destination Connection ID Length"]),
             with("Source Connection ID", &["Source Connection ID Length"]), plain("Version"),
         ],
-        after: &["Retry Token", "Retry Integrity Tag"],
+        after: &["Retry Token", "Retry Integrity Tag"], shown: &["dst", "src", "version", "token", "tag"],
     },
 ];
 

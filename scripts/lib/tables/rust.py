@@ -75,6 +75,8 @@ pub struct Header {{
     pub fields: &'static [Field],
     /// The names of what follows the header.
     pub after: &'static [&'static str],
+    /// What is shown of it, under these names, in this order.
+    pub shown: &'static [&'static str],
 }}
 
 /// A transport parameter.
@@ -155,7 +157,7 @@ def header(version, _, one):
         **rows({
             "version": hex(version), "type_bits": one.get("type_bits", 0), "name": text(one["name"]),
             "section": text(one["section"])}, one["fields"]),
-        "after": text([part["name"] for part in one["after"]])})
+        "after": text([part["name"] for part in one["after"]]), "shown": text([*shown.of_header(one)])})
 
 
 def parameter(one):

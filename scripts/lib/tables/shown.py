@@ -1,4 +1,4 @@
-"""How programs show the fields of frames and parameters: under quinn-proto's names, and as what."""
+"""How programs show the fields of frames, headers and parameters: under quinn-proto's names, and as what."""
 # The names of frames' fields, by the RFC's; where two frames differ, by the frame's name too.
 NAMES = {
     "largest_acknowledged": "largest", "ack_delay": "delay", "ack_ranges": "ranges", "ect0_count": "ect0",
@@ -18,6 +18,13 @@ OTHERS = {
     "error code": "Code", "frame type, 0 if unknown": "Type", "UTF-8": "Text", "FIN": "Flag", "Direction": "Direction",
     "Crypto Data": "Data", "Stream Data": "Data", "Datagram Data": "Data",
 }
+# The names of headers' fields, and of what comes after them. Of a number that is protected its place is shown, of a
+# token both.
+OF_HEADERS = {
+    "destination_connection_id": ["dst"], "source_connection_id": ["src"], "supported": ["version"],
+    "token": ["token_at", "token"], "length": ["len"], "spin_bit": ["spin"], "packet_number": ["number_at"],
+    "retry_token": ["token"], "retry_integrity_tag": ["tag"], "supported_version": ["versions"],
+}
 
 
 def kind(field):
@@ -30,3 +37,9 @@ def fields(frame):
         if "name" in one:
             key = one["key"]
             yield NAMES.get((frame["name"], key)) or NAMES.get(key, key), kind(one), one["index"]
+
+
+def of_header(header):
+    """What is shown of a header, in this order. The version follows the ids, where it is known to be supported."""
+    for one in [*header["fields"], *header["first_byte"], *header["after"]]:
+        yield from OF_HEADERS.get(one.get("kind"), OF_HEADERS.get(one.get("key"), []))

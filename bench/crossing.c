@@ -2,14 +2,18 @@
 // Prints the number of items in a round, and a number that depends on all of them. WORK is one of
 //   frames: the numbers and the length of each
 //   many-frames: the same with calls that fill 16 entries, where a run of PADDING is one
+//   fronts: the same, each frame at the front of what is left
 //   ranges: also the ranges of each ACK
 //   acks: the same, with calls that fill 16 frames and 16 ranges
+//   gaps: the ranges of the ACKs at the front, as gaps
 //   packets: each line as a datagram, with connection IDs of 8 bytes in short headers
+// All but `packets` with `-rfc` read by QUIC_WIRE_READ_RFC.
 // With a number N in place of FILE, a thousand calls each:
 //   set-push (a run after N others), set-grow (the last of N runs), set-contains (in N runs), set-ack (of N runs), each
 //     minus what set-0 takes
 //   call-NAME, a single call, one of `calls` below, with connection IDs of N bytes or an ACK of N ranges, minus what
 //     call-none takes
+//   read-NAME, write-NAME: a frame, one of `written` below, read or written; if N is 1, by the rules of RFC 9000
 #include "crossing.h"
 
 static u64 packets_of(const uint8_t *datagram, size_t len) {
@@ -91,6 +95,20 @@ static u64 retry(u64 turn) { return header_of(QUIC_WIRE_PACKET_RETRY, turn); }
 static u64 one_rtt(u64 turn) { return header_of(QUIC_WIRE_PACKET_1RTT, turn); }
 static u64 negotiation(u64 turn) { return header_of(QUIC_WIRE_PACKET_VERSION_NEGOTIATION, turn); }
 
+static u64 header_read(u64 turn) {
+    static const uint32_t versions[] = {QUIC_WIRE_VERSION_1, QUIC_WIRE_VERSION_2};
+    quic_wire_header head;
+    int64_t end = quic_wire_header_read(source, sizeof source, (uint32_t)id_len, versions, 2, 0, &head);
+    return turn + (u64)end + head.kind + head.header_end + head.tokenlen + head.len;
+}
+
+// A packet of 1,200 bytes that is read, with this header.
+static int packet_with(u64 (*header)(u64)) {
+    u64 begin = header(0);
+    memcpy(source, dest, sizeof source);
+    return quic_wire_set_len(source, 1200, (size_t)begin - 2, 2);
+}
+
 static const struct {
     const char *name;
     u64 (*call)(u64);
@@ -107,6 +125,8 @@ static const struct {
     {"retry", retry},
     {"1rtt", one_rtt},
     {"negotiation", negotiation},
+    {"initial-read", header_read},
+    {"handshake-read", header_read},
 };
 
 // A thousand single calls of this name, with connection IDs of len bytes or an ACK of len ranges.
@@ -128,6 +148,10 @@ static u64 on_calls(const char *name, size_t len) {
         result = quic_wire_ack_gaps_write(&ack, gaps, gaps_len, source, sizeof source, &source_len);
     if (!strcmp(name, "stream-read"))
         result = quic_wire_frame_write(&stream, dest, stream.datalen, 0, source, sizeof source, &source_len);
+    if (!strcmp(name, "initial-read"))
+        result = packet_with(initial);
+    if (!strcmp(name, "handshake-read"))
+        result = packet_with(handshake);
     if (result < 0)
         exit(2);
     for (u64 turn = 0; turn < 1000; turn++) {
@@ -135,6 +159,80 @@ static u64 on_calls(const char *name, size_t len) {
         counted++;
     }
     return sum;
+}
+
+// Frames that are read and written one by one: of each struct of numbers one, with data of ten bytes.
+static const quic_wire_frame written[] = {
+    {.kind = QUIC_WIRE_FRAME_PING},
+    {.kind = QUIC_WIRE_FRAME_RESET_STREAM, .reset_stream = {4, 10, 70000}},
+    {.kind = QUIC_WIRE_FRAME_STOP_SENDING, .stop_sending = {4, 10}},
+    {.kind = QUIC_WIRE_FRAME_CRYPTO, .datalen = 10, .crypto = {.offset = 1200}},
+    {.kind = QUIC_WIRE_FRAME_NEW_TOKEN, .datalen = 10},
+    {.kind = QUIC_WIRE_FRAME_STREAM, .datalen = 10, .stream = {4, 70000}},
+    {.kind = QUIC_WIRE_FRAME_MAX_DATA, .limit = {.limit = 70000}},
+    {.kind = QUIC_WIRE_FRAME_MAX_STREAM_DATA, .limit = {4, 70000}},
+    {.kind = QUIC_WIRE_FRAME_NEW_CONNECTION_ID, .datalen = 8, .new_connection_id = {3, 2}},
+    {.kind = QUIC_WIRE_FRAME_RETIRE_CONNECTION_ID, .retire_connection_id = {3}},
+    {.kind = QUIC_WIRE_FRAME_PATH_CHALLENGE, .path = {1234567890}},
+    {.kind = QUIC_WIRE_FRAME_CONNECTION_CLOSE, .datalen = 10, .close = {.error_code = 10, .frame_type = 6}},
+    {.kind = QUIC_WIRE_FRAME_HANDSHAKE_DONE},
+    {.kind = QUIC_WIRE_FRAME_DATAGRAM, .datalen = 10},
+};
+
+// A thousand calls that read or write the frame of this name.
+static u64 on_frames(const char *name, int reads) {
+    quic_wire_frame frame;
+    size_t len = 0;
+    u64 sum = 0;
+    const quic_wire_frame *wanted = NULL;
+    for (size_t k = 0; k < sizeof written / sizeof *written; k++)
+        wanted = strcmp(name, quic_wire_type_name(written[k].kind)) ? wanted : &written[k];
+    if (!wanted || quic_wire_frame_write(wanted, dest, sizeof dest, 0, source, sizeof source, &len))
+        exit(2);
+    for (u64 turn = 0; turn < 1000; turn++) {
+        if (reads) {
+            int64_t end = quic_wire_frame_read(source, sizeof source, flags, &frame, gaps, MANY);
+            sum += turn + (u64)end + frame.kind + frame.datalen;
+        } else {
+            quic_wire_frame filled = *wanted;
+            filled.numbers[1] += turn & 1;
+            sum += (u64)quic_wire_frame_write(&filled, dest, sizeof dest, flags, source, sizeof source, &len) + len;
+        }
+        counted++;
+    }
+    return sum;
+}
+
+static const struct {
+    const char *name;
+    u64 (*work)(const uint8_t *, size_t);
+} works[] = {
+    {"frames", frames_of}, {"many-frames", many_frames_of}, {"fronts", fronts_of},   {"ranges", ranges_of},
+    {"acks", many_acks_of}, {"gaps", gaps_of},              {"packets", packets_of},
+};
+
+// The work on each payload, whose name may end in -rfc.
+static u64 (*work_of(char *name))(const uint8_t *, size_t) {
+    char *end = strstr(name, "-rfc");
+    if (end) {
+        *end = 0;
+        flags = QUIC_WIRE_READ_RFC;
+    }
+    for (size_t k = 0; k < sizeof works / sizeof *works; k++)
+        if (!strcmp(name, works[k].name))
+            return works[k].work;
+    exit(2);
+}
+
+// What is done with a number in place of a file.
+static u64 on_number(const char *work, size_t number) {
+    if (!strncmp(work, "set-", 4))
+        return on_a_set(work[4], number);
+    if (!strncmp(work, "call-", 5))
+        return on_calls(work + 5, number);
+    int reads = !strncmp(work, "read-", 5);
+    flags = number ? (reads ? QUIC_WIRE_READ_RFC : QUIC_WIRE_WRITE_RFC) : 0;
+    return on_frames(strchr(work, '-') + 1, reads);
 }
 
 int main(int argc, char **argv) {
@@ -145,13 +243,13 @@ int main(int argc, char **argv) {
     u64 sum = 0;
     if (argc != 4)
         return 2;
-    if (!strncmp(argv[1], "set-", 4) || !strncmp(argv[1], "call-", 5)) {
-        size_t len = strtoul(argv[3], NULL, 10);
-        if (len > 1024)
+    if (strspn(argv[3], "0123456789") == strlen(argv[3])) {
+        size_t number = strtoul(argv[3], NULL, 10);
+        if (number > 1024 || !strchr(argv[1], '-'))
             return 2;
         for (int r = 0; r < atoi(argv[2]); r++) {
             counted = 0;
-            sum += argv[1][0] == 's' ? on_a_set(argv[1][4], len) : on_calls(argv[1] + 5, len);
+            sum += on_number(argv[1], number);
         }
         printf("%lu items, %lu\n", (unsigned long)counted, (unsigned long)sum);
         return 0;
@@ -171,11 +269,7 @@ int main(int argc, char **argv) {
         lens[count++] = len;
     }
     fclose(file);
-    u64 (*work)(const uint8_t *, size_t) = argv[1][0] == 'p'   ? packets_of
-                                           : argv[1][0] == 'm' ? many_frames_of
-                                           : argv[1][0] == 'a' ? many_acks_of
-                                           : argv[1][0] == 'r' ? ranges_of
-                                                               : frames_of;
+    u64 (*work)(const uint8_t *, size_t) = work_of(argv[1]);
     int rounds = atoi(argv[2]);
     for (int r = 0; r < rounds; r++) {
         counted = 0;

@@ -51,11 +51,14 @@ static inline __attribute__((always_inline)) u64 sum_of(const quic_wire_frame *f
     }
 }
 
+// The flags by which frames are read.
+static uint32_t flags;
+
 static u64 frames_of(const uint8_t *payload, size_t len) {
     quic_wire_frame_iter frames;
     quic_wire_frame frame;
     u64 sum = 0;
-    if (quic_wire_frames_init(&frames, payload, len, 0))
+    if (quic_wire_frames_init(&frames, payload, len, flags))
         return 0;
     while (quic_wire_frames_next(&frames, payload, len, &frame) == QUIC_WIRE_ITEM) {
         sum += sum_of(&frame);
@@ -68,7 +71,7 @@ static u64 ranges_of(const uint8_t *payload, size_t len) {
     quic_wire_frame_iter frames;
     quic_wire_frame frame;
     u64 sum = 0;
-    if (quic_wire_frames_init(&frames, payload, len, 0))
+    if (quic_wire_frames_init(&frames, payload, len, flags))
         return 0;
     while (quic_wire_frames_next(&frames, payload, len, &frame) == QUIC_WIRE_ITEM) {
         quic_wire_range_iter at;
@@ -84,6 +87,42 @@ static u64 ranges_of(const uint8_t *payload, size_t len) {
 }
 
 #define MANY 16
+
+// Each frame at the front of what is left, as stacks read them.
+static inline u64 fronts_of(const uint8_t *payload, size_t len) {
+    quic_wire_frame frame;
+    quic_wire_gap gaps[MANY];
+    u64 sum = 0;
+    while (len != 0) {
+        int64_t end = quic_wire_frame_read(payload, len, flags, &frame, gaps, MANY);
+        if (end <= 0)
+            break;
+        sum += sum_of(&frame);
+        payload += end;
+        len -= (size_t)end;
+        counted++;
+    }
+    return sum;
+}
+
+// The ranges of the ACKs among them, as gaps.
+static inline u64 gaps_of(const uint8_t *payload, size_t len) {
+    quic_wire_frame frame;
+    quic_wire_gap gaps[64];
+    u64 sum = 0;
+    while (len != 0) {
+        int64_t end = quic_wire_frame_read(payload, len, flags, &frame, gaps, 64);
+        if (end <= 0 || frame.kind != QUIC_WIRE_FRAME_ACK)
+            break;
+        sum += frame.ack.largest - frame.first_range;
+        for (size_t k = 0; k < frame.ngaps; k++)
+            sum += gaps[k].gap ^ gaps[k].len;
+        counted += frame.ngaps + 1;
+        payload += end;
+        len -= (size_t)end;
+    }
+    return sum;
+}
 
 static u64 many_ranges_of(const uint8_t *payload, size_t len, const quic_wire_frame *ack) {
     quic_wire_range_iter ranges;
@@ -106,7 +145,7 @@ static u64 many_frames_of(const uint8_t *payload, size_t len) {
     quic_wire_frame filled[MANY];
     size_t count;
     u64 sum = 0;
-    int answer = quic_wire_frames_first(&frames, payload, len, 0, filled, MANY, &count);
+    int answer = quic_wire_frames_first(&frames, payload, len, flags, filled, MANY, &count);
     while (answer == QUIC_WIRE_ITEM) {
         for (size_t k = 0; k < count; k++)
             sum += sum_of(&filled[k]);
@@ -123,7 +162,7 @@ static u64 many_acks_of(const uint8_t *payload, size_t len) {
     quic_wire_frame filled[MANY];
     size_t count;
     u64 sum = 0;
-    if (quic_wire_frames_init(&frames, payload, len, 0))
+    if (quic_wire_frames_init(&frames, payload, len, flags))
         return 0;
     while (frames.offset < len &&
            quic_wire_frames_fill(&frames, payload, len, filled, MANY, &count) == QUIC_WIRE_ITEM)

@@ -24,3 +24,8 @@ mod RangeWalks
 mod ReadingOn
 mod Types
 pub mod FirstFaults
+mod FastReads
+mod FastData
+mod FastCloses
+mod FastAcks
+mod FastCalls

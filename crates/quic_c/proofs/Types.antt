@@ -69,7 +69,7 @@ last_fits old new frame finds t e =
 
 -- ---- a frame's words, with its type
 
-word_back : (t : ℕ) → t < 2 ^ 16 → type_in t ≡ Some t
+pub word_back : (t : ℕ) → t < 2 ^ 16 → type_in t ≡ Some t
 word_back t small = grind (arith, nat_tests)
 
 -- where an iterator is after a frame, by its end and its type

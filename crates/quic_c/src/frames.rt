@@ -8,6 +8,7 @@ ghost use Rattle.quic_c.specs.Shown.{state_of, at_front, has_flag, rules_in, typ
 ghost use Rattle.quic_c.specs.Answers.{AnswersNext};
 ghost use Rattle.quic_results.specs.Results.{failed, frame_failure};
 
+use crate::by_kind::next_by_kind;
 use crate::flags::{breach_by, broken, is_broken, no_rules, reported_by};
 use crate::show::show;
 use crate::words::{CFrame, CFrameIter};
@@ -168,6 +169,17 @@ fn next_checked(frames: &mut CFrameIter, payload: &[u8], out: &mut CFrame) -> i3
     next_on::<2, 3, true>(frames, payload, Rules::of_flags(frames.flags), out)
 }
 
+// Any next frame, also one that breaks a rule, or the reason why there is none.
+#[inline(never)]
+pub(crate) fn next_any(frames: &mut CFrameIter, payload: &[u8], out: &mut CFrame) -> i32
+    ensures { AnswersNext (rules_in frames.old.flags) frames.old payload.now out.old result frames.new out.new }
+{
+    let Some(rules) = no_rules(frames.flags) else {
+        return next_checked(frames, payload, out);
+    };
+    next_on::<0, 1, false>(frames, payload, rules, out)
+}
+
 /// The next frame (RFC 9000, section 19), by the rules of the iterator's flags. It returns 1 with the frame; 0 if none
 /// is left, and nothing changes; the reason, once, with the type, if the next bytes aren't a valid frame or are one
 /// that breaks a rule; `Place` exactly if the place is outside of the payload, and nothing changes.
@@ -179,8 +191,5 @@ pub extern "C" fn quic_wire_frames_next_(
 ) -> i32
     ensures returns { AnswersNext (rules_in frames.old.flags) frames.old payload.now out.old result frames.new out.new }
 {
-    let Some(rules) = no_rules(frames.flags) else {
-        return next_checked(frames, payload, out);
-    };
-    next_on::<0, 1, false>(frames, payload, rules, out)
+    next_by_kind(frames, payload, out)
 }

@@ -8,6 +8,7 @@ ghost use Rattle.quic_c.specs.Shown.{frame_kind_of, frame_words, invalid_words, 
 ghost use Rattle.quic_c.specs.Front.{AnswersRead, FillsGaps, ShowsAck, ShowsFront, moved_by, reported_behind};
 ghost use Rattle.quic_results.specs.Results.{failed, frame_failure};
 
+use crate::by_kind::read_by_kind;
 use crate::flags::{breach_by, broken, is_broken, no_rules, reported_by};
 use crate::frames::{show_invalid, type_read};
 use crate::show::{parts_of, show, split_blocks, with_first};
@@ -52,7 +53,7 @@ fn more_flag(is_whole: bool) -> u32
 
 // The words of an ACK at the front, and as many of the ranges below its first as there are entries.
 #[inline(always)]
-fn show_ack(end: usize, ty: u16, ack: &Ack<'_>, gaps: &mut [CGap]) -> CFrame
+pub(crate) fn show_ack(end: usize, ty: u16, ack: &Ack<'_>, gaps: &mut [CGap]) -> CFrame
     ensures { ShowsAck end ty ack.now gaps.old result gaps.new }
 {
     let (first, below) = split_blocks(ack);
@@ -174,6 +175,20 @@ fn read_other(payload: &[u8], out: &mut CFrame, gaps: &mut [CGap]) -> i64
     }
 }
 
+// Any frame at the front, also one that breaks a rule, or the reason why there is none.
+#[inline(never)]
+pub(crate) fn read_any(payload: &[u8], flags: u32, out: &mut CFrame, gaps: &mut [CGap]) -> i64
+    ensures { AnswersRead (rules_in flags) payload.now out.old gaps.old result out.new gaps.new }
+{
+    let Some(rules) = no_rules(flags) else {
+        return read_checked(payload, flags, out, gaps);
+    };
+    match payload.first() {
+        Some(0x08..=0x0f) => read_front::<2, false>(payload, rules, out, gaps),
+        _ => read_other(payload, out, gaps),
+    }
+}
+
 /// Reads the frame at the front of the rest of a payload (RFC 9000, section 19), by the rules of these flags. It
 /// returns where the frame ends, with its words, whose places count from this front; a run of PADDING, each byte of
 /// which is a frame, is one. The ranges of an ACK below the first are filled into `gaps` as gap and length, as many as
@@ -190,13 +205,7 @@ pub extern "C" fn quic_wire_frame_read_(
 ) -> i64
     ensures answers { AnswersRead (rules_in flags) payload.now out.old gaps.old result out.new gaps.new }
 {
-    let Some(rules) = no_rules(flags) else {
-        return read_checked(payload, flags, out, gaps);
-    };
-    match payload.first() {
-        Some(0x08..=0x0f) => read_front::<2, false>(payload, rules, out, gaps),
-        _ => read_other(payload, out, gaps),
-    }
+    read_by_kind(payload, flags, out, gaps)
 }
 
 /// A payload can be read frame by frame, each at the front of what is left: what an iterator gives from a place on is

@@ -4,8 +4,11 @@
 
 mod ack_gaps;
 mod acks;
+mod by_kind;
 mod codes;
 mod data_headers;
+mod fast;
+mod fast_acks;
 mod faults;
 mod fill;
 mod fill_ranges;

@@ -1,0 +1,12 @@
+use Rattle.std.proofs.Common.{◌-◌, length, sym, subst}
+use Rattle.quic_c.specs.Kinds.{ReadsFrame}
+use Rattle.quic_c.proofs.FastCloses.{transport_close_reads}
+use Rattle.quic_c.proofs.fast.TransportCloseKind.read.Goals as goal
+
+pub returns-clause-answers : goal.returns-clause-answers
+returns-clause-answers c =
+    let h = c.in_ok-ty.ensures.parts in
+    subst (ReadsFrame c.args.payload.now c.args.begin (length c.args.payload.now - length c.in_ok-reason.rest.now)) (sym c.put_data.ensures)
+    (transport_close_reads c.args.payload.now c.args.begin c.in_ok-ty.ty c.in_ok-code.code c.in_ok-frame_type.frame_type _ _ _ c.in_ok-reason.rest.now
+    c.in_ok-reason.reason h (c.requires.begins _ _ h.parts) c.in_ok-code.ensures.read c.in_ok-frame_type.ensures.read
+    c.in_ok-reason.ensures.read)

@@ -1,0 +1,11 @@
+use Rattle.std.proofs.Common.{◌-◌, length, sym, subst}
+use Rattle.quic_c.specs.Kinds.{ReadsFrame}
+use Rattle.quic_c.proofs.FastReads.{two_numbers_reads}
+use Rattle.quic_c.proofs.fast.TwoNumbersKind.read.Goals as goal
+
+pub returns-clause-answers : goal.returns-clause-answers
+returns-clause-answers c =
+    let h = c.in_ok-ty.ensures.parts in
+    subst (ReadsFrame c.args.payload.now c.args.begin (length c.args.payload.now - length c.in_ok-b.rest.now)) (sym c.put.ensures)
+    (two_numbers_reads c.args.payload.now c.args.begin c.in_ok-ty.ty c.in_ok-a.a c.in_ok-b.b _ _ c.in_ok-b.rest.now h (c.requires.begins _ _ h.parts)
+    c.in_ok-a.ensures.read c.in_ok-b.ensures.read)

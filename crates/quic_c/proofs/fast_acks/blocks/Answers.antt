@@ -1,0 +1,15 @@
+use Rattle.std.proofs.Common.{arith}
+use Rattle.quic_c.proofs.FastAcks.{blocks_read, blocks_encoded}
+use Rattle.quic_c.proofs.fast_acks.blocks.Goals as goal
+
+pub returns-clause-read : goal.returns-clause-read
+returns-clause-read c =
+    rw (c.split_at.ensures.front, c.split_at.ensures.back)
+    (blocks_read c.args.greatest c.in_ok-count.count c.in_ok-len.len c.args.bytes.now c.in_ok-count.all.now
+    c.in_ok-len.behind.now c.in_ok-rest.rest.now c.in_ok-count.ensures.read c.in_ok-len.ensures.read (omega arith)
+    c.in_ok-rest.ensures.read)
+
+pub returns-clause-encoded : goal.returns-clause-encoded
+returns-clause-encoded c =
+    blocks_encoded c.args.greatest c.args.bytes.now c.split_at.result.0.now c.split_at.result.1.now c.are_bytes.ensures
+    (returns-clause-read c)

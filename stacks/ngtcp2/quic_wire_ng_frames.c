@@ -1,8 +1,10 @@
-/* ngtcp2's readers and writers of frames, with quic_wire.h. */
+/* ngtcp2's readers and writers of frames, with quic_wire.h and
+ * quic_wire_near.h. */
 #include <string.h>
 
 #include "ngtcp2_cid.h"
 #include "ngtcp2_str.h"
+#include "quic_wire_near.h"
 #include "quic_wire_ng.h"
 
 /* ---- Read */
@@ -27,6 +29,18 @@ static void data_of(ngtcp2_vec *data, size_t *cnt, const quic_wire_frame *f,
   *cnt = f->datalen != 0;
   data->len = f->datalen;
   data->base = f->datalen ? (uint8_t *)payload + f->data : NULL;
+}
+
+static inline int stream_of(NG_BESIDE(ngtcp2_frame_decoder *room)
+                                ngtcp2_stream *dest,
+                            const quic_wire_frame *f, const uint8_t *payload) {
+  dest->type = NGTCP2_FRAME_STREAM;
+  dest->flags = f->type & 0x7;
+  dest->fin = (uint8_t)f->flags;
+  dest->stream_id = (int64_t)f->stream.stream_id;
+  dest->offset = f->stream.offset;
+  data_of(NG_PLACE(dest->data, &room->buf.data), &dest->datacnt, f, payload);
+  return 0;
 }
 
 static void crypto_of(NG_BESIDE(ngtcp2_frame_decoder *room)
@@ -105,24 +119,16 @@ static int numbers_of(ngtcp2_frame *dest, const quic_wire_frame *f,
   }
 }
 
-/* Frames other than STREAM are read out of line, so that STREAM, which carries
- * most of the bytes, saves no registers for them. */
-#if defined(__GNUC__)
-#define OUT_OF_LINE __attribute__((noinline))
-#else
-#define OUT_OF_LINE
-#endif
-
 /* ngtcp2's form of |f|, read from |payload|. */
-OUT_OF_LINE static int frame_of(NG_BESIDE(ngtcp2_frame_decoder *room)
-                                    ngtcp2_frame *dest,
-                                const quic_wire_frame *f,
-                                const uint8_t *payload) {
+static int frame_of(NG_BESIDE(ngtcp2_frame_decoder *room) ngtcp2_frame *dest,
+                    const quic_wire_frame *f, const uint8_t *payload) {
   dest->ping.type = (uint8_t)f->type; /* where all kinds have it */
   switch (f->kind) {
   case QUIC_WIRE_FRAME_ACK:
     (void)NG_PLACE(dest->ack.ranges, room->buf.ack_ranges);
     return ack_of(&dest->ack, f);
+  case QUIC_WIRE_FRAME_STREAM:
+    return stream_of(NG_BESIDE(room) & dest->stream, f, payload);
   case QUIC_WIRE_FRAME_CRYPTO:
     crypto_of(NG_BESIDE(room)(quic_wire_ng_crypto *) dest, f, payload);
     return 0;
@@ -155,10 +161,20 @@ OUT_OF_LINE static int frame_of(NG_BESIDE(ngtcp2_frame_decoder *room)
   }
 }
 
-ngtcp2_ssize ngtcp2_pkt_decode_frame(NG_BESIDE(ngtcp2_frame_decoder *room)
-                                         ngtcp2_frame *dest,
-                                     const uint8_t *payload,
-                                     size_t payloadlen) {
+/* Frames other than STREAM are read out of line, so that STREAM, which carries
+ * most of the bytes, saves no registers for them. */
+#if defined(__GNUC__)
+#define OUT_OF_LINE __attribute__((noinline))
+#else
+#define OUT_OF_LINE
+#endif
+
+/* Reads the frame at the front, as ngtcp2 has it: a run of PADDING is one frame,
+ * and an ACK's ranges are gaps and lengths, which are written where they
+ * belong. */
+OUT_OF_LINE static ngtcp2_ssize
+decode_any(NG_BESIDE(ngtcp2_frame_decoder *room) ngtcp2_frame *dest,
+           const uint8_t *payload, size_t payloadlen) {
 #if QUIC_WIRE_NG_1_24
   ngtcp2_ack_range *ranges = room->buf.ack_ranges;
 #else
@@ -167,26 +183,27 @@ ngtcp2_ssize ngtcp2_pkt_decode_frame(NG_BESIDE(ngtcp2_frame_decoder *room)
   quic_wire_frame f;
   int rv;
 
-  /* The frame at the front, as ngtcp2 has it: a run of PADDING is one frame,
-   * and an ACK's ranges are gaps and lengths, which are written where they
-   * belong. */
-  if (quic_wire_frame_read(payload, payloadlen, QUIC_WIRE_READ_RFC, &f,
-                           (quic_wire_gap *)ranges,
-                           NGTCP2_MAX_ACK_RANGES) < 0) {
+  if (quic_wire_frame_read_near(payload, payloadlen, QUIC_WIRE_READ_RFC, &f,
+                                (quic_wire_gap *)ranges,
+                                NGTCP2_MAX_ACK_RANGES) < 0) {
     return NGTCP2_ERR_FRAME_ENCODING;
-  }
-  if (f.kind == QUIC_WIRE_FRAME_STREAM) {
-    dest->stream.type = NGTCP2_FRAME_STREAM;
-    dest->stream.flags = f.type & 0x7;
-    dest->stream.fin = (uint8_t)f.flags;
-    dest->stream.stream_id = (int64_t)f.stream.stream_id;
-    dest->stream.offset = f.stream.offset;
-    data_of(NG_PLACE(dest->stream.data, &room->buf.data), &dest->stream.datacnt,
-            &f, payload);
-    return (ngtcp2_ssize)f.end;
   }
   rv = frame_of(NG_BESIDE(room) dest, &f, payload);
   return rv ? rv : (ngtcp2_ssize)f.end;
+}
+
+ngtcp2_ssize ngtcp2_pkt_decode_frame(NG_BESIDE(ngtcp2_frame_decoder *room)
+                                         ngtcp2_frame *dest,
+                                     const uint8_t *payload,
+                                     size_t payloadlen) {
+  quic_wire_frame f;
+  size_t end = quic_wire_stream_read(payload, payloadlen, &f);
+
+  if (!end) {
+    return decode_any(NG_BESIDE(room) dest, payload, payloadlen);
+  }
+  stream_of(NG_BESIDE(room) & dest->stream, &f, payload);
+  return (ngtcp2_ssize)end;
 }
 
 /* The readers of one kind each, which ngtcp2's tests call. A decoder is a union
@@ -246,38 +263,68 @@ static ngtcp2_ssize put(uint8_t *out, size_t outlen, uint16_t kind, uint64_t a,
   return written(rv, n);
 }
 
-#define WRITER(NAME, KIND, A, B, C)                                            \
+/* A frame of numbers: |NEAR| writes it, which returns 0 if there is no room for
+ * it or a number is too large. */
+#define WRITER(NAME, NEAR, KIND, A, B, C)                                      \
   ngtcp2_ssize ngtcp2_pkt_encode_##NAME##_frame(uint8_t *out, size_t outlen,   \
                                                 const ngtcp2_##NAME *fr) {     \
+    size_t n = NEAR;                                                           \
     (void)fr;                                                                  \
-    return put(out, outlen, KIND, A, B, C, NULL, 0, 0);                        \
+    return n ? (ngtcp2_ssize)n                                                 \
+             : put(out, outlen, KIND, A, B, C, NULL, 0, 0);                    \
   }
-WRITER(ping, QUIC_WIRE_FRAME_PING, 0, 0, 0)
-WRITER(handshake_done, QUIC_WIRE_FRAME_HANDSHAKE_DONE, 0, 0, 0)
-WRITER(reset_stream, QUIC_WIRE_FRAME_RESET_STREAM, (uint64_t)fr->stream_id,
+WRITER(ping, quic_wire_ping_write(out, outlen), QUIC_WIRE_FRAME_PING, 0, 0, 0)
+WRITER(handshake_done, quic_wire_handshake_done_write(out, outlen),
+       QUIC_WIRE_FRAME_HANDSHAKE_DONE, 0, 0, 0)
+WRITER(reset_stream,
+       quic_wire_reset_stream_write((uint64_t)fr->stream_id, fr->app_error_code,
+                                    fr->final_size, out, outlen),
+       QUIC_WIRE_FRAME_RESET_STREAM, (uint64_t)fr->stream_id,
        fr->app_error_code, fr->final_size)
-WRITER(stop_sending, QUIC_WIRE_FRAME_STOP_SENDING, (uint64_t)fr->stream_id,
+WRITER(stop_sending,
+       quic_wire_stop_sending_write((uint64_t)fr->stream_id, fr->app_error_code,
+                                    out, outlen),
+       QUIC_WIRE_FRAME_STOP_SENDING, (uint64_t)fr->stream_id,
        fr->app_error_code, 0)
-WRITER(max_data, QUIC_WIRE_FRAME_MAX_DATA, 0, fr->max_data, 0)
-WRITER(max_stream_data, QUIC_WIRE_FRAME_MAX_STREAM_DATA,
-       (uint64_t)fr->stream_id, fr->max_stream_data, 0)
-WRITER(max_streams, (uint16_t)fr->type, 0, fr->max_streams, 0)
-WRITER(data_blocked, QUIC_WIRE_FRAME_DATA_BLOCKED, 0, fr->offset, 0)
-WRITER(stream_data_blocked, QUIC_WIRE_FRAME_STREAM_DATA_BLOCKED,
-       (uint64_t)fr->stream_id, fr->offset, 0)
-WRITER(streams_blocked, (uint16_t)fr->type, 0, fr->max_streams, 0)
-WRITER(retire_connection_id, QUIC_WIRE_FRAME_RETIRE_CONNECTION_ID, fr->seq, 0,
+WRITER(max_data, quic_wire_max_data_write(fr->max_data, out, outlen),
+       QUIC_WIRE_FRAME_MAX_DATA, 0, fr->max_data, 0)
+WRITER(max_stream_data,
+       quic_wire_max_stream_data_write((uint64_t)fr->stream_id,
+                                       fr->max_stream_data, out, outlen),
+       QUIC_WIRE_FRAME_MAX_STREAM_DATA, (uint64_t)fr->stream_id,
+       fr->max_stream_data, 0)
+WRITER(max_streams,
+       fr->type == NGTCP2_FRAME_MAX_STREAMS_BIDI
+           ? quic_wire_max_streams_bidi_write(fr->max_streams, out, outlen)
+           : quic_wire_max_streams_uni_write(fr->max_streams, out, outlen),
+       (uint16_t)fr->type, 0, fr->max_streams, 0)
+WRITER(data_blocked, quic_wire_data_blocked_write(fr->offset, out, outlen),
+       QUIC_WIRE_FRAME_DATA_BLOCKED, 0, fr->offset, 0)
+WRITER(stream_data_blocked,
+       quic_wire_stream_data_blocked_write((uint64_t)fr->stream_id, fr->offset,
+                                           out, outlen),
+       QUIC_WIRE_FRAME_STREAM_DATA_BLOCKED, (uint64_t)fr->stream_id, fr->offset,
        0)
+WRITER(streams_blocked,
+       fr->type == NGTCP2_FRAME_STREAMS_BLOCKED_BIDI
+           ? quic_wire_streams_blocked_bidi_write(fr->max_streams, out, outlen)
+           : quic_wire_streams_blocked_uni_write(fr->max_streams, out, outlen),
+       (uint16_t)fr->type, 0, fr->max_streams, 0)
+WRITER(retire_connection_id,
+       quic_wire_retire_connection_id_write(fr->seq, out, outlen),
+       QUIC_WIRE_FRAME_RETIRE_CONNECTION_ID, fr->seq, 0, 0)
 
 static uint64_t path_number(const void *data) {
   uint64_t number;
   ngtcp2_get_uint64be(&number, data);
   return number;
 }
-WRITER(path_challenge, QUIC_WIRE_FRAME_PATH_CHALLENGE, path_number(&fr->data),
-       0, 0)
-WRITER(path_response, QUIC_WIRE_FRAME_PATH_RESPONSE, path_number(&fr->data), 0,
-       0)
+WRITER(path_challenge,
+       quic_wire_path_challenge_write(path_number(&fr->data), out, outlen),
+       QUIC_WIRE_FRAME_PATH_CHALLENGE, path_number(&fr->data), 0, 0)
+WRITER(path_response,
+       quic_wire_path_response_write(path_number(&fr->data), out, outlen),
+       QUIC_WIRE_FRAME_PATH_RESPONSE, path_number(&fr->data), 0, 0)
 
 ngtcp2_ssize
 ngtcp2_pkt_encode_connection_close_frame(uint8_t *out, size_t outlen,

@@ -1,16 +1,8 @@
 /*
- * OpenSSL's writers of QUIC frames, with quic_wire.h. ssl/quic/quic_wire.c
- * includes this file in place of its own, after quic_wire_ossl_frames.c.
+ * OpenSSL's writers of QUIC frames, with quic_wire.h and quic_wire_near.h.
+ * ssl/quic/quic_wire.c includes this file in place of its own, after
+ * quic_wire_ossl_frames.c.
  */
-
-/* Appends a frame that has no fields, only its type. */
-static int encode_type(WPACKET *pkt, quic_wire_frame_kind kind)
-{
-    unsigned char *p;
-
-    return WPACKET_allocate_bytes(pkt, 1, &p)
-        && quic_wire_varint_write(kind, 0, p, 1) == 1;
-}
 
 /* How many bytes may be written at |*p|, the end, before |pkt| has to grow. */
 static size_t room_at_end(WPACKET *pkt, unsigned char **p)
@@ -33,13 +25,26 @@ static int encode_frame(WPACKET *pkt, const quic_wire_frame *frame,
     return ret == QUIC_WIRE_OK && WPACKET_allocate_bytes(pkt, len, &p);
 }
 
-/* Appends a frame that has no fields except |a|, |b| and |c|. */
-static int encode_numbers(WPACKET *pkt, quic_wire_frame_kind kind,
-    uint64_t a, uint64_t b, uint64_t c)
+/* Appends a frame that has no fields except |a|, |b| and |c|, by a call. */
+static QUIC_WIRE_NOINLINE int encode_by_call(WPACKET *pkt,
+    quic_wire_frame_kind kind, uint64_t a, uint64_t b, uint64_t c)
 {
     quic_wire_frame frame = { .kind = kind, .numbers = { a, b, c } };
 
     return encode_frame(pkt, &frame, NULL, 0);
+}
+
+/*
+ * The same, if a writer in quic_wire_near.h has written |len| bytes of it at
+ * the end of |pkt|.  It writes none without room, or if a number is too large.
+ */
+static ossl_inline int encode_numbers(WPACKET *pkt, size_t len,
+    quic_wire_frame_kind kind, uint64_t a, uint64_t b, uint64_t c)
+{
+    unsigned char *p;
+
+    return len > 0 ? WPACKET_allocate_bytes(pkt, len, &p)
+                   : encode_by_call(pkt, kind, a, b, c);
 }
 
 /* Appends a STREAM or CRYPTO frame up to its data. */
@@ -75,7 +80,12 @@ static unsigned char *encode_data(WPACKET *pkt, const unsigned char *data,
 
 int ossl_quic_wire_encode_frame_ping(WPACKET *pkt)
 {
-    return encode_type(pkt, QUIC_WIRE_FRAME_PING);
+    unsigned char *p;
+    size_t room = room_at_end(pkt, &p);
+    size_t len = quic_wire_ping_write(p, room);
+
+    return encode_numbers(pkt, len, QUIC_WIRE_FRAME_PING,
+        0, 0, 0);
 }
 
 /* An ACK frame's fields, without the ranges below the first one. */
@@ -147,14 +157,24 @@ int ossl_quic_wire_encode_frame_ack(WPACKET *pkt,
 int ossl_quic_wire_encode_frame_reset_stream(WPACKET *pkt,
     const OSSL_QUIC_FRAME_RESET_STREAM *f)
 {
-    return encode_numbers(pkt, QUIC_WIRE_FRAME_RESET_STREAM,
+    unsigned char *p;
+    size_t room = room_at_end(pkt, &p);
+    size_t len = quic_wire_reset_stream_write(f->stream_id, f->app_error_code,
+        f->final_size, p, room);
+
+    return encode_numbers(pkt, len, QUIC_WIRE_FRAME_RESET_STREAM,
         f->stream_id, f->app_error_code, f->final_size);
 }
 
 int ossl_quic_wire_encode_frame_stop_sending(WPACKET *pkt,
     const OSSL_QUIC_FRAME_STOP_SENDING *f)
 {
-    return encode_numbers(pkt, QUIC_WIRE_FRAME_STOP_SENDING,
+    unsigned char *p;
+    size_t room = room_at_end(pkt, &p);
+    size_t len = quic_wire_stop_sending_write(f->stream_id, f->app_error_code,
+        p, room);
+
+    return encode_numbers(pkt, len, QUIC_WIRE_FRAME_STOP_SENDING,
         f->stream_id, f->app_error_code, 0);
 }
 
@@ -171,8 +191,8 @@ int ossl_quic_wire_encode_frame_crypto_hdr(WPACKET *pkt,
 size_t ossl_quic_wire_get_encoded_frame_len_crypto_hdr(
     const OSSL_QUIC_FRAME_CRYPTO *f)
 {
-    size_t offset_len = quic_wire_varint_len(f->offset);
-    size_t length_len = quic_wire_varint_len(f->len);
+    size_t offset_len = quic_wire_varint_len_near(f->offset);
+    size_t length_len = quic_wire_varint_len_near(f->len);
 
     if (offset_len == 0 || length_len == 0)
         return 0;
@@ -214,20 +234,20 @@ int ossl_quic_wire_encode_frame_stream_hdr(WPACKET *pkt,
 size_t ossl_quic_wire_get_encoded_frame_len_stream_hdr(
     const OSSL_QUIC_FRAME_STREAM *f)
 {
-    size_t len = quic_wire_varint_len(f->stream_id), field_len;
+    size_t len = quic_wire_varint_len_near(f->stream_id), field_len;
 
     if (len == 0)
         return 0;
 
     if (f->offset > 0) {
-        field_len = quic_wire_varint_len(f->offset);
+        field_len = quic_wire_varint_len_near(f->offset);
         if (field_len == 0)
             return 0;
         len += field_len;
     }
 
     if (f->has_explicit_len) {
-        field_len = quic_wire_varint_len(f->len);
+        field_len = quic_wire_varint_len_near(f->len);
         if (field_len == 0)
             return 0;
         len += field_len;
@@ -248,14 +268,23 @@ void *ossl_quic_wire_encode_frame_stream(WPACKET *pkt,
 int ossl_quic_wire_encode_frame_max_data(WPACKET *pkt,
     uint64_t max_data)
 {
-    return encode_numbers(pkt, QUIC_WIRE_FRAME_MAX_DATA, 0, max_data, 0);
+    unsigned char *p;
+    size_t room = room_at_end(pkt, &p);
+    size_t len = quic_wire_max_data_write(max_data, p, room);
+
+    return encode_numbers(pkt, len, QUIC_WIRE_FRAME_MAX_DATA,
+        0, max_data, 0);
 }
 
 int ossl_quic_wire_encode_frame_max_stream_data(WPACKET *pkt,
     uint64_t stream_id,
     uint64_t max_data)
 {
-    return encode_numbers(pkt, QUIC_WIRE_FRAME_MAX_STREAM_DATA,
+    unsigned char *p;
+    size_t room = room_at_end(pkt, &p);
+    size_t len = quic_wire_max_stream_data_write(stream_id, max_data, p, room);
+
+    return encode_numbers(pkt, len, QUIC_WIRE_FRAME_MAX_STREAM_DATA,
         stream_id, max_data, 0);
 }
 
@@ -263,7 +292,13 @@ int ossl_quic_wire_encode_frame_max_streams(WPACKET *pkt,
     char is_uni,
     uint64_t max_streams)
 {
-    return encode_numbers(pkt,
+    unsigned char *p;
+    size_t room = room_at_end(pkt, &p);
+    size_t len = is_uni
+        ? quic_wire_max_streams_uni_write(max_streams, p, room)
+        : quic_wire_max_streams_bidi_write(max_streams, p, room);
+
+    return encode_numbers(pkt, len,
         is_uni ? QUIC_WIRE_FRAME_MAX_STREAMS_UNI
                : QUIC_WIRE_FRAME_MAX_STREAMS_BIDI,
         0, max_streams, 0);
@@ -272,14 +307,24 @@ int ossl_quic_wire_encode_frame_max_streams(WPACKET *pkt,
 int ossl_quic_wire_encode_frame_data_blocked(WPACKET *pkt,
     uint64_t max_data)
 {
-    return encode_numbers(pkt, QUIC_WIRE_FRAME_DATA_BLOCKED, 0, max_data, 0);
+    unsigned char *p;
+    size_t room = room_at_end(pkt, &p);
+    size_t len = quic_wire_data_blocked_write(max_data, p, room);
+
+    return encode_numbers(pkt, len, QUIC_WIRE_FRAME_DATA_BLOCKED,
+        0, max_data, 0);
 }
 
 int ossl_quic_wire_encode_frame_stream_data_blocked(WPACKET *pkt,
     uint64_t stream_id,
     uint64_t max_stream_data)
 {
-    return encode_numbers(pkt, QUIC_WIRE_FRAME_STREAM_DATA_BLOCKED,
+    unsigned char *p;
+    size_t room = room_at_end(pkt, &p);
+    size_t len = quic_wire_stream_data_blocked_write(stream_id, max_stream_data,
+        p, room);
+
+    return encode_numbers(pkt, len, QUIC_WIRE_FRAME_STREAM_DATA_BLOCKED,
         stream_id, max_stream_data, 0);
 }
 
@@ -287,7 +332,13 @@ int ossl_quic_wire_encode_frame_streams_blocked(WPACKET *pkt,
     char is_uni,
     uint64_t max_streams)
 {
-    return encode_numbers(pkt,
+    unsigned char *p;
+    size_t room = room_at_end(pkt, &p);
+    size_t len = is_uni
+        ? quic_wire_streams_blocked_uni_write(max_streams, p, room)
+        : quic_wire_streams_blocked_bidi_write(max_streams, p, room);
+
+    return encode_numbers(pkt, len,
         is_uni ? QUIC_WIRE_FRAME_STREAMS_BLOCKED_UNI
                : QUIC_WIRE_FRAME_STREAMS_BLOCKED_BIDI,
         0, max_streams, 0);
@@ -316,20 +367,34 @@ int ossl_quic_wire_encode_frame_new_conn_id(WPACKET *pkt,
 int ossl_quic_wire_encode_frame_retire_conn_id(WPACKET *pkt,
     uint64_t seq_num)
 {
-    return encode_numbers(pkt, QUIC_WIRE_FRAME_RETIRE_CONNECTION_ID,
+    unsigned char *p;
+    size_t room = room_at_end(pkt, &p);
+    size_t len = quic_wire_retire_connection_id_write(seq_num, p, room);
+
+    return encode_numbers(pkt, len, QUIC_WIRE_FRAME_RETIRE_CONNECTION_ID,
         seq_num, 0, 0);
 }
 
 int ossl_quic_wire_encode_frame_path_challenge(WPACKET *pkt,
     uint64_t data)
 {
-    return encode_numbers(pkt, QUIC_WIRE_FRAME_PATH_CHALLENGE, data, 0, 0);
+    unsigned char *p;
+    size_t room = room_at_end(pkt, &p);
+    size_t len = quic_wire_path_challenge_write(data, p, room);
+
+    return encode_numbers(pkt, len, QUIC_WIRE_FRAME_PATH_CHALLENGE,
+        data, 0, 0);
 }
 
 int ossl_quic_wire_encode_frame_path_response(WPACKET *pkt,
     uint64_t data)
 {
-    return encode_numbers(pkt, QUIC_WIRE_FRAME_PATH_RESPONSE, data, 0, 0);
+    unsigned char *p;
+    size_t room = room_at_end(pkt, &p);
+    size_t len = quic_wire_path_response_write(data, p, room);
+
+    return encode_numbers(pkt, len, QUIC_WIRE_FRAME_PATH_RESPONSE,
+        data, 0, 0);
 }
 
 int ossl_quic_wire_encode_frame_conn_close(WPACKET *pkt,
@@ -348,5 +413,10 @@ int ossl_quic_wire_encode_frame_conn_close(WPACKET *pkt,
 
 int ossl_quic_wire_encode_frame_handshake_done(WPACKET *pkt)
 {
-    return encode_type(pkt, QUIC_WIRE_FRAME_HANDSHAKE_DONE);
+    unsigned char *p;
+    size_t room = room_at_end(pkt, &p);
+    size_t len = quic_wire_handshake_done_write(p, room);
+
+    return encode_numbers(pkt, len, QUIC_WIRE_FRAME_HANDSHAKE_DONE,
+        0, 0, 0);
 }

@@ -1,21 +1,22 @@
 /*
- * OpenSSL's readers of QUIC frames, with quic_wire.h. ssl/quic/quic_wire.c
- * includes this file in place of its own.
+ * OpenSSL's readers of QUIC frames, with quic_wire.h and quic_wire_near.h.
+ * ssl/quic/quic_wire.c includes this file in place of its own.
  */
 #define QUIC_WIRE_INLINE
-#include "quic_wire.h"
+#include "quic_wire_near.h"
 
-static ossl_inline int read_number(PACKET *pkt, uint64_t *number)
-{
-    size_t len = quic_wire_varint_read(PACKET_data(pkt), PACKET_remaining(pkt),
-        number);
-
-    return len > 0 && PACKET_forward(pkt, len);
-}
+#if defined(__GNUC__)
+#define QUIC_WIRE_NOINLINE __attribute__((__noinline__))
+#else
+#define QUIC_WIRE_NOINLINE
+#endif
 
 int ossl_quic_wire_skip_frame_header(PACKET *pkt, uint64_t *type)
 {
-    return read_number(pkt, type);
+    size_t len = quic_wire_varint_read(PACKET_data(pkt), PACKET_remaining(pkt),
+        type);
+
+    return len > 0 && PACKET_forward(pkt, len);
 }
 
 int ossl_quic_wire_peek_frame_header(PACKET *pkt, uint64_t *type,
@@ -28,7 +29,7 @@ int ossl_quic_wire_peek_frame_header(PACKET *pkt, uint64_t *type,
         return 0;
 
     if (was_minimal != NULL)
-        *was_minimal = len == 1 || len == quic_wire_varint_len(*type);
+        *was_minimal = len == quic_wire_varint_len_near(*type);
 
     return 1;
 }
@@ -48,33 +49,39 @@ static ossl_inline int skip_frame(PACKET *pkt, int64_t len,
 }
 
 /*
- * Reads a frame of |type| or |other| that consists of |count| numbers, each by
- * a call of its own, since a call for the whole frame takes twice as long.
+ * Reads a frame of |kind| or |other| at the front of |pkt| by a call.  It
+ * passes no flags: OpenSSL's callers check what these would.
  */
-static ossl_inline int decode_numbers(PACKET *pkt, uint64_t type,
-    uint64_t other, uint64_t *numbers, size_t count)
-{
-    uint64_t read;
-    size_t i;
-    int ok = read_number(pkt, &read) && (read == type || read == other);
-
-    for (i = 0; ok && i < count; ++i)
-        ok = read_number(pkt, &numbers[i]);
-
-    return PACKET_forward(pkt, ok ? 0 : PACKET_remaining(pkt)) && ok;
-}
-
-/*
- * Reads a frame of |kind| or |other| at the front of |pkt|.  It passes no
- * flags, which cost more: a frame of another kind is rejected in any case.
- */
-static ossl_inline int decode_frame(PACKET *pkt, quic_wire_frame_kind kind,
-    quic_wire_frame_kind other, quic_wire_frame *frame)
+static QUIC_WIRE_NOINLINE int decode_by_call(PACKET *pkt,
+    quic_wire_frame_kind kind, quic_wire_frame_kind other,
+    quic_wire_frame *frame)
 {
     int64_t len = quic_wire_frame_read(PACKET_data(pkt),
         PACKET_remaining(pkt), 0, frame, NULL, 0);
 
     return skip_frame(pkt, len, frame, kind, other);
+}
+
+/* What the reader of one kind of frame in quic_wire_near.h returns. */
+#define NEAR(name, pkt, frame) \
+    quic_wire_##name##_read(PACKET_data(pkt), PACKET_remaining(pkt), frame)
+
+/*
+ * Skips a frame that such a reader read at the front of |pkt|: |end| is where
+ * it ends.  If that is 0, the frame is left to a call.
+ */
+static ossl_inline int decode_either(PACKET *pkt, size_t end,
+    quic_wire_frame_kind kind, quic_wire_frame_kind other,
+    quic_wire_frame *frame)
+{
+    return end > 0 ? PACKET_forward(pkt, end)
+                   : decode_by_call(pkt, kind, other, frame);
+}
+
+static ossl_inline int decode_frame(PACKET *pkt, size_t end,
+    quic_wire_frame_kind kind, quic_wire_frame *frame)
+{
+    return decode_either(pkt, end, kind, kind, frame);
 }
 
 /* Reads a STREAM or CRYPTO frame up to its data, which needn't be there. */
@@ -87,22 +94,36 @@ static ossl_inline int decode_frame_header(PACKET *pkt,
     return skip_frame(pkt, len, frame, kind, kind);
 }
 
+/* Counts the ranges of the ACK at the front of |pkt|, without reading them. */
+static int count_ack_ranges(const PACKET *pkt, uint64_t *count)
+{
+    quic_wire_range_iter ranges;
+    quic_wire_frame ack;
+
+    /* Only these two fields are used.  Where the ACK ends isn't known yet. */
+    ack.begin = 0;
+    ack.end = PACKET_remaining(pkt);
+    if (quic_wire_ack_ranges_init(&ranges, PACKET_data(pkt), ack.end, &ack)
+        != QUIC_WIRE_OK)
+        return 0;
+
+    /*
+     * A range below the first has at least two bytes, so no more room is asked
+     * for than the ranges of a packet can need.
+     */
+    *count = ranges.left;
+    return ranges.left - 1 <= (ack.end - ranges.offset) / 2;
+}
+
 int ossl_quic_wire_peek_frame_ack_num_ranges(const PACKET *orig_pkt,
     uint64_t *total_ranges)
 {
-    PACKET pkt = *orig_pkt;
-    uint64_t numbers[3]; /* largest, delay, count of further ranges */
+    uint64_t count;
 
-    /*
-     * A range has at least two bytes, so no more room is asked for than the
-     * ranges of a packet can need.
-     */
-    if (!decode_numbers(&pkt, OSSL_QUIC_FRAME_TYPE_ACK_WITHOUT_ECN,
-            OSSL_QUIC_FRAME_TYPE_ACK_WITH_ECN, numbers, OSSL_NELEM(numbers))
-        || numbers[2] > PACKET_remaining(&pkt) / 2)
+    if (!count_ack_ranges(orig_pkt, &count))
         return 0;
 
-    *total_ranges = numbers[2] + 1;
+    *total_ranges = count;
     return 1;
 }
 
@@ -157,24 +178,20 @@ int ossl_quic_wire_decode_frame_ack(PACKET *pkt,
     OSSL_QUIC_FRAME_ACK *ack,
     uint64_t *total_ranges)
 {
-    const unsigned char *payload = PACKET_data(pkt);
-    size_t remaining = PACKET_remaining(pkt), room = 0;
+    PACKET start = *pkt;
     quic_wire_gap *gaps = NULL;
     quic_wire_frame frame;
-    PACKET start;
+    size_t room = 0;
     int64_t len;
 
     if (ack != NULL && ack->num_ack_ranges > 1) {
         gaps = (quic_wire_gap *)&ack->ack_ranges[1];
         room = ack->num_ack_ranges - 1;
     }
-    len = quic_wire_frame_read(payload, remaining, 0, &frame, gaps, room);
-    if (!skip_frame(pkt, len, &frame, QUIC_WIRE_FRAME_ACK, QUIC_WIRE_FRAME_ACK))
-        return 0;
-
-    if (total_ranges != NULL
-        && (!PACKET_buf_init(&start, payload, remaining)
-            || !ossl_quic_wire_peek_frame_ack_num_ranges(&start, total_ranges)))
+    len = quic_wire_frame_read(PACKET_data(pkt), PACKET_remaining(pkt), 0,
+        &frame, gaps, room);
+    if (!skip_frame(pkt, len, &frame, QUIC_WIRE_FRAME_ACK, QUIC_WIRE_FRAME_ACK)
+        || (total_ranges != NULL && !count_ack_ranges(&start, total_ranges)))
         return 0;
 
     if (ack != NULL) {
@@ -187,29 +204,29 @@ int ossl_quic_wire_decode_frame_ack(PACKET *pkt,
 int ossl_quic_wire_decode_frame_reset_stream(PACKET *pkt,
     OSSL_QUIC_FRAME_RESET_STREAM *f)
 {
-    uint64_t numbers[3];
+    quic_wire_frame frame;
 
-    if (!decode_numbers(pkt, QUIC_WIRE_FRAME_RESET_STREAM,
-            QUIC_WIRE_FRAME_RESET_STREAM, numbers, OSSL_NELEM(numbers)))
+    if (!decode_frame(pkt, NEAR(reset_stream, pkt, &frame),
+            QUIC_WIRE_FRAME_RESET_STREAM, &frame))
         return 0;
 
-    f->stream_id = numbers[0];
-    f->app_error_code = numbers[1];
-    f->final_size = numbers[2];
+    f->stream_id = frame.reset_stream.stream_id;
+    f->app_error_code = frame.reset_stream.error_code;
+    f->final_size = frame.reset_stream.final_size;
     return 1;
 }
 
 int ossl_quic_wire_decode_frame_stop_sending(PACKET *pkt,
     OSSL_QUIC_FRAME_STOP_SENDING *f)
 {
-    uint64_t numbers[2];
+    quic_wire_frame frame;
 
-    if (!decode_numbers(pkt, QUIC_WIRE_FRAME_STOP_SENDING,
-            QUIC_WIRE_FRAME_STOP_SENDING, numbers, OSSL_NELEM(numbers)))
+    if (!decode_frame(pkt, NEAR(stop_sending, pkt, &frame),
+            QUIC_WIRE_FRAME_STOP_SENDING, &frame))
         return 0;
 
-    f->stream_id = numbers[0];
-    f->app_error_code = numbers[1];
+    f->stream_id = frame.stop_sending.stream_id;
+    f->app_error_code = frame.stop_sending.error_code;
     return 1;
 }
 
@@ -227,7 +244,7 @@ int ossl_quic_wire_decode_frame_crypto(PACKET *pkt,
     quic_wire_frame frame;
 
     if (!(nodata ? decode_frame_header(pkt, QUIC_WIRE_FRAME_CRYPTO, &frame)
-                 : decode_frame(pkt, QUIC_WIRE_FRAME_CRYPTO,
+                 : decode_frame(pkt, NEAR(crypto, pkt, &frame),
                        QUIC_WIRE_FRAME_CRYPTO, &frame)))
         return 0;
 
@@ -244,8 +261,8 @@ int ossl_quic_wire_decode_frame_new_token(PACKET *pkt,
     const unsigned char *payload = PACKET_data(pkt);
     quic_wire_frame frame;
 
-    if (!decode_frame(pkt, QUIC_WIRE_FRAME_NEW_TOKEN, QUIC_WIRE_FRAME_NEW_TOKEN,
-            &frame))
+    if (!decode_frame(pkt, NEAR(new_token, pkt, &frame),
+            QUIC_WIRE_FRAME_NEW_TOKEN, &frame))
         return 0;
 
     *token = payload + frame.data;
@@ -261,7 +278,7 @@ int ossl_quic_wire_decode_frame_stream(PACKET *pkt,
     quic_wire_frame frame;
 
     if (!(nodata ? decode_frame_header(pkt, QUIC_WIRE_FRAME_STREAM, &frame)
-                 : decode_frame(pkt, QUIC_WIRE_FRAME_STREAM,
+                 : decode_frame(pkt, NEAR(stream, pkt, &frame),
                        QUIC_WIRE_FRAME_STREAM, &frame)))
         return 0;
 
@@ -275,61 +292,92 @@ int ossl_quic_wire_decode_frame_stream(PACKET *pkt,
     return data_fit(f->offset, f->len);
 }
 
-static ossl_inline int decode_stream_limit(PACKET *pkt, uint64_t type,
-    uint64_t *stream_id, uint64_t *limit)
-{
-    uint64_t numbers[2];
-
-    if (!decode_numbers(pkt, type, type, numbers, OSSL_NELEM(numbers)))
-        return 0;
-
-    *stream_id = numbers[0];
-    *limit = numbers[1];
-    return 1;
-}
-
 int ossl_quic_wire_decode_frame_max_data(PACKET *pkt,
     uint64_t *max_data)
 {
-    return decode_numbers(pkt, QUIC_WIRE_FRAME_MAX_DATA,
-        QUIC_WIRE_FRAME_MAX_DATA, max_data, 1);
+    quic_wire_frame frame;
+
+    if (!decode_frame(pkt, NEAR(max_data, pkt, &frame),
+            QUIC_WIRE_FRAME_MAX_DATA, &frame))
+        return 0;
+
+    *max_data = frame.limit.limit;
+    return 1;
 }
 
 int ossl_quic_wire_decode_frame_max_stream_data(PACKET *pkt,
     uint64_t *stream_id,
     uint64_t *max_stream_data)
 {
-    return decode_stream_limit(pkt, QUIC_WIRE_FRAME_MAX_STREAM_DATA, stream_id,
-        max_stream_data);
+    quic_wire_frame frame;
+
+    if (!decode_frame(pkt, NEAR(max_stream_data, pkt, &frame),
+            QUIC_WIRE_FRAME_MAX_STREAM_DATA, &frame))
+        return 0;
+
+    *stream_id = frame.limit.stream_id;
+    *max_stream_data = frame.limit.limit;
+    return 1;
 }
 
 int ossl_quic_wire_decode_frame_max_streams(PACKET *pkt,
     uint64_t *max_streams)
 {
-    return decode_numbers(pkt, QUIC_WIRE_FRAME_MAX_STREAMS_BIDI,
-        QUIC_WIRE_FRAME_MAX_STREAMS_UNI, max_streams, 1);
+    quic_wire_frame frame;
+    size_t end = NEAR(max_streams_bidi, pkt, &frame);
+
+    if (end == 0)
+        end = NEAR(max_streams_uni, pkt, &frame);
+    if (!decode_either(pkt, end, QUIC_WIRE_FRAME_MAX_STREAMS_BIDI,
+            QUIC_WIRE_FRAME_MAX_STREAMS_UNI, &frame))
+        return 0;
+
+    *max_streams = frame.limit.limit;
+    return 1;
 }
 
 int ossl_quic_wire_decode_frame_data_blocked(PACKET *pkt,
     uint64_t *max_data)
 {
-    return decode_numbers(pkt, QUIC_WIRE_FRAME_DATA_BLOCKED,
-        QUIC_WIRE_FRAME_DATA_BLOCKED, max_data, 1);
+    quic_wire_frame frame;
+
+    if (!decode_frame(pkt, NEAR(data_blocked, pkt, &frame),
+            QUIC_WIRE_FRAME_DATA_BLOCKED, &frame))
+        return 0;
+
+    *max_data = frame.limit.limit;
+    return 1;
 }
 
 int ossl_quic_wire_decode_frame_stream_data_blocked(PACKET *pkt,
     uint64_t *stream_id,
     uint64_t *max_stream_data)
 {
-    return decode_stream_limit(pkt, QUIC_WIRE_FRAME_STREAM_DATA_BLOCKED,
-        stream_id, max_stream_data);
+    quic_wire_frame frame;
+
+    if (!decode_frame(pkt, NEAR(stream_data_blocked, pkt, &frame),
+            QUIC_WIRE_FRAME_STREAM_DATA_BLOCKED, &frame))
+        return 0;
+
+    *stream_id = frame.limit.stream_id;
+    *max_stream_data = frame.limit.limit;
+    return 1;
 }
 
 int ossl_quic_wire_decode_frame_streams_blocked(PACKET *pkt,
     uint64_t *max_streams)
 {
-    return decode_numbers(pkt, QUIC_WIRE_FRAME_STREAMS_BLOCKED_BIDI,
-        QUIC_WIRE_FRAME_STREAMS_BLOCKED_UNI, max_streams, 1);
+    quic_wire_frame frame;
+    size_t end = NEAR(streams_blocked_bidi, pkt, &frame);
+
+    if (end == 0)
+        end = NEAR(streams_blocked_uni, pkt, &frame);
+    if (!decode_either(pkt, end, QUIC_WIRE_FRAME_STREAMS_BLOCKED_BIDI,
+            QUIC_WIRE_FRAME_STREAMS_BLOCKED_UNI, &frame))
+        return 0;
+
+    *max_streams = frame.limit.limit;
+    return 1;
 }
 
 int ossl_quic_wire_decode_frame_new_conn_id(PACKET *pkt,
@@ -338,7 +386,7 @@ int ossl_quic_wire_decode_frame_new_conn_id(PACKET *pkt,
     const unsigned char *id = PACKET_data(pkt);
     quic_wire_frame frame;
 
-    if (!decode_frame(pkt, QUIC_WIRE_FRAME_NEW_CONNECTION_ID,
+    if (!decode_frame(pkt, NEAR(new_connection_id, pkt, &frame),
             QUIC_WIRE_FRAME_NEW_CONNECTION_ID, &frame))
         return 0;
 
@@ -357,8 +405,14 @@ int ossl_quic_wire_decode_frame_new_conn_id(PACKET *pkt,
 int ossl_quic_wire_decode_frame_retire_conn_id(PACKET *pkt,
     uint64_t *seq_num)
 {
-    return decode_numbers(pkt, QUIC_WIRE_FRAME_RETIRE_CONNECTION_ID,
-        QUIC_WIRE_FRAME_RETIRE_CONNECTION_ID, seq_num, 1);
+    quic_wire_frame frame;
+
+    if (!decode_frame(pkt, NEAR(retire_connection_id, pkt, &frame),
+            QUIC_WIRE_FRAME_RETIRE_CONNECTION_ID, &frame))
+        return 0;
+
+    *seq_num = frame.retire_connection_id.sequence;
+    return 1;
 }
 
 int ossl_quic_wire_decode_frame_path_challenge(PACKET *pkt,
@@ -366,7 +420,7 @@ int ossl_quic_wire_decode_frame_path_challenge(PACKET *pkt,
 {
     quic_wire_frame frame;
 
-    if (!decode_frame(pkt, QUIC_WIRE_FRAME_PATH_CHALLENGE,
+    if (!decode_frame(pkt, NEAR(path_challenge, pkt, &frame),
             QUIC_WIRE_FRAME_PATH_CHALLENGE, &frame))
         return 0;
 
@@ -379,7 +433,7 @@ int ossl_quic_wire_decode_frame_path_response(PACKET *pkt,
 {
     quic_wire_frame frame;
 
-    if (!decode_frame(pkt, QUIC_WIRE_FRAME_PATH_RESPONSE,
+    if (!decode_frame(pkt, NEAR(path_response, pkt, &frame),
             QUIC_WIRE_FRAME_PATH_RESPONSE, &frame))
         return 0;
 
@@ -392,8 +446,11 @@ int ossl_quic_wire_decode_frame_conn_close(PACKET *pkt,
 {
     const unsigned char *payload = PACKET_data(pkt);
     quic_wire_frame frame;
+    size_t end = NEAR(connection_close, pkt, &frame);
 
-    if (!decode_frame(pkt, QUIC_WIRE_FRAME_CONNECTION_CLOSE,
+    if (end == 0)
+        end = NEAR(application_close, pkt, &frame);
+    if (!decode_either(pkt, end, QUIC_WIRE_FRAME_CONNECTION_CLOSE,
             QUIC_WIRE_FRAME_APPLICATION_CLOSE, &frame))
         return 0;
 
@@ -411,8 +468,8 @@ size_t ossl_quic_wire_decode_padding(PACKET *pkt)
 
     if (PACKET_remaining(pkt) == 0
         || *PACKET_data(pkt) != OSSL_QUIC_FRAME_TYPE_PADDING
-        || !decode_frame(pkt, QUIC_WIRE_FRAME_PADDING, QUIC_WIRE_FRAME_PADDING,
-            &frame))
+        || !decode_by_call(pkt, QUIC_WIRE_FRAME_PADDING,
+            QUIC_WIRE_FRAME_PADDING, &frame))
         return 0;
 
     return frame.end;
@@ -420,12 +477,16 @@ size_t ossl_quic_wire_decode_padding(PACKET *pkt)
 
 int ossl_quic_wire_decode_frame_ping(PACKET *pkt)
 {
-    return decode_numbers(pkt, QUIC_WIRE_FRAME_PING, QUIC_WIRE_FRAME_PING,
-        NULL, 0);
+    quic_wire_frame frame;
+
+    return decode_frame(pkt, NEAR(ping, pkt, &frame),
+        QUIC_WIRE_FRAME_PING, &frame);
 }
 
 int ossl_quic_wire_decode_frame_handshake_done(PACKET *pkt)
 {
-    return decode_numbers(pkt, QUIC_WIRE_FRAME_HANDSHAKE_DONE,
-        QUIC_WIRE_FRAME_HANDSHAKE_DONE, NULL, 0);
+    quic_wire_frame frame;
+
+    return decode_frame(pkt, NEAR(handshake_done, pkt, &frame),
+        QUIC_WIRE_FRAME_HANDSHAKE_DONE, &frame);
 }

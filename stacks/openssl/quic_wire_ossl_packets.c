@@ -1,10 +1,10 @@
 /*
- * OpenSSL's readers and writers of QUIC packet headers, with quic_wire.h.
- * ssl/quic/quic_wire_pkt.c includes this file in place of its own, after
- * hdr_generate_mask.
+ * OpenSSL's readers and writers of QUIC packet headers, with quic_wire.h and
+ * quic_wire_near.h. ssl/quic/quic_wire_pkt.c includes this file in place of its
+ * own, after hdr_generate_mask.
  */
 #define QUIC_WIRE_INLINE
-#include "quic_wire.h"
+#include "quic_wire_near.h"
 
 #if defined(__GNUC__)
 #define QUIC_WIRE_NOINLINE __attribute__((__noinline__))
@@ -363,7 +363,7 @@ static ossl_inline int set_fields(size_t short_conn_id_len,
         return 1;
 
     fields->lengthlen
-        = (uint8_t)quic_wire_varint_len(hdr->len + hdr->pn_len);
+        = (uint8_t)quic_wire_varint_len_near(hdr->len + hdr->pn_len);
     return fields->lengthlen > 0;
 }
 
@@ -379,31 +379,25 @@ size_t ossl_quic_wire_get_encoded_pkt_hdr_len(size_t short_conn_id_len,
         hdr->src_conn_id.id_len, hdr->token_len);
 }
 
-/* Writes a header at |p|; returns how many bytes it has, or below 0. */
-static int64_t write_fields(const QUIC_PKT_HDR *hdr,
-    quic_wire_header_fields *fields, unsigned char *p, size_t room)
+/* The low bytes of the packet number, which were encoded before. */
+static ossl_inline int set_number(const QUIC_PKT_HDR *hdr,
+    quic_wire_header_fields *fields)
 {
-    size_t token_len = hdr->type == QUIC_PKT_TYPE_INITIAL ? hdr->token_len : 0;
-
-    fields->number = 0;
-    if (ossl_quic_pkt_type_has_pn(hdr->type)
-        && quic_wire_number_read(hdr->pn, sizeof(hdr->pn), hdr->pn_len,
+    return quic_wire_number_read_near(hdr->pn, sizeof(hdr->pn), hdr->pn_len,
                &fields->number)
-            < 0)
-        return -1;
-
-    return quic_wire_header_write(fields, hdr->dst_conn_id.id,
-        hdr->dst_conn_id.id_len, hdr->src_conn_id.id, hdr->src_conn_id.id_len,
-        hdr->token, token_len, p, room);
+        > 0;
 }
 
-/* The same for a short header, whose reserved bits no call writes. */
-static int write_short_hdr(const QUIC_PKT_HDR *hdr,
+/* Writes a short header at |p|.  No call writes its reserved bits. */
+static ossl_inline int write_short_hdr(const QUIC_PKT_HDR *hdr,
     quic_wire_header_fields *fields, unsigned char *p, size_t room)
 {
     fields->flags = (hdr->spin_bit ? QUIC_WIRE_BIT_SPIN : 0)
         | (hdr->key_phase ? QUIC_WIRE_BIT_KEY_PHASE : 0);
-    if (write_fields(hdr, fields, p, room) < 0)
+    if (!set_number(hdr, fields)
+        || quic_wire_header_write(fields, hdr->dst_conn_id.id,
+               hdr->dst_conn_id.id_len, NULL, 0, NULL, 0, p, room)
+            < 0)
         return 0;
 
     p[0] |= hdr->reserved << 3;
@@ -414,16 +408,22 @@ static int write_short_hdr(const QUIC_PKT_HDR *hdr,
  * Writes a long header of |len| bytes, up to a Retry's token.  No call writes
  * the low bits of the first byte.
  */
-static int write_long_hdr(const QUIC_PKT_HDR *hdr,
+static QUIC_WIRE_NOINLINE int write_long_hdr(const QUIC_PKT_HDR *hdr,
     quic_wire_header_fields *fields, unsigned char *p, size_t len, size_t room)
 {
+    size_t token_len = hdr->type == QUIC_PKT_TYPE_INITIAL ? hdr->token_len : 0;
     size_t length_len = fields->lengthlen;
 
     fields->version = hdr->version;
+    fields->number = 0;
     fields->flags = hdr->type == QUIC_PKT_TYPE_VERSION_NEG && !hdr->fixed
         ? QUIC_WIRE_CLEAR_FIXED_BIT
         : 0;
-    if (write_fields(hdr, fields, p, room) < 0)
+    if ((ossl_quic_pkt_type_has_pn(hdr->type) && !set_number(hdr, fields))
+        || quic_wire_header_write(fields, hdr->dst_conn_id.id,
+               hdr->dst_conn_id.id_len, hdr->src_conn_id.id,
+               hdr->src_conn_id.id_len, hdr->token, token_len, p, room)
+            < 0)
         return 0;
 
     if (hdr->type == QUIC_PKT_TYPE_RETRY)
@@ -495,12 +495,12 @@ int ossl_quic_wire_decode_pkt_hdr_pn(const unsigned char *enc_pn,
 {
     uint64_t written;
 
-    if (quic_wire_number_read(enc_pn, enc_pn_len, (uint32_t)enc_pn_len,
+    if (quic_wire_number_read_near(enc_pn, enc_pn_len, (uint32_t)enc_pn_len,
             &written)
         < 0)
         return 0;
 
-    *res_pn = quic_wire_number_expand(written, (uint32_t)enc_pn_len,
+    *res_pn = quic_wire_number_expand_near(written, (uint32_t)enc_pn_len,
         largest_pn + 1);
     return *res_pn != UINT64_MAX;
 }
@@ -510,8 +510,8 @@ int ossl_quic_wire_determine_pn_len(QUIC_PN pn,
 {
     /* If nothing was acknowledged, numbers are counted from 1. */
     int len = largest_acked == QUIC_PN_INVALID
-        ? quic_wire_number_len(pn + 1, 0)
-        : quic_wire_number_len(pn, largest_acked);
+        ? quic_wire_number_len_near(pn + 1, 0)
+        : quic_wire_number_len_near(pn, largest_acked);
 
     return len < 0 ? 4 : len;
 }
@@ -520,6 +520,7 @@ int ossl_quic_wire_encode_pkt_hdr_pn(QUIC_PN pn,
     unsigned char *enc_pn,
     size_t enc_pn_len)
 {
-    return quic_wire_number_write(pn, (uint32_t)enc_pn_len, enc_pn, enc_pn_len)
+    return quic_wire_number_write_near(pn, (uint32_t)enc_pn_len, enc_pn,
+               enc_pn_len)
         > 0;
 }

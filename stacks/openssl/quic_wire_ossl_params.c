@@ -13,11 +13,11 @@ unsigned char *ossl_quic_wire_encode_transport_param_bytes(WPACKET *pkt,
 {
     /* The value may come later, so quic_wire_param_write can't be used. */
     unsigned char bytes[2 * sizeof(uint64_t)];
-    size_t id_len = quic_wire_varint_write(id, 0, bytes, sizeof(bytes));
-    size_t len = quic_wire_varint_write(value_len, 0, bytes + id_len,
-        sizeof(bytes) - id_len);
+    size_t len;
 
-    if (id_len == 0 || len == 0 || !WPACKET_memcpy(pkt, bytes, id_len + len))
+    if (quic_wire_param_header_write(id, value_len, bytes, sizeof(bytes), &len)
+            != QUIC_WIRE_OK
+        || !WPACKET_memcpy(pkt, bytes, len))
         return NULL;
 
     return encode_data(pkt, value, value_len);
@@ -27,11 +27,10 @@ int ossl_quic_wire_encode_transport_param_int(WPACKET *pkt,
     uint64_t id,
     uint64_t value)
 {
-    unsigned char number[sizeof(uint64_t)], entry[3 * sizeof(uint64_t)];
-    size_t len = quic_wire_varint_write(value, 0, number, sizeof(number));
+    unsigned char entry[3 * sizeof(uint64_t)];
+    size_t len;
 
-    return len > 0
-        && quic_wire_param_write(id, number, len, entry, sizeof(entry), &len)
+    return quic_wire_param_write_number(id, value, entry, sizeof(entry), &len)
         == QUIC_WIRE_OK
         && WPACKET_memcpy(pkt, entry, len);
 }
@@ -75,12 +74,16 @@ int ossl_quic_wire_decode_transport_param_int(PACKET *pkt,
     uint64_t *id,
     uint64_t *value)
 {
-    size_t len = 0;
-    const unsigned char *body = ossl_quic_wire_decode_transport_param_bytes(pkt,
-        id, &len);
+    quic_wire_param param;
+    int64_t end = quic_wire_param_read_number(PACKET_data(pkt),
+        PACKET_remaining(pkt), &param, value);
 
-    return body != NULL && len > 0
-        && quic_wire_varint_read(body, len, value) == len;
+    if (end <= 0 || !PACKET_forward(pkt, (size_t)end))
+        return 0;
+
+    if (id != NULL)
+        *id = param.id;
+    return 1;
 }
 
 int ossl_quic_wire_decode_transport_param_cid(PACKET *pkt,

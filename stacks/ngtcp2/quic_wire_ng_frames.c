@@ -169,8 +169,8 @@ static int frame_of(NG_BESIDE(ngtcp2_frame_decoder *room) ngtcp2_frame *dest,
 #define OUT_OF_LINE
 #endif
 
-/* Reads the frame at the front, as ngtcp2 has it: a run of PADDING is one frame,
- * and an ACK's ranges are gaps and lengths, which are written where they
+/* Reads the frame at the front, as ngtcp2 has it: a run of PADDING is one
+ * frame, and an ACK's ranges are gaps and lengths, which are written where they
  * belong. */
 OUT_OF_LINE static ngtcp2_ssize
 decode_any(NG_BESIDE(ngtcp2_frame_decoder *room) ngtcp2_frame *dest,

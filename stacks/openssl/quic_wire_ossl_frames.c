@@ -68,14 +68,22 @@ static QUIC_WIRE_NOINLINE int decode_by_call(PACKET *pkt,
 
 /*
  * Skips a frame that such a reader read at the front of |pkt|: |end| is where
- * it ends.  If that is 0, the frame is left to a call.
+ * it ends.  If that is 0, the frame is left to a call, with another struct, so
+ * that the fields of |frame| can be in registers.
  */
 static ossl_inline int decode_either(PACKET *pkt, size_t end,
     quic_wire_frame_kind kind, quic_wire_frame_kind other,
     quic_wire_frame *frame)
 {
-    return end > 0 ? PACKET_forward(pkt, end)
-                   : decode_by_call(pkt, kind, other, frame);
+    quic_wire_frame from_call;
+
+    if (end > 0)
+        return PACKET_forward(pkt, end);
+    if (!decode_by_call(pkt, kind, other, &from_call))
+        return 0;
+
+    *frame = from_call;
+    return 1;
 }
 
 static ossl_inline int decode_frame(PACKET *pkt, size_t end,
@@ -84,14 +92,22 @@ static ossl_inline int decode_frame(PACKET *pkt, size_t end,
     return decode_either(pkt, end, kind, kind, frame);
 }
 
-/* Reads a STREAM or CRYPTO frame up to its data, which needn't be there. */
+/*
+ * Reads a STREAM or CRYPTO frame up to its data, which needn't be there, also
+ * with another struct.
+ */
 static ossl_inline int decode_frame_header(PACKET *pkt,
     quic_wire_frame_kind kind, quic_wire_frame *frame)
 {
+    quic_wire_frame from_call;
     int64_t len = quic_wire_frame_header_read(PACKET_data(pkt),
-        PACKET_remaining(pkt), 0, frame);
+        PACKET_remaining(pkt), 0, &from_call);
 
-    return skip_frame(pkt, len, frame, kind, kind);
+    if (!skip_frame(pkt, len, &from_call, kind, kind))
+        return 0;
+
+    *frame = from_call;
+    return 1;
 }
 
 /* Counts the ranges of the ACK at the front of |pkt|, without reading them. */

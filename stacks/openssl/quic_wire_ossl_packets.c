@@ -495,9 +495,10 @@ int ossl_quic_wire_decode_pkt_hdr_pn(const unsigned char *enc_pn,
 {
     uint64_t written;
 
-    if (quic_wire_number_read_near(enc_pn, enc_pn_len, (uint32_t)enc_pn_len,
-            &written)
-        < 0)
+    if (enc_pn_len < 1 || enc_pn_len > 4
+        || quic_wire_number_read_near(enc_pn, enc_pn_len, (uint32_t)enc_pn_len,
+               &written)
+            < 0)
         return 0;
 
     *res_pn = quic_wire_number_expand_near(written, (uint32_t)enc_pn_len,

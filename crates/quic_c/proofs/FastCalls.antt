@@ -105,3 +105,15 @@ pub ack_next : (rules : Rules) (old : CFrameIter) (payload : List ℕ) (before w
     → AnswersNext rules old payload before (pos 1) (record old { offset = stop; last_type = 0x02 }) words
 ack_next rules old payload before words stop ack going finds shows =
     any_next rules old payload before words stop 0x02 (frames.Ack ack) going finds refl shows
+
+-- nothing is left
+pub spent_next : (rules : Rules) (old : CFrameIter) (payload : List ℕ) (out : CFrame) → old.offset ≡ length payload
+    → AnswersNext rules old payload out (pos 0) old out
+spent_next rules old payload out over = record {
+  returns = inr (inl refl);
+  frame = λ e. absurd cc;
+  end = λ _. inr over;
+  outside = (λ e. absurd cc, λ beyond. absurd (omega (arith, over, beyond)));
+  same = inr (inr (refl, refl));
+  flags = refl;
+}

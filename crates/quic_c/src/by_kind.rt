@@ -1,5 +1,5 @@
-//! Calls that read a frame by the reader for its kind, which the first byte says. What that doesn't take, as an error, is
-//! read by the call for all frames. No call here keeps anything over another, so that each ends by a jump.
+//! Calls that read a frame by the reader for its kind, which the first byte says. What that doesn't take, as an error,
+//! is read by the call for all frames. No call here keeps anything over another, so that each ends by a jump.
 ghost use Rattle.std.specs.Prelude.{◌≡◌, ◌≤◌, ℕ, List, ◌∷◌, IfSome, length, drop};
 ghost use Rattle.quic_c.specs.Shown.{rules_in};
 ghost use Rattle.quic_c.specs.Answers.{AnswersNext};
@@ -120,11 +120,15 @@ fn next_kind<K: Kind>(frames: &mut CFrameIter, payload: &[u8], out: &mut CFrame)
 
 // The next frame, by its first byte.
 #[inline(always)]
+#[tactic(auto, using(crate::proofs::FastCalls::spent_next))]
 pub(crate) fn next_by_kind(frames: &mut CFrameIter, payload: &[u8], out: &mut CFrame) -> i32
     ensures { AnswersNext (rules_in frames.old.flags) frames.old payload.now out.old result frames.new out.new }
 {
     if frames.ended != 0 {
         return next_any(frames, payload, out);
+    }
+    if frames.offset == payload.len() {
+        return 0;
     }
     let Some(first) = first_at(payload, frames.offset) else {
         return next_any(frames, payload, out);

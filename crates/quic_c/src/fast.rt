@@ -1,5 +1,5 @@
-//! Readers of frames that break no rule, one for each kind. They store a frame's words as they read it, and test no flag:
-//! what such a reader doesn't take, as an error, is read by the readers of all frames.
+//! Readers of frames that break no rule, one for each kind. They store a frame's words as they read it, and test no
+//! flag: what such a reader doesn't take, as an error, is read by the readers of all frames.
 ghost use Rattle.std.specs.Prelude.{◌≡◌, ◌<◌, ◌≤◌, ◌^◌, ◌+◌, ◌-◌, ℕ, List, [], ◌∷◌, IfSome, Ok, length, drop};
 ghost use Rattle.quic_frame_fields.specs.Field.{Value, Number, Bytes};
 ghost use Rattle.quic_frame_fields.specs.Reading.{varint_at, bytes_at, counted_at, id_at, eight_at, field_at};

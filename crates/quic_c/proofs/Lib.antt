@@ -4,6 +4,7 @@ pub mod Places
 mod Shapes
 mod Meanings
 mod AnyData
+mod PlainFrames
 mod Filling
 mod Fronts
 mod RangeSteps

@@ -1,5 +1,5 @@
 //! The headers of STREAM, CRYPTO and DATAGRAM frames, after which the caller puts the data.
-ghost use Rattle.std.specs.Prelude.{◌≡◌, ◌==◌, ◌&&◌, ◌⊎◌, ◌↔◌, ◌<◌, ◌≤◌, ◌^◌, ◌++◌, List, ℕ, Bool, true, not, pos, length, IsTrue, IfSome};
+ghost use Rattle.std.specs.Prelude.{◌≡◌, ◌==◌, ◌&&◌, ◌⊎◌, ◌↔◌, ◌<◌, ◌≤◌, ◌^◌, ◌++◌, List, ℕ, Bool, true, not, pos, length, IsTrue, IfSome, Ok};
 ghost use Rattle.quic_frame_fields.specs.Numbers.{AreNumeric, shortest_varints};
 ghost use Rattle.quic_frame_fields.specs.Putting.{Puts};
 ghost use Rattle.quic_frame_fields.specs.Shortest.{shortest_frame, stream_header};
@@ -38,6 +38,22 @@ fn has_header(words: &CFrame, last: bool) -> bool
     }
 }
 
+// Writes at most five numbers in their shortest encodings at the front, where there is room for five of the longest, and
+// returns how many bytes they have.
+#[inline(always)]
+pub(crate) fn put_in_place(dest: &mut [u8], numbers: &[u64]) -> usize
+    requires few { length numbers.now ≤ 5 }
+    requires numeric { AreNumeric numbers.now }
+    requires room { 40 ≤ length dest.old }
+    ensures { Puts (Ok result) (shortest_varints numbers.now) dest.old dest.new }
+{
+    let mut at = 0;
+    for number in numbers {
+        at = store(dest, at, *number);
+    }
+    at
+}
+
 // Writes at most five numbers in their shortest encodings at the front. If there is room for five of the longest, they
 // are written in place one by one; otherwise they are put together first, and then the room is tested.
 #[inline(always)]
@@ -49,11 +65,7 @@ fn put_numbers(dest: &mut [u8], numbers: &[u64]) -> Result<usize, usize>
     if dest.len() < 40 {
         return write_into::numbers(dest, numbers);
     }
-    let mut at = 0;
-    for number in numbers {
-        at = store(dest, at, *number);
-    }
-    Ok(at)
+    Ok(put_in_place(dest, numbers))
 }
 
 // Stores the header of a STREAM at the front, with the length of its data if that is given.

@@ -21,5 +21,6 @@ mod show;
 pub mod walks;
 mod words;
 mod write;
+mod write_numbers;
 
 pub use words::{CFrame, CFrameIter, CGap, CRange, CRangeIter};

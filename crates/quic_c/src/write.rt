@@ -17,6 +17,7 @@ ghost use Rattle.quic_results.specs.Results.{failed, frame_failure};
 use crate::flags::{breach_of_flags, is_last};
 use crate::show::parts_of;
 use crate::words::CFrame;
+use crate::write_numbers::write_numbers;
 use quic_base::ids::{ConnectionId, Dir, ResetToken, StreamId};
 use quic_base::varint::VarInt;
 use quic_frames::frame::{
@@ -315,22 +316,9 @@ fn described<'a>(words: &CFrame, data: &'a [u8], last: bool) -> Option<Frame<'a>
     Some(frame)
 }
 
-/// Writes the shortest encoding of the frame that the words describe at the front of `out` (RFC 9000, section 19). If
-/// `flags` has 1, it is the last frame of its payload; the other flags are rules, as for the calls that read. Its data
-/// are read from `data` at the place in the words; for a NEW_CONNECTION_ID they are the id, and the sixteen bytes of
-/// its token follow it. If the words describe no data, or a kind that has none, neither `data` nor that place is read;
-/// the words for where the frame begins and ends never are. It returns 0 with how many bytes were written, and bytes
-/// after those don't change; `NoRoom` with how many are needed, if `out` has fewer; `Argument` if the words describe no
-/// frame that can be written, or an ACK: ACKs are written from sets; and what a reader with the same rules reports,
-/// exactly if the frame breaks one of them. `out` changes only with 0, and `written` only with 0 and `NoRoom`.
-#[unsafe(no_mangle)]
-pub extern "C" fn quic_wire_frame_write_(
-    frame: &CFrame,
-    data: &[u8],
-    flags: u32,
-    out: &mut [u8],
-    written: &mut usize,
-) -> i32
+// Writes a frame of any kind. It is a separate function, so that no registers are saved for one that is written quickly.
+#[inline(never)]
+fn write_any(frame: &CFrame, data: &[u8], flags: u32, out: &mut [u8], written: &mut usize) -> i32
     ensures returns { (result ≡ pos 0) ⊎ (result ≡ failed Failure.NoRoom) ⊎ (result ≡ failed Failure.Argument)
         ⊎ BreaksRule frame.now data.now flags result }
     ensures wrote { result ≡ pos 0 → WroteFrame frame.now data.now flags out.old out.new written.new }
@@ -360,6 +348,43 @@ pub extern "C" fn quic_wire_frame_write_(
             Failure::NoRoom.number()
         }
     }
+}
+
+/// Writes the shortest encoding of the frame that the words describe at the front of `out` (RFC 9000, section 19). If
+/// `flags` has 1, it is the last frame of its payload; the other flags are rules, as for the calls that read. Its data
+/// are read from `data` at the place in the words; for a NEW_CONNECTION_ID they are the id, and the sixteen bytes of
+/// its token follow it. If the words describe no data, or a kind that has none, neither `data` nor that place is read;
+/// the words for where the frame begins and ends never are. It returns 0 with how many bytes were written, and bytes
+/// after those don't change; `NoRoom` with how many are needed, if `out` has fewer; `Argument` if the words describe no
+/// frame that can be written, or an ACK: ACKs are written from sets; and what a reader with the same rules reports,
+/// exactly if the frame breaks one of them. `out` changes only with 0, and `written` only with 0 and `NoRoom`.
+#[unsafe(no_mangle)]
+pub extern "C" fn quic_wire_frame_write_(
+    frame: &CFrame,
+    data: &[u8],
+    flags: u32,
+    out: &mut [u8],
+    written: &mut usize,
+) -> i32
+    ensures returns { (result ≡ pos 0) ⊎ (result ≡ failed Failure.NoRoom) ⊎ (result ≡ failed Failure.Argument)
+        ⊎ BreaksRule frame.now data.now flags result }
+    ensures wrote { result ≡ pos 0 → WroteFrame frame.now data.now flags out.old out.new written.new }
+    ensures room { result ≡ failed Failure.NoRoom → FrameNeedsMore frame.now data.now flags out.old written.new }
+    ensures refused { result ≡ failed Failure.Argument → DescribesNoFrame frame.now data.now (is_last flags) }
+    ensures broken { (f : Frame) (b : Breach) → CanWriteFrame frame.now data.now (is_last flags) f
+        → breach_of (rules_in flags) (meaning_of f) ≡ Some b → result ≡ failed (frame_failure (breach_text b)) }
+    ensures same { (result ≡ pos 0) ⊎ (out.new ≡ out.old) }
+    ensures kept { (result ≡ pos 0) ⊎ (result ≡ failed Failure.NoRoom) ⊎ (written.new ≡ written.old) }
+    ensures any_data { LacksData frame.now → (others : List ℕ)
+        → IsAnswer frame.now others flags result out.old out.new written.new }
+{
+    if out.len() >= 40 {
+        if let Some(n) = write_numbers(frame, out) {
+            *written = n;
+            return 0;
+        }
+    }
+    write_any(frame, data, flags, out, written)
 }
 
 /// Words describe one frame at most: all frames that the same words and bytes describe have the same meaning, and so

@@ -1,39 +1,29 @@
-use Rattle.std.proofs.Common.{◌≡◌, ◌∙◌, Bool, List, Some, ap, arith, of_z, rules, subst, sym, to_z, w32, ℕ}
+use Rattle.std.proofs.Common.{◌≡◌, ◌∙◌, List, ℕ, of_z, rules, subst, sym, to_z, w32, arith}
 use Rattle.std.proofs.lemmas.Grind.{common_steps}
-use Rattle.quic_frames.specs.Rules.{breach_text}
-use Rattle.quic_frames.specs.declared.frame.rules.Breach.{Breach}
-use Rattle.quic_results.specs.Results.{failed, frame_failure}
-use Rattle.quic_c.specs.Written.{CanWriteFrame}
-use Rattle.quic_c.proofs.AnyData.{breaks_anyhow, same_breach}
+use Rattle.std.specs.Prelude.{ℤ}
+use Rattle.quic_c.specs.Written.{IsAnswer}
+use Rattle.quic_c.proofs.PlainFrames.{none_broken}
+use Rattle.quic_c.proofs.write.quic_wire_frame_write_.Goals.{then-out-ge40+in_default, else-out-ge40}
 use Rattle.quic_c.proofs.write.quic_wire_frame_write_.Goals as goal
 
-pub returns-in-Err-clause-room : goal.returns-in-Err-clause-room
-returns-in-Err-clause-room c = grind (arith, common_steps)
+pub returns-in-Some-clause-broken : goal.returns-in-Some-clause-broken
+returns-in-Some-clause-broken c = λ f b can breaks.
+    absurd (none_broken c.args.frame.now c.args.data.now c.args.flags c.args.out.now c.write_numbers.new.out c.in-Some.n f b
+    (c.in-Some.ensures.wrote c.args.data.now c.args.flags) can breaks)
 
-pub returns-in-Some-breach_of_flags-clause-broken :
-    goal.returns-in-Some-breach_of_flags-clause-broken
-returns-in-Some-breach_of_flags-clause-broken c = λ f b can breaks.
-    let s = c.number-in-Some-breach_of_flags in
-    let count : to_z w32 (of_z w32 s.result) ≡ s.result = search rules in
-    let here = subst (λ (last : Bool). CanWriteFrame c.args.frame.now c.args.data.now last c.in-Some.frame)
-    c.is_last-last.ensures c.in-Some.ensures.some in
-    let found : c.breach_of_flags.result ≡ Some b =
-    same_breach c.args.frame.now c.args.data.now c.args.flags c.in-Some.frame f c.breach_of_flags.result b here can
-    c.breach_of_flags.ensures breaks in
-    let is : c.in-Some-breach_of_flags.breach ≡ b = cc (found, c.in-Some-breach_of_flags.is) in
-    count ∙ s.ensures ∙ ap failed c.frame_failure.ensures
-    ∙ ap (λ (r : List ℕ). failed (frame_failure r)) c.reason.ensures
-    ∙ ap (λ (x : Breach). failed (frame_failure (breach_text x))) is
+pub returns-clause-broken : goal.returns-clause-broken
+returns-clause-broken c = λ f b can breaks.
+    let count : to_z w32 (of_z w32 c.write_any.result) ≡ c.write_any.result = search rules in
+    count ∙ c.write_any.ensures.broken f b can breaks
 
-pub returns-in-Some-breach_of_flags-clause-any_data :
-    goal.returns-in-Some-breach_of_flags-clause-any_data
-returns-in-Some-breach_of_flags-clause-any_data c = λ lacks others.
-    let s = c.number-in-Some-breach_of_flags in
-    let count : to_z w32 (of_z w32 s.result) ≡ s.result = search rules in
-    let here = subst (λ (last : Bool). CanWriteFrame c.args.frame.now c.args.data.now last c.in-Some.frame)
-    c.is_last-last.ensures c.in-Some.ensures.some in
-    breaks_anyhow c.args.frame.now c.args.data.now others c.args.flags c.in-Some.frame c.in-Some-breach_of_flags.breach _
-    c.args.out.now c.args.out.now c.args.written.now here lacks
-    (sym c.breach_of_flags.ensures ∙ c.in-Some-breach_of_flags.is)
-    (count ∙ s.ensures ∙ ap failed c.frame_failure.ensures
-    ∙ ap (λ (r : List ℕ). failed (frame_failure r)) c.reason.ensures)
+pub returns-clause-any_data : goal.returns-clause-any_data
+returns-clause-any_data c = λ lacks others.
+    let count : to_z w32 (of_z w32 c.write_any.result) ≡ c.write_any.result = search rules in
+    let same : c.if-out-ge40.out ≡ c.args.out.now = elim c.if-out-ge40.branch [
+      | then-out-ge40+in_default w ↦ first_of (search rules, grind (arith, common_steps))
+      | else-out-ge40 w ↦ first_of (search rules, grind (arith, common_steps))
+    ] in
+    subst (λ (r : ℤ). IsAnswer c.args.frame.now others c.args.flags r c.args.out.now c.write_any.new.out c.write_any.new.written)
+    (sym count)
+    (subst (λ (old : List ℕ). IsAnswer c.args.frame.now others c.args.flags c.write_any.result old c.write_any.new.out c.write_any.new.written)
+    same (c.write_any.ensures.any_data lacks others))

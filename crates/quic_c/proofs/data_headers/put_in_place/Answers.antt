@@ -5,7 +5,7 @@ use Rattle.quic_frame_fields.specs.Numbers.{shortest_varints}
 use Rattle.quic_frame_fields.proofs.Numbers.{all_short-at, numeric_at}
 use Rattle.quic_frame_fields.proofs.Putting.{stores_more}
 use Rattle.quic_base.proofs.PublicLaws.{size_small}
-use Rattle.quic_c.proofs.data_headers.put_numbers.Goals as goal
+use Rattle.quic_c.proofs.data_headers.put_in_place.Goals as goal
 
 pub store-at-requires-clause-numeric : goal.store-at-requires-clause-numeric
 store-at-requires-clause-numeric c =

@@ -1,7 +1,7 @@
 use Rattle.std.proofs.Common.{◌≡◌, ◌*◌, ◌≤◌, length, take}
 use Rattle.quic_frame_fields.specs.Numbers.{shortest_varints}
 use Rattle.quic_frame_fields.specs.Putting.{Stores}
-use Rattle.quic_c.proofs.data_headers.put_numbers.Given as goal
+use Rattle.quic_c.proofs.data_headers.put_in_place.Given as goal
 
 abbrev pub invariant-loop-number : goal.invariant-loop-number
 invariant-loop-number l = record {

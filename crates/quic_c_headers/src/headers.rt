@@ -149,9 +149,9 @@ pub(crate) fn show(
     }
 }
 
-// Stores a long header in `head`. It is a separate function, so that no registers are saved for a short header.
-#[inline(never)]
-fn show_long(packet: &[u8], first: u8, versions: &[u32], flags: u32, head: &mut CHeader) -> i64
+// Stores a long header in `head`.
+#[inline(always)]
+fn show_any(packet: &[u8], first: u8, versions: &[u32], flags: u32, head: &mut CHeader) -> i64
     requires whole { length packet.now < 2 ^ 32 }
     requires begins { packet.now ≡ first ∷ drop 1 packet.now }
     requires long { 128 ≤ first }
@@ -163,7 +163,93 @@ fn show_long(packet: &[u8], first: u8, versions: &[u32], flags: u32, head: &mut 
     returned(show(packet, read_long(packet, first, versions), flags, head))
 }
 
+// The same as a separate function, for headers that are rare: those of a Retry packet in version 1, of other versions,
+// and of short packets.
+#[inline(never)]
+fn show_rare(packet: &[u8], first: u8, versions: &[u32], flags: u32, head: &mut CHeader) -> i64
+    requires whole { length packet.now < 2 ^ 32 }
+    requires begins { packet.now ≡ first ∷ drop 1 packet.now }
+    requires long { 128 ≤ first }
+    ensures reported { (id_len : ℕ) → IsReported flags id_len versions.now packet.now head.old result head.new }
+    ensures length { result ≢ failed Failure.Length }
+    ensures fixed { result ≢ failed Failure.PacketFixedBit }
+{
+    show_any(packet, first, versions, flags, head)
+}
+
+// Whether a long header has version 1, which is the first of these, ids of at most 20 bytes, and at least eight bytes
+// after them, whatever their lengths are. The compiler frees the copies of `show_any` for such headers of most tests.
+#[inline(always)]
+fn is_usual(packet: &[u8], versions: &[u32]) -> bool {
+    if packet.len() < 55 {
+        return false;
+    }
+    match (version_of(packet), versions.first()) {
+        (Some(1), Some(1)) => {}
+        _ => return false,
+    }
+    let dst_len = packet[5];
+    dst_len <= 20 && packet[6 + usize::from(dst_len)] <= 20
+}
+
+// Stores a long header whose first byte is that of an Initial packet in version 1. It is a separate function, as the
+// next one is, so that it needs few registers, and none are saved for a short header.
+#[inline(never)]
+fn show_initial(packet: &[u8], first: u8, versions: &[u32], flags: u32, head: &mut CHeader) -> i64
+    requires whole { length packet.now < 2 ^ 32 }
+    requires begins { packet.now ≡ first ∷ drop 1 packet.now }
+    requires long { 128 ≤ first }
+    ensures reported { (id_len : ℕ) → IsReported flags id_len versions.now packet.now head.old result head.new }
+    ensures length { result ≢ failed Failure.Length }
+    ensures fixed { result ≢ failed Failure.PacketFixedBit }
+{
+    if is_usual(packet, versions) {
+        if let HeaderKind::Initial = HeaderKind::of_long(first, 1) {
+            return show_any(packet, first, versions, flags, head);
+        }
+    }
+    show_rare(packet, first, versions, flags, head)
+}
+
+// Stores a long header whose first byte is that of a Handshake or 0-RTT packet in version 1.
+#[inline(never)]
+fn show_numbered(packet: &[u8], first: u8, versions: &[u32], flags: u32, head: &mut CHeader) -> i64
+    requires whole { length packet.now < 2 ^ 32 }
+    requires begins { packet.now ≡ first ∷ drop 1 packet.now }
+    requires long { 128 ≤ first }
+    ensures reported { (id_len : ℕ) → IsReported flags id_len versions.now packet.now head.old result head.new }
+    ensures length { result ≢ failed Failure.Length }
+    ensures fixed { result ≢ failed Failure.PacketFixedBit }
+{
+    if is_usual(packet, versions) {
+        match HeaderKind::of_long(first, 1) {
+            HeaderKind::Handshake => return show_any(packet, first, versions, flags, head),
+            HeaderKind::ZeroRtt => return show_any(packet, first, versions, flags, head),
+            _ => {}
+        }
+    }
+    show_rare(packet, first, versions, flags, head)
+}
+
+// Stores a long header, by the type that its first byte has in version 1.
+#[inline(always)]
+fn show_long(packet: &[u8], first: u8, versions: &[u32], flags: u32, head: &mut CHeader) -> i64
+    requires whole { length packet.now < 2 ^ 32 }
+    requires begins { packet.now ≡ first ∷ drop 1 packet.now }
+    requires long { 128 ≤ first }
+    ensures reported { (id_len : ℕ) → IsReported flags id_len versions.now packet.now head.old result head.new }
+    ensures length { result ≢ failed Failure.Length }
+    ensures fixed { result ≢ failed Failure.PacketFixedBit }
+{
+    match first / 16 % 4 {
+        0 => show_initial(packet, first, versions, flags, head),
+        3 => show_rare(packet, first, versions, flags, head),
+        _ => show_numbered(packet, first, versions, flags, head),
+    }
+}
+
 // The four bytes after the first one as a number.
+#[inline(always)]
 fn version_of(packet: &[u8]) -> Option<u32>
     ensures { MatchOption result (length packet.now < 5)
         (λ version. (5 ≤ length packet.now) × (version ≡ num (take 4 (drop 1 packet.now)))) }

@@ -1,0 +1,21 @@
+-- What was read is reported.
+use Rattle.std.proofs.Common.{◌≡◌, ◌∙◌, rules, to_z, of_z, w64}
+use Rattle.quic_c_headers.proofs.headers.show_numbered.Goals as goal
+
+pub returns-in-Handshake-clause-reported : goal.returns-in-Handshake-clause-reported
+returns-in-Handshake-clause-reported c = λ id_len.
+    let r = c.show_any.ensures.reported id_len in
+    let count : to_z w64 (of_z w64 c.show_any.result) ≡ c.show_any.result = search rules in
+    (r.0, count ∙ r.1, r.2)
+
+pub returns-in-ZeroRtt-clause-reported : goal.returns-in-ZeroRtt-clause-reported
+returns-in-ZeroRtt-clause-reported c = λ id_len.
+    let r = c.show_any-in-ZeroRtt.ensures.reported id_len in
+    let count : to_z w64 (of_z w64 c.show_any-in-ZeroRtt.result) ≡ c.show_any-in-ZeroRtt.result = search rules in
+    (r.0, count ∙ r.1, r.2)
+
+pub returns-clause-reported : goal.returns-clause-reported
+returns-clause-reported c = λ id_len.
+    let r = c.show_rare.ensures.reported id_len in
+    let count : to_z w64 (of_z w64 c.show_rare.result) ≡ c.show_rare.result = search rules in
+    (r.0, count ∙ r.1, r.2)

@@ -195,7 +195,7 @@ static u64 on_frames(const char *name, int reads) {
             sum += turn + (u64)end + frame.kind + frame.datalen;
         } else {
             quic_wire_frame filled = *wanted;
-            filled.numbers[1] += turn & 1;
+            filled.begin = turn;
             sum += (u64)quic_wire_frame_write(&filled, dest, sizeof dest, flags, source, sizeof source, &len) + len;
         }
         counted++;

@@ -36,6 +36,7 @@ fn are_varints(numbers: [u64; 5]) -> bool
 }
 
 // Whether a frame of the kind can have these numbers and this length.
+#[inline(always)]
 pub(crate) fn is_sound(kind: u16, numbers: [u64; 5], len: usize) -> bool
     ensures { IsTrue result ↔ IsSound kind numbers len }
 {
@@ -209,6 +210,7 @@ fn new_connection_id<'a>(sequence: u64, retire: u64, id: &[u8], token: &[u8]) ->
 
 // The frame of a kind with these words, of which it takes those that the kind has; `None` for an unknown kind and for
 // ACK.
+#[inline(always)]
 pub(crate) fn frame_of<'a>(
     kind: u16,
     is_fin: bool,
@@ -262,6 +264,7 @@ fn token_room(kind: u16) -> usize
 
 // The data at the place in the words, and the reset token after them, which only a NEW_CONNECTION_ID has. If there are
 // neither, `data` isn't read.
+#[inline(always)]
 pub(crate) fn data_and_token<'a>(words: &CFrame, data: &'a [u8]) -> Option<(&'a [u8], &'a [u8])>
     ensures some { IfSome result (λ p. AreDataAndToken words.now data.now p.0.now p.1.now) }
     ensures none { IsNone result → LacksDataOrToken words.now data.now }
@@ -282,6 +285,7 @@ pub(crate) fn data_and_token<'a>(words: &CFrame, data: &'a [u8]) -> Option<(&'a 
 }
 
 // Whether the frame has the flags, the numbers and the length in the words.
+#[inline(always)]
 #[tactic(auto, using(crate::proofs::Shapes::len_is))]
 pub(crate) fn is_shown(frame: &Frame<'_>, words: &CFrame) -> bool
     requires { IsNoAck frame.now }

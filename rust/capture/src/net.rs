@@ -1,5 +1,5 @@
-//! Frames of links down to UDP: Ethernet with VLANs and MPLS, raw IP, BSD's loopback, Linux's cooked captures; IPv4, and
-//! IPv6 with extension headers.
+//! Frames of links down to UDP: Ethernet with VLANs and MPLS, raw IP, BSD's loopback, Linux's cooked captures; IPv4,
+//! and IPv6 with extension headers.
 
 use std::net::{IpAddr, Ipv4Addr, Ipv6Addr};
 

@@ -2,8 +2,11 @@
 //! the capture's own stays the same. The others are made of datagrams that came before, so packets in them may be
 //! authentic.
 mod common;
+#[path = "common/made.rs"]
+mod made;
 
-use common::{Kept, Plain, Random, Row, Rows, Sealer, datagrams, follow, opened};
+use common::{KEYS, Kept, Plain, Random, Row, Rows, Sealer, datagrams, follow_with, opened};
+use made::{Client, Initial, Made, Server, Short, ZeroRtt, crypto};
 use quic_wire::packet::VERSION_2;
 
 const FORGED: u64 = 1000;
@@ -14,9 +17,13 @@ fn own(rows: Rows) -> Vec<Row> {
 
 // Puts, after each datagram in turn, what is made of those before.
 fn with_forged(make: impl Fn(&Kept, u64) -> Option<Kept>) {
-    let all = datagrams();
-    let expected = own(follow(&all));
-    assert_eq!(expected.len(), 16);
+    with_forged_in(KEYS, &datagrams(), 16, make);
+}
+
+fn with_forged_in(keys: &[u8], all: &[Kept], packets: usize, make: impl Fn(&Kept, u64) -> Option<Kept>) {
+    let follow = |all: &[Kept]| follow_with(keys, all).1;
+    let expected = own(follow(all));
+    assert_eq!(expected.len(), packets);
     for round in 0..all.len() {
         let (before, after) = all.split_at(round + 1);
         let forged = before.iter().zip(0..).filter_map(|(kept, i)| make(kept, round as u64 * 100 + i));
@@ -111,4 +118,46 @@ fn offloaded() {
         bytes.resize_with(4000, || random.byte());
         Some(Kept { bytes, ..kept.clone() })
     });
+}
+
+// A connection with a Retry, 0-RTT packets before the ClientHello, another address, a key update, an acknowledgment and
+// segments.
+fn made(mut made: Made) -> (Made, Vec<Kept>) {
+    let hello = crypto(0, &made.client_hello());
+    let mut all = vec![made.send(Client, ZeroRtt, &[1]), made.send(Client, Initial, &hello)];
+    all.extend([made.retry(b"retried"), made.send(Client, Initial, &hello)]);
+    all.extend(made.handshake_of_server());
+    all.push(made.send(Client, Short, &[1]));
+    // Without ids, addresses must stay.
+    if !made.ids[1].is_empty() {
+        made.addresses[0] = ([192, 0, 2, 1], 5).into();
+    }
+    made.updates[0] += 1;
+    all.push(made.send(Client, Short, &[1]));
+    let packets: Vec<_> = [1200, 1200, 300].iter().flat_map(|len| made.packet(Server, Short, &vec![0; *len])).collect();
+    all.push(made.datagram(Server, packets));
+    all.push(made.send(Client, Short, &[2, 2, 0, 0, 2]));
+    let all = all.into_iter().zip(1..).map(|(kept, record)| Kept { record, ..kept }).collect();
+    (made, all)
+}
+
+#[test]
+fn made_connections() {
+    let empty = Made { ids: [vec![], vec![]], ..Made::new(1) };
+    let one_sided = Made { ids: [vec![], b"server".to_vec()], version: VERSION_2, ..Made::new(1) };
+    for (made, all) in [Made::new(1), one_sided, empty].map(made) {
+        let keys = made.key_log();
+        for place in [1, 7] {
+            with_forged_in(keys.as_bytes(), &all, 13, |kept, seed| {
+                let mut bytes = kept.bytes.clone();
+                *bytes.get_mut(place)? ^= 1 << (seed % 8);
+                *bytes.last_mut()? ^= 1;
+                Some(Kept { bytes, ..kept.clone() })
+            });
+        }
+        // The same packets again, from elsewhere.
+        with_forged_in(keys.as_bytes(), &all, 13, |kept, seed| {
+            Some(Kept { from: ([10, 9, 9, 9], seed as u16).into(), ..kept.clone() })
+        });
+    }
 }

@@ -195,10 +195,16 @@ pub fn opened() -> Vec<Plain> {
     follow(&datagrams()).plain
 }
 
-/// Seals a packet with keys.
-pub fn seal_with(keys: &PacketKeys, header: &Header<'_>, number: u64, payload: &[u8]) -> Vec<u8> {
-    let mut packet = Vec::new();
-    let written = header.encode(&mut packet).unwrap();
+/// Seals a packet with keys. Its fixed bit may be clear.
+pub fn seal_with(
+    keys: &PacketKeys,
+    header: &Header<'_>,
+    number: u64,
+    payload: &[u8],
+    clear_fixed_bit: bool,
+) -> Vec<u8> {
+    let mut packet = vec![0; header.encoded_len().unwrap()];
+    let written = header.encode_with(clear_fixed_bit, &mut packet).unwrap();
     packet.resize(written.header_len + payload.len() + 16, 0);
     written.set_len(&mut packet).unwrap();
     packet.truncate(written.header_len);
@@ -244,7 +250,7 @@ impl Sealer {
 
     pub fn seal(&self, plain: &Plain) -> Vec<u8> {
         let keys = self.keys(plain.kind, plain.sender);
-        seal_with(&keys, &plain.header(self.version), plain.number, &plain.payload)
+        seal_with(&keys, &plain.header(self.version), plain.number, &plain.payload, false)
     }
 }
 

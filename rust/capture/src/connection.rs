@@ -1,0 +1,363 @@
+//! What the packets of a connection have said. Only what was authenticated changes it: an [`Opened`] packet, a Retry or
+//! a stateless reset.
+
+use crate::capture::Datagram;
+use crate::ciphers::Suite;
+use crate::end::{Closed, End, Outcome, Sent};
+use crate::keylog::{KeyLog, Label};
+use crate::keyring::{Candidate, Keyring, Known, Offloaded};
+use crate::opened::{Opened, Reset, Retried, id_of, space_and_type};
+use crate::sink::{Ended, Event, Unopened};
+use crate::tls::Said;
+use quic_wire::datagram::{HeaderKind, PacketRef};
+use quic_wire::fields;
+use quic_wire::frame::{Close, Frame, Iter, Rules};
+use quic_wire::ids::SpaceId;
+use quic_wire::permitted::permits;
+use quic_wire::transport_parameters::{ReadOptions, TransportParameters};
+use quic_wire::{ConnectionId, Side};
+
+// How long a connection that is closed, and one that isn't, may say nothing until it has ended, in nanoseconds.
+const SECOND: u64 = 1_000_000_000;
+const CLOSING: u64 = 10 * SECOND;
+const SILENCE: u64 = 600 * SECOND;
+
+/// What events go to.
+pub(crate) type Tell<'t> = dyn FnMut(&Connection, Event<'_>) + 't;
+
+/// A connection.
+pub struct Connection {
+    number: usize,
+    ends: [End; 2],
+    version: u32,
+    first_dcid: ConnectionId,
+    retry_id: Option<ConnectionId>,
+    random: Option<[u8; 32]>,
+    suite: Option<u16>,
+    reset: Option<Side>,
+    begun: u64,
+    last: u64,
+    keys: Keyring,
+}
+
+impl Connection {
+    /// A connection begins with a client's Initial packet, which has keys of its own destination id.
+    pub(crate) fn begin<'a>(
+        number: usize,
+        time: u64,
+        packet: &PacketRef<'a>,
+        keylog: &KeyLog,
+        buffer: &'a mut Vec<u8>,
+    ) -> Option<(Connection, Opened<'a>)> {
+        if packet.header().kind() != HeaderKind::Initial {
+            return None;
+        }
+        let first_dcid = id_of(packet.dst_cid());
+        let mut connection = Connection {
+            number,
+            ends: Default::default(),
+            version: packet.header().version(),
+            first_dcid,
+            retry_id: None,
+            random: None,
+            suite: None,
+            reset: None,
+            begun: time,
+            last: time,
+            keys: Keyring::new(first_dcid),
+        };
+        let opened = connection.open(packet, Side::Client, keylog, buffer)?;
+        Some((connection, opened))
+    }
+
+    /// Its number among the connections of the capture, from 0 on, in the order in which they began.
+    pub fn number(&self) -> usize {
+        self.number
+    }
+
+    /// What is known of a side.
+    pub fn end(&self, side: Side) -> &End {
+        &self.ends[side as usize]
+    }
+
+    /// The version of its last packet with a long header.
+    pub fn version(&self) -> u32 {
+        self.version
+    }
+
+    /// The id to which the client sent its first Initial packet.
+    pub fn first_dcid(&self) -> &ConnectionId {
+        &self.first_dcid
+    }
+
+    /// The id that a Retry gave.
+    pub fn retry_id(&self) -> Option<&ConnectionId> {
+        self.retry_id.as_ref()
+    }
+
+    /// The random bytes of the ClientHello, by which key logs name it.
+    pub fn random(&self) -> Option<&[u8; 32]> {
+        self.random.as_ref()
+    }
+
+    /// The number of the cipher suite in TLS, as the server chose it.
+    pub fn suite(&self) -> Option<u16> {
+        self.suite
+    }
+
+    /// When its first and its last packet were captured, in nanoseconds since 1970.
+    pub fn times(&self) -> (u64, u64) {
+        (self.begun, self.last)
+    }
+
+    /// How it ended, if it has at a time: it was closed or reset, or nothing came for too long.
+    pub fn ended(&self, now: u64) -> Option<Ended> {
+        let silence = now.saturating_sub(self.last);
+        let limit = self.idle_timeout().map_or(SILENCE, |idle| (2 * idle).saturating_add(CLOSING));
+        let is_closed = self.ends.iter().any(|end| end.closed.is_some());
+        match self.reset {
+            Some(_) if silence > CLOSING => Some(Ended::Reset),
+            _ if is_closed && silence > CLOSING => Some(Ended::Closed),
+            _ if silence > limit => Some(Ended::Silent),
+            _ => None,
+        }
+    }
+
+    // The smaller of what both sides said, in nanoseconds; 0 means none (RFC 9000, section 10.1).
+    fn idle_timeout(&self) -> Option<u64> {
+        let said = |end: &End| Some(end.parameters?.max_idle_timeout.into_inner()).filter(|millis| *millis > 0);
+        let millis = self.ends.iter().filter_map(said).min()?;
+        Some(millis.saturating_mul(1_000_000).min(u64::MAX / 4))
+    }
+
+    /// Opens a packet as one of a sender.
+    pub(crate) fn open<'a>(
+        &mut self,
+        packet: &PacketRef<'a>,
+        sender: Side,
+        keylog: &KeyLog,
+        buffer: &'a mut Vec<u8>,
+    ) -> Option<Opened<'a>> {
+        let (space, _) = space_and_type(packet.header().kind())?;
+        let expected = self.end(sender).expected(space);
+        let Connection { random, suite, version, keys, .. } = self;
+        let known = Known { random: random.as_ref(), suite: *suite, version: *version, keylog };
+        keys.open(Candidate { packet: *packet, sender, expected }, &known, buffer)
+    }
+
+    /// As [`Keyring::segment_len`].
+    pub(crate) fn segment_len(
+        &mut self,
+        datagram: Offloaded<'_>,
+        keylog: &KeyLog,
+        buffer: &mut Vec<u8>,
+    ) -> Option<usize> {
+        let expected = self.end(datagram.sender).expected(SpaceId::Data);
+        let Connection { random, suite, version, keys, .. } = self;
+        let known = Known { random: random.as_ref(), suite: *suite, version: *version, keylog };
+        keys.segment_len(datagram, expected, &known, buffer)
+    }
+
+    /// Why a packet isn't opened.
+    pub(crate) fn why(&self, packet: &PacketRef<'_>, sender: Side, keylog: &KeyLog) -> Unopened {
+        let label = match (packet.header().kind(), sender) {
+            (HeaderKind::ZeroRtt, _) => Label::ClientEarly,
+            (HeaderKind::Handshake, Side::Client) => Label::ClientHandshake,
+            (HeaderKind::Handshake, Side::Server) => Label::ServerHandshake,
+            (HeaderKind::Short, Side::Client) => Label::ClientTraffic,
+            (HeaderKind::Short, Side::Server) => Label::ServerTraffic,
+            _ => return Unopened::WrongTag,
+        };
+        match self.random.map(|random| keylog.secret(&random, label)) {
+            None => Unopened::NoClientHello,
+            Some(None) => Unopened::NoSecret,
+            _ if self.suite.is_some_and(|number| Suite::of(number).is_none()) => Unopened::UnknownSuite,
+            _ => Unopened::WrongTag,
+        }
+    }
+
+    /// Whether a Retry can still come: nothing else of the server was opened (RFC 9000, section 17.2.5.2).
+    pub(crate) fn may_retry(&self) -> bool {
+        self.retry_id.is_none() && self.end(Side::Server).scid.is_none()
+    }
+
+    /// Takes a Retry.
+    pub(crate) fn take_retry(&mut self, retried: &Retried, time: u64) {
+        self.retry_id = Some(retried.id());
+        self.last = self.last.max(time);
+        self.keys.retry(retried);
+    }
+
+    /// Takes a stateless reset.
+    pub(crate) fn take_reset(&mut self, reset: &Reset, time: u64) {
+        self.reset = self.reset.or(Some(reset.sender()));
+        self.last = self.last.max(time);
+    }
+
+    /// Takes an opened packet, and says what is learned from it. The connection is as it was before each event. Returns
+    /// whether the packet's number is new: otherwise anyone may have sent it again, and nothing changes.
+    pub(crate) fn take(
+        &mut self,
+        opened: &Opened<'_>,
+        datagram: &Datagram<'_>,
+        index: u64,
+        tell: &mut Tell<'_>,
+    ) -> bool {
+        let (sender, space, number) = (opened.sender(), opened.space(), opened.number());
+        let Datagram { record, time, .. } = *datagram;
+        let sent = Sent { space, number, record, time, index, tag: opened.tag() };
+        if self.end(sender).was_sent(space, number) {
+            let before = self.end(sender).sent(space, number).copied();
+            tell(self, Event::Again(opened, before.as_ref()));
+            return false;
+        }
+        tell(self, Event::Packet(opened));
+        self.last = self.last.max(time);
+        self.take_header(opened, sent, tell);
+        if self.take_payload(opened, &sent, tell) {
+            self.ends[sender as usize].add_waiting(sent);
+        }
+        tell(self, Event::Done(opened));
+        true
+    }
+
+    fn take_header(&mut self, opened: &Opened<'_>, sent: Sent, tell: &mut Tell<'_>) {
+        let (packet, sender) = (opened.packet(), opened.sender());
+        let end = &mut self.ends[sender as usize];
+        end.add_sent(sent);
+        if opened.kind() == HeaderKind::Short {
+            return;
+        }
+        end.has_handshake |= opened.kind() == HeaderKind::Handshake;
+        if end.scid.is_none() {
+            let id = id_of(packet.src_cid());
+            end.scid = Some(id);
+            end.add_id(0, id, None);
+            tell(self, Event::NewId(id, sender));
+        }
+        // The server may answer in another version, and the client's first one may come again after that.
+        let is_first = self.end(Side::Server).scid.is_none();
+        if is_first || sender == Side::Server || opened.kind() == HeaderKind::Handshake {
+            self.version = packet.header().version();
+        }
+    }
+
+    // Takes the frames, and returns whether they elicit an acknowledgment.
+    fn take_payload(&mut self, opened: &Opened<'_>, sent: &Sent, tell: &mut Tell<'_>) -> bool {
+        let has_frequency = |end: &End| end.parameters.as_ref().is_none_or(|list| list.min_ack_delay.is_some());
+        let rules = Rules { no_ack_frequency: !has_frequency(self.end(!opened.sender())), ..Rules::RFC };
+        let payload = opened.payload();
+        let Ok(mut frames) = Iter::with_rules(payload, rules) else {
+            tell(self, Event::Empty(opened));
+            return false;
+        };
+        let (mut elicits, mut padding) = (false, None);
+        loop {
+            let begin = frames.offset();
+            let next = frames.next();
+            if let Some(Ok(Frame::Padding)) = next {
+                padding.get_or_insert(begin);
+                continue;
+            }
+            if let Some(from) = padding.take() {
+                let (frame, range, permitted) = (&Frame::Padding, from..begin, Ok(()));
+                tell(self, Event::Frame { opened, frame, range, permitted });
+            }
+            match next {
+                None => return elicits,
+                Some(Err(error)) => {
+                    let fault = fields::of_frame(&payload[begin..], rules).fault().copied();
+                    tell(self, Event::Invalid { opened, error, offset: begin, fault });
+                }
+                Some(Ok(frame)) => {
+                    elicits |= frame.is_ack_eliciting();
+                    let permitted = permits(&frame, opened.packet_type(), opened.sender(), rules);
+                    let range = begin..frames.offset();
+                    tell(self, Event::Frame { opened, frame: &frame, range, permitted });
+                    if permitted.is_ok() {
+                        self.take_frame(opened, &frame, sent, tell);
+                    }
+                }
+            }
+        }
+    }
+
+    // Takes a frame that its sender may send in this packet.
+    fn take_frame(&mut self, opened: &Opened<'_>, frame: &Frame<'_>, sent: &Sent, tell: &mut Tell<'_>) {
+        let (sender, space) = (opened.sender(), opened.space());
+        match frame {
+            Frame::Ack(ack) => {
+                for outcome in self.ends[!sender as usize].take_ack(space, ack) {
+                    tell(
+                        self,
+                        match outcome {
+                            Outcome::Acknowledged { sent, was_lost } => Event::Acknowledged { sent, was_lost },
+                            Outcome::Lost(sent) => Event::Lost(sent),
+                        },
+                    );
+                }
+            }
+            Frame::Crypto(crypto) => {
+                let streams = &mut self.ends[sender as usize].crypto;
+                let said = streams.get_mut(space as usize).and_then(|one| one.take(crypto.offset, crypto.bytes));
+                if let Some(said) = said {
+                    self.take_message(opened, said, tell);
+                }
+            }
+            Frame::NewConnectionId(new) => {
+                tell(self, Event::NewId(new.id, sender));
+                self.ends[sender as usize].add_id(new.sequence, new.id, Some(new.reset_token));
+            }
+            Frame::Close(close) => self.take_close(close, sent, sender),
+            _ => {}
+        }
+    }
+
+    // A close in an Initial packet, which anyone on the path can make, doesn't count once Handshake packets came.
+    fn take_close(&mut self, close: &Close<'_>, sent: &Sent, sender: Side) {
+        let end = &mut self.ends[sender as usize];
+        if end.closed.is_none() && (sent.space != SpaceId::Initial || !end.has_handshake) {
+            end.closed = Some(Closed { sent: *sent, by_application: matches!(close, Close::Application(_)) });
+        }
+    }
+
+    fn take_message(&mut self, opened: &Opened<'_>, said: Said, tell: &mut Tell<'_>) {
+        let (list, sender) = match (said, opened.sender(), opened.space()) {
+            (Said::ClientHello { random, parameters }, Side::Client, SpaceId::Initial) => {
+                self.random = Some(random);
+                (parameters, Side::Client)
+            }
+            (Said::ServerHello { suite }, Side::Server, SpaceId::Initial) => {
+                self.suite = Some(suite);
+                (None, Side::Server)
+            }
+            (Said::EncryptedExtensions { parameters }, Side::Server, SpaceId::Handshake) => (parameters, Side::Server),
+            _ => return,
+        };
+        if let Some(list) = list {
+            self.take_parameters(opened, sender, &list, tell);
+        }
+    }
+
+    // Parameters that RFC 9000 rejects count if quinn-proto accepts them.
+    fn take_parameters(&mut self, opened: &Opened<'_>, sender: Side, list: &[u8], tell: &mut Tell<'_>) {
+        let parameters = match TransportParameters::read_list(!sender, ReadOptions::RFC, list) {
+            Ok(parameters) => parameters,
+            Err(refusal) => {
+                tell(self, Event::Parameters { opened, list, read: Err(&refusal) });
+                let Ok(parameters) = TransportParameters::read_list(!sender, ReadOptions::QUINN, list) else { return };
+                parameters
+            }
+        };
+        tell(self, Event::Parameters { opened, list, read: Ok(&parameters) });
+        let end = &mut self.ends[sender as usize];
+        end.parameters = Some(parameters);
+        if let Some(token) = parameters.stateless_reset_token {
+            end.add_token(token);
+        }
+        if let Some(address) = parameters.preferred_address {
+            end.add_id(1, address.connection_id, Some(address.stateless_reset_token));
+            tell(self, Event::NewId(address.connection_id, sender));
+        }
+    }
+}

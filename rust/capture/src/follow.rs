@@ -1,0 +1,413 @@
+//! Follows the connections of a capture: finds whose each datagram may be, by ids and addresses, and opens its packets.
+
+use crate::capture::Datagram;
+use crate::connection::Connection;
+use crate::held::{Held, Waiting};
+use crate::index::{Index, Owner};
+use crate::keylog::KeyLog;
+use crate::keyring::{CHECKS, MOST_USUAL, Offloaded};
+use crate::keys::VERSIONS;
+use crate::opened::{Reset, Retried, id_of};
+use crate::sink::{Ended, Event, Rest, Sink, Unopened};
+use quic_wire::datagram::{HeaderError, HeaderKind, PacketRef, Packets};
+use quic_wire::packet::LONG_HEADER_FORM;
+use quic_wire::{ConnectionId, Side};
+use std::collections::BTreeMap;
+
+/// How many connections are followed at once. For a further one others are forgotten, first those without a Handshake
+/// packet that was opened, then those that said nothing for the longest time.
+pub const MOST_CONNECTIONS: usize = 1 << 15;
+
+// After how many datagrams connections that ended are looked for, at least.
+const SWEEP: usize = 1 << 10;
+
+/// What was counted besides.
+#[derive(Clone, Debug, Default, PartialEq, Eq)]
+#[non_exhaustive]
+pub struct Counts {
+    /// Datagrams.
+    pub datagrams: u64,
+    /// Packets that were opened.
+    pub opened: u64,
+    /// Packets that weren't, by the reason.
+    pub unopened: BTreeMap<Unopened, u64>,
+    /// Ends of datagrams that are no packets, by [`Rest::kind`].
+    pub rests: BTreeMap<&'static str, u64>,
+    /// Connections that began.
+    pub connections: usize,
+    /// Datagrams that were cut apart, as a network card does with those of Linux that are longer than usual.
+    pub offloaded: u64,
+    /// Into how many.
+    pub segments: u64,
+}
+
+/// The connections of a capture.
+///
+/// ```
+/// use quic_wire_capture::capture::Datagram;
+/// use quic_wire_capture::follow::Follower;
+/// use quic_wire_capture::sink::Unopened;
+/// let mut follower = Follower::default();
+/// let (from, to) = ("10.0.0.1:4433".parse().unwrap(), "10.0.0.2:443".parse().unwrap());
+/// let datagram = Datagram { record: 1, time: 0, from, to, bytes: &[0x40; 40], missing: 0 };
+/// follower.take(&datagram, &mut ());
+/// assert_eq!(follower.counts().unopened[&Unopened::NoConnection], 1);
+/// ```
+#[derive(Default)]
+pub struct Follower {
+    /// The secrets. It may grow at any time.
+    pub keylog: KeyLog,
+    connections: BTreeMap<usize, Box<Connection>>,
+    index: Index,
+    waiting: Waiting,
+    counts: Counts,
+    packets: u64,
+    since_sweep: usize,
+    buffer: Vec<u8>,
+}
+
+/// A datagram's packets and what is known of them so far.
+struct Course {
+    owners: Vec<Owner>,
+    first_id: Option<ConnectionId>,
+}
+
+impl Follower {
+    /// The connections that aren't forgotten, in the order in which they began.
+    pub fn connections(&self) -> impl Iterator<Item = &Connection> {
+        self.connections.values().map(Box::as_ref)
+    }
+
+    /// What was counted.
+    pub fn counts(&self) -> &Counts {
+        &self.counts
+    }
+
+    /// Takes the next datagram.
+    pub fn take(&mut self, datagram: &Datagram<'_>, sink: &mut dyn Sink) {
+        let Some(first) = datagram.bytes.first() else { return };
+        self.counts.datagrams += 1;
+        self.sweep(datagram.time, sink);
+        let (owners, id_len) = self.owners(datagram, *first);
+        let size = self.segment_len(datagram, &owners, id_len).unwrap_or(datagram.bytes.len());
+        for segment in datagram.bytes.chunks(size) {
+            let course = Course { owners: owners.clone(), first_id: None };
+            self.segment(&Datagram { bytes: segment, ..*datagram }, course, id_len, sink);
+        }
+    }
+
+    /// Ends the capture: 0-RTT packets that still wait are given up.
+    pub fn finish(&mut self, sink: &mut dyn Sink) {
+        while let Some(held) = self.waiting.pop() {
+            self.give_up(&held, sink);
+        }
+    }
+
+    // Whose a datagram may be, and how many bytes the ids of its short headers have.
+    fn owners(&self, datagram: &Datagram<'_>, first: u8) -> (Vec<Owner>, usize) {
+        let is_long = first & LONG_HEADER_FORM != 0;
+        let (mut owners, id_len) = if is_long {
+            let id = quic_wire::datagram::receiver_id(datagram.bytes, 0).filter(|id| id.len() <= 20).unwrap_or(&[]);
+            (self.index.to_id(id).to_vec(), id.len())
+        } else {
+            let (owners, id_len) = self.index.to_short(datagram.bytes);
+            (owners.to_vec(), id_len)
+        };
+        if owners.is_empty() {
+            // A short header without an id is only that of a receiver whose ids have no bytes.
+            let has_no_id = |(number, sender): &Owner| {
+                self.connections
+                    .get(number)
+                    .is_some_and(|one| one.end(!*sender).first_scid().is_some_and(|id| id.is_empty()))
+            };
+            let on_path = self.index.on_path((datagram.from, datagram.to));
+            owners = on_path.filter(|owner| is_long || has_no_id(owner)).collect();
+        }
+        owners.retain(|(number, _)| self.connections.get(number).is_some_and(|one| one.ended(datagram.time).is_none()));
+        (owners, id_len)
+    }
+
+    // The size of the segments of a datagram that is longer than usual and has several.
+    fn segment_len(&mut self, datagram: &Datagram<'_>, owners: &[Owner], id_len: usize) -> Option<usize> {
+        let bytes = datagram.bytes;
+        if bytes.len() <= MOST_USUAL || datagram.missing > 0 {
+            return None;
+        }
+        let short = Packets::with_checks(bytes, id_len, &VERSIONS, CHECKS)
+            .map_while(Result::ok)
+            .find(|packet| packet.header().is_short())?;
+        let begin = short.place().range().start;
+        let Follower { connections, keylog, buffer, .. } = self;
+        let size = owners.iter().find_map(|(number, sender)| {
+            let offloaded = Offloaded { bytes, begin, id_len, sender: *sender };
+            connections.get_mut(number)?.segment_len(offloaded, keylog, buffer)
+        })?;
+        if size < bytes.len() {
+            self.counts.offloaded += 1;
+            self.counts.segments += bytes.len().div_ceil(size) as u64;
+        }
+        Some(size)
+    }
+
+    // Takes the packets of a datagram.
+    fn segment(&mut self, datagram: &Datagram<'_>, mut course: Course, id_len: usize, sink: &mut dyn Sink) {
+        let mut packets = Packets::with_checks(datagram.bytes, id_len, &VERSIONS, CHECKS);
+        loop {
+            let offset = packets.offset();
+            let is_first = course.first_id.is_none();
+            let rest = match packets.next() {
+                None => return,
+                _ if !is_first && packets_are_over(&datagram.bytes[offset..]) => Rest::Zeros,
+                Some(Err(HeaderError::CutOff(_))) if datagram.missing > 0 => Rest::NotCaptured,
+                Some(Err(error)) => rest_of(&error),
+                Some(Ok(packet)) => {
+                    let id = id_of(packet.dst_cid());
+                    if course.first_id.is_none_or(|first| first == id) {
+                        course.first_id = Some(id);
+                        self.packet(datagram, &packet, &mut course.owners, sink);
+                        continue;
+                    }
+                    Rest::OtherId
+                }
+            };
+            *self.counts.rests.entry(rest.kind()).or_default() += 1;
+            let owner = course.owners.first().and_then(|owner| self.named(*owner));
+            sink.rest(owner, datagram, self.packets, offset, rest);
+            self.packets += 1;
+            return;
+        }
+    }
+
+    fn named(&self, (number, sender): Owner) -> Option<(&Connection, Side)> {
+        self.connections.get(&number).map(|connection| (connection.as_ref(), sender))
+    }
+
+    // Takes a packet. If it is opened, the datagram's other packets are its sender's too.
+    fn packet(
+        &mut self,
+        datagram: &Datagram<'_>,
+        packet: &PacketRef<'_>,
+        owners: &mut Vec<Owner>,
+        sink: &mut dyn Sink,
+    ) {
+        let owner = match packet.header().kind() {
+            HeaderKind::Retry => return self.retry(datagram, packet, owners, sink),
+            HeaderKind::VersionNegotiate => {
+                return self.unopened(owners.first(), datagram, packet, Unopened::VersionNegotiation, sink);
+            }
+            _ => self.open(datagram, packet, owners, sink).or_else(|| self.begin(datagram, packet, sink)),
+        };
+        match owner {
+            Some(owner) => *owners = vec![owner],
+            None => self.not_opened(datagram, packet, owners, sink),
+        }
+    }
+
+    // Opens a packet as one of these senders.
+    fn open(
+        &mut self,
+        datagram: &Datagram<'_>,
+        packet: &PacketRef<'_>,
+        owners: &[Owner],
+        sink: &mut dyn Sink,
+    ) -> Option<Owner> {
+        let mut buffer = std::mem::take(&mut self.buffer);
+        let opened_by = owners.iter().copied().find(|(number, sender)| {
+            let Follower { connections, keylog, .. } = self;
+            let Some(connection) = connections.get_mut(number) else { return false };
+            let Some(opened) = connection.open(packet, *sender, keylog, &mut buffer) else { return false };
+            if let Some(ids) = take(connection, &opened, datagram, self.packets, sink) {
+                self.learn((*number, *sender), datagram, &ids);
+            }
+            true
+        });
+        self.buffer = buffer;
+        let owner = opened_by?;
+        self.counts.opened += 1;
+        self.packets += 1;
+        self.release(owner.0, sink);
+        Some(owner)
+    }
+
+    // Begins a connection with a packet.
+    fn begin(&mut self, datagram: &Datagram<'_>, packet: &PacketRef<'_>, sink: &mut dyn Sink) -> Option<Owner> {
+        let (number, owner) = (self.counts.connections, (self.counts.connections, Side::Client));
+        let mut buffer = std::mem::take(&mut self.buffer);
+        let begun = Connection::begin(number, datagram.time, packet, &self.keylog, &mut buffer).map(
+            |(mut connection, opened)| {
+                let ids = take(&mut connection, &opened, datagram, self.packets, sink);
+                (connection, ids.unwrap_or_default())
+            },
+        );
+        self.buffer = buffer;
+        let (connection, ids) = begun?;
+        self.counts.connections += 1;
+        self.counts.opened += 1;
+        self.packets += 1;
+        self.make_room(sink);
+        let first_dcid = *connection.first_dcid();
+        self.connections.insert(number, Box::new(connection));
+        self.learn(owner, datagram, &ids);
+        self.learn(owner, datagram, &[(first_dcid, Side::Server)]);
+        self.release(number, sink);
+        Some(owner)
+    }
+
+    fn retry(&mut self, datagram: &Datagram<'_>, packet: &PacketRef<'_>, owners: &mut Vec<Owner>, sink: &mut dyn Sink) {
+        for owner in owners.iter().copied().filter(|(_, sender)| *sender == Side::Server) {
+            let Some(connection) = self.connections.get_mut(&owner.0).filter(|one| one.may_retry()) else { continue };
+            let original_id = *connection.first_dcid();
+            let Some(retried) = Retried::new(packet, &original_id) else { continue };
+            connection.take_retry(&retried, datagram.time);
+            self.learn(owner, datagram, &[(retried.id(), Side::Server)]);
+            *owners = vec![owner];
+            return self.unopened(Some(&owner), datagram, packet, Unopened::Retry, sink);
+        }
+        self.unopened(owners.first(), datagram, packet, Unopened::InvalidRetry, sink);
+    }
+
+    // Says why a packet isn't opened, or lets it wait.
+    fn not_opened(&mut self, datagram: &Datagram<'_>, packet: &PacketRef<'_>, owners: &[Owner], sink: &mut dyn Sink) {
+        let (kind, place) = (packet.header().kind(), packet.place().range());
+        if kind == HeaderKind::Short && place.start == 0 && datagram.missing == 0 {
+            if let Some(owner) = self.reset(datagram) {
+                return self.unopened(Some(&owner), datagram, packet, Unopened::StatelessReset, sink);
+            }
+        }
+        let why = match owners.first().and_then(|owner| self.named(*owner)) {
+            _ if datagram.missing > 0 && place.end == datagram.bytes.len() => Unopened::NotCaptured,
+            None => Unopened::NoConnection,
+            Some((connection, sender)) => connection.why(packet, sender, &self.keylog),
+        };
+        if kind == HeaderKind::ZeroRtt && matches!(why, Unopened::NoConnection | Unopened::NoClientHello) {
+            for held in self.waiting.push(id_of(packet.dst_cid()), datagram, place.start) {
+                self.give_up(&held, sink);
+            }
+            return;
+        }
+        self.unopened(owners.first(), datagram, packet, why, sink);
+    }
+
+    fn unopened(
+        &mut self,
+        owner: Option<&Owner>,
+        datagram: &Datagram<'_>,
+        packet: &PacketRef<'_>,
+        why: Unopened,
+        sink: &mut dyn Sink,
+    ) {
+        *self.counts.unopened.entry(why).or_default() += 1;
+        let owner = owner.and_then(|owner| self.named(*owner));
+        sink.unopened(owner, datagram, self.packets, packet, why);
+        self.packets += 1;
+    }
+
+    // Whose stateless reset a datagram is.
+    fn reset(&mut self, datagram: &Datagram<'_>) -> Option<Owner> {
+        let owners: Vec<_> = self.index.on_path((datagram.from, datagram.to)).collect();
+        owners.into_iter().find(|(number, sender)| {
+            let Some(connection) = self.connections.get_mut(number) else { return false };
+            let reset = Reset::new(datagram.bytes, *sender, connection.end(*sender).tokens());
+            reset.inspect(|reset| connection.take_reset(reset, datagram.time)).is_some()
+        })
+    }
+
+    // Opens the packets that waited for a connection's ClientHello.
+    fn release(&mut self, number: usize, sink: &mut dyn Sink) {
+        let Some(connection) = self.connections.get(&number).filter(|_| !self.waiting.is_empty()) else { return };
+        if connection.random().is_none() {
+            return;
+        }
+        let ids = [Some(*connection.first_dcid()), connection.retry_id().copied()];
+        let held: Vec<_> = ids.into_iter().flatten().flat_map(|id| self.waiting.take(&id)).collect();
+        for held in held {
+            let datagram = held.datagram();
+            let Some(packet) = packet_at(&datagram, held.offset, held.dcid.len()) else { continue };
+            self.packet(&datagram, &packet, &mut vec![(number, Side::Client)], sink);
+        }
+    }
+
+    fn give_up(&mut self, held: &Held, sink: &mut dyn Sink) {
+        let datagram = held.datagram();
+        if let Some(packet) = packet_at(&datagram, held.offset, held.dcid.len()) {
+            self.unopened(None, &datagram, &packet, Unopened::NoInitial, sink);
+        }
+    }
+
+    // Learns the ids and the path of a connection, from what was authentic.
+    fn learn(&mut self, (number, sender): Owner, datagram: &Datagram<'_>, ids: &[(ConnectionId, Side)]) {
+        let Follower { connections, index, .. } = self;
+        let is_weak = |number| connections.get(&number).is_none_or(|one| !one.end(Side::Server).has_handshake());
+        ids.iter().for_each(|(id, chosen_by)| index.add_id(*id, (number, !*chosen_by), is_weak));
+        index.add_path((datagram.from, datagram.to), (number, sender), is_weak);
+        index.add_path((datagram.to, datagram.from), (number, !sender), is_weak);
+    }
+
+    // Forgets the connections that ended, now and then.
+    fn sweep(&mut self, now: u64, sink: &mut dyn Sink) {
+        self.since_sweep += 1;
+        if self.since_sweep < SWEEP.max(self.connections.len()) {
+            return;
+        }
+        self.since_sweep = 0;
+        let ended: Vec<_> =
+            self.connections.iter().filter_map(|(number, one)| Some((*number, one.ended(now)?))).collect();
+        ended.into_iter().for_each(|(number, how)| self.forget(number, how, sink));
+    }
+
+    // Forgets a quarter of the connections if there are too many.
+    fn make_room(&mut self, sink: &mut dyn Sink) {
+        if self.connections.len() < MOST_CONNECTIONS {
+            return;
+        }
+        let rank = |one: &Connection| (one.end(Side::Server).has_handshake(), one.times().1);
+        let mut ranked: Vec<_> = self.connections.iter().map(|(number, one)| (rank(one), *number)).collect();
+        ranked.sort_unstable();
+        ranked.truncate(MOST_CONNECTIONS / 4);
+        ranked.into_iter().for_each(|(_, number)| self.forget(number, Ended::Crowded, sink));
+    }
+
+    fn forget(&mut self, number: usize, how: Ended, sink: &mut dyn Sink) {
+        self.index.forget(number);
+        if let Some(connection) = self.connections.remove(&number) {
+            sink.ended(&connection, how);
+        }
+    }
+}
+
+// Lets a connection take a packet. Returns the ids that the packet names, and who chose them, if its number is new.
+fn take(
+    connection: &mut Connection,
+    opened: &crate::opened::Opened<'_>,
+    datagram: &Datagram<'_>,
+    index: u64,
+    sink: &mut dyn Sink,
+) -> Option<Vec<(ConnectionId, Side)>> {
+    let mut ids = Vec::new();
+    let is_new = connection.take(opened, datagram, index, &mut |connection, event| {
+        if let Event::NewId(id, side) = event {
+            ids.push((id, side));
+        }
+        sink.opened(connection, datagram, index, &event);
+    });
+    is_new.then_some(ids)
+}
+
+// The packet at an offset of a datagram.
+fn packet_at<'a>(datagram: &Datagram<'a>, offset: usize, id_len: usize) -> Option<PacketRef<'a>> {
+    Packets::with_checks(datagram.bytes, id_len, &VERSIONS, CHECKS)
+        .map_while(Result::ok)
+        .find(|packet| packet.place().range().start == offset)
+}
+
+fn packets_are_over(rest: &[u8]) -> bool {
+    rest.iter().all(|byte| *byte == 0)
+}
+
+fn rest_of(error: &HeaderError) -> Rest {
+    match error {
+        HeaderError::UnsupportedVersion(packet) => Rest::Version(packet.version()),
+        HeaderError::CutOff(_) => Rest::CutOff,
+        HeaderError::InvalidHeader(reason) => Rest::Header(reason),
+    }
+}

@@ -1,0 +1,184 @@
+//! Key logs, as browsers and TLS libraries write them (SSLKEYLOGFILE).
+
+use std::collections::HashMap;
+
+// The connections whose secrets are kept at most. Lines of further ones are counted as skipped.
+const MOST_CONNECTIONS: usize = 1 << 18;
+
+// The longest line that matters has a label, 32 bytes and 48 bytes as digits.
+const MOST_LINE: usize = 256;
+
+/// Which secret of a connection a line has.
+#[derive(Clone, Copy, Debug, PartialEq, Eq, Hash)]
+pub enum Label {
+    /// `CLIENT_EARLY_TRAFFIC_SECRET`, of 0-RTT packets.
+    ClientEarly,
+    /// `CLIENT_HANDSHAKE_TRAFFIC_SECRET`.
+    ClientHandshake,
+    /// `SERVER_HANDSHAKE_TRAFFIC_SECRET`.
+    ServerHandshake,
+    /// `CLIENT_TRAFFIC_SECRET_0`, of 1-RTT packets before the first key update.
+    ClientTraffic,
+    /// `SERVER_TRAFFIC_SECRET_0`, the same of the server.
+    ServerTraffic,
+}
+
+const LABELS: [(&[u8], Label); 5] = [
+    (b"CLIENT_EARLY_TRAFFIC_SECRET", Label::ClientEarly),
+    (b"CLIENT_HANDSHAKE_TRAFFIC_SECRET", Label::ClientHandshake),
+    (b"SERVER_HANDSHAKE_TRAFFIC_SECRET", Label::ServerHandshake),
+    (b"CLIENT_TRAFFIC_SECRET_0", Label::ClientTraffic),
+    (b"SERVER_TRAFFIC_SECRET_0", Label::ServerTraffic),
+];
+
+#[derive(Clone, Copy)]
+struct Secret {
+    bytes: [u8; 48],
+    len: usize,
+}
+
+/// The secrets of connections, by the 32 random bytes of their ClientHello.
+///
+/// ```
+/// use quic_wire_capture::keylog::{KeyLog, Label};
+/// let mut log = KeyLog::default();
+/// log.add(format!("# a comment\nCLIENT_TRAFFIC_SECRET_0 {} {}\n", "ab".repeat(32), "01".repeat(32)).as_bytes());
+/// assert_eq!(log.secret(&[0xab; 32], Label::ClientTraffic), Some(&[1; 32][..]));
+/// log.add(b"CLIENT_TRAFFIC_SECRET_0 this isn't hexadecimal\n");
+/// assert_eq!(log.skipped(), 1);
+/// ```
+#[derive(Default)]
+pub struct KeyLog {
+    secrets: HashMap<[u8; 32], [Option<Secret>; LABELS.len()]>,
+    skipped: u64,
+}
+
+impl KeyLog {
+    /// Takes the lines of a text whose last line is whole, even if no line end follows it. Lines of other secrets and
+    /// comments mean nothing here; lines that can't be read are counted and skipped.
+    pub fn add(&mut self, text: &[u8]) {
+        for line in text.split(|byte| matches!(byte, b'\n' | b'\r')) {
+            if !self.line(line) {
+                self.skipped += 1;
+            }
+        }
+    }
+
+    /// How many lines were skipped.
+    pub fn skipped(&self) -> u64 {
+        self.skipped
+    }
+
+    /// Whether it has no secrets.
+    pub fn is_empty(&self) -> bool {
+        self.secrets.is_empty()
+    }
+
+    /// Whether it has a secret of a connection.
+    pub fn knows(&self, random: &[u8; 32]) -> bool {
+        self.secrets.contains_key(random)
+    }
+
+    /// A secret of a connection, of 32 or 48 bytes.
+    pub fn secret(&self, random: &[u8; 32], label: Label) -> Option<&[u8]> {
+        let secret = self.secrets.get(random)?[label as usize].as_ref()?;
+        secret.bytes.get(..secret.len)
+    }
+
+    // Takes a line. False if it can't be read.
+    fn line(&mut self, line: &[u8]) -> bool {
+        let line = line.trim_ascii();
+        if line.is_empty() || line.starts_with(b"#") {
+            return true;
+        }
+        let mut words = line.split(u8::is_ascii_whitespace).filter(|word| !word.is_empty());
+        let (Some(name), Some(random), Some(secret), None) = (words.next(), words.next(), words.next(), words.next())
+        else {
+            return false;
+        };
+        let Some((_, label)) = LABELS.iter().find(|(label, _)| *label == name) else {
+            return [random, secret].iter().all(|digits| digits.iter().all(u8::is_ascii_hexdigit));
+        };
+        let mut bytes = [0; 48];
+        let (Some(random), Some(len)) = (unhex_all(random), unhex(secret, &mut bytes)) else { return false };
+        let has_room = self.secrets.len() < MOST_CONNECTIONS || self.secrets.contains_key(&random);
+        if !has_room || !matches!(len, 32 | 48) {
+            return false;
+        }
+        self.secrets.entry(random).or_default()[*label as usize] = Some(Secret { bytes, len });
+        true
+    }
+}
+
+/// A key log that comes in pieces of any size, as one that is still written.
+///
+/// ```
+/// use quic_wire_capture::keylog::{GrowingLog, KeyLog, Label};
+/// let (mut growing, mut log) = (GrowingLog::default(), KeyLog::default());
+/// let line = format!("SERVER_TRAFFIC_SECRET_0 {} {}", "ab".repeat(32), "01".repeat(48));
+/// for piece in line.as_bytes().chunks(50) {
+///     growing.add(piece, &mut log);
+/// }
+/// growing.end(&mut log);
+/// assert_eq!(log.secret(&[0xab; 32], Label::ServerTraffic), Some(&[1; 48][..]));
+/// assert_eq!(log.skipped(), 0);
+/// ```
+#[derive(Default)]
+pub struct GrowingLog {
+    // The line that has no end yet; a piece of it if it is too long.
+    line: Vec<u8>,
+    is_too_long: bool,
+}
+
+impl GrowingLog {
+    /// Takes the next bytes, and adds their lines to a log. A line without its end waits for the next bytes.
+    pub fn add(&mut self, piece: &[u8], log: &mut KeyLog) {
+        for part in piece.split_inclusive(|byte| *byte == b'\n') {
+            if self.line.len() + part.len() > MOST_LINE && !self.is_comment(part) {
+                self.is_too_long = true;
+            } else if !self.is_too_long && self.line.len() <= MOST_LINE {
+                self.line.extend_from_slice(part);
+            }
+            if part.ends_with(b"\n") {
+                self.end(log);
+            }
+        }
+    }
+
+    /// Takes a last line without its end. If more bytes come, they are the next line.
+    pub fn end(&mut self, log: &mut KeyLog) {
+        if self.is_too_long {
+            log.skipped += 1;
+        } else {
+            log.add(&self.line);
+        }
+        self.line.clear();
+        self.is_too_long = false;
+    }
+
+    fn is_comment(&self, part: &[u8]) -> bool {
+        self.line.first().or(part.first()) == Some(&b'#')
+    }
+}
+
+fn digit(byte: u8) -> Option<u8> {
+    char::from(byte).to_digit(16).and_then(|digit| u8::try_from(digit).ok())
+}
+
+// How many bytes the digits are, which must fit.
+fn unhex(digits: &[u8], out: &mut [u8]) -> Option<usize> {
+    let pairs = digits.chunks_exact(2);
+    if !pairs.remainder().is_empty() || pairs.len() > out.len() {
+        return None;
+    }
+    let len = pairs.len();
+    for (byte, pair) in out.iter_mut().zip(pairs) {
+        *byte = digit(pair[0])? << 4 | digit(pair[1])?;
+    }
+    Some(len)
+}
+
+fn unhex_all<const N: usize>(digits: &[u8]) -> Option<[u8; N]> {
+    let mut out = [0; N];
+    (unhex(digits, &mut out)? == N).then_some(out)
+}

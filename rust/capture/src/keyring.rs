@@ -1,0 +1,220 @@
+//! The keys of a connection. They change only where a packet is opened.
+
+use crate::ciphers::{Suite, TAG_LEN};
+use crate::keylog::{KeyLog, Label};
+use crate::keys::{PacketKeys, VERSIONS};
+use crate::opened::{Opened, Retried, Unmasked};
+use quic_wire::datagram::{HeaderChecks, HeaderKind, PacketRef, Packets};
+use quic_wire::{ConnectionId, Side};
+
+/// A datagram of more bytes may be several, which the network card cuts apart.
+pub(crate) const MOST_USUAL: usize = 1500;
+
+// The sizes that are tried for segments: where the id is found again, as far as the longest frames of Ethernet go; from
+// the usual size down if ids have no bytes.
+const LONGEST_SEGMENT: usize = 9216;
+const LEAST_SEGMENT: usize = 600;
+const MOST_SIZES: usize = 128;
+
+/// How headers are read: the fixed bit may be clear (RFC 9287).
+pub(crate) const CHECKS: HeaderChecks = HeaderChecks { grease_quic_bit: true, any_version: true, whole_retry: false };
+
+/// What keys follow from besides secrets, as authentic packets of the connection have said it.
+#[derive(Clone, Copy)]
+pub(crate) struct Known<'a> {
+    pub(crate) random: Option<&'a [u8; 32]>,
+    /// The number of the cipher suite.
+    pub(crate) suite: Option<u16>,
+    pub(crate) version: u32,
+    pub(crate) keylog: &'a KeyLog,
+}
+
+/// A packet to be opened: who would have sent it, and the number that is expected of it.
+#[derive(Clone, Copy)]
+pub(crate) struct Candidate<'a> {
+    pub(crate) packet: PacketRef<'a>,
+    pub(crate) sender: Side,
+    pub(crate) expected: u64,
+}
+
+impl<'a> Candidate<'a> {
+    fn open(self, keys: &PacketKeys, buffer: &'a mut Vec<u8>) -> Option<Opened<'a>> {
+        let unmasked = Unmasked::new(keys, self.packet, self.expected, buffer)?;
+        Opened::new(keys, unmasked, self.sender, buffer)
+    }
+
+    fn is_opened_by(self, keys: &PacketKeys, buffer: &mut Vec<u8>) -> bool {
+        self.open(keys, buffer).is_some()
+    }
+}
+
+/// A datagram that may be several: where its first short packet begins, and how many bytes that packet's id has.
+#[derive(Clone, Copy)]
+pub(crate) struct Offloaded<'a> {
+    pub(crate) bytes: &'a [u8],
+    pub(crate) begin: usize,
+    pub(crate) id_len: usize,
+    pub(crate) sender: Side,
+}
+
+impl<'a> Offloaded<'a> {
+    // The sizes that its segments may have: that of the last ones, of all bytes, and then further ones.
+    fn sizes(self, last: usize) -> impl Iterator<Item = usize> + 'a {
+        let Offloaded { bytes, begin, id_len, .. } = self;
+        let id = bytes.get(begin + 1..begin + 1 + id_len).unwrap_or_default();
+        let again = (begin + 1 + id_len + 4 + TAG_LEN..bytes.len().min(LONGEST_SEGMENT + 1))
+            .filter(move |at| !id.is_empty() && bytes.get(at + 1..).is_some_and(|behind| behind.starts_with(id)));
+        let usual = (LEAST_SEGMENT..=MOST_USUAL).rev().filter(move |_| id.is_empty());
+        let sizes = [last, bytes.len()].into_iter().chain(again.take(MOST_SIZES)).chain(usual);
+        sizes.filter(move |size| (begin + 1..=bytes.len()).contains(size))
+    }
+}
+
+/// The keys of a side's 1-RTT packets (RFC 9001, section 6).
+struct Phase {
+    keys: PacketKeys,
+    bit: bool,
+    before: Option<PacketKeys>,
+    after: Option<PacketKeys>,
+}
+
+// What the keys of Initial packets follow from: the version, the sender, and an id of the client's packets.
+type InitialKey = (u32, Side, ConnectionId);
+
+/// The keys of a connection.
+pub(crate) struct Keyring {
+    first_id: ConnectionId,
+    /// The id of a Retry.
+    retry_id: Option<ConnectionId>,
+    initial: Vec<(InitialKey, PacketKeys)>,
+    early: Option<Box<PacketKeys>>,
+    handshake: [Option<Box<PacketKeys>>; 2],
+    phases: [Option<Box<Phase>>; 2],
+    /// The size of the last segments of each side.
+    segments: [usize; 2],
+}
+
+impl Keyring {
+    pub(crate) fn new(first_id: ConnectionId) -> Keyring {
+        Keyring {
+            first_id,
+            retry_id: None,
+            initial: Vec::new(),
+            early: None,
+            handshake: [None, None],
+            phases: [None, None],
+            segments: [0; 2],
+        }
+    }
+
+    /// After a Retry, Initial packets have keys of its id, except those of the client that came late.
+    pub(crate) fn retry(&mut self, retried: &Retried) {
+        self.retry_id = Some(retried.id());
+    }
+
+    /// Opens a packet, if there are keys for it.
+    pub(crate) fn open<'a>(
+        &mut self,
+        candidate: Candidate<'a>,
+        known: &Known<'_>,
+        buffer: &'a mut Vec<u8>,
+    ) -> Option<Opened<'a>> {
+        let (header, sender) = (candidate.packet.header(), candidate.sender);
+        let (slot, label) = match (header.kind(), sender) {
+            (HeaderKind::Initial, _) => return candidate.open(self.initial(&candidate)?, buffer),
+            (HeaderKind::Short, _) => return self.open_short(candidate, known, buffer),
+            (HeaderKind::ZeroRtt, Side::Client) => (&mut self.early, Label::ClientEarly),
+            (HeaderKind::Handshake, Side::Client) => (&mut self.handshake[0], Label::ClientHandshake),
+            (HeaderKind::Handshake, Side::Server) => (&mut self.handshake[1], Label::ServerHandshake),
+            _ => return None,
+        };
+        if slot.is_none() {
+            let mut keys = keys_of(known, [header.version()], label);
+            *slot = Some(Box::new(keys.find(|keys| candidate.is_opened_by(keys, buffer))?));
+        }
+        candidate.open(slot.as_ref()?, buffer)
+    }
+
+    fn initial(&mut self, candidate: &Candidate<'_>) -> Option<&PacketKeys> {
+        let (packet, sender) = (&candidate.packet, candidate.sender);
+        let is_first = sender == Side::Client && packet.dst_cid() == self.first_id.as_slice();
+        let id = self.retry_id.filter(|_| !is_first).unwrap_or(self.first_id);
+        let key = (packet.header().version(), sender, id);
+        if !self.initial.iter().any(|(of, _)| *of == key) {
+            self.initial.push((key, PacketKeys::initial(key.0, &id, sender)?));
+        }
+        self.initial.iter().find(|(of, _)| *of == key).map(|(_, keys)| keys)
+    }
+
+    fn open_short<'a>(
+        &mut self,
+        candidate: Candidate<'a>,
+        known: &Known<'_>,
+        buffer: &'a mut Vec<u8>,
+    ) -> Option<Opened<'a>> {
+        let slot = &mut self.phases[candidate.sender as usize];
+        if slot.is_none() {
+            let label = if candidate.sender == Side::Client { Label::ClientTraffic } else { Label::ServerTraffic };
+            // Packets that say the version, and those before the first update, may be missing.
+            let [one, two] = VERSIONS;
+            let versions = if known.version == two { [two, one] } else { [one, two] };
+            let mut phases = keys_of(known, versions, label).map(Phase::new);
+            let phase = phases.find_map(|mut phase| phase.open(candidate, buffer).is_some().then_some(phase))?;
+            *slot = Some(Box::new(phase));
+        }
+        slot.as_mut()?.open(candidate, buffer)
+    }
+
+    /// Finds the size of the datagrams that a network card cuts from one that is longer than usual: Linux passes
+    /// datagrams to the card that have one size, except for the last. It is the size with which the first short packet
+    /// opens; `None` if it opens with none.
+    pub(crate) fn segment_len(
+        &mut self,
+        datagram: Offloaded<'_>,
+        expected: u64,
+        known: &Known<'_>,
+        buffer: &mut Vec<u8>,
+    ) -> Option<usize> {
+        let Offloaded { bytes, begin, id_len, sender } = datagram;
+        let size = datagram.sizes(self.segments[sender as usize]).find(|size| {
+            let segment = Packets::with_checks(&bytes[begin..*size], id_len, &VERSIONS, CHECKS).next();
+            let Some(Ok(packet)) = segment else { return false };
+            self.open_short(Candidate { packet, sender, expected }, known, buffer).is_some()
+        })?;
+        if size < bytes.len() {
+            self.segments[sender as usize] = size;
+        }
+        Some(size)
+    }
+}
+
+impl Phase {
+    fn new(keys: PacketKeys) -> Phase {
+        Phase { keys, bit: false, before: None, after: None }
+    }
+
+    fn open<'a>(&mut self, candidate: Candidate<'a>, buffer: &'a mut Vec<u8>) -> Option<Opened<'a>> {
+        let unmasked = Unmasked::new(&self.keys, candidate.packet, candidate.expected, buffer)?;
+        if unmasked.key_phase() == self.bit {
+            return Opened::new(&self.keys, unmasked, candidate.sender, buffer);
+        }
+        if let Some(before) = self.before.as_ref().filter(|keys| candidate.is_opened_by(keys, buffer)) {
+            return candidate.open(before, buffer);
+        }
+        if self.after.is_none() {
+            self.after = self.keys.updated();
+        }
+        let opened = candidate.open(self.after.as_ref()?, buffer)?;
+        self.before = Some(std::mem::replace(&mut self.keys, self.after.take()?));
+        self.bit = !self.bit;
+        Some(opened)
+    }
+}
+
+// The keys of a secret, with each version and suite that the connection may have.
+fn keys_of<const N: usize>(known: &Known<'_>, versions: [u32; N], label: Label) -> impl Iterator<Item = PacketKeys> {
+    let secret = known.random.and_then(|random| known.keylog.secret(random, label));
+    let suites = Suite::ALL.into_iter().filter(|suite| known.suite.is_none_or(|number| number == suite.number()));
+    let kinds = suites.flat_map(move |suite| versions.map(|version| (suite, version)));
+    kinds.filter_map(move |(suite, version)| PacketKeys::new(secret?, suite, version))
+}

@@ -1,0 +1,153 @@
+//! What following a connection needs of TLS: the first message of a client, of a server, and the first that is
+//! encrypted (RFC 8446, section 4; RFC 9001, section 8.2).
+
+use std::collections::BTreeMap;
+
+/// The most bytes of CRYPTO data that wait for their message to be whole.
+const MOST_BYTES: usize = 1 << 18;
+
+const CLIENT_HELLO: u8 = 1;
+const SERVER_HELLO: u8 = 2;
+const ENCRYPTED_EXTENSIONS: u8 = 8;
+const QUIC_TRANSPORT_PARAMETERS: u16 = 0x39;
+
+/// What the first message of a side's CRYPTO data in a number space says.
+#[derive(Clone, Debug, PartialEq, Eq)]
+pub(crate) enum Said {
+    ClientHello { random: [u8; 32], parameters: Option<Vec<u8>> },
+    ServerHello { suite: u16 },
+    EncryptedExtensions { parameters: Option<Vec<u8>> },
+    Nothing,
+}
+
+/// The CRYPTO data of a side in a number space, up to the end of the first message.
+#[derive(Default)]
+pub(crate) struct CryptoStream {
+    data: Vec<u8>,
+    waiting: BTreeMap<usize, Vec<u8>>,
+    waiting_len: usize,
+    is_done: bool,
+}
+
+impl CryptoStream {
+    /// Takes data, in any order, and returns what the first message says once it is whole.
+    pub(crate) fn take(&mut self, offset: u64, bytes: &[u8]) -> Option<Said> {
+        let offset = usize::try_from(offset).ok().filter(|offset| *offset < MOST_BYTES)?;
+        let is_known = self.waiting.get(&offset).is_some_and(|known| known.len() >= bytes.len());
+        if self.is_done || is_known || self.data.len() + self.waiting_len + bytes.len() > MOST_BYTES {
+            return None;
+        }
+        self.waiting_len += bytes.len();
+        self.waiting_len -= self.waiting.insert(offset, bytes.to_vec()).map_or(0, |old| old.len());
+        while let Some(entry) = self.waiting.first_entry().filter(|entry| *entry.key() <= self.data.len()) {
+            let (offset, bytes) = entry.remove_entry();
+            self.waiting_len -= bytes.len();
+            self.data.extend_from_slice(bytes.get(self.data.len() - offset..).unwrap_or_default());
+        }
+        let (kind, body) = message(&self.data)?;
+        let said = read(kind, body).unwrap_or(Said::Nothing);
+        *self = CryptoStream { is_done: true, ..CryptoStream::default() };
+        Some(said)
+    }
+}
+
+fn message(data: &[u8]) -> Option<(u8, &[u8])> {
+    let ([kind, a, b, c], body) = data.split_first_chunk()?;
+    let len = u32::from_be_bytes([0, *a, *b, *c]) as usize;
+    Some((*kind, body.get(..len)?))
+}
+
+fn read(kind: u8, body: &[u8]) -> Option<Said> {
+    match kind {
+        CLIENT_HELLO => {
+            let (_version, rest) = body.split_first_chunk::<2>()?;
+            let (random, rest) = rest.split_first_chunk()?;
+            let (_session, rest) = split_short(rest)?;
+            let (_suites, rest) = split_long(rest)?;
+            let (_compression, rest) = split_short(rest)?;
+            Some(Said::ClientHello { random: *random, parameters: parameters(split_long(rest)?.0) })
+        }
+        SERVER_HELLO => {
+            let (_session, rest) = split_short(body.get(34..)?)?;
+            rest.first_chunk().map(|suite| Said::ServerHello { suite: u16::from_be_bytes(*suite) })
+        }
+        ENCRYPTED_EXTENSIONS => Some(Said::EncryptedExtensions { parameters: parameters(split_long(body)?.0) }),
+        _ => None,
+    }
+}
+
+// Bytes with their length in one byte, and what follows them.
+fn split_short(bytes: &[u8]) -> Option<(&[u8], &[u8])> {
+    let (len, rest) = bytes.split_first()?;
+    rest.split_at_checked((*len).into())
+}
+
+// Bytes with their length in two bytes.
+fn split_long(bytes: &[u8]) -> Option<(&[u8], &[u8])> {
+    let (len, rest) = bytes.split_first_chunk()?;
+    rest.split_at_checked(u16::from_be_bytes(*len).into())
+}
+
+// The transport parameters among extensions.
+fn parameters(mut extensions: &[u8]) -> Option<Vec<u8>> {
+    loop {
+        let (kind, rest) = extensions.split_first_chunk()?;
+        let (value, rest) = split_long(rest)?;
+        if u16::from_be_bytes(*kind) == QUIC_TRANSPORT_PARAMETERS {
+            return Some(value.to_vec());
+        }
+        extensions = rest;
+    }
+}
+
+#[cfg(test)]
+mod tests {
+    use super::*;
+
+    // A ClientHello with a session id, one suite and two extensions.
+    fn hello() -> Vec<u8> {
+        let extensions = [0, 10, 0, 1, 7, 0, 0x39, 0, 2, 1, 2];
+        let body = [&[3, 3][..], &[9; 32], &[2, 5, 5], &[0, 2, 0x13, 1], &[1, 0], &[0, 11], &extensions].concat();
+        [&[CLIENT_HELLO, 0, 0, body.len() as u8], &body[..]].concat()
+    }
+
+    fn said() -> Said {
+        Said::ClientHello { random: [9; 32], parameters: Some(vec![1, 2]) }
+    }
+
+    #[test]
+    fn pieces_in_any_order() {
+        let hello = hello();
+        for (one, two) in (1..hello.len()).flat_map(|one| (one..hello.len()).map(move |two| (one, two))) {
+            let pieces = [(0, &hello[..two]), (one, &hello[one..]), (two, &hello[two..])];
+            for order in [[0, 1, 2], [2, 1, 0], [1, 0, 2], [2, 2, 0]] {
+                let mut stream = CryptoStream::default();
+                let mut found = order.iter().filter_map(|at| stream.take(pieces[*at].0 as u64, pieces[*at].1));
+                assert_eq!((found.next(), found.next()), (Some(said()), None), "{one}, {two}, {order:?}");
+            }
+        }
+    }
+
+    #[test]
+    fn messages_that_are_cut_off() {
+        let hello = hello();
+        for len in 0..hello.len() - 4 {
+            let cut = [&[CLIENT_HELLO, 0, 0, len as u8], &hello[4..4 + len]].concat();
+            let said = CryptoStream::default().take(0, &cut);
+            let is_short = matches!(said, Some(Said::Nothing | Said::ClientHello { parameters: None, .. }));
+            assert!(is_short, "{len}: {said:?}");
+        }
+        assert_eq!(CryptoStream::default().take(0, &[4, 0, 0, 0]), Some(Said::Nothing));
+    }
+
+    #[test]
+    fn so_many_bytes_wait() {
+        let mut stream = CryptoStream::default();
+        for offset in 1..2000 {
+            assert_eq!(stream.take(offset, &[0; 1200]), None);
+        }
+        assert_eq!(stream.take(u64::MAX >> 2, &[0; 1200]), None);
+        let kept: usize = stream.waiting.values().map(Vec::len).sum();
+        assert!(kept == stream.waiting_len && kept <= MOST_BYTES, "{kept}");
+    }
+}

@@ -1,0 +1,163 @@
+//! What no endpoint sent changes nothing: between any two datagrams of a capture others are put, and what is found of
+//! the capture's own stays the same. The others are made of datagrams that came before, so packets in them may be
+//! authentic.
+mod common;
+#[path = "common/made.rs"]
+mod made;
+
+use common::{KEYS, Kept, Plain, Random, Row, Rows, Sealer, datagrams, follow_with, opened};
+use made::{Client, Initial, Made, Server, Short, ZeroRtt, crypto};
+use quic_wire::packet::VERSION_2;
+
+const FORGED: u64 = 1000;
+
+fn own(rows: Rows) -> Vec<Row> {
+    rows.rows.into_iter().filter(|row| row.record < FORGED).collect()
+}
+
+// Puts, after each datagram in turn, what is made of those before.
+fn with_forged(make: impl Fn(&Kept, u64) -> Option<Kept>) {
+    with_forged_in(KEYS, &datagrams(), 16, make);
+}
+
+fn with_forged_in(keys: &[u8], all: &[Kept], packets: usize, make: impl Fn(&Kept, u64) -> Option<Kept>) {
+    let follow = |all: &[Kept]| follow_with(keys, all).1;
+    let expected = own(follow(all));
+    assert_eq!(expected.len(), packets);
+    for round in 0..all.len() {
+        let (before, after) = all.split_at(round + 1);
+        let forged = before.iter().zip(0..).filter_map(|(kept, i)| make(kept, round as u64 * 100 + i));
+        let forged = forged.map(|kept| Kept { record: FORGED, ..kept });
+        let mixed: Vec<_> = before.iter().cloned().chain(forged).chain(after.iter().cloned()).collect();
+        assert_eq!(own(follow(&mixed)), expected, "after datagram {}", round + 1);
+    }
+}
+
+#[test]
+fn changed_bits() {
+    for place in [0, 1, 3, 5, 6, 9, 17, 25, 40, 60] {
+        with_forged(|kept, seed| {
+            let mut bytes = kept.bytes.clone();
+            *bytes.get_mut(place)? ^= 1 << (seed % 8);
+            Some(Kept { bytes, ..kept.clone() })
+        });
+    }
+}
+
+#[test]
+fn random_bytes() {
+    with_forged(|kept, seed| {
+        let mut random = Random(seed);
+        let mut bytes = kept.bytes.clone();
+        let from = if seed % 2 == 0 { 0 } else { 7.min(bytes.len()) };
+        bytes[from..].fill_with(|| random.byte());
+        Some(Kept { bytes, ..kept.clone() })
+    });
+}
+
+// Also from the other side, and from elsewhere.
+#[test]
+fn other_addresses() {
+    with_forged(|kept, _| Some(Kept { from: kept.to, to: kept.from, ..kept.clone() }));
+    with_forged(|kept, seed| {
+        let mut bytes = kept.bytes.clone();
+        *bytes.last_mut()? ^= 1;
+        Some(Kept { from: ([10, 0, 0, 1], seed as u16).into(), bytes, ..kept.clone() })
+    });
+}
+
+#[test]
+fn another_version() {
+    for version in [VERSION_2, 0, 0x0a0a_0a0a] {
+        with_forged(|kept, _| {
+            let mut bytes = kept.bytes.clone();
+            bytes[0] |= 0x80;
+            bytes.get_mut(1..5)?.copy_from_slice(&version.to_be_bytes());
+            Some(Kept { bytes, ..kept.clone() })
+        });
+    }
+}
+
+#[test]
+fn cut_off() {
+    for keep in [1, 5, 7, 20, 30, 50] {
+        with_forged(|kept, _| Some(Kept { bytes: kept.bytes.get(..keep)?.to_vec(), ..kept.clone() }));
+    }
+}
+
+// Retries whose tag is wrong.
+#[test]
+fn retries() {
+    let first = opened()[0].clone();
+    with_forged(|kept, _| {
+        let mut bytes = vec![0xf0, 0, 0, 0, 1, first.scid.len() as u8];
+        bytes.extend_from_slice(&first.scid);
+        bytes.extend_from_slice(&[4, 1, 2, 3, 4]);
+        bytes.extend_from_slice(&[7; 40]);
+        Some(Kept { bytes, from: kept.to, to: kept.from, ..kept.clone() })
+    });
+}
+
+// Initial packets of other connections between the same addresses, with the same source id.
+#[test]
+fn other_connections() {
+    let first = opened()[0].clone();
+    for dcid in [vec![9; 8], vec![1; 18]] {
+        let plain = Plain { dcid: dcid.clone(), payload: vec![1; 1150], ..first.clone() };
+        let bytes = Sealer::new(1, &dcid).seal(&plain);
+        with_forged(|kept, _| Some(Kept { bytes: bytes.clone(), ..kept.clone() }));
+    }
+}
+
+// Long datagrams that may be several.
+#[test]
+fn offloaded() {
+    with_forged(|kept, seed| {
+        let mut random = Random(seed);
+        let mut bytes = kept.bytes.clone();
+        bytes.resize_with(4000, || random.byte());
+        Some(Kept { bytes, ..kept.clone() })
+    });
+}
+
+// A connection with a Retry, 0-RTT packets before the ClientHello, another address, a key update, an acknowledgment and
+// segments.
+fn made(mut made: Made) -> (Made, Vec<Kept>) {
+    let hello = crypto(0, &made.client_hello());
+    let mut all = vec![made.send(Client, ZeroRtt, &[1]), made.send(Client, Initial, &hello)];
+    all.extend([made.retry(b"retried"), made.send(Client, Initial, &hello)]);
+    all.extend(made.handshake_of_server());
+    all.push(made.send(Client, Short, &[1]));
+    // Without ids, addresses must stay.
+    if !made.ids[1].is_empty() {
+        made.addresses[0] = ([192, 0, 2, 1], 5).into();
+    }
+    made.updates[0] += 1;
+    all.push(made.send(Client, Short, &[1]));
+    let packets: Vec<_> = [1200, 1200, 300].iter().flat_map(|len| made.packet(Server, Short, &vec![0; *len])).collect();
+    all.push(made.datagram(Server, packets));
+    all.push(made.send(Client, Short, &[2, 2, 0, 0, 2]));
+    let all = all.into_iter().zip(1..).map(|(kept, record)| Kept { record, ..kept }).collect();
+    (made, all)
+}
+
+#[test]
+fn made_connections() {
+    let empty = Made { ids: [vec![], vec![]], ..Made::new(1) };
+    let one_sided = Made { ids: [vec![], b"server".to_vec()], version: VERSION_2, ..Made::new(1) };
+    for (made, all) in [Made::new(1), one_sided, empty].map(made) {
+        let keys = made.key_log();
+        for place in [1, 7] {
+            with_forged_in(keys.as_bytes(), &all, 13, |kept, seed| {
+                let mut bytes = kept.bytes.clone();
+                *bytes.get_mut(place)? ^= 1 << (seed % 8);
+                *bytes.last_mut()? ^= 1;
+                Some(Kept { bytes, ..kept.clone() })
+            });
+        }
+        // The same packets again, from elsewhere.
+        with_forged_in(keys.as_bytes(), &all, 13, |kept, seed| {
+            Some(Kept { from: ([10, 9, 9, 9], seed as u16).into(), ..kept.clone() })
+        });
+    }
+}

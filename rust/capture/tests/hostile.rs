@@ -1,0 +1,84 @@
+//! What an endpoint could send: authentic packets with any contents. Whatever they say, nothing panics. The variables
+//! ROUNDS and CONNECTIONS of the environment make it longer.
+mod common;
+
+use common::{KEYS, Kept, Plain, Random, Rows, Sealer, datagrams, opened};
+use quic_wire_capture::follow::{Follower, MOST_CONNECTIONS};
+
+const TYPES: &[u8] = &[
+    0, 1, 2, 3, 4, 5, 6, 7, 8, 9, 10, 12, 14, 15, 16, 17, 18, 19, 20, 21, 22, 23, 24, 25, 26, 27, 28, 29, 30, 31, 0x30,
+    0x31,
+];
+
+// Fields that begin with a frame's type.
+fn frame(random: &mut Random, out: &mut Vec<u8>) {
+    out.push(TYPES[random.below(TYPES.len())]);
+    for _ in 0..random.below(8) {
+        match random.below(4) {
+            0 | 1 => out.push(random.below(64) as u8),
+            2 => out.extend((0x4000 | random.below(1 << 14) as u16).to_be_bytes()),
+            _ => out.extend((0xc000_0000_0000_0000 | (u64::MAX >> 2 >> random.below(40))).to_be_bytes()),
+        }
+    }
+}
+
+fn payload(random: &mut Random, model: &Plain) -> Vec<u8> {
+    let mut payload = model.payload.clone();
+    if random.below(3) == 0 {
+        let at = random.below(payload.len());
+        payload[at] ^= random.byte();
+    } else {
+        payload.clear();
+        (0..1 + random.below(6)).for_each(|_| frame(random, &mut payload));
+        payload.resize(payload.len().max(4), 0);
+    }
+    payload
+}
+
+#[test]
+fn any_contents() {
+    let rounds = std::env::var("ROUNDS").ok().and_then(|text| text.parse().ok()).unwrap_or(200);
+    let (sealer, all, plain) = (Sealer::of_capture(1), datagrams(), opened());
+    let mut random = Random(7);
+    let mut packets = 0;
+    for _ in 0..rounds {
+        let (mut follower, mut rows) = (Follower::default(), Rows::default());
+        follower.keylog.add(KEYS);
+        let cut = random.below(all.len());
+        all[..=cut].iter().for_each(|kept| follower.take(&kept.datagram(), &mut rows));
+        let before = follower.counts().opened;
+        for i in 0..20 {
+            let model = &plain[random.below(plain.len())];
+            let number = if random.below(4) == 0 { random.below(1 << 31) as u64 } else { 20 + i };
+            let bytes = sealer.seal(&Plain { payload: payload(&mut random, model), number, ..model.clone() });
+            let kept = Kept { bytes, record: 100 + i, ..all[model.place].clone() };
+            follower.take(&kept.datagram(), &mut rows);
+        }
+        packets += follower.counts().opened - before;
+    }
+    assert!(packets > 10 * rounds, "{packets} packets were opened");
+}
+
+// Connections that anyone can begin don't push out one of the same addresses.
+#[test]
+fn many_connections() {
+    let (all, first, mut sealer) = (datagrams(), opened()[0].clone(), Sealer::of_capture(1));
+    let (mut follower, mut rows) = (Follower::default(), Rows::default());
+    follower.keylog.add(KEYS);
+    let count = std::env::var("CONNECTIONS").ok().and_then(|text| text.parse().ok()).unwrap_or(200u64);
+    let (early, late) = all.split_at(6);
+    early.iter().for_each(|kept| follower.take(&kept.datagram(), &mut rows));
+    for n in 0..count {
+        let dcid = n.to_be_bytes().to_vec();
+        let plain = Plain { dcid: dcid.clone(), scid: n.to_le_bytes().to_vec(), payload: vec![1; 30], ..first.clone() };
+        sealer.first_id = dcid;
+        let bytes = sealer.seal(&plain);
+        follower.take(&Kept { bytes, record: 1000, ..all[0].clone() }.datagram(), &mut ());
+    }
+    late.iter().for_each(|kept| follower.take(&kept.datagram(), &mut rows));
+    assert_eq!((rows.opened(0), follower.counts().connections as u64), (16, count + 1));
+    assert!(follower.connections().count() <= MOST_CONNECTIONS);
+    if let Ok(status) = std::fs::read_to_string("/proc/self/status") {
+        println!("{count} connections, {}", status.lines().find(|line| line.starts_with("VmHWM")).unwrap_or(""));
+    }
+}

@@ -1,4 +1,5 @@
-//! Readers of ACKs without counts that are valid. Their ranges are read in a loop of the reader, with no call.
+//! Readers of ACKs that are valid and have few ranges and no counts. The ranges are read in a loop of the reader, with
+//! no call.
 ghost use Rattle.std.specs.Prelude.{◌≡◌, ◌≤◌, ◌+◌, ◌-◌, ℕ, List, IfSome, Ok, length, drop};
 ghost use Rattle.quic_frame_fields.specs.Field.{AreBlocks};
 ghost use Rattle.quic_frame_fields.specs.Reading.{below_at, blocks_at, range_at};
@@ -14,6 +15,10 @@ use crate::show::ack_words;
 use crate::words::{CFrame, CFrameIter, CGap};
 use quic_base::coding::are_bytes;
 use quic_frames::frame::Ack;
+
+// How many ranges below the first an ACK has at most. With more the reader of all frames, whose loop is faster, is worth
+// its call.
+const MOST_RANGES: u64 = 4;
 
 // The range at the front, its least and its greatest number, below a range that begins at `low`, and what follows it.
 #[inline(always)]
@@ -57,6 +62,9 @@ fn blocks(by_word: bool, greatest: u64, bytes: &[u8]) -> Option<(&[u8], &[u8])>
 {
     are_bytes(bytes);
     let (count, all) = short_number(by_word, bytes)?;
+    if count > MOST_RANGES {
+        return None;
+    }
     let (len, behind) = short_number(by_word, all)?;
     if len > greatest {
         return None;

@@ -18,7 +18,10 @@ use quic_frames::frame::Ack;
 
 // How many ranges below the first an ACK has at most. With more the reader of all frames, whose loop is faster, is worth
 // its call.
-const MOST_RANGES: u64 = 4;
+const MOST_RANGES: u64 = 10;
+
+// With so many bytes left the end of the payload is hardly ever why such an ACK isn't read by words.
+const NEAR_END: usize = 64;
 
 // The range at the front, its least and its greatest number, below a range that begins at `low`, and what follows it.
 #[inline(always)]
@@ -115,7 +118,8 @@ pub(crate) fn read_ack(payload: &[u8], flags: u32, out: &mut CFrame, gaps: &mut 
             *out = show_ack(end, 0x02, &ack, gaps);
             end as i64
         }
-        None => read_ack_near_end(payload, flags, out, gaps),
+        None if payload.len() < NEAR_END => read_ack_near_end(payload, flags, out, gaps),
+        None => read_any(payload, flags, out, gaps),
     }
 }
 
@@ -155,6 +159,7 @@ pub(crate) fn next_ack(frames: &mut CFrameIter, payload: &[u8], out: &mut CFrame
             frames.last_type = 0x02;
             1
         }
-        None => next_ack_near_end(frames, payload, out),
+        None if payload.len() - begin < NEAR_END => next_ack_near_end(frames, payload, out),
+        None => next_any(frames, payload, out),
     }
 }

@@ -15,12 +15,13 @@ use Rattle.quic_frames.specs.declared.frame.Frame.{Frame}
 use Rattle.quic_frames.specs.declared.frame.Frame.TheVariants as frames
 use Rattle.quic_frames.specs.declared.frame.rules.Breach.{Breach}
 use Rattle.quic_frames.specs.declared.frame.rules.Breach.TheVariants as breaches
+use Rattle.quic_frames.specs.InRange.{IsNoAck, IsTypedFrame, InRange, open_data}
 use Rattle.quic_frames.specs.Meaning.{meaning_of}
 use Rattle.quic_frames.specs.Rules.{breach_of, broken_if, is_past_streams}
 use Rattle.quic_c.specs.declared.words.CFrame.{CFrame}
 use Rattle.quic_c.specs.Plain.{IsPlain, WritesPlain, WroteAnyhow}
-use Rattle.quic_c.specs.Shown.{frame_kind_of, frame_numbers_of, rules_in, tail_of}
-use Rattle.quic_c.specs.Written.{CanWriteFrame, IsAnswer, WroteFrame, is_last}
+use Rattle.quic_c.specs.Shown.{data_of, flags_of, frame_kind_of, frame_numbers_of, rules_in, tail_of}
+use Rattle.quic_c.specs.Written.{CanWriteFrame, IsAnswer, KeepsFlags, WroteFrame, is_last, token_of}
 use Rattle.quic_c.proofs.Meanings.{one_meaning}
 use Rattle.quic_results.specs.declared.results.Failure.TheVariants as failure
 use Rattle.quic_results.specs.Results.{failed}
@@ -42,57 +43,33 @@ broken_by : (test : Bool) (count : ℕ) → count ≤ 2 ^ 60 → broken_if (test
 broken_by true count le = grind (arith, common_steps)
 broken_by false count le = refl
 
-pub ping : IsPlain frames.Ping
-ping = record {
-  flags = refl;
-  content = refl;
-  counted = refl;
-  tail = refl;
-  token = refl;
-  kind = tt;
-  typed = tt;
-  in_range = tt;
-  kept = λ _. refl;
+-- a frame of a given kind, whose flags, data and token compute to nothing
+plain : (frame : Frame) → flags_of frame ≡ 0 → data_of frame ≡ [] → open_data frame ≡ [] → tail_of frame ≡ 0
+    → token_of frame ≡ [] → IsNoAck frame → IsTypedFrame frame → InRange frame
+    → ((flags : ℕ) → KeepsFlags flags frame) → IsPlain frame
+plain frame flags content counted tail token kind typed in_range kept = record {
+  flags = flags;
+  content = content;
+  counted = counted;
+  tail = tail;
+  token = token;
+  kind = kind;
+  typed = typed;
+  in_range = in_range;
+  kept = kept;
 }
+
+pub ping : IsPlain frames.Ping
+ping = plain frames.Ping refl refl refl refl refl tt tt tt (λ _. refl)
 
 pub padding : IsPlain frames.Padding
-padding = record {
-  flags = refl;
-  content = refl;
-  counted = refl;
-  tail = refl;
-  token = refl;
-  kind = tt;
-  typed = tt;
-  in_range = tt;
-  kept = λ _. refl;
-}
+padding = plain frames.Padding refl refl refl refl refl tt tt tt (λ _. refl)
 
 pub challenge : (n : ℕ) → n < 2 ^ 64 → IsPlain (frames.PathChallenge n)
-challenge n small = record {
-  flags = refl;
-  content = refl;
-  counted = refl;
-  tail = refl;
-  token = refl;
-  kind = tt;
-  typed = small;
-  in_range = tt;
-  kept = λ _. refl;
-}
+challenge n small = plain (frames.PathChallenge n) refl refl refl refl refl tt small tt (λ _. refl)
 
 pub response : (n : ℕ) → n < 2 ^ 64 → IsPlain (frames.PathResponse n)
-response n small = record {
-  flags = refl;
-  content = refl;
-  counted = refl;
-  tail = refl;
-  token = refl;
-  kind = tt;
-  typed = small;
-  in_range = tt;
-  kept = λ _. refl;
-}
+response n small = plain (frames.PathResponse n) refl refl refl refl refl tt small tt (λ _. refl)
 
 pub challenge_parts : (last : Bool) (n : ℕ)
     → shortest_frame last (meaning_of (frames.PathChallenge n)) ≡ shortest_varint 0x1a ++ bytes_of 8 n
@@ -105,137 +82,46 @@ unfolding shortest_frame
 response_parts last n = ap (λ (l : List ℕ). shortest_varint 0x1b ++ l) (append-nil (bytes_of 8 n))
 
 pub handshake_done : IsPlain frames.HandshakeDone
-handshake_done = record {
-  flags = refl;
-  content = refl;
-  counted = refl;
-  tail = refl;
-  token = refl;
-  kind = tt;
-  typed = tt;
-  in_range = tt;
-  kept = λ _. refl;
-}
+handshake_done = plain frames.HandshakeDone refl refl refl refl refl tt tt tt (λ _. refl)
 
 pub reset_stream : (a b c : ℕ) → AreNumeric (a ∷ b ∷ c ∷ [])
     → IsPlain (frames.ResetStream (record { id = a; error_code = b; final_offset = c }))
-reset_stream a b c small = record {
-  flags = refl;
-  content = refl;
-  counted = refl;
-  tail = refl;
-  token = refl;
-  kind = tt;
-  typed = small;
-  in_range = tt;
-  kept = λ _. refl;
-}
+reset_stream a b c small =
+    plain (frames.ResetStream (record { id = a; error_code = b; final_offset = c })) refl refl refl refl refl tt small tt
+    (λ _. refl)
 
 pub stop_sending : (a b : ℕ) → AreNumeric (a ∷ b ∷ [])
     → IsPlain (frames.StopSending (record { id = a; error_code = b }))
-stop_sending a b small = record {
-  flags = refl;
-  content = refl;
-  counted = refl;
-  tail = refl;
-  token = refl;
-  kind = tt;
-  typed = small;
-  in_range = tt;
-  kept = λ _. refl;
-}
+stop_sending a b small =
+    plain (frames.StopSending (record { id = a; error_code = b })) refl refl refl refl refl tt small tt (λ _. refl)
 
 pub max_data : (n : ℕ) → n < 2 ^ 62 → IsPlain (frames.MaxData n)
-max_data n small = record {
-  flags = refl;
-  content = refl;
-  counted = refl;
-  tail = refl;
-  token = refl;
-  kind = tt;
-  typed = small;
-  in_range = tt;
-  kept = λ _. refl;
-}
+max_data n small = plain (frames.MaxData n) refl refl refl refl refl tt small tt (λ _. refl)
 
 pub max_stream_data : (id offset : ℕ) → id < 2 ^ 62 → offset < 2 ^ 62 → IsPlain (frames.MaxStreamData id offset)
-max_stream_data id offset small also = record {
-  flags = refl;
-  content = refl;
-  counted = refl;
-  tail = refl;
-  token = refl;
-  kind = tt;
-  typed = small;
-  in_range = also;
-  kept = λ _. refl;
-}
+max_stream_data id offset small also =
+    plain (frames.MaxStreamData id offset) refl refl refl refl refl tt small also (λ _. refl)
 
 pub stream_data_blocked : (id offset : ℕ) → id < 2 ^ 62 → offset < 2 ^ 62
     → IsPlain (frames.StreamDataBlocked id offset)
-stream_data_blocked id offset small also = record {
-  flags = refl;
-  content = refl;
-  counted = refl;
-  tail = refl;
-  token = refl;
-  kind = tt;
-  typed = small;
-  in_range = also;
-  kept = λ _. refl;
-}
+stream_data_blocked id offset small also =
+    plain (frames.StreamDataBlocked id offset) refl refl refl refl refl tt small also (λ _. refl)
 
 pub data_blocked : (offset : ℕ) → offset < 2 ^ 62 → IsPlain (frames.DataBlocked offset)
-data_blocked offset small = record {
-  flags = refl;
-  content = refl;
-  counted = refl;
-  tail = refl;
-  token = refl;
-  kind = tt;
-  typed = tt;
-  in_range = small;
-  kept = λ _. refl;
-}
+data_blocked offset small = plain (frames.DataBlocked offset) refl refl refl refl refl tt tt small (λ _. refl)
 
 pub retire : (sequence : ℕ) → sequence < 2 ^ 62 → IsPlain (frames.RetireConnectionId sequence)
-retire sequence small = record {
-  flags = refl;
-  content = refl;
-  counted = refl;
-  tail = refl;
-  token = refl;
-  kind = tt;
-  typed = tt;
-  in_range = small;
-  kept = λ _. refl;
-}
+retire sequence small = plain (frames.RetireConnectionId sequence) refl refl refl refl refl tt tt small (λ _. refl)
 
 pub max_streams : (dir : Dir) (count : ℕ) → count ≤ 2 ^ 60 → IsPlain (frames.MaxStreams dir count)
-max_streams dir count few = record {
-  flags = refl;
-  content = refl;
-  counted = refl;
-  tail = refl;
-  token = refl;
-  kind = tt;
-  typed = tt;
-  in_range = omega (arith, few);
-  kept = λ flags. broken_by (rules_in flags).stream_limit count few;
-}
+max_streams dir count few =
+    plain (frames.MaxStreams dir count) refl refl refl refl refl tt tt (omega (arith, few))
+    (λ flags. broken_by (rules_in flags).stream_limit count few)
 
 pub streams_blocked : (dir : Dir) (limit : ℕ) → limit ≤ 2 ^ 60 → IsPlain (frames.StreamsBlocked dir limit)
-streams_blocked dir limit few = record {
-  flags = refl;
-  content = refl;
-  counted = refl;
-  tail = refl;
-  token = refl;
-  kind = tt;
-  typed = tt;
-  in_range = omega (arith, few);
-  kept = λ flags. broken_by (rules_in flags).stream_limit limit few;
-}
+streams_blocked dir limit few =
+    plain (frames.StreamsBlocked dir limit) refl refl refl refl refl tt tt (omega (arith, few))
+    (λ flags. broken_by (rules_in flags).stream_limit limit few)
 
 -- ---- what is written
 

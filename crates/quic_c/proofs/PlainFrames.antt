@@ -126,19 +126,19 @@ streams_blocked dir limit few =
 -- ---- what is written
 
 -- numbers that only have values where a kind has them
-pub bare_is : (a b c : ℕ) → a ≡ 0 → b ≡ 0 → c ≡ 0
+bare_is : (a b c : ℕ) → a ≡ 0 → b ≡ 0 → c ≡ 0
     → ◌≡◌ {A = List ℕ} (a ∷ b ∷ c ∷ 0 ∷ 0 ∷ []) (0 ∷ 0 ∷ 0 ∷ 0 ∷ 0 ∷ [])
 bare_is a b c p q r = cc
 
-pub second_is : (a b c : ℕ) → a ≡ 0 → c ≡ 0
+second_is : (a b c : ℕ) → a ≡ 0 → c ≡ 0
     → ◌≡◌ {A = List ℕ} (a ∷ b ∷ c ∷ 0 ∷ 0 ∷ []) (0 ∷ b ∷ 0 ∷ 0 ∷ 0 ∷ [])
 second_is a b c p r = cc
 
-pub first_is : (a b c : ℕ) → b ≡ 0 → c ≡ 0
+first_is : (a b c : ℕ) → b ≡ 0 → c ≡ 0
     → ◌≡◌ {A = List ℕ} (a ∷ b ∷ c ∷ 0 ∷ 0 ∷ []) (a ∷ 0 ∷ 0 ∷ 0 ∷ 0 ∷ [])
 first_is a b c q r = cc
 
-pub both_are : (a b c : ℕ) → c ≡ 0
+both_are : (a b c : ℕ) → c ≡ 0
     → ◌≡◌ {A = List ℕ} (a ∷ b ∷ c ∷ 0 ∷ 0 ∷ []) (a ∷ b ∷ 0 ∷ 0 ∷ 0 ∷ [])
 both_are a b c r = cc
 
@@ -153,6 +153,39 @@ writes kind numbers bytes old new n frame plain k h e puts = record {
   has = h;
   puts = λ last. subst (λ (l : List ℕ). Puts (Ok n) l old new) (sym (e last)) puts;
 }
+
+-- frames without a number, with the second alone, the first alone, and the first two
+pub writes_bare : (kind a b c : ℕ) (bytes old new : List ℕ) (n : ℕ) (frame : Frame) → bit_or (bit_or a b) c ≡ 0
+    → IsPlain frame → kind ≡ frame_kind_of frame → frame_numbers_of frame ≡ 0 ∷ 0 ∷ 0 ∷ 0 ∷ 0 ∷ []
+    → ((last : Bool) → shortest_frame last (meaning_of frame) ≡ bytes)
+    → Puts (Ok n) bytes old new → WritesPlain kind (a ∷ b ∷ c ∷ 0 ∷ 0 ∷ []) old new n
+writes_bare kind a b c bytes old new n frame zero plain k has e puts =
+    let two = or_zero (bit_or a b) c zero in
+    let one = or_zero a b two.0 in
+    writes kind _ bytes old new n frame plain k (bare_is a b c one.0 one.1 two.1 ∙ sym has) e puts
+
+pub writes_second : (kind a b c : ℕ) (bytes old new : List ℕ) (n : ℕ) (frame : Frame) → bit_or a c ≡ 0
+    → IsPlain frame → kind ≡ frame_kind_of frame → frame_numbers_of frame ≡ 0 ∷ b ∷ 0 ∷ 0 ∷ 0 ∷ []
+    → ((last : Bool) → shortest_frame last (meaning_of frame) ≡ bytes)
+    → Puts (Ok n) bytes old new → WritesPlain kind (a ∷ b ∷ c ∷ 0 ∷ 0 ∷ []) old new n
+writes_second kind a b c bytes old new n frame zero plain k has e puts =
+    let two = or_zero a c zero in
+    writes kind _ bytes old new n frame plain k (second_is a b c two.0 two.1 ∙ sym has) e puts
+
+pub writes_first : (kind a b c : ℕ) (bytes old new : List ℕ) (n : ℕ) (frame : Frame) → bit_or b c ≡ 0
+    → IsPlain frame → kind ≡ frame_kind_of frame → frame_numbers_of frame ≡ a ∷ 0 ∷ 0 ∷ 0 ∷ 0 ∷ []
+    → ((last : Bool) → shortest_frame last (meaning_of frame) ≡ bytes)
+    → Puts (Ok n) bytes old new → WritesPlain kind (a ∷ b ∷ c ∷ 0 ∷ 0 ∷ []) old new n
+writes_first kind a b c bytes old new n frame zero plain k has e puts =
+    let two = or_zero b c zero in
+    writes kind _ bytes old new n frame plain k (first_is a b c two.0 two.1 ∙ sym has) e puts
+
+pub writes_both : (kind a b c : ℕ) (bytes old new : List ℕ) (n : ℕ) (frame : Frame) → c ≡ 0
+    → IsPlain frame → kind ≡ frame_kind_of frame → frame_numbers_of frame ≡ a ∷ b ∷ 0 ∷ 0 ∷ 0 ∷ []
+    → ((last : Bool) → shortest_frame last (meaning_of frame) ≡ bytes)
+    → Puts (Ok n) bytes old new → WritesPlain kind (a ∷ b ∷ c ∷ 0 ∷ 0 ∷ []) old new n
+writes_both kind a b c bytes old new n frame zero plain k has e puts =
+    writes kind _ bytes old new n frame plain k (both_are a b c zero ∙ sym has) e puts
 
 pub wrote : (words : CFrame) (old new : List ℕ) (n : ℕ) → words.flags ≡ 0 → words.data_len ≡ 0
     → WritesPlain words.kind words.numbers old new n → WroteAnyhow words old new n

@@ -6,7 +6,7 @@ ghost use Rattle.quic_results.specs.Results.{failed, frame_failure};
 ghost use Rattle.quic_results.specs.declared.results.Failure.TheVariants as failure;
 ghost use Rattle.quic_fields.specs.declared.rules.Refusal.{Refusal};
 ghost use Rattle.quic_fields.specs.Entry.{HasEntry, LacksEntry, stop_in_entry};
-ghost use Rattle.quic_fields.specs.Rules.{refusal_text, stop_by, HasSpansBy, LacksSpansBy};
+ghost use Rattle.quic_fields.specs.Rules.{refusal_text, HasSpansBy, LacksSpansBy, StopsBy};
 
 use quic_fields::entry::entry_spans;
 use quic_fields::field::{Reach, Span};
@@ -32,11 +32,11 @@ pub extern "C" fn quic_wire_frame_fields_(
 ) -> i32
     ensures ok { result ≡ pos 1
         → HasSpansBy (rules_in flags) payload.now fields.old fields.new out.new.count out.new.end
-        × ((out.new.inside, out.new.numbers) ≡ stop_by None out.new.count payload.now) }
+        × StopsBy None payload.now out.new.count out.new.end (out.new.inside, out.new.numbers) }
     ensures err { (result ≡ pos 1) ⊎ (payload.now ≡ [])
         ⊎ ((reason : Refusal) × (result ≡ failed (frame_failure (refusal_text reason)))
         × LacksSpansBy (rules_in flags) payload.now fields.old fields.new out.new.count out.new.end reason
-        × ((out.new.inside, out.new.numbers) ≡ stop_by (Some reason) out.new.count payload.now)) }
+        × StopsBy (Some reason) payload.now out.new.count out.new.end (out.new.inside, out.new.numbers)) }
     ensures empty { payload.now ≡ [] → (result ≡ failed failure.PayloadEmpty) × (fields.new ≡ fields.old)
         × (out.new ≡ record { count = 0; end = 0; inside = 0; numbers = 0 }) }
 {

@@ -65,7 +65,7 @@ pub record TakesFrameAt (spans : List Span) (bytes left : List ℕ) : Type 0 whe
   pub frame : IsFrameAt false found spans front
   pub opens : is_open found.type ≡ true → left ≡ []
 
-abbrev is_open_row : Option Row → Bool
+abbrev pub is_open_row : Option Row → Bool
 is_open_row row = option_map_or (λ (r : Row). list_any is_rest r.fields) row false
 
 row_takes_at : (t : ℕ) (bytes front rest : List ℕ) (o : Option Row) (x : List Value × List ℕ) → AreBytes rest

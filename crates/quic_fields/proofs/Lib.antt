@@ -5,6 +5,7 @@ mod SpanLaws
 mod FrameWalks
 mod Entries
 mod Stopping
+mod StopLaws
 mod RuleSpans
 mod TypeRules
 mod RuleLaws

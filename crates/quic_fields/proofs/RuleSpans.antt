@@ -21,13 +21,12 @@ use Rattle.quic_frames.specs.Walk.{first_of, Finds, LacksFrame}
 use Rattle.std.specs.Prelude.{slice_range}
 use Rattle.std.proofs.lemmas.List.Folds.{drop_split}
 use Rattle.std.proofs.Math.Seq.{drop-length}
-use Rattle.quic_fields.specs.Inside.{stop_in_row, stop_after_type, stop_in_frame}
 use Rattle.quic_fields.specs.Kinds.{fields_in}
 use Rattle.quic_frames.specs.declared.frame.rules.Breach.{Breach}
 use Rattle.quic_frames.specs.Rules.{breach_of}
 use Rattle.quic_fields.specs.declared.field.Span.{Span}
 use Rattle.quic_fields.specs.declared.rules.Refusal.TheVariants.{NoFrame, Broken}
-use Rattle.quic_fields.specs.Rules.{AllowsType, BreaksAt, broken_at, broken_fields, broken_type, broken_walk, stop_by, FrontBreaks, FrontKeeps, HasSpansBy, LacksSpansBy}
+use Rattle.quic_fields.specs.Rules.{AllowsType, BreaksAt, broken_at, broken_fields, broken_type, broken_walk, FrontBreaks, FrontKeeps, HasSpansBy, LacksSpansBy}
 use Rattle.quic_fields.specs.Spans.{span, IsNoFrameAt, AreInRow}
 use Rattle.quic_fields.specs.Walk.{Walked, walk_at, after_field, frame_walk, stored, last_end, HasSpans, LacksSpans}
 use Rattle.quic_fields.proofs.SpanLaws.{others_of, front_width, walk_again}
@@ -330,23 +329,6 @@ pub keeps_none : (rules : Rules) (payload : List ℕ) (reported : Invalid) → A
 keeps_none rules payload reported fits l = λ found front back parts s opens.
     absurd (not_both found front back None l.type l.reason (subst AreBytes parts fits) s opens
     (subst (λ (b : List ℕ). IsNoFrame false None b l.type l.reason) parts l.no_frame))
-
--- ---- where reading stops
-
-pub stop_of_none : (payload : List ℕ) (spans : List Span) (at : ℕ) (reason : Fault) → AreBytes payload
-    → IsNoFrameAt payload spans at reason → at ≡ length spans
-    → stop_by (Some (NoFrame reason)) at payload ≡ stop_in_frame payload
-stop_of_none payload spans zero reason fits (inl s) counted =
-    let failed = err_of (varint_at payload)
-    (λ x h. let t = varint_takes payload x.0 x.1 fits h in s.2 x.0 t.front x.1 t.split t.is) in
-    sym (ap stop_after_type failed.1)
-stop_of_none payload spans zero reason fits (inr (inl s)) counted =
-    let u = s.2.1 in
-    let one = varint_again s.2.0 u.front u.back u.encoded.encoded in
-    sym (ap stop_after_type (ap varint_at u.parts ∙ one) ∙ ap (λ (o : Option Row). stop_in_row o u.back) u.then)
-stop_of_none payload spans zero reason fits (inr (inr s)) counted =
-    let no : zero ≡ suc (length s.3) = counted ∙ ap length s.6.2 in absurd cc
-stop_of_none payload spans (suc n) reason fits s counted = refl
 
 pub none_left : {A : Type 0} (o : Option A) → ((x : A) → o ≡ Some x → ⊥) → o ≡ None
 none_left None never = refl

@@ -16,7 +16,7 @@ use Rattle.quic_frame_fields.proofs.Fields.{stops_again}
 use Rattle.quic_fields.specs.Inside.{at_block, inside_below, inside_blocks, inside_counted, inside}
 use Rattle.quic_fields.specs.Stopping.{StopsInside, NumberStopsAt, BelowStopsAt, RangesStopAt}
 
-no_number : (bytes : List ℕ) → AreBytes bytes → NoNumber bytes → varint_at bytes ≡ Err UnexpectedEnd
+pub no_number : (bytes : List ℕ) → AreBytes bytes → NoNumber bytes → varint_at bytes ≡ Err UnexpectedEnd
 no_number bytes fits none =
     let failed =
     err_of (varint_at bytes) (λ x h. let t = varint_takes bytes x.0 x.1 fits h in none x.0 t.front x.1 t.split t.is) in

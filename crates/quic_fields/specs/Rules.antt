@@ -12,7 +12,7 @@ use Rattle.quic_frames.specs.Rules.{Keeps, breach_of, breach_text, is_unknown_by
 use Rattle.quic_fields.specs.declared.field.Span.{Span}
 use Rattle.quic_fields.specs.declared.rules.Refusal.{Refusal}
 use Rattle.quic_fields.specs.declared.rules.Refusal.TheVariants.{NoFrame, Broken}
-use Rattle.quic_fields.specs.Inside.{stop_in_frame}
+use Rattle.quic_fields.specs.Stopping.{StopsAtField}
 use Rattle.quic_fields.specs.Spans.{span, IsFrameAt, IsNoFrameAt, AreInRow}
 use Rattle.quic_fields.specs.Walk.{walk_at, stored, HasSpans}
 
@@ -96,13 +96,12 @@ pub record LacksSpansBy (rules : Rules) (payload : List ℕ) (old new : List Spa
   pub all : count ≡ length spans
   pub stop : AreInRow 0 spans end
 
--- what a field that can't be read has before the number or the bytes at fault; nothing if the type is rejected or a rule
--- is broken
-abbrev pub stop_by : Option Refusal → ℕ → List ℕ → ℕ × ℕ
-stop_by (Some (Broken breach)) count bytes = (0, 0)
-stop_by (Some (NoFrame reason)) zero bytes = (0, 0)
-stop_by (Some (NoFrame reason)) (suc count) bytes = stop_in_frame bytes
-stop_by None count bytes = stop_in_frame bytes
+-- So much of the field with this index, which begins at this offset and is at fault, comes before what is at fault in it:
+-- nothing if the type is rejected or a rule is broken, and nothing without a fault.
+abbrev pub StopsBy : Option Refusal → List ℕ → ℕ → ℕ → ℕ × ℕ → Type 0
+StopsBy None bytes index start at = at ≡ (0, 0)
+StopsBy (Some (Broken breach)) bytes index start at = at ≡ (0, 0)
+StopsBy (Some (NoFrame reason)) bytes index start at = StopsAtField bytes index start reason at
 
 -- ---- as functions, and what single calls find
 

@@ -1,5 +1,5 @@
 //! Laws of spans, which no single call states. The functions do nothing at run time.
-ghost use Rattle.std.specs.Prelude.{◌≡◌, ◌≢◌, ◌⊎◌, ℕ, List, [], Option, Bool, false, length};
+ghost use Rattle.std.specs.Prelude.{◌≡◌, ◌≢◌, ◌⊎◌, ◌++◌, ℕ, List, [], Option, Bool, false, true, length};
 ghost use Rattle.quic_base.specs.Codec.{Follows};
 ghost use Rattle.quic_base.specs.Varint.{Encodes};
 ghost use Rattle.quic_base.specs.Number.{AreBytes};
@@ -9,10 +9,11 @@ ghost use Rattle.quic_fields.specs.declared.field.Span.{Span};
 ghost use Rattle.quic_fields.specs.Entry.{IsEntryAt};
 ghost use Rattle.quic_frame_fields.specs.Field.{Value, Field, Stops};
 ghost use Rattle.quic_frames.specs.declared.frame.rules.Rules.{Rules};
-ghost use Rattle.quic_fields.specs.Inside.{inside};
+ghost use Rattle.quic_fields.specs.Inside.{inside, stop_in_frame};
+ghost use Rattle.quic_frame_fields.specs.Table.{is_open};
 ghost use Rattle.quic_fields.specs.declared.rules.Refusal.{Refusal};
 ghost use Rattle.quic_fields.specs.Rules.{IsAllowedAt, IsRefusedAt};
-ghost use Rattle.quic_fields.specs.Stopping.{StopsInside};
+ghost use Rattle.quic_fields.specs.Stopping.{StopsAtField, StopsInside};
 ghost use Rattle.quic_fields.specs.Spans.{IsFrameAt, IsNoFrameAt, AreInRow, AreNumbered};
 
 /// A frame has exactly one list of spans: it has one, only frames have one, and a frame's bytes have no second one.
@@ -55,10 +56,17 @@ pub fn one_list_of_spans_in_an_entry()
 {}
 
 /// Where reading stops inside a field that can't be read is where the grammar says: at a length or at the bytes after it,
-/// or at a count, a first range, a gap or a length of an ACK's ranges (RFC 9000, section 19.3.1).
+/// or at a count, a first range, a gap or a length of an ACK's ranges (RFC 9000, section 19.3.1). At the front of bytes
+/// that begin with no frame that field is the one at fault; in a frame reading stops nowhere.
 pub fn where_reading_stops()
-    ensures { (field : Field) (before : List Value) (bytes : List ℕ) (reason : Fault) → AreBytes bytes
+    ensures field { (field : Field) (before : List Value) (bytes : List ℕ) (reason : Fault) → AreBytes bytes
         → Stops field before bytes reason → StopsInside field before bytes reason (inside field before bytes) }
+    ensures front { (bytes : List ℕ) (spans : List Span) (at end : ℕ) (reason : Fault) → AreBytes bytes
+        → IsNoFrameAt bytes spans at reason → AreInRow 0 spans end
+        → StopsAtField bytes at end reason (stop_in_frame bytes) }
+    ensures frame { (strict : Bool) (found : TypedFrame) (spans : List Span) (front back : List ℕ)
+        → IsFrameAt strict found spans front → (is_open found.type ≡ true → back ≡ [])
+        → stop_in_frame (front ++ back) ≡ (0, 0) }
 {}
 
 /// Under rules, too, bytes begin with a frame that has exactly one list of spans, or exactly one field is at fault.

@@ -2,11 +2,12 @@
 ghost use Rattle.std.specs.Prelude.{◌≡◌, ◌<◌, ◌≤◌, ◌+◌, ◌-◌, ◌^◌, None, IfSome, length, map, take};
 ghost use Rattle.quic_frame_fields.specs.Reading.{varint_at};
 ghost use Rattle.quic_fields.specs.Kinds.{field_of};
-ghost use Rattle.quic_fields.specs.Rules.{broken_at, broken_walk, refusal_text, stop_by, type_fault_at, FrontBreaks, FrontKeeps, HasSpansBy, LacksSpansBy};
+ghost use Rattle.quic_fields.specs.Rules.{broken_at, broken_walk, refusal_text, type_fault_at, FrontBreaks, FrontKeeps, HasSpansBy, LacksSpansBy, StopsBy};
 ghost use Rattle.quic_fields.specs.Walk.{stored, last_end};
 
 use crate::field::{Reach, Seen, Span, Walked, number, put, walk};
 use crate::frame::frame_spans;
+use crate::laws::where_reading_stops;
 use crate::row::{Kind, row};
 use quic_base::varint::var_size;
 use quic_frame_fields::frame::fault::Fault;
@@ -158,8 +159,9 @@ pub fn frame_spans_by(rules: Rules, payload: &[u8], room: &mut [Span]) -> (Optio
         → HasSpansBy rules payload.now room.old room.new result.1.count result.1.end }
     ensures err { IfSome result.0
         (λ reason. LacksSpansBy rules payload.now room.old room.new result.1.count result.1.end reason) }
-    ensures inside { (result.1.inside, result.1.numbers) ≡ stop_by result.0 result.1.count payload.now }
+    ensures inside { StopsBy result.0 payload.now result.1.count result.1.end (result.1.inside, result.1.numbers) }
 {
+    where_reading_stops();
     if let Some(fault) = type_fault(rules, payload) {
         let none = Reach {
             count: 0,

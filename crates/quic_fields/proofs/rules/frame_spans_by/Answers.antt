@@ -1,9 +1,11 @@
-use Rattle.std.proofs.Common.{◌∙◌, [], refl, sym, subst, inl}
+use Rattle.std.proofs.Common.{◌∙◌, [], false, refl, sym, ap, subst, inl}
 use Rattle.std.specs.Prelude.{IfSome}
 use Rattle.quic_frame_fields.specs.Reading.{varint_at}
+use Rattle.quic_fields.specs.Inside.{stop_in_frame}
+use Rattle.quic_fields.specs.Stopping.{StopsAtField}
 use Rattle.quic_fields.specs.Walk.{LacksSpans}
 use Rattle.quic_fields.proofs.TypeRules.{judged, refused}
-use Rattle.quic_fields.proofs.RuleSpans.{allowed_front, has_by, lacks_broken, lacks_by, none_left, stop_of_none}
+use Rattle.quic_fields.proofs.RuleSpans.{allowed_front, has_by, lacks_broken, lacks_by, none_left}
 use Rattle.quic_fields.proofs.rules.frame_spans_by.Goals as goal
 
 pub returns-in-Some-clause-err : goal.returns-in-Some-clause-err
@@ -49,12 +51,22 @@ pub returns-in-Some-fault-clause-inside : goal.returns-in-Some-fault-clause-insi
 returns-in-Some-fault-clause-inside c =
     let payload = c.args.payload.now in
     let w = c.frame_spans-walked in
-    let lacks : LacksSpans payload c.args.room.now w.new.room w.result.count w.result.end c.in-Some-fault.fault =
+    let reason = c.in-Some-fault.fault in
+    let lacks : LacksSpans payload c.args.room.now w.new.room w.result.count w.result.end reason =
     subst (λ o. IfSome o (λ reason. LacksSpans payload c.args.room.now w.new.room w.result.count w.result.end reason))
     c.in-Some-fault.is w.ensures.err in
-    rw (c.reach_of.ensures.inside, c.reach_of.ensures.numbers, c.reach_of.ensures.count)
-    (w.ensures.inside ∙ sym (stop_of_none payload lacks.spans w.result.count c.in-Some-fault.fault
-    (λ i. (c.type_inv.payload i).fits) lacks.no_frame lacks.all))
+    rw (c.reach_of.ensures.inside, c.reach_of.ensures.numbers, c.reach_of.ensures.count, c.reach_of.ensures.end)
+    (subst (StopsAtField payload w.result.count w.result.end reason) (sym w.ensures.inside)
+    (c.where_reading_stops.ensures.front payload lacks.spans w.result.count w.result.end reason
+    (λ i. (c.type_inv.payload i).fits) lacks.no_frame lacks.stop))
+
+pub returns-in-None-clause-inside : goal.returns-in-None-clause-inside
+returns-in-None-clause-inside c =
+    let w = c.frame_spans-walked in
+    let has = w.ensures.ok c.in-None.is in
+    rw (c.reach_of-in-None.ensures.inside, c.reach_of-in-None.ensures.numbers)
+    (w.ensures.inside ∙ ap stop_in_frame has.parts
+    ∙ c.where_reading_stops.ensures.frame false has.found has.spans has.front has.back has.frame has.opens)
 
 pub returns-in-None-clause-ok : goal.returns-in-None-clause-ok
 returns-in-None-clause-ok c = λ _.

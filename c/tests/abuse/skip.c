@@ -11,8 +11,8 @@ void skip_nulls(void) {
   WANT(frames.offset == 0 && frames.ended == 1);
 }
 
-/* Passes over any bytes, from any words of an iterator: the next frame is the
- * one that the bytes behind begin with. */
+/* Passes over any bytes, from an iterator with any field values: the next frame
+ * is the one that the bytes behind begin with. */
 void skip_rubbish(const uint8_t *payload, size_t len) {
   quic_wire_frame_iter frames, before, others;
   quic_wire_frame frame, other;

@@ -1,7 +1,7 @@
-/* What receive.c, send.c and recovery.c share: checks, hexadecimal, and a
- * cipher that hides nothing, in place of a real one.  It inverts each bit, its
- * tag is the packet number sixteen times, and its mask the front of the
- * sample. */
+/* What receive.c, send.c, recovery.c and balance.c share: checks, hexadecimal,
+ * and a cipher that hides nothing, in place of a real one.  It inverts each
+ * bit, its tag is the packet number sixteen times, and its mask the front of
+ * the sample. */
 #ifndef PATHS_H
 #define PATHS_H
 

@@ -894,6 +894,25 @@ quic_wire_frames_first(quic_wire_frame_iter *frames, const uint8_t *payload,
                        size_t room, size_t *count);
 
 /**
+ * Passes over a frame that you read, of a type that the library doesn't know:
+ * quic_wire_frames_next and quic_wire_frames_fill, which returned
+ * QUIC_WIRE_ERR_FRAME_TYPE there, go on at |end|, an offset in the payload.
+ * The frame begins at |frames->offset|, with its |type|.
+ *
+ * Returns:
+ *  - QUIC_WIRE_ITEM
+ *  - QUIC_WIRE_ERR_PLACE if |end| isn't above |frames->offset|, or is above
+ *    |payloadlen|
+ *  - QUIC_WIRE_ERR_NUMBER if |type| is 2^62 or more
+ *  - QUIC_WIRE_ERR_ARGUMENT for NULL
+ *
+ * |frames| changes only with QUIC_WIRE_ITEM.
+ */
+QUIC_WIRE_CHECKED QUIC_WIRE_API int
+quic_wire_frames_skip(quic_wire_frame_iter *frames, const uint8_t *payload,
+                      size_t payloadlen, size_t end, uint64_t type);
+
+/**
  * Reads the frame at the front of |payload|, the rest of a payload, without an
  * iterator.  Go on where it ends, which is returned, until no byte remains.
  * Offsets in |frame| count from |payload|.  A PADDING frame and the zero bytes

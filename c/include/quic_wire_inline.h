@@ -43,6 +43,8 @@ int64_t quic_wire_frame_read_(const uint8_t *, size_t, uint32_t,
                               quic_wire_frame *, quic_wire_gap *, size_t);
 int64_t quic_wire_frame_header_read_(const uint8_t *, size_t, uint32_t,
                                      quic_wire_frame *);
+int32_t quic_wire_frames_skip_(quic_wire_frame_iter *, const uint8_t *, size_t,
+                               size_t, uint64_t);
 int32_t quic_wire_frame_write_(const quic_wire_frame *, const uint8_t *, size_t,
                                uint32_t, uint8_t *, size_t, size_t *);
 int32_t quic_wire_canonical_(const uint8_t *, size_t, uint8_t *, size_t,
@@ -210,6 +212,20 @@ QUIC_WIRE_API int quic_wire_frames_first(quic_wire_frame_iter *frames,
   }
   return quic_wire_frames_first_(frames, payload, payloadlen, flags, out, room,
                                  count);
+}
+
+QUIC_WIRE_API int quic_wire_frames_skip(quic_wire_frame_iter *frames,
+                                        const uint8_t *payload,
+                                        size_t payloadlen, size_t end,
+                                        uint64_t type) {
+  if (!frames)
+    return QUIC_WIRE_ERR_ARGUMENT;
+  if (!payload) {
+    if (payloadlen)
+      return QUIC_WIRE_ERR_ARGUMENT;
+    payload = (const uint8_t *)quic_wire_nothing_();
+  }
+  return quic_wire_frames_skip_(frames, payload, payloadlen, end, type);
 }
 
 QUIC_WIRE_API int64_t quic_wire_frame_read(const uint8_t *payload,

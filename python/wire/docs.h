@@ -20,6 +20,11 @@
 #define DOC_Frame_as_dict PyDoc_STR( \
   "as_dict($self, /)\n--\n\n" \
   "The fields by name, data as bytes.")
+#define DOC_FrameIterator_skip PyDoc_STR( \
+  "skip($self, end, type, /)\n--\n\n" \
+  "Passes over a frame of this type, which the library doesn't know and the caller read:\n" \
+  "the next frame is the one at end, an offset in the payload. Use it after the\n" \
+  "FrameError that the frame raised; the frame begins at offset.")
 #define DOC_frames PyDoc_STR( \
   "frames($module, payload, /, *, checks=0)\n--\n\n" \
   "The frames of a payload, each read when it is asked for. Consecutive PADDING frames\n" \

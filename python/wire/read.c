@@ -81,6 +81,40 @@ static PyObject *iterator_offset(PyObject *self, void *Py_UNUSED(unused)) {
   return PyLong_FromSize_t(offset);
 }
 
+/* What is still in the batch is read again if |end| lies within it. */
+static int skip(iterator_object *o, size_t end, uint64_t type) {
+  quic_wire_frame_iter iter = o->iter;
+  int result;
+  if (o->next < o->count)
+    iter.offset = o->batch[o->next].begin;
+  result = quic_wire_frames_skip(&iter, o->bytes.at, o->bytes.len, end, type);
+  if (result != QUIC_WIRE_ITEM)
+    return wire_fail(PyExc_ValueError,
+                     "end must be above the offset of the next frame, and at "
+                     "most the length of the payload");
+  o->iter = iter;
+  o->next = o->count = 0;
+  return 0;
+}
+
+static PyObject *iterator_skip(PyObject *self, PyObject *args) {
+  PyObject *end_word, *type_word;
+  uint64_t end, type;
+  int result;
+  if (!PyArg_ParseTuple(args, "OO:skip", &end_word, &type_word) ||
+      wire_number(end_word, "end", &end) < 0 ||
+      wire_varint(type_word, "type", &type) < 0)
+    return NULL;
+  WIRE_BEGIN_ALONE(self);
+  result = skip((iterator_object *)self,
+                end > SIZE_MAX ? SIZE_MAX : (size_t)end, type);
+  WIRE_END_ALONE;
+  return result < 0 ? NULL : Py_NewRef(Py_None);
+}
+
+static PyMethodDef iterator_methods[] = {
+    WIRE_METHOD(FrameIterator, skip, iterator_skip, METH_VARARGS),
+    {NULL, NULL, 0, NULL}};
 static PyGetSetDef iterator_fields[] = {
     {"offset", iterator_offset, NULL, PyDoc_STR("where the next frame begins"),
      NULL},
@@ -89,6 +123,7 @@ static PyType_Slot iterator_slots[] = {
     {Py_tp_dealloc, iterator_dealloc},
     {Py_tp_iter, PyObject_SelfIter},
     {Py_tp_iternext, iterator_next},
+    {Py_tp_methods, iterator_methods},
     {Py_tp_getset, iterator_fields},
     {Py_tp_doc, "The frames of a payload, each read when it is asked for."},
     {0, NULL}};

@@ -56,6 +56,10 @@ extern void fill_rubbish(const uint8_t *payload, size_t len);
 extern void first_rubbish(const uint8_t *payload, size_t len);
 extern int short_types_any(const uint8_t *bytes, size_t len);
 
+/* skip.c: frames that the library doesn't know. */
+extern void skip_nulls(void);
+extern void skip_rubbish(const uint8_t *payload, size_t len);
+
 /* The next frame from single calls, with a run of PADDING as one, is
  * |entry|. */
 extern void next_is(quic_wire_frame_iter *one, const uint8_t *payload,

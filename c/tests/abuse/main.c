@@ -43,6 +43,7 @@ size_t varint_len(uint64_t n) {
 static void nulls(void) {
   results_examples();
   frames_nulls();
+  skip_nulls();
   fronts_nulls();
   rules_examples();
   permitted_examples();
@@ -80,6 +81,7 @@ static void rubbish(int rounds) {
     fill_rubbish(bytes, len);
     padding_any();
     first_rubbish(bytes, len);
+    skip_rubbish(bytes, len);
     front_rubbish(bytes, len);
     fill_ranges_rubbish(bytes, len);
     write_rubbish(bytes, len);

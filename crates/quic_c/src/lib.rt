@@ -18,6 +18,7 @@ mod front;
 mod headers_read;
 pub mod laws;
 mod show;
+mod skip;
 pub mod walks;
 mod words;
 mod write;

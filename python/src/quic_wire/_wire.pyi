@@ -343,6 +343,10 @@ class AckFrequency(Frame):
 class FrameIterator(Iterator[Frame]):
     @property
     def offset(self) -> int: ...
+    def skip(self, end: int, type: int, /) -> None:
+        """Passes over a frame of this type, which the library doesn't know and the caller read:
+        the next frame is the one at end, an offset in the payload. Use it after the
+        FrameError that the frame raised; the frame begins at offset."""
     def __next__(self) -> Frame: ...
 
 def frames(payload: Buffer, /, *, checks: Checks = ...) -> FrameIterator:

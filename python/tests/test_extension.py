@@ -1,0 +1,120 @@
+"""Frames that the library doesn't know: the caller reads them, and passes over them."""
+
+import sys
+import threading
+import unittest
+
+import quic_wire as q
+
+RESET_STREAM_AT = 0x24
+UNKNOWN = "invalid frame ID"
+
+
+def frames(payload):
+    """The names of a payload's frames, also of RESET_STREAM_AT (draft-ietf-quic-reliable-stream-reset, section 4), which
+    has a type of one byte and four numbers."""
+    found = q.frames(payload, checks=q.Checks.RFC)
+    while True:
+        try:
+            for frame in found:
+                yield type(frame).__name__
+            return
+        except q.FrameError as error:
+            if (error.frame_type, error.reason) != (RESET_STREAM_AT, UNKNOWN):
+                raise
+        end = found.offset + 1
+        for _ in range(4):
+            _, end = q.read_varint(payload, end)
+        yield "RESET_STREAM_AT"
+        found.skip(end, RESET_STREAM_AT)
+
+
+class Extension(unittest.TestCase):
+    def test_frames_around_are_read(self):
+        rows = [
+            ("2404010805", ["RESET_STREAM_AT"]),
+            ("01" + "2404010805" * 2 + "01", ["Ping", "RESET_STREAM_AT", "RESET_STREAM_AT", "Ping"]),
+            ("01" * 40 + "2404010805" + "01" * 40, ["Ping"] * 40 + ["RESET_STREAM_AT"] + ["Ping"] * 40),
+            ("000024040108050000", ["Padding", "RESET_STREAM_AT", "Padding"]),
+        ]
+        for payload, names in rows:
+            with self.subTest(payload):
+                self.assertEqual(list(frames(bytes.fromhex(payload))), names)
+
+    def test_errors_behind(self):
+        rows = [("240401080525", 0x25, UNKNOWN), ("240401080540", None, "unexpected end")]
+        for payload, frame_type, reason in rows:
+            with self.subTest(payload), self.assertRaises(q.FrameError) as raised:
+                list(frames(bytes.fromhex(payload)))
+            self.assertEqual((raised.exception.frame_type, raised.exception.reason), (frame_type, reason))
+            self.assertEqual(raised.exception.offset, 5)
+
+    def test_places_count_from_the_payload(self):
+        found = q.frames(bytes.fromhex("2404010805" + "0801"))
+        with self.assertRaises(q.FrameError):
+            next(found)
+        found.skip(5, RESET_STREAM_AT)
+        frame = next(found)
+        self.assertEqual((frame.begin, frame.end, found.offset), (5, 7, 7))
+
+    def test_from_the_next_frame(self):
+        # Frames that were read ahead aren't lost.
+        found = q.frames(b"\x01" * 6)
+        next(found)
+        found.skip(3, 0x01)
+        self.assertEqual([(frame.begin, frame.end) for frame in found], [(3, 4), (4, 5), (5, 6)])
+
+    def test_rejected(self):
+        found = q.frames(b"\x01\x01\x01")
+        next(found)
+        above = "end must be above"
+        rows = [
+            (ValueError, above, (1, 0x24)),
+            (ValueError, above, (0, 0x24)),
+            (ValueError, above, (4, 0x24)),
+            (ValueError, above, (2**64 - 1, 0x24)),
+            (ValueError, "end must be from 0", (2**64, 0x24)),
+            (ValueError, "end must be from 0", (-1, 0x24)),
+            (ValueError, "type must be from 0 to 2\\^62 - 1", (2, 2**62)),
+            (TypeError, "end must be an int", ("2", 0x24)),
+            (TypeError, "type must be an int", (2, None)),
+            (TypeError, "2 arguments", (2,)),
+        ]
+        for kind, text, arguments in rows:
+            with self.subTest(arguments), self.assertRaisesRegex(kind, text):
+                found.skip(*arguments)
+        self.assertEqual(found.offset, 1)
+        self.assertEqual(len(list(found)), 2)
+        with self.assertRaisesRegex(ValueError, above):
+            found.skip(3, 0x24)
+
+    def test_no_reference_is_lost(self):
+        payload = b"\x24" * 3
+        before = sys.getrefcount(payload)
+        found = q.frames(payload)
+        for end in (1, 2, 3):
+            found.skip(end, RESET_STREAM_AT)
+        del found
+        self.assertEqual(sys.getrefcount(payload), before)
+
+    def test_threads(self):
+        found = q.frames(b"\x01" * 2000)
+
+        def work():
+            for end in range(1, 2000, 3):
+                try:
+                    found.skip(end, 0x01)
+                    next(found, None)
+                except ValueError:
+                    pass
+
+        threads = [threading.Thread(target=work) for _ in range(4)]
+        for thread in threads:
+            thread.start()
+        for thread in threads:
+            thread.join()
+        self.assertLessEqual(found.offset, 2000)
+
+
+if __name__ == "__main__":
+    unittest.main()

@@ -48,6 +48,18 @@ blocks_encoded greatest bytes back left fits read =
     let t = blocks_take greatest bytes back left fits read in
     (t.range ∷ t.ranges, t.blocks)
 
+pub blocks_shorter : (greatest : ℕ) (bytes back left : List ℕ) → AreBytes bytes
+    → blocks_at greatest bytes ≡ Ok (back, left) → length left ≤ length bytes
+blocks_shorter greatest bytes back left fits read =
+    let t = blocks_take greatest bytes back left fits read in
+    omega (
+      arith,
+      ap length t.parts,
+      length-append (t.count_bytes ++ back) left,
+      length-append t.count_bytes (back ++ left),
+      length-append back left,
+    )
+
 -- the bytes of all blocks begin with the number that the bytes with them do
 pub cut_reads : (bytes behind rest : List ℕ) (n : ℕ) → AreBytes bytes → varint_at bytes ≡ Ok (n, behind)
     → length rest ≤ length behind

@@ -1,4 +1,4 @@
-//! Readers of ACKs that are valid and have few ranges. The ranges are read in loops of the reader, with no call.
+//! Readers of valid ACKs. A few ranges are read in loops of the reader, with no call.
 ghost use Rattle.std.specs.Prelude.{◌≡◌, ◌<◌, ◌≤◌, ◌+◌, ◌-◌, ◌∷◌, ℕ, List, IfSome, Ok, length, drop};
 ghost use Rattle.quic_frame_fields.specs.Acks.{ranges_acked};
 ghost use Rattle.quic_frame_fields.specs.Field.{AreBelow, AreBlocks};
@@ -15,11 +15,11 @@ use crate::front::{read_any, show_ack_of};
 use crate::show::{show_parts, with_first};
 use crate::words::{CFrame, CFrameIter, CGap};
 use quic_base::coding::are_bytes;
+use quic_frame_fields::frame::field;
 use quic_frames::frame::{Ack, EcnCounts};
 
-// How many ranges below the first an ACK has at most. With more the reader of all frames, whose loop is faster, is worth
-// its call.
-const MOST_RANGES: u64 = 10;
+// With more ranges below the first the reader of all frames, which passes four short ones at a time, is worth its call.
+const FEW_RANGES: u64 = 3;
 
 // The two numbers at the front, if each has one byte, as most gaps and lengths have, and what follows them.
 #[inline(always)]
@@ -94,8 +94,24 @@ fn below(count: u64, low: u64, bytes: &[u8]) -> Option<&[u8]>
     Some(rest)
 }
 
-// After the count of an ACK's ranges: the bytes of its blocks and gaps, the first of their numbers, the bytes after
-// that, and what follows them all.
+// The same as `blocks` by the reader of all frames.
+#[inline(always)]
+fn many_blocks(greatest: u64, bytes: &[u8]) -> Option<(&[u8], u64, &[u8], &[u8])>
+    ensures read { IfSome result (λ x. blocks_at greatest bytes.now ≡ Ok (x.0.now, x.3.now)) }
+    ensures encoded { IfSome result (λ x. (ranges : List (ℕ × ℕ)) × AreBlocks greatest ranges x.0.now) }
+    ensures first { IfSome result (λ x. varint_at x.0.now ≡ Ok (x.1, x.2.now)) }
+    ensures fewer { IfSome result (λ x. length x.3.now ≤ length bytes.now) }
+{
+    are_bytes(bytes);
+    let Ok((ranges, rest)) = field::blocks(greatest, bytes) else {
+        return None;
+    };
+    let (first, gaps) = number(false, ranges)?;
+    Some((ranges, first, gaps, rest))
+}
+
+// After an ACK's delay: the bytes of its blocks and gaps, the first of their numbers, the bytes after that, and what
+// follows them all.
 #[inline(always)]
 fn blocks(greatest: u64, bytes: &[u8]) -> Option<(&[u8], u64, &[u8], &[u8])>
     ensures read { IfSome result (λ x. blocks_at greatest bytes.now ≡ Ok (x.0.now, x.3.now)) }
@@ -106,8 +122,8 @@ fn blocks(greatest: u64, bytes: &[u8]) -> Option<(&[u8], u64, &[u8], &[u8])>
     are_bytes(bytes);
     let (count, all) = number(false, bytes)?;
     are_bytes(all);
-    if count > MOST_RANGES {
-        return None;
+    if count > FEW_RANGES {
+        return many_blocks(greatest, bytes);
     }
     let (first, behind) = number(false, all)?;
     if first > greatest {

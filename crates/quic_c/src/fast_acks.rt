@@ -129,6 +129,11 @@ fn blocks(greatest: u64, bytes: &[u8]) -> Option<(&[u8], u64, &[u8], &[u8])>
     if first > greatest {
         return None;
     }
+    if count == 0 {
+        let (blocks, after) = all.split_at(all.len() - behind.len());
+        let (gaps, _) = behind.split_at(0);
+        return Some((blocks, first, gaps, after));
+    }
     let rest = below(count, greatest - first, behind)?;
     let (blocks, after) = all.split_at(all.len() - rest.len());
     let (gaps, _) = behind.split_at(behind.len() - rest.len());

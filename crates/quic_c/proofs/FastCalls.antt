@@ -1,5 +1,5 @@
 -- What calls return for a frame that breaks no rule.
-use Rattle.std.proofs.Common.{◌≡◌, ℕ, ℤ, ◌<◌, ◌^◌, pos, Bool, false, None, List, length, Option, Some, refl, sym, ap, subst, ◌∙◌, inl, inr, arith}
+use Rattle.std.proofs.Common.{◌≡◌, ℕ, ℤ, ◌-◌, ◌<◌, ◌^◌, pos, Bool, false, None, List, ◌∷◌, length, Option, Some, refl, sym, ap, subst, ◌∙◌, inl, inr, arith}
 use Rattle.std.specs.Prelude.{◌≢◌, ◌==◌, not}
 use Rattle.quic_frames.specs.declared.frame.Frame.{Frame}
 use Rattle.quic_frames.specs.declared.frame.Frame.TheVariants as frames
@@ -9,13 +9,16 @@ use Rattle.quic_frames.specs.Meaning.{meaning_of}
 use Rattle.quic_frames.specs.Rules.{breach_of}
 use Rattle.quic_frames.specs.Walk.{Finds, first_of, resumed}
 use Rattle.quic_frame_fields.specs.declared.frame.ack.Ack.{Ack}
+use Rattle.quic_frame_fields.specs.Acks.{ranges_acked}
 use Rattle.quic_c.specs.declared.words.CFrame.{CFrame}
 use Rattle.quic_c.specs.declared.words.CFrameIter.{CFrameIter}
 use Rattle.quic_c.specs.declared.words.CGap.{CGap}
-use Rattle.quic_c.specs.Shown.{frame_kind_of, frame_words, has_flag, state_of, type_in}
+use Rattle.quic_c.specs.declared.show.Parts.{Parts}
+use Rattle.quic_c.specs.Shown.{counts_flag, counts_numbers, first_length, frame_kind_of, frame_words, has_flag, state_of, type_in}
 use Rattle.quic_c.specs.Answers.{AnswersNext, GivesFrameWords}
 use Rattle.quic_c.specs.Front.{AnswersRead, ShowsAck, ShowsFront}
 use Rattle.quic_c.specs.Kinds.{FindsAck, ReadsFrame}
+use Rattle.quic_c.proofs.Shown.{place_is}
 use Rattle.quic_c.proofs.Types.{gives_frame, last_fits, last_is, reads_front, word_back}
 
 -- ---- the frame at the front
@@ -48,12 +51,12 @@ kind_read rules payload before words room stop result is r =
     (any_read rules payload before words room room stop words.ty r.frame (r.finds rules.short_types None) (r.kept rules)
     r.not_padding (shows_front stop words.ty r.frame room words r.not_ack r.shows))
 
-pub ack_read : (rules : Rules) (payload : List ℕ) (before words : CFrame) (room gaps : List CGap) (stop : ℕ) (result : ℤ)
-    (ack : Ack) → result ≡ pos stop → FindsAck payload 0 stop ack → ShowsAck stop 0x02 ack room words gaps
+pub ack_read : (rules : Rules) (payload : List ℕ) (before words : CFrame) (room gaps : List CGap) (stop type : ℕ)
+    (result : ℤ) (ack : Ack) → result ≡ pos stop → FindsAck payload 0 stop type ack → ShowsAck stop type ack room words gaps
     → AnswersRead rules payload before room result words gaps
-ack_read rules payload before words room gaps stop result ack is finds shows =
+ack_read rules payload before words room gaps stop type result ack is finds shows =
     subst (λ (n : ℤ). AnswersRead rules payload before room n words gaps) (sym is)
-    (any_read rules payload before words room gaps stop 0x02 (frames.Ack ack) (finds rules.short_types None) refl
+    (any_read rules payload before words room gaps stop type (frames.Ack ack) (finds rules.short_types None) refl
     (omega arith) shows)
 
 -- ---- the next frame
@@ -100,11 +103,46 @@ kind_next rules old payload before words stop type going is r =
     subst (λ (t : ℕ). AnswersNext rules old payload before (pos 1) (record old { offset = stop; last_type = t }) words) (sym is)
     (any_next rules old payload before words stop words.ty r.frame going r.finds (r.kept rules) r.shows)
 
-pub ack_next : (rules : Rules) (old : CFrameIter) (payload : List ℕ) (before words : CFrame) (stop : ℕ) (ack : Ack)
-    → old.ended ≡ 0 → FindsAck payload old.offset stop ack → words ≡ frame_words old.offset stop 0x02 (frames.Ack ack)
-    → AnswersNext rules old payload before (pos 1) (record old { offset = stop; last_type = 0x02 }) words
-ack_next rules old payload before words stop ack going finds shows =
-    any_next rules old payload before words stop 0x02 (frames.Ack ack) going finds refl shows
+abbrev pub words_of : ℕ → ℕ → ℕ → Parts → CFrame
+words_of start stop type parts = record {
+  kind = parts.kind;
+  ty = type;
+  flags = parts.flags;
+  begin = start;
+  end = stop;
+  data_offset = stop - parts.tail - parts.data_len;
+  data_len = parts.data_len;
+  numbers = parts.numbers;
+}
+
+pub ack_next : (rules : Rules) (old : CFrameIter) (payload : List ℕ) (before words : CFrame) (stop type : ℕ)
+    (ack : Ack) → old.ended ≡ 0 → FindsAck payload old.offset stop type ack
+    → words ≡ frame_words old.offset stop type (frames.Ack ack)
+    → AnswersNext rules old payload before (pos 1) (record old { offset = stop; last_type = type }) words
+ack_next rules old payload before words stop type ack going finds shows =
+    any_next rules old payload before words stop type (frames.Ack ack) going finds refl shows
+
+-- the words of an ACK whose first range, less one, is known
+pub ack_shows : (start stop type first : ℕ) (ack : Ack) (parts : Parts) (words : CFrame) → stop < 2 ^ 64
+    → first ≡ first_length (ranges_acked ack)
+    → parts ≡ record {
+      kind = 0x02;
+      flags = counts_flag ack.ecn;
+      tail = 2 ^ 64 - 1;
+      data_len = first;
+      numbers = ack.largest ∷ ack.delay ∷ counts_numbers ack.ecn;
+    } → words ≡ words_of start stop type parts → words ≡ frame_words start stop type (frames.Ack ack)
+ack_shows start stop type first ack parts words fits first_is parts_are shows =
+    let of_first : ℕ → Parts = λ n. record {
+      kind = 0x02;
+      flags = counts_flag ack.ecn;
+      tail = 2 ^ 64 - 1;
+      data_len = n;
+      numbers = ack.largest ∷ ack.delay ∷ counts_numbers ack.ecn;
+    } in
+    shows ∙ ap (words_of start stop type) parts_are ∙ ap (λ (n : ℕ). words_of start stop type (of_first n)) first_is
+    ∙ ap (λ (n : ℕ). record (frame_words start stop type (frames.Ack ack)) { data_offset = n })
+    (place_is stop (frames.Ack ack) fits)
 
 -- nothing is left
 pub spent_next : (rules : Rules) (old : CFrameIter) (payload : List ℕ) (out : CFrame) → old.offset ≡ length payload

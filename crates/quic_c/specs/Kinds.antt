@@ -1,7 +1,9 @@
 -- Frames that break no rule, as a reader for their kind gives them.
-use Rattle.std.specs.Prelude.{◌≡◌, ◌≢◌, ℕ, ◌<◌, ◌≤◌, ◌⊎◌, List, ◌∷◌, length, drop, Bool, Option, None, Some}
+use Rattle.std.specs.Prelude.{◌≡◌, ◌≢◌, ℕ, ◌<◌, ◌≤◌, ◌⊎◌, List, ◌∷◌, length, drop, Bool, true, false, Option, None, Some, Ok, if◌then◌else◌}
 use Rattle.quic_base.specs.Number.{AreBytes}
 use Rattle.quic_frame_fields.specs.declared.frame.ack.Ack.{Ack}
+use Rattle.quic_frame_fields.specs.declared.frame.ack.EcnCounts.{EcnCounts}
+use Rattle.quic_frame_fields.specs.Reading.{varint_at}
 use Rattle.quic_frames.specs.declared.frame.Frame.{Frame}
 use Rattle.quic_frames.specs.declared.frame.Frame.TheVariants as frames
 use Rattle.quic_frames.specs.declared.frame.rules.Rules.{Rules}
@@ -22,10 +24,10 @@ pub record ReadsFrame (payload : List ℕ) (start stop : ℕ) (words : CFrame) :
   pub not_ack : frame_kind_of frame ≢ 0x02
   pub shows : words ≡ frame_words start stop words.ty frame
 
--- This ACK without counts is the frame from start to stop, in the same way.
-abbrev pub FindsAck : List ℕ → ℕ → ℕ → Ack → Type 0
-FindsAck payload start stop ack = (strict : Bool) (last : Option ℕ)
-    → Finds (resumed payload start last strict) (frames.Ack ack) (resumed payload stop (Some 0x02) strict)
+-- This ACK of this type is the frame from start to stop, in the same way.
+abbrev pub FindsAck : List ℕ → ℕ → ℕ → ℕ → Ack → Type 0
+FindsAck payload start stop type ack = (strict : Bool) (last : Option ℕ)
+    → Finds (resumed payload start last strict) (frames.Ack ack) (resumed payload stop (Some type) strict)
 
 -- What a reader for a kind returns: where the frame ends, with its words; or None, which says nothing of the bytes, and
 -- nothing changes.
@@ -101,6 +103,16 @@ IsTransportClose t = t ≡ 0x1c
 abbrev pub IsApplicationClose : ℕ → Type 0
 IsApplicationClose t = t ≡ 0x1d
 
--- ACK without counts
-abbrev pub IsAck : ℕ → Type 0
-IsAck t = t ≡ 0x02
+-- ACK, with counts or without
+abbrev pub ack_type : Bool → ℕ
+ack_type has_counts = if has_counts then 0x03 else 0x02
+
+abbrev pub IsAck : Bool → ℕ → Type 0
+IsAck has_counts t = t ≡ ack_type has_counts
+
+-- The counts of such an ACK are read from these bytes, and what follows them.
+abbrev pub ReadsCounts : Bool → List ℕ → Option EcnCounts → List ℕ → Type 0
+ReadsCounts false bytes None rest = rest ≡ bytes
+ReadsCounts true bytes (Some e) rest = (behind after : List ℕ) × (varint_at bytes ≡ Ok (e.ect0, behind))
+    × (varint_at behind ≡ Ok (e.ect1, after)) × (varint_at after ≡ Ok (e.ce, rest))
+ReadsCounts has_counts bytes counts rest = ⊥

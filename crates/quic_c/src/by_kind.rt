@@ -64,7 +64,8 @@ pub(crate) fn read_by_kind(payload: &[u8], flags: u32, out: &mut CFrame, gaps: &
     };
     match *first {
         0x01 | 0x1e => read_kind::<NoFields>(payload, flags, out, gaps),
-        0x02 => read_ack(payload, flags, out, gaps),
+        0x02 => read_ack::<false>(payload, flags, out, gaps),
+        0x03 => read_ack::<true>(payload, flags, out, gaps),
         0x04 => read_kind::<Reset>(payload, flags, out, gaps),
         0x05 | 0x11 | 0x15 => read_kind::<TwoNumbers>(payload, flags, out, gaps),
         0x06 => read_kind::<Crypto>(payload, flags, out, gaps),
@@ -135,7 +136,8 @@ pub(crate) fn next_by_kind(frames: &mut CFrameIter, payload: &[u8], out: &mut CF
     };
     match first {
         0x01 | 0x1e => next_kind::<NoFields>(frames, payload, out),
-        0x02 => next_ack(frames, payload, out),
+        0x02 => next_ack::<false>(frames, payload, out),
+        0x03 => next_ack::<true>(frames, payload, out),
         0x04 => next_kind::<Reset>(frames, payload, out),
         0x05 | 0x11 | 0x15 => next_kind::<TwoNumbers>(frames, payload, out),
         0x06 => next_kind::<Crypto>(frames, payload, out),

@@ -1,14 +1,16 @@
 //! Reads the frame at the front of the rest of a payload, and the first ranges of an ACK as gap and length.
-ghost use Rattle.std.specs.Prelude.{◌≡◌, ◌↔◌, ◌⊎◌, ◌<◌, ◌≤◌, ℕ, List, [], Bool, Option, drop, map, IsTrue, length, true, false, if◌then◌else◌};
+ghost use Rattle.std.specs.Prelude.{◌≡◌, ◌↔◌, ◌⊎◌, ◌<◌, ◌≤◌, ℕ, List, [], ◌∷◌, Bool, Option, drop, map, IsTrue, length, true, false, if◌then◌else◌};
+ghost use Rattle.quic_frame_fields.specs.Acks.{ranges_acked};
 ghost use Rattle.quic_frame_fields.specs.Field.{AreBelow};
 ghost use Rattle.quic_frames.specs.Padding.{PassesPadding};
 ghost use Rattle.quic_frames.specs.Rules.{no_rules};
 ghost use Rattle.quic_frames.specs.Walk.{left, first_of, resumed};
-ghost use Rattle.quic_c.specs.Shown.{frame_kind_of, frame_words, invalid_words, rules_in, type_word};
+ghost use Rattle.quic_c.specs.Shown.{first_length, frame_kind_of, frame_words, invalid_words, rules_in, type_word};
 ghost use Rattle.quic_c.specs.Front.{AnswersRead, FillsGaps, ShowsAck, ShowsFront, moved_by, reported_behind};
 ghost use Rattle.quic_results.specs.Results.{failed, frame_failure};
 
 use crate::by_kind::read_by_kind;
+use crate::fast_acks::two_short;
 use crate::flags::{breach_by, broken, is_broken, no_rules, reported_by};
 use crate::frames::{show_invalid, type_read};
 use crate::show::{parts_of, show, split_blocks, with_first};
@@ -26,8 +28,20 @@ fn fill_gaps(blocks: &[u8], gaps: &mut [CGap]) -> (usize, bool)
     ensures whole { (least : ℕ) (ranges : List (ℕ × ℕ)) → AreBelow least ranges blocks.now
         → IsTrue result.1 ↔ (result.0 ≡ length ranges) }
 {
+    if blocks.is_empty() {
+        return (0, true);
+    }
     let mut left = blocks;
     let mut count = 0;
+    // In most ACKs each gap and length has one byte.
+    while count < gaps.len() {
+        let Some((between, len, rest)) = two_short(left) else {
+            break;
+        };
+        gaps[count] = CGap { gap: between, len };
+        left = rest;
+        count += 1;
+    }
     while count < gaps.len() && !left.is_empty() {
         let Ok((gap, behind)) = split_var(left) else {
             unreachable!()
@@ -51,12 +65,22 @@ fn more_flag(is_whole: bool) -> u32
     if is_whole { 0 } else { 4 }
 }
 
-// The words of an ACK at the front, and as many of the ranges below its first as there are entries.
+// The words of an ACK at the front with this first range, less one, and as many of the ranges below that, whose bytes
+// these are, as there are entries.
 #[inline(always)]
-pub(crate) fn show_ack(end: usize, ty: u16, ack: &Ack<'_>, gaps: &mut [CGap]) -> CFrame
+pub(crate) fn show_ack_of(
+    end: usize,
+    ty: u16,
+    ack: &Ack<'_>,
+    first: u64,
+    below: &[u8],
+    gaps: &mut [CGap],
+) -> CFrame
+    requires first { first ≡ first_length (ranges_acked ack.now) }
+    requires below { (least : ℕ) × (ranges : List (ℕ × ℕ)) × (ranges_acked ack.now ≡ (least, ack.now.largest) ∷ ranges)
+        × AreBelow least ranges below.now }
     ensures { ShowsAck end ty ack.now gaps.old result gaps.new }
 {
-    let (first, below) = split_blocks(ack);
     let parts = with_first(ack, first);
     let numbers = parts.numbers;
     let (count, is_whole) = fill_gaps(below, gaps);
@@ -70,6 +94,15 @@ pub(crate) fn show_ack(end: usize, ty: u16, ack: &Ack<'_>, gaps: &mut [CGap]) ->
         data_len: parts.data_len,
         numbers,
     }
+}
+
+// The words of an ACK at the front, and as many of the ranges below its first as there are entries.
+#[inline(always)]
+fn show_ack(end: usize, ty: u16, ack: &Ack<'_>, gaps: &mut [CGap]) -> CFrame
+    ensures { ShowsAck end ty ack.now gaps.old result gaps.new }
+{
+    let (first, below) = split_blocks(ack);
+    show_ack_of(end, ty, ack, first, below, gaps)
 }
 
 // The words of a frame of this type at the front.

@@ -2,16 +2,16 @@ use Rattle.std.proofs.Common.{ℕ, ◌+◌, ap, ◌∙◌}
 use Rattle.quic_frames.specs.declared.frame.Frame.TheVariants as frames
 use Rattle.quic_c.specs.Shown.{counts_flag, frame_words}
 use Rattle.quic_c.proofs.GapFilling.{more_is}
-use Rattle.quic_c.proofs.front.show_ack.Goals as goal
+use Rattle.quic_c.proofs.front.show_ack_of.Goals as goal
 
 pub fill_gaps-count-requires : goal.fill_gaps-count-requires
 fill_gaps-count-requires c =
-    let f = c.split_blocks-first.ensures.below in
+    let f = c.requires.below in
     (f.0, f.1, f.3)
 
 pub returns : goal.returns
 returns c =
-    let f = c.split_blocks-first.ensures.below in
+    let f = c.requires.below in
     let filled = c.fill_gaps-count.ensures.fills f.0 f.1 f.3 in
     let whole = c.fill_gaps-count.ensures.whole f.0 f.1 f.3 in
     let count = c.fill_gaps-count.result.0 in
@@ -37,6 +37,6 @@ returns c =
             flags = counts_flag c.args.ack.now.ecn + c.more_flag.result;
             data_offset = count;
             data_len = n;
-          }) c.split_blocks-first.ensures.first
+          }) c.requires.first
           ∙ ap (λ (n : ℕ). record words { flags = counts_flag c.args.ack.now.ecn + n; data_offset = count }) more;
     }

@@ -60,6 +60,7 @@ static void nulls(void) {
   numbers_nulls();
   near_nulls();
   near_packets_nulls();
+  near_packets_examples();
   params_nulls();
   params_with();
   sets_nulls();

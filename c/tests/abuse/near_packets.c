@@ -22,6 +22,22 @@ void near_packets_nulls(void) {
   WANT(number == 77);
 }
 
+/* The packets of RFC 9001, appendices A.2 and A.5. */
+void near_packets_examples(void) {
+  static const uint8_t mask[] = {0x43, 0x7b, 0x9a, 0xec, 0x36};
+  static const uint8_t other[] = {0xae, 0xfe, 0xfe, 0x7d, 0x03};
+  uint8_t initial[] = {0xc0, 0,    0, 0, 1, 8,    0x83, 0x94, 0xc8, 0xf0, 0x3e,
+                       0x51, 0x57, 8, 0, 0, 0x44, 0x9e, 0x7b, 0x9a, 0xec, 0x34};
+  uint8_t packet[] = {0x4c, 0xfe, 0x41, 0x89, 0x65};
+  uint64_t number = 77;
+  WANT(quic_wire_unprotect_near(initial, 22, 18, mask, 0, &number) == 4 &&
+       number == 2 && !memcmp(initial, "\xc3\0\0\0\1\x08", 6) &&
+       !memcmp(initial + 18, "\0\0\0\2", 4));
+  WANT(quic_wire_short_read_near(packet, 5, 0) == 1);
+  WANT(quic_wire_unprotect_near(packet, 5, 1, other, 654360564, &number) == 3 &&
+       number == 654360564 && !memcmp(packet, "\x42\0\xbf\xf4\x65", 5));
+}
+
 /* The protection of any bytes is removed alike, and numbers are expanded
  * alike, also from 0. */
 static void near_protection(const uint8_t *bytes, size_t len, size_t at,

@@ -240,14 +240,17 @@ def main():
     if unknown := set(names) - {name for name, _ in parts()}:
         print(f"near.py: no such part: {' '.join(unknown)}", file=sys.stderr)
         return 2
-    began = time.monotonic()
+    began, digests = time.monotonic(), near_rows.digests()
     try:
         check(HEADER, names)
     except Wrong as it:
         print(f"near.py: {'reads less' if isinstance(it, Leaves) else 'refused'}: {it}", file=sys.stderr)
         return 1
+    if near_rows.digests() != digests:
+        print("near.py: a file has changed meanwhile", file=sys.stderr)
+        return 1
     if not names:
-        near_rows.PASSED.write_text("".join(f"{it}\n" for it in near_rows.digests()))
+        near_rows.PASSED.write_text("".join(f"{it}\n" for it in digests))
     print(f"near.py: passed in {time.monotonic() - began:.0f} s")
     return 0
 

@@ -1,5 +1,5 @@
 -- Each kind's frame is written.
-use Rattle.std.proofs.Common.{◌≡◌, ◌≤◌, ◌<◌, ◌^◌, ◌∷◌, [], ◌++◌, refl, arith}
+use Rattle.std.proofs.Common.{◌≤◌, ◌<◌, ◌^◌, ◌∷◌, [], ◌++◌, refl, arith}
 use Rattle.std.specs.Int.Bits.{bit_or}
 use Rattle.quic_base.specs.declared.ids.Dir.TheVariants as dirs
 use Rattle.quic_base.specs.Number.{bytes_of}

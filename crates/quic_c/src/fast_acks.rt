@@ -1,5 +1,5 @@
 //! Readers of valid ACKs. A few ranges are read in loops of the reader, with no call.
-ghost use Rattle.std.specs.Prelude.{◌≡◌, ◌<◌, ◌≤◌, ◌+◌, ◌-◌, ◌∷◌, ℕ, List, IfSome, Ok, length, drop};
+ghost use Rattle.std.specs.Prelude.{◌≡◌, ◌<◌, ◌≤◌, ◌∷◌, ℕ, List, IfSome, Ok, length, drop};
 ghost use Rattle.quic_frame_fields.specs.Acks.{ranges_acked};
 ghost use Rattle.quic_frame_fields.specs.Field.{AreBelow, AreBlocks};
 ghost use Rattle.quic_frame_fields.specs.Reading.{below_at, blocks_at, range_at, varint_at};
@@ -129,6 +129,7 @@ fn blocks(greatest: u64, bytes: &[u8]) -> Option<(&[u8], u64, &[u8], &[u8])>
     if first > greatest {
         return None;
     }
+    // For one range, as most ACKs have, the compiler then leaves out all loops.
     if count == 0 {
         let (blocks, after) = all.split_at(all.len() - behind.len());
         let (gaps, _) = behind.split_at(0);
@@ -209,7 +210,7 @@ pub(crate) fn read_ack<const COUNTS: bool>(
     }
 }
 
-// The words of an ACK with this first range, less one.
+// The words of an ACK with this first range, less one, which in a payload goes from `begin` to `end`.
 #[inline(always)]
 fn ack_words(begin: usize, end: usize, ty: u16, ack: &Ack<'_>, first: u64) -> CFrame
     requires { first ≡ first_length (ranges_acked ack.now) }

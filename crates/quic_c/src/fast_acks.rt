@@ -1,5 +1,5 @@
 //! Readers of valid ACKs. A few ranges are read in loops of the reader, with no call.
-ghost use Rattle.std.specs.Prelude.{◌≡◌, ◌<◌, ◌≤◌, ◌+◌, ◌-◌, ◌∷◌, ℕ, List, IfSome, Ok, length, drop};
+ghost use Rattle.std.specs.Prelude.{◌≡◌, ◌<◌, ◌≤◌, ◌∷◌, ℕ, List, IfSome, Some, Ok, true, length, drop};
 ghost use Rattle.quic_frame_fields.specs.Acks.{ranges_acked};
 ghost use Rattle.quic_frame_fields.specs.Field.{AreBelow, AreBlocks};
 ghost use Rattle.quic_frame_fields.specs.Reading.{below_at, blocks_at, range_at, varint_at};
@@ -94,8 +94,9 @@ fn below(count: u64, low: u64, bytes: &[u8]) -> Option<&[u8]>
     Some(rest)
 }
 
-// The same as `blocks` by the reader of all frames.
-#[inline(always)]
+// The same as `blocks` by the reader of all frames. It is a call, so that what calls `blocks` stays small enough to be
+// inlined.
+#[inline(never)]
 fn many_blocks(greatest: u64, bytes: &[u8]) -> Option<(&[u8], u64, &[u8], &[u8])>
     ensures read { IfSome result (λ x. blocks_at greatest bytes.now ≡ Ok (x.0.now, x.3.now)) }
     ensures encoded { IfSome result (λ x. (ranges : List (ℕ × ℕ)) × AreBlocks greatest ranges x.0.now) }
@@ -129,6 +130,7 @@ fn blocks(greatest: u64, bytes: &[u8]) -> Option<(&[u8], u64, &[u8], &[u8])>
     if first > greatest {
         return None;
     }
+    // For one range, as most ACKs have, the compiler then leaves out all loops.
     if count == 0 {
         let (blocks, after) = all.split_at(all.len() - behind.len());
         let (gaps, _) = behind.split_at(0);
@@ -140,7 +142,19 @@ fn blocks(greatest: u64, bytes: &[u8]) -> Option<(&[u8], u64, &[u8], &[u8])>
     Some((blocks, first, gaps, after))
 }
 
-// The counts of an ACK that has them, and what follows them.
+// The counts of an ACK that has them, and what follows them, by a call for the same reason.
+#[inline(never)]
+fn ecn_counts(bytes: &[u8]) -> Option<(EcnCounts, &[u8])>
+    ensures read { IfSome result (λ x. ReadsCounts true bytes.now (Some x.0) x.1.now) }
+    ensures fewer { IfSome result (λ x. length x.1.now ≤ length bytes.now) }
+{
+    let (ect0, behind) = number(false, bytes)?;
+    let (ect1, after) = number(false, behind)?;
+    let (ce, rest) = number(false, after)?;
+    Some((EcnCounts { ect0, ect1, ce }, rest))
+}
+
+// The same of an ACK that may have none.
 #[inline(always)]
 fn counts(has_counts: bool, bytes: &[u8]) -> Option<(Option<EcnCounts>, &[u8])>
     ensures read { IfSome result (λ x. ReadsCounts has_counts bytes.now x.0 x.1.now) }
@@ -149,10 +163,8 @@ fn counts(has_counts: bool, bytes: &[u8]) -> Option<(Option<EcnCounts>, &[u8])>
     if !has_counts {
         return Some((None, bytes));
     }
-    let (ect0, behind) = number(false, bytes)?;
-    let (ect1, after) = number(false, behind)?;
-    let (ce, rest) = number(false, after)?;
-    Some((Some(EcnCounts { ect0, ect1, ce }), rest))
+    let (ecn, rest) = ecn_counts(bytes)?;
+    Some((Some(ecn), rest))
 }
 
 // The ACK at an offset, its first range, less one, the bytes of the ranges below that, and where it ends.
@@ -209,7 +221,7 @@ pub(crate) fn read_ack<const COUNTS: bool>(
     }
 }
 
-// The words of an ACK with this first range, less one.
+// The words of an ACK with this first range, less one, which in a payload goes from `begin` to `end`.
 #[inline(always)]
 fn ack_words(begin: usize, end: usize, ty: u16, ack: &Ack<'_>, first: u64) -> CFrame
     requires { first ≡ first_length (ranges_acked ack.now) }

@@ -277,11 +277,3 @@ pub(crate) fn show(begin: usize, end: usize, ty: u16, frame: &Frame<'_>) -> CFra
 {
     show_parts(begin, end, ty, parts_of(frame))
 }
-
-/// The words of an ACK of this type, which in a payload goes from `begin` to `end`.
-#[inline(always)]
-pub(crate) fn ack_words(begin: usize, end: usize, ty: u16, ack: &Ack<'_>) -> CFrame
-    ensures { result ≡ frame_words begin end ty (frames.Ack ack.now) }
-{
-    show_parts(begin, end, ty, of_ack(ack))
-}

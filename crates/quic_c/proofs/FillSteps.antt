@@ -1,5 +1,5 @@
 -- One entry more.
-use Rattle.std.proofs.Common.{◌≡◌, ℕ, ℤ, ◌+◌, ◌-◌, ◌<◌, ◌≤◌, pos, true, false, List, [], ◌∷◌, length, set, refl, sym, ap, subst, ◌∙◌, inl, inr, arith}
+use Rattle.std.proofs.Common.{◌≡◌, ℕ, ℤ, ◌-◌, ◌<◌, ◌≤◌, pos, true, false, List, [], ◌∷◌, length, set, refl, sym, ap, subst, ◌∙◌, inl, inr, arith}
 use Rattle.std.specs.Prelude.{◌⊎◌, ◌≢◌, ◌==◌, not}
 use Rattle.std.proofs.lemmas.Bool.Decides.{nat_tests}
 use Rattle.std.proofs.lemmas.List.{drop-set}
@@ -15,12 +15,12 @@ use Rattle.quic_frames.specs.Padding.{PassesPadding}
 use Rattle.quic_c.specs.declared.words.CFrame.{CFrame}
 use Rattle.quic_c.specs.declared.words.CFrameIter.{CFrameIter}
 use Rattle.quic_c.specs.Answers.{AnswersNext, GivesFrameWords, GivesInvalid}
-use Rattle.quic_c.specs.Filling.{AnswersFill, AnswersFirst, Fills, GivesEntry, HasNoFrame, LeavesEntry, ReportsInvalid, TakesEntry}
+use Rattle.quic_c.specs.Filling.{AnswersFill, AnswersFirst, GivesEntry, HasNoFrame, LeavesEntry, ReportsInvalid, TakesEntry}
 use Rattle.quic_c.specs.Kinds.{HasType, ReadsFrame}
 use Rattle.quic_c.specs.Shown.{at_front, frame_kind_of, frame_words, rules_in, state_of}
 use Rattle.quic_c.proofs.FastCalls.{any_next, kind_next}
 use Rattle.quic_c.proofs.FastReads.{finds_at, plain_words}
-use Rattle.quic_c.proofs.Filling.{Filling, filling_goes_on}
+use Rattle.quic_c.proofs.Filling.{Filling, filling_ends}
 
 -- ---- a frame
 
@@ -148,35 +148,17 @@ next_left rules old payload before result new back after g other going is = reco
   kept = refl;
 }
 
--- ---- the loop
-
-pub entry_filled : (rules : Rules) (old : IterState) (before : List CFrame) (payload : List ℕ) (here new : CFrameIter)
-    (out : List CFrame) (count : ℕ) (entry : CFrame) (result : ℤ)
-    → Filling rules old before (state_of here payload) out count here.offset → count < length out
-    → TakesEntry rules here payload result new entry
-    → Filling rules old before (state_of new payload) (set out count entry) (count + 1) new.offset
-entry_filled rules old before payload here new out count entry result s room t =
-    let g = t.gives in
-    filling_goes_on rules old before (state_of here payload) out count here.offset g.next (state_of new payload) g.frame
-    entry new.offset g.finds.found.type s room g.finds g.kept g.run g.one refl refl g.words
-
 -- ---- what the calls return
-
-full : (rules : Rules) (old : IterState) (before : List CFrame) (here : IterState) (after : List CFrame) (count end : ℕ)
-    → Filling rules old before here after count end → (count ≡ length before) ⊎ HasNoFrame rules here
-    → Fills rules old before here after count
-full rules old before here after count end s why =
-    record { few = rw (← s.all) s.few; shows = s.shows; kept = s.kept; full = why }
 
 pub some_filled : (rules : Rules) (old : CFrameIter) (payload : List ℕ) (before : List CFrame) (count_before : ℕ)
     (here : CFrameIter) (after : List CFrame) (count : ℕ)
-    → Filling rules (state_of old payload) before (state_of here payload) after count here.offset → 0 < count
+    → Filling rules (state_of old payload) before (state_of here payload) after count → 0 < count
     → (count ≡ length before) ⊎ HasNoFrame rules (state_of here payload) → old.offset ≤ length payload
     → 0 < length before → here.flags ≡ old.flags
     → AnswersFill rules old payload before count_before (pos 1) here after count
 some_filled rules old payload before count_before here after count s some why within room flags = record {
   returns = inl refl;
-  frames = λ _. (some, full rules (state_of old payload) before (state_of here payload) after count here.offset s why);
+  frames = λ _. (some, filling_ends rules (state_of old payload) before (state_of here payload) after count s why);
   end = λ e. absurd cc;
   room = (λ e. absurd cc, λ none. absurd (omega (arith, room, ap length none.1)));
   outside = (λ e. absurd cc, λ beyond. absurd (omega (arith, beyond, within)));

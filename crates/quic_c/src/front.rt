@@ -182,23 +182,22 @@ fn read_front<const COPY: usize, const CHECKED: bool>(
     }
 }
 
-// A frame where frames are checked, by a copy for STREAM, one for ACK, which can break only the rule of short types,
-// and one for the others.
+// A frame where frames are checked, by a copy for ACK, which can break only the rule of short types, and one for the
+// others.
 #[inline(never)]
 fn read_checked(payload: &[u8], flags: u32, out: &mut CFrame, gaps: &mut [CGap]) -> i64
     ensures { AnswersRead (rules_in flags) payload.now out.old gaps.old result out.new gaps.new }
 {
     let rules = Rules::of_flags(flags);
     match payload.first() {
-        Some(0x08..=0x0f) => read_front::<3, true>(payload, rules, out, gaps),
-        Some(0x02 | 0x03) => read_front::<4, true>(payload, rules, out, gaps),
-        _ => read_front::<5, true>(payload, rules, out, gaps),
+        Some(0x02 | 0x03) => read_front::<2, true>(payload, rules, out, gaps),
+        _ => read_front::<3, true>(payload, rules, out, gaps),
     }
 }
 
-// An ACK, or a frame with another first byte, where frames aren't checked, by a call that isn't inlined.
+// The same where they aren't.
 #[inline(never)]
-fn read_other(payload: &[u8], out: &mut CFrame, gaps: &mut [CGap]) -> i64
+fn read_unchecked(payload: &[u8], out: &mut CFrame, gaps: &mut [CGap]) -> i64
     ensures { AnswersRead no_rules payload.now out.old gaps.old result out.new gaps.new }
 {
     let rules = Rules::default();
@@ -213,12 +212,9 @@ fn read_other(payload: &[u8], out: &mut CFrame, gaps: &mut [CGap]) -> i64
 pub(crate) fn read_any(payload: &[u8], flags: u32, out: &mut CFrame, gaps: &mut [CGap]) -> i64
     ensures { AnswersRead (rules_in flags) payload.now out.old gaps.old result out.new gaps.new }
 {
-    let Some(rules) = no_rules(flags) else {
-        return read_checked(payload, flags, out, gaps);
-    };
-    match payload.first() {
-        Some(0x08..=0x0f) => read_front::<2, false>(payload, rules, out, gaps),
-        _ => read_other(payload, out, gaps),
+    match no_rules(flags) {
+        Some(_) => read_unchecked(payload, out, gaps),
+        None => read_checked(payload, flags, out, gaps),
     }
 }
 

@@ -8,7 +8,8 @@ use Rattle.quic_c.specs.declared.words.CFrameIter.{CFrameIter}
 use Rattle.quic_c.specs.Answers.{GivesInvalid}
 use Rattle.quic_c.specs.Filling.{AnswersFill, HasNoFrame, TakesEntry}
 use Rattle.quic_c.specs.Shown.{rules_in, state_of}
-use Rattle.quic_c.proofs.FillSteps.{entry_filled, none_given, nothing_left, some_filled}
+use Rattle.quic_c.proofs.Filling.{filling_goes_on}
+use Rattle.quic_c.proofs.FillSteps.{none_given, nothing_left, some_filled}
 use Rattle.quic_c.proofs.fill.fill.Goals as goal
 
 pub returns-then-filled-eq0 : goal.returns-then-filled-eq0
@@ -90,8 +91,9 @@ loop-filled-preserved c =
       | inl t ↦
           let taken : TakesEntry by here.frames c.args.payload.now a.result a.new.frames a.new.out =
           subst (λ (n : ℕ). TakesEntry (rules_in n) here.frames c.args.payload.now a.result a.new.frames a.new.out) i.3 t in (
-            entry_filled by (state_of c.args.frames.now c.args.payload.now) c.args.out.now c.args.payload.now here.frames
-                a.new.frames here.out here.filled a.new.out a.result i.0 c.loop-filled-test.true taken,
+            filling_goes_on by (state_of c.args.frames.now c.args.payload.now) c.args.out.now
+                (state_of here.frames c.args.payload.now) here.out here.filled (state_of a.new.frames c.args.payload.now)
+                a.new.out i.0 c.loop-filled-test.true taken.gives,
             t.within,
             t.going,
             t.flags ∙ i.3,

@@ -7,7 +7,7 @@ use Rattle.quic_c.proofs.fill.fill.Given as goal
 abbrev pub invariant-loop-filled : goal.invariant-loop-filled
 invariant-loop-filled l =
     Filling (rules_in l.fn.frames.flags) (state_of l.fn.frames l.fn.payload) l.fn.out (state_of l.frames l.fn.payload) l.out
-    l.filled l.frames.offset
+    l.filled
     × (l.frames.offset ≤ length l.fn.payload)
     × (l.frames.ended ≡ 0)
     × (l.frames.flags ≡ l.fn.frames.flags)

@@ -61,7 +61,7 @@ ack_read rules payload before words room gaps stop type result ack is finds show
 
 -- ---- the next frame
 
-any_next : (rules : Rules) (old : CFrameIter) (payload : List ℕ) (before words : CFrame) (stop type : ℕ) (frame : Frame)
+pub any_next : (rules : Rules) (old : CFrameIter) (payload : List ℕ) (before words : CFrame) (stop type : ℕ) (frame : Frame)
     → old.ended ≡ 0
     → ((strict : Bool) (last : Option ℕ)
     → Finds (resumed payload old.offset last strict) frame (resumed payload stop (Some type) strict))

@@ -30,3 +30,4 @@ mod FastData
 mod FastCloses
 mod FastAcks
 mod FastCalls
+mod FillSteps

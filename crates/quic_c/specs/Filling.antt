@@ -1,5 +1,5 @@
 -- Frames stored in a caller's array, many with one call (RFC 9000, section 19).
-use Rattle.std.specs.Prelude.{◌≡◌, ℕ, ◌<◌, ◌≤◌, ◌⊎◌, ◌↔◌, ℤ, pos, List, [], ◌∷◌, length, take, drop, Option}
+use Rattle.std.specs.Prelude.{◌≡◌, ◌≢◌, ℕ, ◌<◌, ◌≤◌, ◌⊎◌, ◌↔◌, ℤ, pos, List, [], ◌∷◌, length, take, drop, Option, Bool, true, false}
 use Rattle.quic_frames.specs.declared.frame.Frame.{Frame}
 use Rattle.quic_frame_fields.specs.Reading.{Invalid}
 use Rattle.quic_frames.specs.IterState.{IterState}
@@ -109,3 +109,28 @@ pub record FillsRanges (old : CRangeIter) (payload : List ℕ) (before : List CR
   pub shows : Shows (StepsOver payload) old (take count after) new
   pub kept : drop count after ≡ drop count before
   pub full : (count ≡ length before) ⊎ HasNoRange new payload
+
+-- ---- No public clause cites what follows.
+
+-- One entry was filled, and the iterator goes on behind it.
+pub record TakesEntry (rules : Rules) (old : CFrameIter) (payload : List ℕ) (result : ℤ) (new : CFrameIter)
+    (entry : CFrame) : Type 0 where
+  pub taken : result ≡ pos 1
+  pub gives : GivesEntry rules (state_of old payload) entry (state_of new payload)
+  pub within : new.offset ≤ length payload
+  pub going : new.ended ≡ 0
+  pub flags : new.flags ≡ old.flags
+
+-- The next frame isn't given. Nothing changes.
+pub record LeavesEntry (rules : Rules) (old : CFrameIter) (payload : List ℕ) (before : CFrame) (result : ℤ)
+    (new : CFrameIter) (after : CFrame) : Type 0 where
+  pub other : result ≢ pos 1
+  pub none : HasNoFrame rules (state_of old payload)
+  pub same : new ≡ old
+  pub kept : after ≡ before
+
+-- What filling one more entry returns and leaves: only in the first it reports why the next frame isn't given.
+abbrev pub AnswersEntry : Rules → Bool → CFrameIter → List ℕ → CFrame → ℤ → CFrameIter → CFrame → Type 0
+AnswersEntry rules is_first old payload before result new after = TakesEntry rules old payload result new after
+    ⊎ ((is_first ≡ true) × GivesInvalid rules old payload result new after)
+    ⊎ ((is_first ≡ false) × LeavesEntry rules old payload before result new after)

@@ -1,10 +1,10 @@
 //! Calls that read a frame by the reader for its kind, which the first byte says. What that doesn't take, as an error,
 //! is read by the call for all frames. No call here keeps anything over another, so that each ends by a jump.
-ghost use Rattle.std.specs.Prelude.{◌≡◌, ◌≤◌, ℕ, List, ◌∷◌, IfSome, length, drop};
+ghost use Rattle.std.specs.Prelude.{◌≡◌, ◌<◌, ◌≤◌, ℕ, List, ◌∷◌, IfSome, length, drop, IsNone};
 ghost use Rattle.quic_c.specs.Shown.{rules_in};
 ghost use Rattle.quic_c.specs.Answers.{AnswersNext};
 ghost use Rattle.quic_c.specs.Front.{AnswersRead};
-ghost use Rattle.quic_c.specs.Kinds.{BeginsBy};
+ghost use Rattle.quic_c.specs.Kinds.{AnswersKind, BeginsBy};
 
 use crate::fast::{
     ApplicationClose, Crypto, DataLimit, Datagram, Kind, NewId, NoFields, Path, Reset, RetireId,
@@ -17,8 +17,9 @@ use crate::words::{CFrame, CFrameIter, CGap};
 
 // The first byte from an offset on.
 #[inline(always)]
-fn first_at(bytes: &[u8], begin: usize) -> Option<u8>
-    ensures { IfSome result (λ t. (begin ≤ length bytes.now) × BeginsBy (λ u. u ≡ t) (drop begin bytes.now)) }
+pub(crate) fn first_at(bytes: &[u8], begin: usize) -> Option<u8>
+    ensures none { IsNone result → length bytes.now ≤ begin }
+    ensures some { IfSome result (λ t. (begin < length bytes.now) × BeginsBy (λ u. u ≡ t) (drop begin bytes.now)) }
 {
     if begin > bytes.len() {
         return None;
@@ -27,6 +28,71 @@ fn first_at(bytes: &[u8], begin: usize) -> Option<u8>
     match left.split_first() {
         Some((first, _)) => Some(*first),
         None => None,
+    }
+}
+
+// The frame at an offset, near the end of the payload.
+#[inline(never)]
+fn take_near_end<K: Kind>(payload: &[u8], begin: usize, out: &mut CFrame) -> Option<usize>
+    requires within { begin ≤ length payload.now }
+    requires begins { BeginsBy K.is_type (drop begin payload.now) }
+    ensures { AnswersKind payload.now begin out.old result out.new }
+{
+    K::read(false, payload, begin, out)
+}
+
+// The frame at an offset, with no call for most.
+#[inline(always)]
+fn take_here<K: Kind>(payload: &[u8], begin: usize, out: &mut CFrame) -> Option<usize>
+    requires within { begin ≤ length payload.now }
+    requires begins { BeginsBy K.is_type (drop begin payload.now) }
+    ensures { AnswersKind payload.now begin out.old result out.new }
+{
+    match K::read(true, payload, begin, out) {
+        Some(end) => Some(end),
+        None => take_near_end::<K>(payload, begin, out),
+    }
+}
+
+// The frame at an offset.
+#[inline(never)]
+fn take_kind<K: Kind>(payload: &[u8], begin: usize, out: &mut CFrame) -> Option<usize>
+    requires within { begin ≤ length payload.now }
+    requires begins { BeginsBy K.is_type (drop begin payload.now) }
+    ensures { AnswersKind payload.now begin out.old result out.new }
+{
+    take_here::<K>(payload, begin, out)
+}
+
+// The frame at an offset, by its first byte: where it ends, with its words, or None, where the calls for all frames have
+// to read it. STREAM and CRYPTO, which most packets have, are read with no call.
+#[inline(always)]
+pub(crate) fn take_by_kind(
+    first: u8,
+    payload: &[u8],
+    begin: usize,
+    out: &mut CFrame,
+) -> Option<usize>
+    requires within { begin ≤ length payload.now }
+    requires begins { BeginsBy (λ u. u ≡ first) (drop begin payload.now) }
+    ensures { AnswersKind payload.now begin out.old result out.new }
+{
+    match first {
+        0x01 | 0x1e => take_kind::<NoFields>(payload, begin, out),
+        0x04 => take_kind::<Reset>(payload, begin, out),
+        0x05 | 0x11 | 0x15 => take_kind::<TwoNumbers>(payload, begin, out),
+        0x06 => take_here::<Crypto>(payload, begin, out),
+        0x07 => take_kind::<Token>(payload, begin, out),
+        0x08..=0x0f => take_here::<Stream>(payload, begin, out),
+        0x10 | 0x14 => take_kind::<DataLimit>(payload, begin, out),
+        0x12 | 0x13 | 0x16 | 0x17 => take_kind::<StreamLimit>(payload, begin, out),
+        0x18 => take_kind::<NewId>(payload, begin, out),
+        0x19 => take_kind::<RetireId>(payload, begin, out),
+        0x1a | 0x1b => take_kind::<Path>(payload, begin, out),
+        0x1c => take_kind::<TransportClose>(payload, begin, out),
+        0x1d => take_kind::<ApplicationClose>(payload, begin, out),
+        0x30 | 0x31 => take_kind::<Datagram>(payload, begin, out),
+        _ => None,
     }
 }
 

@@ -173,7 +173,7 @@ fn reset_token(bytes: &[u8]) -> Option<(&[u8], &[u8])>
 
 // Stores the words of a frame without data.
 #[inline(always)]
-fn put(out: &mut CFrame, ty: u8, begin: usize, end: usize, numbers: [u64; 5])
+pub(crate) fn put(out: &mut CFrame, ty: u8, begin: usize, end: usize, numbers: [u64; 5])
     ensures { out.new ≡ record {
       kind = ty;
       ty = ty;

@@ -1,131 +1,177 @@
 //! Reads the frames of a payload, as many with one call as the caller has room for.
-ghost use Rattle.std.specs.Prelude.{◌≡◌, ◌<◌, length, IfOk, IfErr, false};
-ghost use Rattle.quic_frames.specs.Walk.{invalid_of, IsSpent};
-ghost use Rattle.quic_c.specs.Shown.{has_flag, rules_in};
-ghost use Rattle.quic_frames.specs.Checking.{IsRefusedFrame};
-ghost use Rattle.quic_frames.specs.Rules.{no_rules};
-ghost use Rattle.quic_c.specs.Filling.{AnswersFill, AnswersFirst, Fills, further};
+ghost use Rattle.std.specs.Prelude.{◌≡◌, ◌<◌, ◌≤◌, ℕ, length, drop};
+ghost use Rattle.quic_frames.specs.Padding.{PassesPadding};
+ghost use Rattle.quic_c.specs.Shown.{rules_in, state_of};
+ghost use Rattle.quic_frames.specs.declared.frame.rules.Rules.{Rules};
+ghost use Rattle.quic_c.specs.Answers.{AnswersNext, GivesFrameWords};
+ghost use Rattle.quic_c.specs.declared.words.CFrameIter.{CFrameIter};
+ghost use Rattle.quic_c.specs.Filling.{AnswersEntry, AnswersFill, AnswersFirst, GivesEntry};
+ghost use Rattle.quic_c.specs.Kinds.{BeginsBy};
 
-use crate::flags::{breach_by, broken, is_broken, no_rules, reported_by};
-use crate::frames::{show_invalid, type_in, type_read, type_word};
-use crate::show::{parts_of, show_parts};
+use crate::by_kind::{first_at, take_by_kind};
+use crate::fast::{put, split_type};
+use crate::fast_acks::next_ack;
+use crate::flags::is_last;
+use crate::frames::{next_any, type_in, type_word};
 use crate::words::{CFrame, CFrameIter};
-use quic_frames::frame::{FrameType, InvalidFrame, Iter, Rules};
-use quic_results::results::{Failure, frame_failure};
+use quic_frames::frame::Iter;
+use quic_results::results::Failure;
 
-// How far entries were filled.
-#[derive(Clone, Copy)]
-struct Filled {
-    // How many were filled.
-    count: usize,
-    // Where the last frame ends.
-    end: usize,
-    // The type of the last frame.
-    last: Option<FrameType>,
-}
-
-// Fills entries with the next frames. If the first can't be given, its error is reported. Each caller has its own copy
-// of this function, into which it is inlined.
-#[inline(always)]
-fn fill<const COPY: usize, const CHECKED: bool>(
-    iter: &mut Iter<'_>,
-    rules: Rules,
-    out: &mut [CFrame],
-) -> Result<Filled, InvalidFrame>
-    requires { CHECKED ≡ false → rules ≡ no_rules }
-    ensures filled { IfOk result (λ f. Fills rules iter.old out.old (further iter.old f.end f.last) out.new f.count) }
-    ensures none { IfOk result (λ f. f.count ≡ 0 → 0 < length out.old → IsSpent iter.old) }
-    ensures invalid { IfErr result (λ i. IsRefusedFrame rules iter.old (invalid_of i) × (out.new ≡ out.old)) }
+// Passes over the PADDING that follows a frame of PADDING, which the entry then includes.
+#[inline(never)]
+fn pass_run(frames: &mut CFrameIter, payload: &[u8], out: &mut CFrame)
+    requires within { frames.old.offset ≤ length payload.now }
+    requires going { frames.old.ended ≡ 0 }
+    ensures run { (more : ℕ) × PassesPadding (state_of frames.old payload.now) more (state_of frames.new payload.now) }
+    ensures going { frames.new.ended ≡ 0 }
+    ensures flags { frames.new.flags ≡ frames.old.flags }
+    ensures words { out.new ≡ record out.old { end = frames.new.offset; data_offset = frames.new.offset } }
 {
-    let mut count = 0;
-    let mut end = iter.offset();
-    let mut last = iter.last_type();
-    while count < out.len() {
-        let frame = match iter.next() {
-            Some(Ok(frame)) => frame,
-            Some(Err(plain)) => {
-                if count == 0 {
-                    return Err(reported_by::<CHECKED>(rules, &plain));
-                }
-                break;
-            }
-            None => break,
-        };
-        let breach = breach_by::<CHECKED>(rules, &frame);
-        if is_broken(breach) {
-            if count == 0 {
-                return Err(broken(iter.last_type(), breach));
-            }
-            break;
-        }
-        let ty = type_read(iter);
-        let parts = parts_of(&frame);
-        if parts.kind == 0 {
-            iter.pass_padding();
-        }
-        let begin = end;
-        end = iter.offset();
-        last = iter.last_type();
-        out[count] = show_parts(begin, end, ty as u16, parts);
-        count += 1;
-    }
-    Ok(Filled { count, end, last })
+    let (begin, last) = (frames.offset, type_in(frames.last_type));
+    let Some(mut iter) = Iter::resume(payload, begin, last, is_last(frames.flags)) else {
+        unreachable!()
+    };
+    iter.pass_padding();
+    let end = iter.offset();
+    frames.offset = end;
+    frames.last_type = type_word(iter.last_type());
+    out.end = end;
+    out.data_offset = end;
 }
 
-// Fills entries with the next frames at the place in the words.
+// The next frame, of PADDING in a byte.
 #[inline(always)]
-fn fill_on<const COPY: usize, const CHECKED: bool>(
-    frames: &mut CFrameIter,
-    payload: &[u8],
-    rules: Rules,
-    out: &mut [CFrame],
-    count: &mut usize,
-) -> i32
-    requires types { rules.short_types ≡ has_flag 0x001 frames.old.flags }
-    requires checked { CHECKED ≡ false → rules ≡ no_rules }
-    ensures { AnswersFill rules frames.old payload.now out.old count.old result frames.new out.new count.new }
+fn next_padding(frames: &mut CFrameIter, payload: &[u8], out: &mut CFrame) -> i32
+    requires within { frames.old.offset < length payload.now }
+    requires begins { BeginsBy (λ u. u ≡ 0) (drop frames.old.offset payload.now) }
+    requires going { frames.old.ended ≡ 0 }
+    ensures { AnswersNext (rules_in frames.old.flags) frames.old payload.now out.old result frames.new out.new }
 {
     let begin = frames.offset;
-    let last = type_in(frames.last_type);
-    let Some(mut iter) = Iter::resume(payload, begin, last, rules.short_types) else {
-        return Failure::Place.number();
+    let Some((_, rest)) = split_type(payload, begin) else {
+        return next_any(frames, payload, out);
     };
-    if out.is_empty() {
-        return Failure::NoRoom.number();
-    }
-    if frames.ended != 0 {
-        return 0;
-    }
-    match fill::<COPY, CHECKED>(&mut iter, rules, out) {
-        Ok(filled) => {
-            if filled.count == 0 {
-                return 0;
-            }
-            frames.offset = filled.end;
-            frames.last_type = type_word(filled.last);
-            *count = filled.count;
-            1
-        }
-        Err(invalid) => {
-            frames.ended = 1;
-            out[0] = show_invalid(begin, &invalid);
-            frame_failure(invalid.reason).number()
-        }
+    let end = payload.len() - rest.len();
+    put(out, 0x00, begin, end, [0; 5]);
+    frames.offset = end;
+    frames.last_type = 0x00;
+    1
+}
+
+// The next frame, which no reader for its kind took.
+#[inline(always)]
+fn next_other(first: u8, frames: &mut CFrameIter, payload: &[u8], out: &mut CFrame) -> i32
+    requires within { frames.old.offset < length payload.now }
+    requires begins { BeginsBy (λ u. u ≡ first) (drop frames.old.offset payload.now) }
+    requires going { frames.old.ended ≡ 0 }
+    ensures { AnswersNext (rules_in frames.old.flags) frames.old payload.now out.old result frames.new out.new }
+{
+    match first {
+        0x00 => next_padding(frames, payload, out),
+        0x02 => next_ack(frames, payload, out),
+        _ => next_any(frames, payload, out),
     }
 }
 
-// The next frames where frames are checked.
-#[inline(never)]
-fn fill_checked(
+// Passes over the PADDING behind a frame, if that is PADDING.
+#[inline(always)]
+fn end_entry(frames: &mut CFrameIter, payload: &[u8], out: &mut CFrame)
+    requires within { frames.old.offset ≤ length payload.now }
+    requires going { frames.old.ended ≡ 0 }
+    ensures gives { (rules : Rules) (old : CFrameIter) → GivesFrameWords rules old payload.now frames.old out.old
+        → GivesEntry rules (state_of old payload.now) out.new (state_of frames.new payload.now) }
+    ensures within { frames.new.offset ≤ length payload.now }
+    ensures going { frames.new.ended ≡ 0 }
+    ensures flags { frames.new.flags ≡ frames.old.flags }
+{
+    if out.kind == 0 {
+        pass_run(frames, payload, out);
+    }
+}
+
+// The next frame as an entry, if no reader for its kind took it. Only for the first entry it reports why a frame isn't
+// given.
+#[inline(always)]
+fn fill_other(
+    first: u8,
+    is_first: bool,
     frames: &mut CFrameIter,
     payload: &[u8],
-    out: &mut [CFrame],
-    count: &mut usize,
+    out: &mut CFrame,
 ) -> i32
+    requires within { frames.old.offset < length payload.now }
+    requires begins { BeginsBy (λ u. u ≡ first) (drop frames.old.offset payload.now) }
+    requires going { frames.old.ended ≡ 0 }
+    ensures { AnswersEntry (rules_in frames.old.flags) is_first frames.old payload.now out.old result frames.new out.new }
+{
+    let before = *out;
+    let answer = next_other(first, frames, payload, out);
+    if answer == 1 {
+        end_entry(frames, payload, out);
+        return 1;
+    }
+    if is_first {
+        return answer;
+    }
+    *out = before;
+    frames.ended = 0;
+    answer
+}
+
+// Fills an entry with the next frame.
+#[inline(always)]
+fn fill_one(
+    first: u8,
+    is_first: bool,
+    frames: &mut CFrameIter,
+    payload: &[u8],
+    out: &mut CFrame,
+) -> i32
+    requires within { frames.old.offset < length payload.now }
+    requires begins { BeginsBy (λ u. u ≡ first) (drop frames.old.offset payload.now) }
+    requires going { frames.old.ended ≡ 0 }
+    ensures { AnswersEntry (rules_in frames.old.flags) is_first frames.old payload.now out.old result frames.new out.new }
+{
+    match take_by_kind(first, payload, frames.offset, out) {
+        Some(end) => {
+            frames.offset = end;
+            frames.last_type = u64::from(out.ty);
+            1
+        }
+        None => fill_other(first, is_first, frames, payload, out),
+    }
+}
+
+// Fills entries with the next frames.
+#[inline(never)]
+fn fill(frames: &mut CFrameIter, payload: &[u8], out: &mut [CFrame], count: &mut usize) -> i32
+    requires within { frames.old.offset ≤ length payload.now }
+    requires going { frames.old.ended ≡ 0 }
+    requires room { 0 < length out.old }
     ensures { AnswersFill (rules_in frames.old.flags) frames.old payload.now out.old count.old result frames.new out.new
         count.new }
 {
-    fill_on::<3, true>(frames, payload, Rules::of_flags(frames.flags), out, count)
+    let mut filled = 0;
+    while filled < out.len() {
+        let Some(first) = first_at(payload, frames.offset) else {
+            if filled == 0 {
+                return 0;
+            }
+            *count = filled;
+            return 1;
+        };
+        let answer = fill_one(first, filled == 0, frames, payload, &mut out[filled]);
+        if answer != 1 {
+            if filled == 0 {
+                return answer;
+            }
+            *count = filled;
+            return 1;
+        }
+        filled += 1;
+    }
+    *count = filled;
+    1
 }
 
 /// The next frames (RFC 9000, section 19), as many as `out` has room for, by the rules of the iterator's flags; a run
@@ -144,71 +190,16 @@ pub extern "C" fn quic_wire_frames_fill_(
     ensures answers { AnswersFill (rules_in frames.old.flags) frames.old payload.now out.old count.old result frames.new
         out.new count.new }
 {
-    let Some(rules) = no_rules(frames.flags) else {
-        return fill_checked(frames, payload, out, count);
-    };
-    fill_on::<1, false>(frames, payload, rules, out, count)
-}
-
-// Begins at the front of a payload with these flags, and fills entries with its first frames.
-#[inline(always)]
-fn first_by<const COPY: usize, const CHECKED: bool>(
-    frames: &mut CFrameIter,
-    payload: &[u8],
-    flags: u32,
-    rules: Rules,
-    out: &mut [CFrame],
-    count: &mut usize,
-) -> i32
-    requires flags { rules ≡ rules_in flags }
-    requires checked { CHECKED ≡ false → rules ≡ no_rules }
-    ensures { AnswersFirst flags payload.now frames.old out.old count.old result frames.new out.new count.new }
-{
-    if payload.is_empty() {
-        return Failure::PayloadEmpty.number();
+    if frames.offset > payload.len() {
+        return Failure::Place.number();
     }
-    let Some(mut iter) = Iter::resume(payload, 0, None, rules.short_types) else {
-        return Failure::PayloadEmpty.number();
-    };
     if out.is_empty() {
         return Failure::NoRoom.number();
     }
-    match fill::<COPY, CHECKED>(&mut iter, rules, out) {
-        Ok(filled) => {
-            *frames = CFrameIter {
-                offset: filled.end,
-                last_type: type_word(filled.last),
-                ended: 0,
-                flags,
-            };
-            *count = filled.count;
-            1
-        }
-        Err(invalid) => {
-            *frames = CFrameIter {
-                offset: 0,
-                last_type: u64::MAX,
-                ended: 1,
-                flags,
-            };
-            out[0] = show_invalid(0, &invalid);
-            frame_failure(invalid.reason).number()
-        }
+    if frames.ended != 0 {
+        return 0;
     }
-}
-
-// The same where frames are checked.
-#[inline(never)]
-fn first_checked(
-    frames: &mut CFrameIter,
-    payload: &[u8],
-    flags: u32,
-    out: &mut [CFrame],
-    count: &mut usize,
-) -> i32
-    ensures { AnswersFirst flags payload.now frames.old out.old count.old result frames.new out.new count.new }
-{
-    first_by::<2, true>(frames, payload, flags, Rules::of_flags(flags), out, count)
+    fill(frames, payload, out, count)
 }
 
 /// Begins at the front of a payload and reads its first frames (RFC 9000, section 19), as `quic_wire_frames_init_` and
@@ -227,8 +218,17 @@ pub extern "C" fn quic_wire_frames_first_(
 ) -> i32
     ensures answers { AnswersFirst flags payload.now frames.old out.old count.old result frames.new out.new count.new }
 {
-    let Some(rules) = no_rules(flags) else {
-        return first_checked(frames, payload, flags, out, count);
+    if payload.is_empty() {
+        return Failure::PayloadEmpty.number();
+    }
+    if out.is_empty() {
+        return Failure::NoRoom.number();
+    }
+    *frames = CFrameIter {
+        offset: 0,
+        last_type: u64::MAX,
+        ended: 0,
+        flags,
     };
-    first_by::<0, false>(frames, payload, flags, rules, out, count)
+    fill(frames, payload, out, count)
 }

@@ -1,102 +1,104 @@
-use Rattle.std.proofs.Common.{◌≡◌, ℕ, ◌∙◌, inl, inr, Some, refl, subst, ap, arith}
-use Rattle.quic_frames.specs.Checking.{IsRefusedFrame}
-use Rattle.quic_frames.specs.Rules.{breach_text, fault_by}
-use Rattle.quic_frame_fields.specs.Reading.{Invalid, invalid}
-use Rattle.quic_frames.specs.Walk.{invalid_of, Finds, Advances}
-use Rattle.quic_frames.proofs.Checking.{breach_found}
-use Rattle.quic_c.specs.Shown.{frame_kind_of, frame_words}
-use Rattle.quic_c.proofs.Shown.{place_is}
-use Rattle.quic_c.proofs.Filling.{filling_ends, filling_goes_on, none_filled}
-use Rattle.quic_c.proofs.Types.{is_lacking, is_refused, keeps}
+use Rattle.std.proofs.Common.{◌≡◌, ◌<◌, ◌≤◌, ◌+◌, ℕ, List, length, set, ap, arith, inl, inr, refl, rules, subst, sym, ◌∙◌, to_z, of_z, w32}
+use Rattle.std.specs.Prelude.{◌≢◌, ℤ, pos}
+use Rattle.std.proofs.lemmas.Bool.Decides.{nat_tests}
+use Rattle.std.proofs.lemmas.List.{set-get_or}
+use Rattle.quic_frames.specs.declared.frame.rules.Rules.{Rules}
+use Rattle.quic_results.proofs.FrameFailures.{not_count}
+use Rattle.quic_c.specs.declared.words.CFrame.{CFrame}
+use Rattle.quic_c.specs.declared.words.CFrameIter.{CFrameIter}
+use Rattle.quic_c.specs.Answers.{GivesInvalid}
+use Rattle.quic_c.specs.Filling.{AnswersFill, HasNoFrame, TakesEntry}
+use Rattle.quic_c.specs.Shown.{rules_in, state_of}
+use Rattle.quic_c.proofs.FillSteps.{entry_filled, none_given, nothing_left, some_filled}
 use Rattle.quic_c.proofs.fill.fill.Goals as goal
-use Rattle.quic_c.proofs.fill.fill.Goals.{then-parts-eq0, else-parts-eq0, else-loop-count-test, then-loop-count-test+in-Some-Err+else-count-eq0, then-loop-count-test+in-None, then-loop-count-test+in-Some-Ok+then-is_broken+else-count-eq0-2}
 
-pub loop-count-preserved : goal.loop-count-preserved
-loop-count-preserved g c =
-    let here = c.loop-count in
-    let frame = c.in-Some-Ok.frame in
-    let finds : Finds here.iter frame c.next.new.self =
-    subst (λ f. Advances here.iter (Some f) c.next.new.self) c.in-Some-Ok.field-0-is c.in-Some-Ok.ensures.steps in
-    let kept =
-    keeps c.args.rules here.iter c.next.new.self frame c.breach_by-breach.result finds c.breach_by-breach.ensures
-    (c.is_broken.ensures.kept c.if-is_broken.false) in
-    let stop = c.offset-end-in-loop-count.result in
-    let ty = c.type_read-ty.result in
-    let begins = c.type_read-ty.ensures.value here.iter frame finds in
-    let words : c.show_parts.result ≡ frame_words here.end stop ty frame =
-    rw c.parts_of-parts.ensures at c.show_parts.ensures
-    ∙ ap (λ (n : ℕ). record (frame_words here.end stop ty frame) { data_offset = n }) (place_is stop frame (omega arith)) in
-    let kind : c.parts_of-parts.result.kind ≡ frame_kind_of frame = ap (λ p. p.kind) c.parts_of-parts.ensures in
-    let goes_on = filling_goes_on c.args.rules c.args.iter.now c.args.out.now here.iter here.out here.count here.end
-    c.next.new.self c.if-parts-eq0.iter frame
-    c.show_parts.result stop ty here.invariant.0 c.loop-count-test.true finds kept in
-    elim c.if-parts-eq0.branch [
-      | then-parts-eq0 w ↦ (
-        goes_on (λ _. (w.pass_padding.result, rw w.iter-is w.pass_padding.ensures))
-            (λ some. absurd (omega (arith, kind, some, w.if-parts-eq0.true)))
-            c.offset-end-in-loop-count.ensures.value begins words,
-        c.last_type-last-in-loop-count.ensures,
-      )
-      | else-parts-eq0 w ↦ (
-        goes_on (λ none. absurd (omega (arith, kind, none, w.if-parts-eq0.false))) (λ _. w.iter-is)
-            c.offset-end-in-loop-count.ensures.value begins words,
-        c.last_type-last-in-loop-count.ensures,
-      )
+pub returns-then-filled-eq0 : goal.returns-then-filled-eq0
+returns-then-filled-eq0 c =
+    let here = c.loop-filled in
+    let i = here.invariant in
+    let by = rules_in c.args.frames.now.flags in
+    let same = i.5 c.if-filled-eq0.true in
+    let past : length c.args.payload.now ≤ here.frames.offset = search rules in
+    let over : c.args.frames.now.offset ≡ length c.args.payload.now =
+    omega (arith, past, i.1, ap (λ (f : CFrameIter). f.offset) same.0) in
+    subst (λ (n : ℕ). AnswersFill by c.args.frames.now c.args.payload.now c.args.out.now c.args.count.now (pos 0) here.frames
+    here.out n) (sym i.4)
+    (nothing_left by c.args.frames.now here.frames c.args.payload.now c.args.out.now here.out c.args.count.now same.0 same.1
+    over c.requires.room)
+
+pub returns-then-filled-eq0-2 : goal.returns-then-filled-eq0-2
+returns-then-filled-eq0-2 c =
+    let here = c.loop-filled in
+    let i = here.invariant in
+    let by = rules_in c.args.frames.now.flags in
+    let a = c.fill_one-answer in
+    let none : here.filled ≡ 0 = c.if-filled-eq0-2.true in
+    let same = i.5 none in
+    let count : to_z w32 (of_z w32 a.result) ≡ a.result = search rules in
+    let other : a.result ≢ pos 1 = search rules in
+    let entries : set here.out here.filled a.new.out ≡ set c.args.out.now 0 a.new.out =
+    ap (λ (l : List CFrame). set l here.filled a.new.out) same.1
+    ∙ ap (λ (n : ℕ). set c.args.out.now n a.new.out) none in
+    let Answers : ℤ → List CFrame → ℕ → Type 0 = λ z l n.
+    AnswersFill by c.args.frames.now c.args.payload.now c.args.out.now c.args.count.now z a.new.frames l n in
+    elim a.ensures [
+      | inl t ↦ absurd (other t.taken)
+      | inr (inl w) ↦
+          let g : GivesInvalid by c.args.frames.now c.args.payload.now a.result a.new.frames a.new.out =
+          subst (λ (f : CFrameIter). GivesInvalid (rules_in f.flags) f c.args.payload.now a.result a.new.frames a.new.out)
+          same.0 w.1 in
+          let given = none_given by c.args.frames.now c.args.payload.now c.args.out.now c.args.count.now a.result
+          a.new.frames a.new.out g c.requires.within c.requires.room in
+          subst (λ (z : ℤ). Answers z (set here.out here.filled a.new.out) here.count) (sym count)
+          (subst (λ (l : List CFrame). Answers a.result l here.count) (sym entries)
+          (subst (λ (n : ℕ). Answers a.result (set c.args.out.now 0 a.new.out) n) (sym i.4) given))
+      | inr (inr w) ↦ absurd (grind (arith, nat_tests))
     ]
 
-pub returns-clause-filled : goal.returns-clause-filled
-returns-clause-filled g c =
-    let here = c.loop-count in
-    let ends =
-    filling_ends c.args.rules c.args.iter.now c.args.out.now here.iter here.out here.count here.end here.last
-    here.invariant.0 here.invariant.1 in
-    elim c.loop-count-test.branch [
-      | else-loop-count-test w ↦ ends (inl (omega (arith, here.invariant.0.few, here.invariant.0.all, w.loop-count-test.false)))
-      | then-loop-count-test+in-Some-Err+else-count-eq0 w ↦
-          let steps =
-          subst (λ f. Advances here.iter (Some f) w.next.new.self) w.in-Some-Err.field-0-is w.in-Some-Err.ensures.steps in
-          let lacks = steps.lacks in
-          let reported : Invalid = invalid lacks.type (fault_by c.args.rules lacks.type lacks.reason) in
-          let refused : IsRefusedFrame c.args.rules here.iter reported =
-          inl (record { plain = invalid_of w.in-Some-Err.plain; lacks = lacks; says = refl }) in
-          ends (inr (inr (reported, refused)))
-      | then-loop-count-test+in-None w ↦ ends (inr (inl w.in-None.ensures.steps.0))
-      | then-loop-count-test+in-Some-Ok+then-is_broken+else-count-eq0-2 w ↦
-          let frame = w.in-Some-Ok.frame in
-          let finds : Finds here.iter frame w.next.new.self =
-          subst (λ f. Advances here.iter (Some f) w.next.new.self) w.in-Some-Ok.field-0-is w.in-Some-Ok.ensures.steps in
-          let some = w.is_broken.ensures.broken w.if-is_broken.true in
-          let reported : Invalid = record { type = w.next.new.self.last; reason = breach_text some.0 } in
-          let refused : IsRefusedFrame c.args.rules here.iter reported =
-          inr (breach_found c.args.rules here.iter w.next.new.self frame w.breach_by-breach.result some.0 reported finds
-          w.breach_by-breach.ensures some.1 refl) in
-          ends (inr (inr (reported, refused)))
+pub returns-then-answer-ne1 : goal.returns-then-answer-ne1
+returns-then-answer-ne1 c =
+    let here = c.loop-filled in
+    let i = here.invariant in
+    let by = rules_in c.args.frames.now.flags in
+    let a = c.fill_one-answer in
+    let other : a.result ≢ pos 1 = search rules in
+    let some : 0 < here.filled = omega (arith, c.if-filled-eq0-2.false) in
+    elim a.ensures [
+      | inl t ↦ absurd (other t.taken)
+      | inr (inl w) ↦ absurd (grind (arith, nat_tests))
+      | inr (inr w) ↦
+          let left = w.1 in
+          let none : HasNoFrame by (state_of here.frames c.args.payload.now) =
+          subst (λ (n : ℕ). HasNoFrame (rules_in n) (state_of here.frames c.args.payload.now)) i.3 left.none in
+          let entries : set here.out here.filled a.new.out ≡ here.out =
+          ap (λ (e : CFrame). set here.out here.filled e) left.kept ∙ set-get_or here.out here.filled _ in
+          let Answers : CFrameIter → List CFrame → Type 0 = λ f l.
+          AnswersFill by c.args.frames.now c.args.payload.now c.args.out.now c.args.count.now (pos 1) f l here.filled in
+          subst (λ (f : CFrameIter). Answers f (set here.out here.filled a.new.out)) (sym left.same)
+          (subst (λ (l : List CFrame). Answers here.frames l) (sym entries)
+          (some_filled by c.args.frames.now c.args.payload.now c.args.out.now c.args.count.now here.frames here.out
+          here.filled i.0 some (inr none) c.requires.within c.requires.room i.3))
     ]
 
-pub returns-then-count-eq0-clause-invalid : goal.returns-then-count-eq0-clause-invalid
-returns-then-count-eq0-clause-invalid g c =
-    let here = c.loop-count in
-    let steps =
-    subst (λ f. Advances here.iter (Some f) c.next.new.self) c.in-Some-Err.field-0-is c.in-Some-Err.ensures.steps in
-    let none =
-    none_filled c.args.rules c.args.iter.now c.args.out.now here.iter here.out here.count here.end here.invariant.0
-    c.if-count-eq0.true in
-    let refused =
-    is_lacking c.args.rules here.iter (invalid_of c.in-Some-Err.plain) (invalid_of c.reported_by.result) steps.lacks
-    c.reported_by.ensures in
-    (subst (λ w. IsRefusedFrame c.args.rules w (invalid_of c.reported_by.result)) none.0 refused, none.1)
-
-pub returns-then-count-eq0-2-clause-invalid : goal.returns-then-count-eq0-2-clause-invalid
-returns-then-count-eq0-2-clause-invalid g c =
-    let here = c.loop-count in
-    let frame = c.in-Some-Ok.frame in
-    let finds : Finds here.iter frame c.next.new.self =
-    subst (λ f. Advances here.iter (Some f) c.next.new.self) c.in-Some-Ok.field-0-is c.in-Some-Ok.ensures.steps in
-    let none =
-    none_filled c.args.rules c.args.iter.now c.args.out.now here.iter here.out here.count here.end here.invariant.0
-    c.if-count-eq0-2.true in
-    let refused =
-    is_refused c.args.rules here.iter c.next.new.self frame c.breach_by-breach.result c.last_type.result
-    (invalid_of c.broken.result) finds c.breach_by-breach.ensures (c.is_broken.ensures.broken c.if-is_broken.true)
-    c.last_type.ensures c.broken.ensures in
-    (subst (λ w. IsRefusedFrame c.args.rules w (invalid_of c.broken.result)) none.0 refused, none.1)
+pub loop-filled-preserved : goal.loop-filled-preserved
+loop-filled-preserved c =
+    let here = c.loop-filled in
+    let i = here.invariant in
+    let by = rules_in c.args.frames.now.flags in
+    let a = c.fill_one-answer in
+    let one : a.result ≡ pos 1 = search rules in
+    elim a.ensures [
+      | inl t ↦
+          let taken : TakesEntry by here.frames c.args.payload.now a.result a.new.frames a.new.out =
+          subst (λ (n : ℕ). TakesEntry (rules_in n) here.frames c.args.payload.now a.result a.new.frames a.new.out) i.3 t in (
+            entry_filled by (state_of c.args.frames.now c.args.payload.now) c.args.out.now c.args.payload.now here.frames
+                a.new.frames here.out here.filled a.new.out a.result i.0 c.loop-filled-test.true taken,
+            t.within,
+            t.going,
+            t.flags ∙ i.3,
+            i.4,
+            λ none. absurd (omega (arith, none)),
+          )
+      | inr (inl w) ↦ absurd (not_count w.1.reported.reason 1 (sym w.1.reason ∙ one))
+      | inr (inr w) ↦ absurd (w.1.other one)
+    ]

@@ -15,6 +15,7 @@
 //     call-none takes
 //   read-NAME, write-NAME: a frame, one of `written` below, read or written; if N is 1, by the rules of RFC 9000
 #include "crossing.h"
+#include "quic_wire_near.h"
 
 static u64 packets_of(const uint8_t *datagram, size_t len) {
     static const uint32_t versions[] = {QUIC_WIRE_VERSION_1, QUIC_WIRE_VERSION_2};
@@ -64,6 +65,47 @@ static const quic_wire_frame ack = {.kind = QUIC_WIRE_FRAME_ACK, .first_range = 
 static u64 none(u64 turn) { return turn; }
 
 static u64 short_read(u64 turn) { return turn + quic_wire_short_read(source, source_len, (uint32_t)id_len); }
+static u64 short_read_near(u64 turn) { return turn + quic_wire_short_read_near(source, source_len, (uint32_t)id_len); }
+
+// The protection of a short header is removed, with its number truncated or expanded.
+static const uint8_t mask[5] = {0, 1, 2, 3, 4};
+static u64 unprotect(u64 turn) {
+    u64 number = 0;
+    return turn + (u64)quic_wire_unprotect(source, source_len, 1 + id_len, mask, 0, &number) + number;
+}
+static u64 unprotect_near(u64 turn) {
+    u64 number = 0;
+    return turn + (u64)quic_wire_unprotect_near(source, source_len, 1 + id_len, mask, 0, &number) + number;
+}
+static u64 unprotect_whole(u64 turn) {
+    u64 number = 0;
+    return turn + (u64)quic_wire_unprotect(source, source_len, 1 + id_len, mask, 70000, &number) + number;
+}
+static u64 unprotect_whole_near(u64 turn) {
+    u64 number = 0;
+    return turn + (u64)quic_wire_unprotect_near(source, source_len, 1 + id_len, mask, 70000, &number) + number;
+}
+
+// A transport parameter of four bytes.
+static u64 param_sum(const quic_wire_param *param) { return param->id + param->value + param->valuelen; }
+static u64 param_read(u64 turn) {
+    quic_wire_param param;
+    return turn + (u64)quic_wire_param_read(source, source_len, &param) + param_sum(&param);
+}
+static u64 param_read_near(u64 turn) {
+    quic_wire_param param;
+    return turn + (u64)quic_wire_param_read_near(source, source_len, &param) + param_sum(&param);
+}
+static u64 param_number(u64 turn) {
+    quic_wire_param param;
+    u64 value = 0;
+    return turn + (u64)quic_wire_param_read_number(source, source_len, &param, &value) + param_sum(&param) + value;
+}
+static u64 param_number_near(u64 turn) {
+    quic_wire_param param;
+    u64 value = 0;
+    return turn + (u64)quic_wire_param_read_number_near(source, source_len, &param, &value) + param_sum(&param) + value;
+}
 
 static u64 front_read(u64 turn) {
     quic_wire_frame frame;
@@ -115,6 +157,15 @@ static const struct {
 } calls[] = {
     {"none", none},
     {"short-read", short_read},
+    {"short-read-near", short_read_near},
+    {"unprotect", unprotect},
+    {"unprotect-near", unprotect_near},
+    {"unprotect-whole", unprotect_whole},
+    {"unprotect-whole-near", unprotect_whole_near},
+    {"param-read", param_read},
+    {"param-read-near", param_read_near},
+    {"param-number", param_number},
+    {"param-number-near", param_number_near},
     {"stream-read", front_read},
     {"ack-read", front_read},
     {"stream-head", stream_header},
@@ -141,9 +192,11 @@ static u64 on_calls(const char *name, size_t len) {
     gaps_len = len ? len - 1 : 0;
     for (size_t k = 0; k < gaps_len; k++)
         gaps[k] = (quic_wire_gap){1, 3};
-    source[0] = QUIC_WIRE_BIT_FIXED;
+    source[0] = QUIC_WIRE_BIT_FIXED | 1;
     source_len = 1200;
     int result = QUIC_WIRE_OK;
+    if (!strncmp(name, "param-", 6))
+        memcpy(source, "\4\4\x80\x10", 4);
     if (!strcmp(name, "ack-read"))
         result = quic_wire_ack_gaps_write(&ack, gaps, gaps_len, source, sizeof source, &source_len);
     if (!strcmp(name, "stream-read"))

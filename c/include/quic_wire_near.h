@@ -1,11 +1,11 @@
 /* SPDX-License-Identifier: MIT OR Apache-2.0 */
 /*
- * quic_wire_near.h: frames and numbers that are read and written without a
- * call of the library, for C99 and C++
+ * quic_wire_near.h: frames, numbers, short headers and transport parameters
+ * without a call of the library, for C99 and C++
  *
  * A function of quic_wire.h with _near after its name has the same arguments
- * and the same results.  What is frequent it reads or writes inline, and for
- * the rest, such as an error, it calls the function of quic_wire.h.
+ * and the same results.  What is frequent it does inline, and for the rest,
+ * such as an error, it calls the function of quic_wire.h.
  *
  * A reader of one kind of frame, such as quic_wire_stream_read, returns 0 for
  * what it leaves to quic_wire_frame_read, which reads it or says why it is
@@ -117,6 +117,61 @@ quic_wire_next_short_(const uint8_t *at, const uint8_t *end, uint64_t *value) {
   return at + 1;
 }
 
+/* Reads the id of a transport parameter at |at|, and how many bytes its value
+ * has.  Returns where that begins, or NULL if the entry is cut off. */
+QUIC_WIRE_NEAR const uint8_t *quic_wire_next_param_(const uint8_t *at,
+                                                    const uint8_t *end,
+                                                    uint64_t *id,
+                                                    uint64_t *valuelen) {
+  if (!(at = quic_wire_next_short_(at, end, id)))
+    return NULL;
+  if (!(at = quic_wire_next_short_(at, end, valuelen)) ||
+      *valuelen > (size_t)(end - at))
+    return NULL;
+  return at;
+}
+
+/* Reads a varint that has all of |len| bytes.  Returns whether it is one. */
+QUIC_WIRE_NEAR int quic_wire_whole_varint_(const uint8_t *at, uint64_t len,
+                                           uint64_t *value) {
+  if (len == 4 && (at[0] & 0xc0) == 0x80)
+    *value = quic_wire_get_uint32_(at) & 0x3fffffff;
+  else if (len == 2 && (at[0] & 0xc0) == 0x40)
+    *value = (at[0] & 0x3fu) << 8 | at[1];
+  else if (len == 1 && at[0] < 64)
+    *value = at[0];
+  else if (len == 8 && (at[0] & 0xc0) == 0xc0)
+    *value = quic_wire_get_uint64_(at) & QUIC_WIRE_MOST_;
+  else
+    return 0;
+  return 1;
+}
+
+/* Reads a packet number of |numberlen| bytes, 1 to 4, of the |len| that are
+ * there. */
+QUIC_WIRE_NEAR uint32_t quic_wire_get_number_(const uint8_t *at, size_t len,
+                                              uint32_t numberlen) {
+  if (len >= 4)
+    return quic_wire_get_uint32_(at) >> (32 - 8 * numberlen);
+  if (numberlen == 1)
+    return at[0];
+  if (numberlen == 2)
+    return (uint32_t)at[0] << 8 | at[1];
+  return (uint32_t)at[0] << 16 | (uint32_t)at[1] << 8 | at[2];
+}
+
+/* The number nearest to |expected|, below 2^62, of those that end in the
+ * |numberlen| bytes of |written|. */
+QUIC_WIRE_NEAR uint64_t quic_wire_nearest_(uint64_t written, uint32_t numberlen,
+                                           uint64_t expected) {
+  /* Of the numbers from |least| on it is the first that ends so, or if that is
+   * below 0 the next one. */
+  const uint64_t window = (uint64_t)1 << (8 * numberlen);
+  const uint64_t least = expected - (window / 2 - 1);
+  const uint64_t number = least + ((written - least) & (window - 1));
+  return number >> 63 ? number + window : number;
+}
+
 /* Writes a number below 2^62 in its shortest encoding, and returns where it
  * ends. */
 QUIC_WIRE_NEAR uint8_t *quic_wire_put_varint_(uint8_t *at, uint64_t value) {
@@ -207,14 +262,7 @@ quic_wire_number_read_near(const uint8_t *bytes, size_t len, uint32_t numberlen,
                            uint64_t *written) {
   if (!bytes || !written || numberlen - 1 > 3 || len < numberlen)
     return quic_wire_number_read(bytes, len, numberlen, written);
-  if (len >= 4)
-    *written = quic_wire_get_uint32_(bytes) >> (32 - 8 * numberlen);
-  else if (numberlen == 1)
-    *written = bytes[0];
-  else if (numberlen == 2)
-    *written = (uint32_t)bytes[0] << 8 | bytes[1];
-  else
-    *written = (uint32_t)bytes[0] << 16 | (uint32_t)bytes[1] << 8 | bytes[2];
+  *written = quic_wire_get_number_(bytes, len, numberlen);
   return (int)numberlen;
 }
 
@@ -241,15 +289,112 @@ quic_wire_number_write_near(uint64_t number, uint32_t numberlen, uint8_t *dest,
 QUIC_WIRE_NEAR uint64_t quic_wire_number_expand_near(uint64_t written,
                                                      uint32_t numberlen,
                                                      uint64_t expected) {
-  uint64_t window, least, number;
   if (numberlen - 1 > 3 || written >> (8 * numberlen) || expected >> 62)
     return QUIC_WIRE_NONE_;
-  /* Of the numbers from |least| on it is the first that ends so, or if that is
-   * below 0 the next one. */
-  window = (uint64_t)1 << (8 * numberlen);
-  least = expected - (window / 2 - 1);
-  number = least + ((written - least) & (window - 1));
-  return number >> 63 ? number + window : number;
+  return quic_wire_nearest_(written, numberlen, expected);
+}
+
+/** Reads a packet number of |numberlen| bytes at the front of |bytes|, and
+ * expands it as quic_wire_number_expand does.  Returns what
+ * quic_wire_number_read does, or else QUIC_WIRE_ERR_NUMBER if |expected| is
+ * 2^62 or more.  |*number| doesn't change after an error. */
+QUIC_WIRE_CHECKED QUIC_WIRE_NEAR int
+quic_wire_number_read_whole(const uint8_t *bytes, size_t len,
+                            uint32_t numberlen, uint64_t expected,
+                            uint64_t *number) {
+  if (!bytes || !number || numberlen - 1 > 3 || len < numberlen)
+    return quic_wire_number_read(bytes, len, numberlen, number);
+  if (expected >> 62)
+    return QUIC_WIRE_ERR_NUMBER;
+  *number = quic_wire_nearest_(quic_wire_get_number_(bytes, len, numberlen),
+                               numberlen, expected);
+  return (int)numberlen;
+}
+
+/** Writes as many low bytes of |number| as quic_wire_number_len says for
+ * |largest_acked|.  Returns how many, or its error, or else that of
+ * quic_wire_number_write. */
+QUIC_WIRE_CHECKED QUIC_WIRE_NEAR int
+quic_wire_number_write_least(uint64_t number, uint64_t largest_acked,
+                             uint8_t *dest, size_t destlen) {
+  const int numberlen = quic_wire_number_len_near(number, largest_acked);
+  if (numberlen < 0)
+    return numberlen;
+  return quic_wire_number_write_near(number, (uint32_t)numberlen, dest,
+                                     destlen);
+}
+
+/* ---- Headers of packets: long ones have no reader here, since many fields of
+ * theirs can be invalid, nor has protection that is applied, since no
+ * instructions would be saved */
+
+/** Where the short header at the front of |packet| ends, whose id has |cidlen|
+ * bytes. */
+QUIC_WIRE_NEAR size_t quic_wire_short_read_near(const uint8_t *packet,
+                                                size_t packetlen,
+                                                uint32_t cidlen) {
+  if (!packet || cidlen > 20 || packetlen <= cidlen || packet[0] >= 0x80)
+    return 0;
+  return (size_t)cidlen + 1;
+}
+
+/** Removes the header protection of a packet whose number begins at |place|.
+ * If your |expected| is the constant 0, nothing is compiled that expands a
+ * number. */
+QUIC_WIRE_CHECKED QUIC_WIRE_NEAR int
+quic_wire_unprotect_near(uint8_t *packet, size_t packetlen, size_t place,
+                         const uint8_t *mask, uint64_t expected,
+                         uint64_t *number) {
+  uint32_t first, numberlen, others, bytes;
+  if (!packet || !mask || !number || expected >> 62 || !place ||
+      packetlen < 4 || place > packetlen - 4)
+    return quic_wire_unprotect(packet, packetlen, place, mask, expected,
+                               number);
+  /* Five bits of a short header are protected, four of a long one. */
+  first = packet[0];
+  first ^= mask[0] & (0x1fu >> (first >> 7));
+  numberlen = (first & 3) + 1;
+  others = 32 - 8 * numberlen; /* the bits after the number, which stay */
+  bytes = quic_wire_get_uint32_(packet + place) ^
+          (quic_wire_get_uint32_(mask + 1) >> others << others);
+  packet[0] = (uint8_t)first;
+  quic_wire_put_uint32_(packet + place, bytes);
+  *number = expected ? quic_wire_nearest_(bytes >> others, numberlen, expected)
+                     : bytes >> others;
+  return (int)numberlen;
+}
+
+/* ---- Transport parameters, one by one: for what a value means, and whether
+ * the list is lawful, there is quic_wire_params_read */
+
+/** Reads the entry at the front of a |list| of them. */
+QUIC_WIRE_CHECKED QUIC_WIRE_NEAR int64_t quic_wire_param_read_near(
+    const uint8_t *list, size_t listlen, quic_wire_param *param) {
+  uint64_t id, valuelen;
+  const uint8_t *at;
+  if (!list || !param ||
+      !(at = quic_wire_next_param_(list, list + listlen, &id, &valuelen)))
+    return quic_wire_param_read(list, listlen, param);
+  param->id = id;
+  param->value = (size_t)(at - list);
+  param->valuelen = (size_t)valuelen;
+  return (int64_t)((size_t)(at - list) + (size_t)valuelen);
+}
+
+/** The same for an entry whose value is an integer, in any encoding. */
+QUIC_WIRE_CHECKED QUIC_WIRE_NEAR int64_t
+quic_wire_param_read_number_near(const uint8_t *list, size_t listlen,
+                                 quic_wire_param *param, uint64_t *value) {
+  uint64_t id, valuelen;
+  const uint8_t *at;
+  if (!list || !param || !value ||
+      !(at = quic_wire_next_param_(list, list + listlen, &id, &valuelen)) ||
+      !quic_wire_whole_varint_(at, valuelen, value))
+    return quic_wire_param_read_number(list, listlen, param, value);
+  param->id = id;
+  param->value = (size_t)(at - list);
+  param->valuelen = (size_t)valuelen;
+  return (int64_t)((size_t)(at - list) + (size_t)valuelen);
 }
 
 /* ---- Reading frames */

@@ -5,7 +5,9 @@
   that specs/Slots.antt of quic_c says, and leaves to the library exactly what isn't such a frame or what RFC 9000
   forbids; it reads no byte outside of the payload
 - a writer writes exactly the shortest encoding of that row, and nothing outside of dest
-- varints and packet numbers are those of RFC 9000, sections 16 and 17.1 and appendix A
+- varints and packet numbers are those of RFC 9000, sections 16 and 17.1 and appendix A; short headers end as section
+  17.3.1 says, transport parameters are entries as in section 18, and header protection is that of RFC 9001, section
+  5.4.1
 - nothing is undefined in C
 
 Pointers have 64 bits, and then 32. What passed is noted in scripts/lib/near.sha256, which scripts/tables --check reads.
@@ -19,113 +21,22 @@ import time
 
 import z3
 import near_rows
-from near_machine import (
-    HEADER, LENGTHS, NULL, WIDE, Machine, Path, Pointer, Word, Wrong, byte_at, number, read_tree, unknown, wide,
+from near_calls import (
+    expansion, lengths, number_calls, params_read, short_headers, unprotected, varint_calls, whole_numbers,
+)
+from near_machine import HEADER, WIDE, Leaves, Machine, Path, Pointer, Word, Wrong, byte_at, number, read_tree, wide
+from near_varints import (
+    LEN, MOST, READS, ROOM, WRITES, big_endian, called_alike, encoding, fits, has_room, is_left, is_null, least_width,
+    pointer, value_of, varint, width_of,
 )
 
-LEN, ROOM = LENGTHS["payload"], LENGTHS["dest"]
-MOST = (1 << 62) - 1
 # What has no reader: kinds with a loop, and those of the ACK frequency extension.
 UNREAD = {"Padding", "Ack", "ImmediateAck", "AckFrequency"}
 # What has only numbers but no writer.
 UNWRITTEN = {"Padding"}
 
 
-class Leaves(Wrong):
-    """A frame that could be read and is left to the library, which isn't wrong."""
-
-
-def is_null(name):
-    return z3.Bool(f"{name} is NULL")
-
-
-def pointer(name, may_be_null=True):
-    """The first of some bytes, or a frame."""
-    return Pointer(name, null=is_null(name)) if may_be_null else Pointer(name)
-
-
-# ---- varints: what one is, by its bytes (RFC 9000, section 16)
-
-def width_of(first):
-    """1, 2, 4 or 8 bytes, as the two highest bits of the first say."""
-    return number(1) << z3.ZeroExt(56, z3.LShR(first, 6))
-
-
-def value_of(width):
-    """The number in a varint of that width at the front: its bytes, the highest first, without those two bits."""
-    parts = [byte_at(number(place)) for place in range(width)]
-    bits = z3.Concat(*parts) if width > 1 else parts[0]
-    return z3.ZeroExt(66 - 8 * width, z3.Extract(8 * width - 3, 0, bits))
-
-
-def fits(place, many):
-    """Whether so many bytes are there."""
-    return z3.And(z3.ULE(place, LEN), z3.ULE(many, LEN - place))
-
-
-def least_width(value):
-    return z3.If(z3.ULT(value, 1 << 6), number(1), z3.If(z3.ULT(value, 1 << 14), number(2), z3.If(
-        z3.ULT(value, 1 << 30), number(4), number(8))))
-
-
-def encoding(value, width):
-    """The bytes of a number in a varint of that width."""
-    prefix = {1: 0, 2: 1, 4: 2, 8: 3}[width]
-    return big_endian(z3.Concat(number(prefix, 2), z3.Extract(8 * width - 3, 0, value)))
-
-
-def big_endian(bits):
-    return [z3.Extract(low + 7, low, bits) for low in reversed(range(0, bits.size(), 8))]
-
-
-def varint(machine, place):
-    """A varint in a proof that needs no more of it than its bounds: its width and its value."""
-    width, value = z3.ZeroExt(60, unknown("width", place, 4)), z3.ZeroExt(2, unknown("value", place, 62))
-    machine.facts.append(z3.Or(*[width == it for it in (1, 2, 4, 8)]))
-    return width, value
-
-
-def reads_varint(machine, path, at, end, value):
-    """What quic_wire_next_varint_ and quic_wire_next_short_ do, as is shown first."""
-    path.need(z3.And(z3.Not(at.null), z3.ULE(at.offset, LEN), end.offset == LEN), "bytes of the payload")
-    width, found = varint(machine, at.offset)
-    ways = []
-    for one, is_there in machine.split(path, fits(at.offset, width)):
-        if is_there:
-            one.assign(value.to, Word(found))
-        ways.append((one, Pointer("payload", at.offset + width) if is_there else NULL))
-    return ways
-
-
-def has_room(at, many):
-    return z3.And(z3.Not(at.null), z3.ULE(at.offset, ROOM), z3.ULE(many, ROOM - at.offset))
-
-
-def writes_varint(machine, path, at, value):
-    """What quic_wire_put_varint_ does."""
-    width = least_width(value.bits)
-    path.need(z3.And(has_room(at, width), z3.ULE(value.bits, MOST)), "room for a number below 2^62")
-    path.stored.append((at.offset, "varint", value.bits))
-    return [(path, Pointer("dest", at.offset + width, at.null))]
-
-
-def writes_uint64(machine, path, at, value):
-    """What quic_wire_put_uint64_ does."""
-    path.need(has_room(at, number(8)), "room for eight bytes")
-    path.stored.append((at.offset, "uint64", value.bits))
-    return [(path, Pointer("dest", at.offset + 8, at.null))]
-
-
-def varint_len(machine, path, value):
-    """What quic_wire_varint_len_near returns."""
-    found = z3.If(z3.ULE(value.bits, MOST), least_width(value.bits), number(0))
-    return [(path, Word(found).to(machine.bits))]
-
-
-READS = {f"quic_wire_next_{it}_": reads_varint for it in ("varint", "short")}
-WRITES = {"quic_wire_put_varint_": writes_varint, "quic_wire_put_uint64_": writes_uint64,
-          "quic_wire_varint_len_near": varint_len}
-
+# ---- numbers
 
 def varints_read(tree, bits):
     """The two functions that read a varint, at the front of any bytes. They know nothing of those before it, so they
@@ -224,20 +135,6 @@ def arguments(name):
     return [*front, Word(z3.BitVec("flags", 32)), pointer("frame"), pointer("gaps"), Word(z3.BitVec("room", 64))]
 
 
-def called_alike(path, values, name, result):
-    """That all that happens is a call of the library with the function's own arguments, whose result is returned."""
-    of, passed, answer = path.called
-    assert of == f"quic_wire_{name}", of
-    path.need(z3.BoolVal(not (path.frame or path.stored)), f"nothing but a call of {name}")
-    for given, value in zip(values, passed, strict=True):
-        if isinstance(given, Pointer):
-            assert given.to == value.to
-            path.need(z3.And(given.null == value.null, z3.Or(given.null, given.offset == value.offset)), "a pointer")
-        else:
-            path.need(given.to(value.bits.size()).bits == value.bits, "an argument")
-    return result.bits == answer.bits
-
-
 def reader(tree, bits, name, of, own):
     """A reader on all payloads that begin with this type, or with none of its own."""
     machine = Machine(tree, bits, READS)
@@ -256,11 +153,7 @@ def reader(tree, bits, name, of, own):
             machine.prove(path, claim, f"{name}: a frame")
             continue
         claim = called_alike(path, values, "frame_read", result) if path.called else result.bits == 0
-        try:
-            machine.prove(path, z3.And(claim, z3.Not(lawful)), f"{name}: what is left")
-        except Wrong as it:
-            machine.prove(path, claim, f"{name}: the result for no frame")
-            raise Leaves(f"{name}: a frame is left that it could read: {it}") from None
+        is_left(machine, path, claim, lawful, name)
     yield f"{name}, type {of.number:#04x}" if of else f"{name}, other types", len(ways), machine.proofs
 
 
@@ -320,116 +213,12 @@ def writers():
             yield f"{name}_write", functools.partial(writer, name=name, of=of)
 
 
-# ---- varints and packet numbers
-
-def function(tree, bits, name, values, contracts=None, given=()):
-    machine = Machine(tree, bits, contracts or {})
-    path = Path(given)
-    path.declare("out", (64, False), None)
-    return machine, machine.call(f"quic_wire_{name}_near", path, values)
-
-
-def lengths(tree, bits):
-    """How long a varint is, and how long a truncated packet number: as long as its numbers are more than twice as many
-    as those since the acknowledged one (RFC 9000, section 17.1)."""
-    value, acked = z3.BitVec("value", 64), z3.BitVec("acked", 64)
-    machine, ways = function(tree, bits, "varint_len", [Word(value)])
-    for path, result in ways:
-        many = z3.If(z3.ULE(value, MOST), least_width(value), number(0))
-        machine.prove(path, result.to(64).bits == many, "a varint's length")
-    yield "varint_len_near", len(ways), machine.proofs
-    machine, ways = function(tree, bits, "number_len", [Word(value), Word(acked)])
-    error, twice = number(machine.constants["QUIC_WIRE_ERR_NUMBER"], 32), 2 * (wide(value) - wide(acked))
-    many = error
-    for count in (4, 3, 2, 1):
-        many = z3.If(z3.ULT(twice, z3.BitVecVal(1 << 8 * count, WIDE)), number(count, 32), many)
-    for path, result in ways:
-        machine.prove(path, result.bits == z3.If(z3.ULT(value, acked), error, many), "a packet number's length")
-    yield "number_len_near", len(ways), machine.proofs
-
-
-def varint_calls(tree, bits):
-    given = [pointer("payload"), Word(LEN), Pointer(0, null=is_null("value"))]
-    machine, ways = function(tree, bits, "varint_read", given, READS)
-    width, value = varint(machine, number(0))
-    for path, result in ways:
-        if path.called:
-            machine.prove(path, called_alike(path, given, "varint_read", result), "a call")
-            continue
-        stored = path.cells[0][1]
-        same = z3.BoolVal(False) if stored is None else stored.bits == value
-        machine.prove(path, z3.And(fits(number(0), width), same, result.to(64).bits == width), "a varint")
-    yield "varint_read_near", len(ways), machine.proofs
-    value, chosen = z3.BitVec("number", 64), z3.BitVec("width", 32)
-    given = [Word(value), Word(chosen), pointer("dest"), Word(ROOM)]
-    machine, ways = function(tree, bits, "varint_write", given, WRITES)
-    for path, result in ways:
-        if path.called:
-            machine.prove(path, called_alike(path, given, "varint_write", result), "a call")
-            continue
-        (place, kind, stored), = path.stored
-        assert kind == "varint"
-        claim = z3.And(place == 0, stored == value, chosen == 0, result.to(64).bits == least_width(value))
-        machine.prove(path, claim, "a varint")
-    yield "varint_write_near", len(ways), machine.proofs
-
-
-def number_calls(tree, bits):
-    """The low bytes of a packet number, read and written."""
-    count = z3.BitVec("count", 32)
-    given = [pointer("payload"), Word(LEN), Word(count), Pointer(0, null=is_null("written"))]
-    machine, ways = function(tree, bits, "number_read", given)
-    for path, result in ways:
-        if path.called:
-            machine.prove(path, called_alike(path, given, "number_read", result), "a call")
-            continue
-        parts = [byte_at(number(at)) for at in range(4)]
-        values = [z3.ZeroExt(64 - 8 * it, z3.Concat(*parts[:it]) if it > 1 else parts[0]) for it in (1, 2, 3, 4)]
-        same = [z3.Implies(count == it, path.cells[0][1].bits == values[it - 1]) for it in (1, 2, 3, 4)]
-        machine.prove(path, z3.And(z3.UGE(count, 1), z3.ULE(count, 4), result.bits == count, *same), "a packet number")
-    yield "number_read_near", len(ways), machine.proofs
-    value = z3.BitVec("number", 64)
-    given = [Word(value), Word(count), pointer("dest"), Word(ROOM)]
-    machine, ways = function(tree, bits, "number_write", given)
-    for path, result in ways:
-        if path.called:
-            machine.prove(path, called_alike(path, given, "number_write", result), "a call")
-            continue
-        many = len(path.stored)
-        claims = [z3.And(offset == at, byte == z3.Extract(8 * (many - at) - 1, 8 * (many - at - 1), value))
-                  for at, (offset, _, byte) in enumerate(path.stored)]
-        machine.prove(path, z3.And(count == many, result.bits == count, *claims), "a packet number")
-    yield "number_write_near", len(ways), machine.proofs
-
-
-def expansion(tree, bits):
-    """The number that ends so and is nearest to the expected one (RFC 9000, appendix A.3): above it minus half of the
-    window and at most it plus half; or what was written, if the nearest one would be negative."""
-    written, expected, other = z3.BitVec("written", 64), z3.BitVec("expected", 64), z3.BitVec("other", 32)
-    small, goal, none = wide(written), wide(expected), number((1 << 64) - 1)
-    for count in (1, 2, 3, 4):
-        machine, ways = function(tree, bits, "number_expand", [Word(written), Word(number(count, 32)), Word(expected)])
-        window, half = z3.BitVecVal(1 << 8 * count, WIDE), z3.BitVecVal(1 << 8 * count - 1, WIDE)
-        valid = z3.And(z3.ULE(expected, MOST), z3.ULT(small, window))
-        for path, result in ways:
-            got = wide(result.bits)
-            near = z3.And(got & (window - 1) == small, z3.UGT(got + half, goal), z3.ULE(got, goal + half))
-            first = z3.And(got == small, z3.UGT(small, goal + half))
-            machine.prove(path, z3.If(valid, z3.Or(near, first), result.bits == none), "an expanded packet number")
-        yield f"number_expand_near, {count} bytes", len(ways), machine.proofs
-    wrong = z3.Or(other == 0, z3.UGT(other, 4))
-    values = [Word(written), Word(other), Word(expected)]
-    machine, ways = function(tree, bits, "number_expand", values, given=[wrong])
-    for path, result in ways:
-        machine.prove(path, result.bits == none, "an expanded packet number")
-    yield "number_expand_near, other lengths", len(ways), machine.proofs
-
-
 # ---- all of it
 
 def parts():
     """What is shown, by names of functions: each part has what it shows one after another."""
-    for each in (varints_read, numbers_written, lengths, varint_calls, number_calls, expansion):
+    for each in (varints_read, numbers_written, lengths, varint_calls, number_calls, expansion, whole_numbers,
+                 short_headers, unprotected, params_read):
         yield each.__name__, each
     yield from writers()
     yield from readers()

@@ -11,14 +11,19 @@ from pycparser import c_ast, c_parser
 TOP = pathlib.Path(__file__).resolve().parents[2]
 HEADER = TOP / "c/include/quic_wire_near.h"
 WIDE = 68
-# How many bytes the payload has, and how many there are to write to.
-LENGTHS = {"payload": z3.BitVec("payload length", 64), "dest": z3.BitVec("dest length", 64)}
+# How many bytes the payload has, how many there are to write to, and those of a mask for header protection.
+LENGTHS = {"payload": z3.BitVec("payload length", 64), "dest": z3.BitVec("dest length", 64),
+           "mask": z3.BitVecVal(5, 64)}
 FIELDS = {"kind": 16, "type": 16, "flags": 32, "begin": 64, "end": 64, "data": 64, "datalen": 64}
 SIGNED = {"int", "int32_t", "int64_t"}
 
 
 class Wrong(Exception):
     """What was to be proved and is false, with values for which it is."""
+
+
+class Leaves(Wrong):
+    """What could be read and is left to the library, which isn't wrong."""
 
 
 def number(value, width=64):
@@ -35,8 +40,8 @@ def unknown(name, place, width):
     return z3.BitVec(f"{name} at {z3.simplify(place).sexpr()}", width)
 
 
-def byte_at(place):
-    return unknown("byte", place, 8)
+def byte_at(place, of="payload"):
+    return unknown("byte" if of == "payload" else f"{of} byte", place, 8)
 
 
 def read_tree(header, bits):
@@ -74,7 +79,7 @@ class Word:
 
 
 class Pointer:
-    """A pointer to a byte of the payload or of dest, to a frame, or to a variable; perhaps NULL."""
+    """A pointer to a byte of LENGTHS, to a struct, or to a variable; perhaps NULL."""
 
     def __init__(self, to, offset=number(0), null=z3.BoolVal(False)):
         self.to, self.offset, self.null = to, z3.simplify(offset), null
@@ -301,10 +306,12 @@ class Machine:
     def load(self, path, pointer):
         if isinstance(pointer.to, int):
             return path.cells[pointer.to][1]
-        assert pointer.to == "payload", f"{pointer.to} is read"
-        path.need(z3.And(z3.Not(pointer.null), z3.ULT(pointer.offset, LENGTHS["payload"])), "a byte of the payload")
+        path.need(z3.And(z3.Not(pointer.null), z3.ULT(pointer.offset, LENGTHS[pointer.to])), f"a byte of {pointer.to}")
+        if pointer.to == "dest":
+            path.need(z3.And(*[pointer.offset != place for place, *_ in path.stored]), "a byte that isn't changed yet")
         is_first = z3.is_bv_value(pointer.offset) and pointer.offset.as_long() == 0
-        return Word(number(self.first, 8) if is_first and self.first is not None else byte_at(pointer.offset))
+        known = self.first is not None and is_first and pointer.to == "payload"
+        return Word(number(self.first, 8) if known else byte_at(pointer.offset, pointer.to))
 
     def store(self, path, pointer, value):
         """Stores a byte of dest, or a variable."""
@@ -381,8 +388,8 @@ class Machine:
         a, b, signed = left.bits, right.bits, left.signed
         if op in COMPARED:
             return as_int(COMPARED[op](a, b, signed))
-        if op in ("&", "|"):
-            return Word(a & b if op == "&" else a | b, signed)
+        if op in ("&", "|", "^"):
+            return Word({"&": a & b, "|": a | b, "^": a ^ b}[op], signed)
         if signed:
             raise Wrong(f"{op} of numbers with a sign, which may go too far")
         return Word({"+": a + b, "-": a - b, "*": a * b, "/": z3.UDiv(a, b)}[op])
@@ -414,18 +421,18 @@ class Machine:
         return ways
 
     def assigned_part(self, target, path, value):
-        """A member of the frame, or an item."""
-        name = target.field.name if isinstance(target, c_ast.StructRef) else ""
-        if isinstance(target, c_ast.ArrayRef) and isinstance(target.name, c_ast.StructRef):
-            name = f"{target.name.field.name}{target.subscript.value}"
-        if not name:
+        """A member of a struct, or an item."""
+        member, place = target, ""
+        if isinstance(target, c_ast.ArrayRef):
+            member, place = target.name, getattr(target.subscript, "value", "")
+        if not isinstance(member, c_ast.StructRef):
             ways = self.item(target, path)
             for one, pointer in ways:
                 self.store(one, pointer, value)
             return [(one, value) for one, _ in ways]
-        frame = path.cells[path.names["frame"]][1]
-        assert frame.to == "frame", "another struct"
-        path.need(z3.Not(frame.null), "a frame that isn't NULL")
+        struct, name = path.cells[path.names[member.name.name]][1], f"{member.field.name}{place}"
+        assert struct.to in ("frame", "param"), "another struct"
+        path.need(z3.Not(struct.null), f"a {struct.to} that isn't NULL")
         path.frame[name] = value.to(FIELDS.get(name, 64)).bits
         return [(path, value)]
 

@@ -9,7 +9,8 @@ TOP = pathlib.Path(__file__).resolve().parents[2]
 TABLE = TOP / "crates/quic_frame_fields/specs/Table.antt"
 SLOTS = TOP / "crates/quic_c/specs/Slots.antt"
 # What scripts/lib/near.py depends on, and the file in which it notes their digests when it has passed.
-FILES = ("c/include/quic_wire_near.h", "scripts/lib/near.py", "scripts/lib/near_machine.py", "scripts/lib/near_rows.py",
+FILES = ("c/include/quic_wire_near.h",
+         *(f"scripts/lib/{it}.py" for it in ("near", "near_calls", "near_machine", "near_rows", "near_varints")),
          TABLE.relative_to(TOP).as_posix(), SLOTS.relative_to(TOP).as_posix())
 PASSED = TOP / "scripts/lib/near.sha256"
 # The number of a direction is the lowest bit of the types of MAX_STREAMS and STREAMS_BLOCKED (RFC 9000, section 19.11).

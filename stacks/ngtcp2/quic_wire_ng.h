@@ -4,7 +4,7 @@
 
 #include <string.h>
 
-#include "quic_wire.h"
+#include "quic_wire_near.h"
 #include "quic_wire_ng_releases.h"
 
 /* The packet number that is expected after the greatest received one, or -1:
@@ -43,8 +43,8 @@ quic_wire_ng_unprotect(ngtcp2_pkt_hd *hd, uint8_t *header, const uint8_t *pkt,
   /* The sample is after these bytes.  quic_wire_unprotect_copy does both, and
    * takes longer. */
   memcpy(header, pkt, place + 4);
-  len = quic_wire_unprotect(header, place + 4, place, mask,
-                            quic_wire_ng_expected(largest), &number);
+  len = quic_wire_unprotect_near(header, place + 4, place, mask,
+                                 quic_wire_ng_expected(largest), &number);
   if (len < 0) {
     return NGTCP2_ERR_PROTO;
   }

@@ -1,6 +1,6 @@
 /*
  * ngtcp2's readers and writers of packet headers and its packet numbers, with
- * quic_wire.h.
+ * quic_wire.h and quic_wire_near.h.
  */
 #include <string.h>
 
@@ -101,7 +101,7 @@ ngtcp2_ssize ngtcp2_pkt_decode_hd_long(ngtcp2_pkt_hd *dest, const uint8_t *pkt,
 
 ngtcp2_ssize ngtcp2_pkt_decode_hd_short(ngtcp2_pkt_hd *dest, const uint8_t *pkt,
                                         size_t pktlen, size_t dcidlen) {
-  size_t end = quic_wire_short_read(pkt, pktlen, (uint32_t)dcidlen);
+  size_t end = quic_wire_short_read_near(pkt, pktlen, (uint32_t)dcidlen);
 
   if (end == 0) {
     return NGTCP2_ERR_INVALID_ARGUMENT;
@@ -129,7 +129,7 @@ int ngtcp2_pkt_decode_version_cid(ngtcp2_version_cid *dest, const uint8_t *data,
   int supported;
   int64_t answer;
 
-  if (quic_wire_short_read(data, datalen, (uint32_t)short_dcidlen)) {
+  if (quic_wire_short_read_near(data, datalen, (uint32_t)short_dcidlen)) {
     dest->version = 0;
     dest->dcid = data + 1;
     dest->dcidlen = short_dcidlen;
@@ -255,6 +255,6 @@ ngtcp2_ssize ngtcp2_pkt_write_version_negotiation(
 int64_t ngtcp2_pkt_adjust_pkt_num(int64_t max_pkt_num, int64_t pkt_num,
                                   size_t n) {
   uint32_t len = (uint32_t)(QUIC_WIRE_NG_1 ? n : n / 8);
-  return (int64_t)quic_wire_number_expand((uint64_t)pkt_num, len,
-                                          quic_wire_ng_expected(max_pkt_num));
+  return (int64_t)quic_wire_number_expand_near(
+      (uint64_t)pkt_num, len, quic_wire_ng_expected(max_pkt_num));
 }

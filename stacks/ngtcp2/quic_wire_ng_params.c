@@ -1,4 +1,4 @@
-/* ngtcp2's transport parameters, with quic_wire.h. */
+/* ngtcp2's transport parameters, with quic_wire.h and quic_wire_near.h. */
 #include <string.h>
 
 #include "ngtcp2_cid.h"
@@ -107,7 +107,8 @@ static int read_params(ngtcp2_transport_params *params, quic_wire_params *w,
     return NGTCP2_ERR_MALFORMED_TRANSPORT_PARAM;
   }
   params_of(params, w);
-  while ((end = quic_wire_param_read(data + at, datalen - at, &entry)) > 0) {
+  while ((end = quic_wire_param_read_near(data + at, datalen - at, &entry)) >
+         0) {
     if (entry.id == NGTCP2_TRANSPORT_PARAM_VERSION_INFORMATION) {
       rv = versions_of(params, data + at + entry.value, entry.valuelen);
       if (rv != 0) {

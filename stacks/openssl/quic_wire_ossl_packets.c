@@ -44,7 +44,7 @@ int ossl_quic_hdr_protector_decrypt_fields(QUIC_HDR_PROTECTOR *hpr,
 
     /* Both are in one packet, which has four bytes from |pn_bytes| on. */
     return hdr_generate_mask(hpr, sample, sample_len, mask)
-        && quic_wire_unprotect(first_byte, pn + 4, pn, mask, 0, &number) > 0;
+        && quic_wire_unprotect_near(first_byte, pn + 4, pn, mask, 0, &number) > 0;
 }
 
 int ossl_quic_hdr_protector_encrypt_fields(QUIC_HDR_PROTECTOR *hpr,
@@ -108,7 +108,7 @@ static ossl_inline size_t decode_short_hdr(const unsigned char *p, size_t len,
         || len < QUIC_MIN_VALID_PKT_LEN_CRYPTO)
         return 0;
 
-    pn = quic_wire_short_read(p, len, (uint32_t)conn_id_len);
+    pn = quic_wire_short_read_near(p, len, (uint32_t)conn_id_len);
     if (pn == 0)
         return 0;
 
@@ -493,17 +493,10 @@ int ossl_quic_wire_decode_pkt_hdr_pn(const unsigned char *enc_pn,
     QUIC_PN largest_pn,
     QUIC_PN *res_pn)
 {
-    uint64_t written;
-
-    if (enc_pn_len < 1 || enc_pn_len > 4
-        || quic_wire_number_read_near(enc_pn, enc_pn_len, (uint32_t)enc_pn_len,
-               &written)
-            < 0)
-        return 0;
-
-    *res_pn = quic_wire_number_expand_near(written, (uint32_t)enc_pn_len,
-        largest_pn + 1);
-    return *res_pn != UINT64_MAX;
+    return enc_pn_len <= 4
+        && quic_wire_number_read_whole(enc_pn, enc_pn_len, (uint32_t)enc_pn_len,
+               largest_pn + 1, res_pn)
+        > 0;
 }
 
 int ossl_quic_wire_determine_pn_len(QUIC_PN pn,

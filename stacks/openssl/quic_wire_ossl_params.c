@@ -1,7 +1,7 @@
 /*
- * OpenSSL's readers and writers of transport parameters, with quic_wire.h.
- * ssl/quic/quic_wire.c includes this file in place of its own, after
- * quic_wire_ossl_encode.c.
+ * OpenSSL's readers and writers of transport parameters, with quic_wire.h and
+ * quic_wire_near.h. ssl/quic/quic_wire.c includes this file in place of its
+ * own, after quic_wire_ossl_encode.c.
  */
 
 /* ---- Writing transport parameters */
@@ -49,7 +49,8 @@ int ossl_quic_wire_encode_transport_param_cid(WPACKET *wpkt,
 
 int ossl_quic_wire_peek_transport_param(PACKET *pkt, uint64_t *id)
 {
-    return quic_wire_varint_read(PACKET_data(pkt), PACKET_remaining(pkt), id)
+    return quic_wire_varint_read_near(PACKET_data(pkt), PACKET_remaining(pkt),
+               id)
         > 0;
 }
 
@@ -59,7 +60,7 @@ const unsigned char *ossl_quic_wire_decode_transport_param_bytes(PACKET *pkt,
 {
     const unsigned char *list = PACKET_data(pkt);
     quic_wire_param param;
-    int64_t end = quic_wire_param_read(list, PACKET_remaining(pkt), &param);
+    int64_t end = quic_wire_param_read_near(list, PACKET_remaining(pkt), &param);
 
     if (end <= 0 || !PACKET_forward(pkt, (size_t)end))
         return NULL;
@@ -75,7 +76,7 @@ int ossl_quic_wire_decode_transport_param_int(PACKET *pkt,
     uint64_t *value)
 {
     quic_wire_param param;
-    int64_t end = quic_wire_param_read_number(PACKET_data(pkt),
+    int64_t end = quic_wire_param_read_number_near(PACKET_data(pkt),
         PACKET_remaining(pkt), &param, value);
 
     if (end <= 0 || !PACKET_forward(pkt, (size_t)end))

@@ -135,6 +135,13 @@ extern int near_frames(const uint8_t *bytes, size_t len);
 extern int near_written(void);
 extern void near_numbers(const uint8_t *bytes, size_t len);
 
+/* near_packets.c: the same for headers and transport parameters.  The last
+ * returns whether a list had an entry. */
+extern void near_packets_nulls(void);
+extern void near_packets_examples(void);
+extern void near_packets(const uint8_t *bytes, size_t len);
+extern int near_params(const uint8_t *bytes, size_t len);
+
 /* parameters.c: transport parameters. */
 extern void params_nulls(void);
 extern void params_with(void);

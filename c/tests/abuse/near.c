@@ -54,6 +54,9 @@ void near_nulls(void) {
   WANT(quic_wire_number_read_near(NULL, 1, 1, &number) == INVALID &&
        quic_wire_number_read_near(&byte, 1, 1, NULL) == INVALID &&
        quic_wire_number_write_near(1, 1, NULL, 1) == INVALID && number == 77);
+  WANT(quic_wire_number_read_whole(NULL, 1, 1, 0, &number) == INVALID &&
+       quic_wire_number_read_whole(&byte, 1, 1, 0, NULL) == INVALID &&
+       quic_wire_number_write_least(1, 1, NULL, 1) == INVALID && number == 77);
   WANT(quic_wire_ping_write(NULL, 9) == 0 && quic_wire_ping_write(dest, 0) == 0);
   WANT(quic_wire_max_data_write(1, NULL, 9) == 0 &&
        quic_wire_path_challenge_write(1, NULL, 9) == 0);
@@ -207,6 +210,32 @@ static void near_varints(const uint8_t *bytes, size_t len) {
   free(other);
 }
 
+/* Two calls in one step. */
+static void near_steps(const uint8_t *bytes, size_t len, uint32_t numberlen) {
+  const uint64_t n = edge(), acked = n - any() % (1ull << (any() % 34));
+  const uint64_t expected = edge() >> (any() % 9 ? 2 : 0);
+  const size_t room = any() % 7;
+  uint64_t written = 77, near = 77, number = 77;
+  uint8_t *dest = block(room), *other = block(room);
+  int answer = quic_wire_number_read(bytes, len, numberlen, &written);
+  if (answer > 0 && expected >> 62)
+    answer = QUIC_WIRE_ERR_NUMBER;
+  else if (answer > 0)
+    number = quic_wire_number_expand(written, numberlen, expected);
+  WANT(quic_wire_number_read_whole(bytes, len, numberlen, expected, &near) ==
+           answer &&
+       near == number);
+  memset(dest, 0xa5, room);
+  memset(other, 0xa5, room);
+  answer = quic_wire_number_len(n, acked);
+  if (answer > 0)
+    answer = quic_wire_number_write(n, (uint32_t)answer, other, room);
+  WANT(quic_wire_number_write_least(n, acked, dest, room) == answer);
+  WANT(!memcmp(dest, other, room));
+  free(dest);
+  free(other);
+}
+
 void near_numbers(const uint8_t *bytes, size_t len) {
   const uint64_t n = edge(), acked = any() % 2 ? edge() : n - any() % 70000;
   const uint64_t expected = edge() >> (any() % 9 ? 2 : 0);
@@ -215,6 +244,7 @@ void near_numbers(const uint8_t *bytes, size_t len) {
   uint64_t called = 77, near = 77, written = any() % 4 ? n >> 32 : n;
   uint8_t *dest = block(room), *other = block(room);
   near_varints(bytes, len);
+  near_steps(bytes, len, numberlen);
   WANT(quic_wire_number_len_near(n, acked) == quic_wire_number_len(n, acked));
   WANT(quic_wire_number_read_near(bytes, len, numberlen, &near) ==
        quic_wire_number_read(bytes, len, numberlen, &called));

@@ -68,7 +68,8 @@ fn next_other(first: u8, frames: &mut CFrameIter, payload: &[u8], out: &mut CFra
 {
     match first {
         0x00 => next_padding(frames, payload, out),
-        0x02 => next_ack(frames, payload, out),
+        0x02 => next_ack::<false>(frames, payload, out),
+        0x03 => next_ack::<true>(frames, payload, out),
         _ => next_any(frames, payload, out),
     }
 }

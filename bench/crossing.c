@@ -7,7 +7,7 @@
 //   acks: the same, with calls that fill 16 frames and 16 ranges
 //   gaps: the ranges of the ACKs at the front, as gaps
 //   packets: each line as a datagram, with connection IDs of 8 bytes in short headers
-// All but `packets` with `-rfc` read by QUIC_WIRE_READ_RFC.
+// All but `packets` with `-rfc` read by QUIC_WIRE_READ_RFC, and so do `call-stream-read` and `call-ack-read` below.
 // With a number N in place of FILE, a thousand calls each:
 //   set-push (a run after N others), set-grow (the last of N runs), set-contains (in N runs), set-ack (of N runs), each
 //     minus what set-0 takes
@@ -109,7 +109,7 @@ static u64 param_number_near(u64 turn) {
 
 static u64 front_read(u64 turn) {
     quic_wire_frame frame;
-    int64_t end = quic_wire_frame_read(source, source_len, 0, &frame, gaps, MANY);
+    int64_t end = quic_wire_frame_read(source, source_len, flags, &frame, gaps, MANY);
     return turn + (u64)end + frame.kind + frame.datalen + frame.data;
 }
 
@@ -264,13 +264,8 @@ static const struct {
     {"acks", many_acks_of}, {"gaps", gaps_of},              {"packets", packets_of},
 };
 
-// The work on each payload, whose name may end in -rfc.
-static u64 (*work_of(char *name))(const uint8_t *, size_t) {
-    char *end = strstr(name, "-rfc");
-    if (end) {
-        *end = 0;
-        flags = QUIC_WIRE_READ_RFC;
-    }
+// The work on each payload.
+static u64 (*work_of(const char *name))(const uint8_t *, size_t) {
     for (size_t k = 0; k < sizeof works / sizeof *works; k++)
         if (!strcmp(name, works[k].name))
             return works[k].work;
@@ -296,6 +291,11 @@ int main(int argc, char **argv) {
     u64 sum = 0;
     if (argc != 4)
         return 2;
+    char *rules = strstr(argv[1], "-rfc");
+    if (rules) {
+        *rules = 0;
+        flags = QUIC_WIRE_READ_RFC;
+    }
     if (strspn(argv[3], "0123456789") == strlen(argv[3])) {
         size_t number = strtoul(argv[3], NULL, 10);
         if (number > 1024 || !strchr(argv[1], '-'))

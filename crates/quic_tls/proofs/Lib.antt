@@ -1,0 +1,2 @@
+mod Nonces
+mod Stores

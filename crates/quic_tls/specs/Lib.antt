@@ -1,0 +1,3 @@
+pub mod Constants
+pub mod Nonce
+pub mod Retry

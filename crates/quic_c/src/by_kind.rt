@@ -8,7 +8,7 @@ ghost use Rattle.quic_c.specs.Kinds.{AnswersKind, BeginsBy};
 
 use crate::fast::{
     ApplicationClose, Crypto, DataLimit, Datagram, Kind, NewId, NoFields, Path, Reset, RetireId,
-    Stream, StreamLimit, Token, TransportClose, TwoNumbers,
+    Stream, StreamLimit, Token, TransportClose, TwoNumbers, put, split_type,
 };
 use crate::fast_acks::{next_ack, read_ack};
 use crate::frames::next_any;
@@ -185,6 +185,25 @@ fn next_kind<K: Kind>(frames: &mut CFrameIter, payload: &[u8], out: &mut CFrame)
     }
 }
 
+// The next frame, of PADDING in a byte.
+#[inline(always)]
+pub(crate) fn next_padding(frames: &mut CFrameIter, payload: &[u8], out: &mut CFrame) -> i32
+    requires within { frames.old.offset < length payload.now }
+    requires begins { BeginsBy (λ u. u ≡ 0) (drop frames.old.offset payload.now) }
+    requires going { frames.old.ended ≡ 0 }
+    ensures { AnswersNext (rules_in frames.old.flags) frames.old payload.now out.old result frames.new out.new }
+{
+    let begin = frames.offset;
+    let Some((_, rest)) = split_type(payload, begin) else {
+        return next_any(frames, payload, out);
+    };
+    let end = payload.len() - rest.len();
+    put(out, 0x00, begin, end, [0; 5]);
+    frames.offset = end;
+    frames.last_type = 0x00;
+    1
+}
+
 // The next frame, by its first byte.
 #[inline(always)]
 #[tactic(auto, using(crate::proofs::FastCalls::spent_next))]
@@ -201,6 +220,7 @@ pub(crate) fn next_by_kind(frames: &mut CFrameIter, payload: &[u8], out: &mut CF
         return next_any(frames, payload, out);
     };
     match first {
+        0x00 => next_padding(frames, payload, out),
         0x01 | 0x1e => next_kind::<NoFields>(frames, payload, out),
         0x02 => next_ack::<false>(frames, payload, out),
         0x03 => next_ack::<true>(frames, payload, out),

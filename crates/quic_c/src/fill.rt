@@ -8,8 +8,7 @@ ghost use Rattle.quic_c.specs.declared.words.CFrameIter.{CFrameIter};
 ghost use Rattle.quic_c.specs.Filling.{AnswersEntry, AnswersFill, AnswersFirst, GivesEntry};
 ghost use Rattle.quic_c.specs.Kinds.{BeginsBy};
 
-use crate::by_kind::{first_at, take_by_kind};
-use crate::fast::{put, split_type};
+use crate::by_kind::{first_at, next_padding, take_by_kind};
 use crate::fast_acks::next_ack;
 use crate::flags::is_last;
 use crate::frames::{next_any, type_in, type_word};
@@ -37,25 +36,6 @@ fn pass_run(frames: &mut CFrameIter, payload: &[u8], out: &mut CFrame)
     frames.last_type = type_word(iter.last_type());
     out.end = end;
     out.data_offset = end;
-}
-
-// The next frame, of PADDING in a byte.
-#[inline(always)]
-fn next_padding(frames: &mut CFrameIter, payload: &[u8], out: &mut CFrame) -> i32
-    requires within { frames.old.offset < length payload.now }
-    requires begins { BeginsBy (λ u. u ≡ 0) (drop frames.old.offset payload.now) }
-    requires going { frames.old.ended ≡ 0 }
-    ensures { AnswersNext (rules_in frames.old.flags) frames.old payload.now out.old result frames.new out.new }
-{
-    let begin = frames.offset;
-    let Some((_, rest)) = split_type(payload, begin) else {
-        return next_any(frames, payload, out);
-    };
-    let end = payload.len() - rest.len();
-    put(out, 0x00, begin, end, [0; 5]);
-    frames.offset = end;
-    frames.last_type = 0x00;
-    1
 }
 
 // The next frame, which no reader for its kind took.

@@ -47,7 +47,7 @@ func (r *Reader) Data() []byte {
 	return r.payload[r.Frame.data : r.Frame.data+r.Frame.datalen]
 }
 
-// The library rejects NULL, which Go gives for a payload without bytes.
+// Go has no address of the first byte of none; the library doesn't read it then.
 func (r *Reader) start() *C.uint8_t { return (*C.uint8_t)(&r.payload[:1][0]) }
 
 func name(frameType C.uint64_t) string {
@@ -87,5 +87,9 @@ func main() {
 			continue
 		}
 		printFrames(payload[:n])
+	}
+	if err := lines.Err(); err != nil {
+		fmt.Fprintln(os.Stderr, err)
+		os.Exit(3)
 	}
 }

@@ -2,7 +2,7 @@
 """Proves for all payloads and all arguments what c/include/quic_wire_near.h does without a call:
 
 - a reader gives the frame that the row of its type describes (specs/Table.antt of quic_frame_fields), in the fields
-  that specs/Slots.antt of quic_c says, and leaves to the library exactly what isn't such a frame or what RFC 9000
+  that specs/Slots.antt of quic_c_words says, and leaves to the library exactly what isn't such a frame or what RFC 9000
   forbids; it reads no byte outside of the payload
 - a writer writes exactly the shortest encoding of that row, and nothing outside of dest
 - varints and packet numbers are those of RFC 9000, sections 16 and 17.1 and appendix A; short headers end as section

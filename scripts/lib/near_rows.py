@@ -1,13 +1,13 @@
 """What the proved definitions say of the types of frames: the fields of each, in
 crates/quic_frame_fields/specs/Table.antt, and which field of the C library's struct has each value, in
-crates/quic_c/specs/Slots.antt. They are read as they are there."""
+crates/quic_c_words/specs/Slots.antt. They are read as they are there."""
 import hashlib
 import pathlib
 import re
 
 TOP = pathlib.Path(__file__).resolve().parents[2]
 TABLE = TOP / "crates/quic_frame_fields/specs/Table.antt"
-SLOTS = TOP / "crates/quic_c/specs/Slots.antt"
+SLOTS = TOP / "crates/quic_c_words/specs/Slots.antt"
 # What scripts/lib/near.py depends on, and the file in which it notes their digests when it has passed.
 FILES = ("c/include/quic_wire_near.h",
          *(f"scripts/lib/{it}.py" for it in ("near", "near_calls", "near_machine", "near_rows", "near_varints")),

@@ -10,15 +10,15 @@ use Rattle.quic_frames.specs.Rules.{breach_of}
 use Rattle.quic_frames.specs.Walk.{Finds, first_of, resumed}
 use Rattle.quic_frame_fields.specs.declared.frame.ack.Ack.{Ack}
 use Rattle.quic_frame_fields.specs.Acks.{ranges_acked}
-use Rattle.quic_c.specs.declared.words.CFrame.{CFrame}
-use Rattle.quic_c.specs.declared.words.CFrameIter.{CFrameIter}
-use Rattle.quic_c.specs.declared.words.CGap.{CGap}
-use Rattle.quic_c.specs.declared.show.Parts.{Parts}
-use Rattle.quic_c.specs.Shown.{counts_flag, counts_numbers, first_length, frame_kind_of, frame_words, has_flag, state_of, type_in}
+use Rattle.quic_c_words.specs.declared.words.CFrame.{CFrame}
+use Rattle.quic_c_words.specs.declared.words.CFrameIter.{CFrameIter}
+use Rattle.quic_c_words.specs.declared.words.CGap.{CGap}
+use Rattle.quic_c_words.specs.declared.show.Parts.{Parts}
+use Rattle.quic_c_words.specs.Shown.{counts_flag, counts_numbers, first_length, frame_kind_of, frame_words, has_flag, state_of, type_in}
 use Rattle.quic_c.specs.Answers.{AnswersNext, GivesFrameWords}
 use Rattle.quic_c.specs.Front.{AnswersRead, ShowsAck, ShowsFront}
 use Rattle.quic_c.specs.Kinds.{FindsAck, ReadsFrame}
-use Rattle.quic_c.proofs.Shown.{place_is}
+use Rattle.quic_c_words.proofs.Shown.{place_is}
 use Rattle.quic_c.proofs.Types.{gives_frame, last_fits, last_is, reads_front, word_back}
 
 -- ---- the frame at the front

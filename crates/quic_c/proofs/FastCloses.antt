@@ -7,7 +7,7 @@ use Rattle.quic_frame_fields.specs.declared.frame.close.Close.TheVariants as clo
 use Rattle.quic_frame_fields.specs.Field.{Number, is_ordered}
 use Rattle.quic_frame_fields.specs.Reading.{bytes_at, counted_at, frame_at, id_at, row_at, varint_at}
 use Rattle.quic_frames.specs.declared.frame.Frame.TheVariants as frames
-use Rattle.quic_c.specs.declared.words.CFrame.{CFrame}
+use Rattle.quic_c_words.specs.declared.words.CFrame.{CFrame}
 use Rattle.quic_c.specs.Kinds.{HasType, ReadsFrame, IsApplicationClose, IsNewId, IsTransportClose}
 use Rattle.quic_c.proofs.FastReads.{reads_frame}
 use Rattle.quic_c.proofs.FastData.{data_words, no_tail}

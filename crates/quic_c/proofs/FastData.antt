@@ -9,7 +9,7 @@ use Rattle.quic_frames.specs.declared.frame.Frame.TheVariants as frames
 use Rattle.quic_frames.specs.declared.frame.rules.Breach.{Breach}
 use Rattle.quic_frames.specs.Meaning.{meaning_of}
 use Rattle.quic_frames.specs.Rules.{broken_if, ends_past}
-use Rattle.quic_c.specs.declared.words.CFrame.{CFrame}
+use Rattle.quic_c_words.specs.declared.words.CFrame.{CFrame}
 use Rattle.quic_c.specs.Kinds.{HasType, ReadsFrame, IsCrypto, IsDatagram, IsToken}
 use Rattle.quic_c.proofs.FastReads.{reads_frame}
 

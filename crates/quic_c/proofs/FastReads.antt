@@ -18,8 +18,8 @@ use Rattle.quic_frames.specs.Walk.{Finds, resumed}
 use Rattle.quic_frames.proofs.Finding.{behind_type, found_whole}
 use Rattle.quic_frames.proofs.Places.{finds}
 use Rattle.quic_frames.proofs.Quick.{all_rules, keeps_any}
-use Rattle.quic_c.specs.declared.words.CFrame.{CFrame}
-use Rattle.quic_c.specs.Shown.{frame_kind_of, frame_words}
+use Rattle.quic_c_words.specs.declared.words.CFrame.{CFrame}
+use Rattle.quic_c_words.specs.Shown.{frame_kind_of, frame_words}
 use Rattle.quic_c.specs.Kinds.{HasType, ReadsFrame, HasNoFields, HasTwoNumbers, IsDataLimit, IsPath, IsReset, IsRetireId, IsStreamLimit}
 
 -- ---- a frame with its type in one byte

@@ -12,12 +12,12 @@ use Rattle.quic_frames.specs.declared.frame.Frame.TheVariants as frames
 use Rattle.quic_frames.specs.declared.frame.rules.Rules.{Rules}
 use Rattle.quic_frames.specs.IterState.{IterState}
 use Rattle.quic_frames.specs.Padding.{PassesPadding}
-use Rattle.quic_c.specs.declared.words.CFrame.{CFrame}
-use Rattle.quic_c.specs.declared.words.CFrameIter.{CFrameIter}
+use Rattle.quic_c_words.specs.declared.words.CFrame.{CFrame}
+use Rattle.quic_c_words.specs.declared.words.CFrameIter.{CFrameIter}
 use Rattle.quic_c.specs.Answers.{AnswersNext, GivesFrameWords, GivesInvalid}
 use Rattle.quic_c.specs.Filling.{AnswersFill, AnswersFirst, GivesEntry, HasNoFrame, LeavesEntry, ReportsInvalid, TakesEntry}
 use Rattle.quic_c.specs.Kinds.{HasType, ReadsFrame}
-use Rattle.quic_c.specs.Shown.{at_front, frame_kind_of, frame_words, rules_in, state_of}
+use Rattle.quic_c_words.specs.Shown.{at_front, frame_kind_of, frame_words, rules_in, state_of}
 use Rattle.quic_c.proofs.FastCalls.{any_next, kind_next}
 use Rattle.quic_c.proofs.FastReads.{finds_at, plain_words}
 use Rattle.quic_c.proofs.Filling.{Filling, filling_ends}

@@ -7,7 +7,7 @@ use Rattle.std.proofs.lemmas.Grind.{drop_more_same}
 use Rattle.quic_frames.specs.IterState.{IterState}
 use Rattle.quic_frames.specs.declared.frame.rules.Rules.{Rules}
 use Rattle.quic_frames.specs.Padding.{PassesPadding, behind}
-use Rattle.quic_c.specs.declared.words.CFrame.{CFrame}
+use Rattle.quic_c_words.specs.declared.words.CFrame.{CFrame}
 use Rattle.quic_c.specs.Filling.{GivesEntry, Shows, HasNoFrame, Fills, further}
 
 -- one entry more

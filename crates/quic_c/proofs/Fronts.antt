@@ -10,7 +10,7 @@ use Rattle.quic_frame_fields.specs.Numbers.{AreEncoded}
 use Rattle.quic_frame_fields.specs.Reading.{varint_at}
 use Rattle.quic_frame_fields.proofs.Steps.{ok_is}
 use Rattle.quic_frame_fields.proofs.Varints.{varint_again}
-use Rattle.quic_c.specs.declared.words.CFrame.{CFrame}
+use Rattle.quic_c_words.specs.declared.words.CFrame.{CFrame}
 use Rattle.quic_c.specs.Ranges.{BeginsWithHead, GivesHead, frame_of_words}
 use Rattle.quic_c.proofs.Places.{rest_placed, part_goes_on}
 

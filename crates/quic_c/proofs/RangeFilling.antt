@@ -5,8 +5,8 @@ use Rattle.quic_frame_fields.specs.declared.frame.fault.Fault.{Fault}
 use Rattle.std.proofs.lemmas.List.{take_more_set, drop-set-lt}
 use Rattle.std.proofs.Math.ListN.{length-set}
 use Rattle.std.proofs.lemmas.Grind.{drop_more_same}
-use Rattle.quic_c.specs.declared.words.CRange.{CRange}
-use Rattle.quic_c.specs.declared.words.CRangeIter.{CRangeIter}
+use Rattle.quic_c_words.specs.declared.words.CRange.{CRange}
+use Rattle.quic_c_words.specs.declared.words.CRangeIter.{CRangeIter}
 use Rattle.quic_c.specs.Ranges.{CutRange, GivesRange, TakesRange}
 use Rattle.quic_c.specs.Filling.{Shows, FillsRanges, StepsOver, HasNoRange}
 use Rattle.quic_c.proofs.Filling.{shows-append}

@@ -12,8 +12,8 @@ use Rattle.quic_frame_fields.specs.Reading.{varint_at, block_at, gap_at}
 use Rattle.quic_frame_fields.proofs.Steps.{ok_is}
 use Rattle.quic_frame_fields.proofs.Blocks.{block_again, gap_again}
 use Rattle.quic_frame_fields.proofs.Varints.{varint_again, varint_some}
-use Rattle.quic_c.specs.declared.words.CRange.{CRange}
-use Rattle.quic_c.specs.declared.words.CRangeIter.{CRangeIter}
+use Rattle.quic_c_words.specs.declared.words.CRange.{CRange}
+use Rattle.quic_c_words.specs.declared.words.CRangeIter.{CRangeIter}
 use Rattle.quic_c.specs.Ranges.{CutRange, GivesRange, HasLeft, LacksRange, TakesRange}
 use Rattle.quic_c.proofs.Places.{end_of_end}
 

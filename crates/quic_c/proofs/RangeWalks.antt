@@ -10,10 +10,10 @@ use Rattle.quic_frame_fields.specs.Acks.{ranges_acked}
 use Rattle.quic_frames.specs.declared.frame.Frame.TheVariants as frames
 use Rattle.quic_frames.specs.Meaning.{meaning_of}
 use Rattle.quic_frames.specs.declared.frame.rules.Rules.{Rules}
-use Rattle.quic_c.specs.declared.words.CFrame.{CFrame}
-use Rattle.quic_c.specs.declared.words.CFrameIter.{CFrameIter}
-use Rattle.quic_c.specs.declared.words.CRange.{CRange}
-use Rattle.quic_c.specs.declared.words.CRangeIter.{CRangeIter}
+use Rattle.quic_c_words.specs.declared.words.CFrame.{CFrame}
+use Rattle.quic_c_words.specs.declared.words.CFrameIter.{CFrameIter}
+use Rattle.quic_c_words.specs.declared.words.CRange.{CRange}
+use Rattle.quic_c_words.specs.declared.words.CRangeIter.{CRangeIter}
 use Rattle.quic_c.specs.Answers.{GivesFrameWords}
 use Rattle.quic_c.specs.Filling.{FillsRanges, Shows, StepsOver}
 use Rattle.quic_c.specs.Ranges.{GivesHead, GivesRange, HasLeft, LacksHead, LacksRange, frame_of_words}

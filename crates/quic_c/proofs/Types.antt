@@ -17,10 +17,10 @@ use Rattle.quic_frames.specs.Meaning.{meaning_of}
 use Rattle.quic_frames.specs.Rules.{Keeps, breach_of, breach_text, fault_by}
 use Rattle.quic_frames.proofs.Checking.{breach_found}
 use Rattle.quic_frames.specs.Walk.{first_of, Finds, LacksFrame}
-use Rattle.quic_c.specs.declared.words.CFrame.{CFrame}
-use Rattle.quic_c.specs.declared.words.CFrameIter.{CFrameIter}
-use Rattle.quic_c.specs.declared.words.CGap.{CGap}
-use Rattle.quic_c.specs.Shown.{frame_kind_of, frame_words, type_in, state_of}
+use Rattle.quic_c_words.specs.declared.words.CFrame.{CFrame}
+use Rattle.quic_c_words.specs.declared.words.CFrameIter.{CFrameIter}
+use Rattle.quic_c_words.specs.declared.words.CGap.{CGap}
+use Rattle.quic_c_words.specs.Shown.{frame_kind_of, frame_words, type_in, state_of}
 use Rattle.quic_c.specs.Answers.{GivesFrameWords}
 use Rattle.quic_c.specs.Filling.{further}
 use Rattle.quic_c.specs.Front.{ReadsFront, ShowsFront}

@@ -15,11 +15,11 @@ use Rattle.quic_frames.specs.IterState.{IterState}
 use Rattle.quic_frames.specs.Checking.{IsRefusedFrame}
 use Rattle.quic_frames.specs.Rules.{Checked, IsCheckedOf}
 use Rattle.quic_frames.specs.Walk.{rest_of, first_of, IsSpent}
-use Rattle.quic_c.specs.declared.words.CFrame.{CFrame}
-use Rattle.quic_c.specs.declared.words.CFrameIter.{CFrameIter}
+use Rattle.quic_c_words.specs.declared.words.CFrame.{CFrame}
+use Rattle.quic_c_words.specs.declared.words.CFrameIter.{CFrameIter}
 use Rattle.quic_c.specs.Answers.{AnswersNext, GivesFrameWords, GivesInvalid}
 use Rattle.quic_c.specs.Filling.{AnswersFill, AnswersFirst, Fills, ReportsInvalid}
-use Rattle.quic_c.specs.Shown.{at_front, state_of, rules_in, type_word, invalid_words}
+use Rattle.quic_c_words.specs.Shown.{at_front, state_of, rules_in, type_word, invalid_words}
 use Rattle.quic_c.specs.Walks.{Ahead, ahead, ShowsFrame, ShowsRun, StopsFull, StopsAtEnd, StopsAtError, StoresFrames}
 use Rattle.quic_c.proofs.Ways.{Way, Checks, way_begins, way_frame, way_entries, checked_rest, checked_all, checked_error}
 use Rattle.quic_frames.proofs.CheckedTurns.{Lasts, Reads, after_frames}

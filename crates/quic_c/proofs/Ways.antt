@@ -17,9 +17,9 @@ use Rattle.quic_frames.specs.declared.frame.Frame.TheVariants as frames
 use Rattle.quic_frames.specs.declared.frame.rules.Rules.{Rules}
 use Rattle.quic_frames.proofs.CheckedTurns.{HasReadBy, Lasts, Reads, ReadsWhole, after_frames, all_read_by, ended_with, reads_whole, refused_by}
 use Rattle.quic_frames.proofs.Turns.{HasRead, has_read_none, has_read_more}
-use Rattle.quic_c.specs.declared.words.CFrame.{CFrame}
+use Rattle.quic_c_words.specs.declared.words.CFrame.{CFrame}
 use Rattle.quic_c.specs.Filling.{GivesEntry, Shows}
-use Rattle.quic_c.specs.Shown.{frame_kind_of, frame_words}
+use Rattle.quic_c_words.specs.Shown.{frame_kind_of, frame_words}
 use Rattle.quic_c.specs.Walks.{Ahead, ahead, padding, ShowsFirst, ShowsFrame, ShowsRun}
 use Rattle.quic_c.proofs.Filling.{shows-append, kinds}
 

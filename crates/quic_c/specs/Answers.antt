@@ -6,9 +6,9 @@ use Rattle.quic_frames.specs.declared.frame.rules.Rules.{Rules}
 use Rattle.quic_frames.specs.Checking.{IsRefusedFrame}
 use Rattle.quic_frames.specs.Rules.{Keeps}
 use Rattle.quic_frames.specs.Walk.{Finds, IsSpent}
-use Rattle.quic_c.specs.declared.words.CFrameIter.{CFrameIter}
-use Rattle.quic_c.specs.declared.words.CFrame.{CFrame}
-use Rattle.quic_c.specs.Shown.{state_of, type_word, frame_words, invalid_words}
+use Rattle.quic_c_words.specs.declared.words.CFrameIter.{CFrameIter}
+use Rattle.quic_c_words.specs.declared.words.CFrame.{CFrame}
+use Rattle.quic_c_words.specs.Shown.{state_of, type_word, frame_words, invalid_words}
 use Rattle.quic_results.specs.declared.results.Failure.TheVariants as failure
 use Rattle.quic_results.specs.Results.{failed, frame_failure}
 

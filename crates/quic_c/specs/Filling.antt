@@ -8,11 +8,11 @@ use Rattle.quic_frames.specs.Checking.{IsRefusedFrame}
 use Rattle.quic_frames.specs.Rules.{Keeps}
 use Rattle.quic_frames.specs.Walk.{Finds, IsSpent, first_of}
 use Rattle.quic_frames.specs.Padding.{PassesPadding}
-use Rattle.quic_c.specs.declared.words.CFrameIter.{CFrameIter}
-use Rattle.quic_c.specs.declared.words.CFrame.{CFrame}
-use Rattle.quic_c.specs.Shown.{state_of, frame_kind_of, frame_words, at_front, rules_in}
-use Rattle.quic_c.specs.declared.words.CRange.{CRange}
-use Rattle.quic_c.specs.declared.words.CRangeIter.{CRangeIter}
+use Rattle.quic_c_words.specs.declared.words.CFrameIter.{CFrameIter}
+use Rattle.quic_c_words.specs.declared.words.CFrame.{CFrame}
+use Rattle.quic_c_words.specs.Shown.{state_of, frame_kind_of, frame_words, at_front, rules_in}
+use Rattle.quic_c_words.specs.declared.words.CRange.{CRange}
+use Rattle.quic_c_words.specs.declared.words.CRangeIter.{CRangeIter}
 use Rattle.quic_c.specs.Answers.{GivesInvalid}
 use Rattle.quic_c.specs.Ranges.{GivesRange, LacksRange}
 use Rattle.quic_results.specs.declared.results.Failure.TheVariants as failure

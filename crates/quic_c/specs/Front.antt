@@ -11,21 +11,12 @@ use Rattle.quic_frames.specs.declared.frame.rules.Rules.{Rules}
 use Rattle.quic_frames.specs.Checking.{IsRefusedFrame}
 use Rattle.quic_frames.specs.Rules.{Keeps}
 use Rattle.quic_frames.specs.Walk.{first_of, Finds}
-use Rattle.quic_c.specs.declared.words.CFrame.{CFrame}
-use Rattle.quic_c.specs.declared.words.CGap.{CGap}
-use Rattle.quic_c.specs.Shown.{frame_kind_of, frame_words, invalid_words, type_word, counts_flag}
+use Rattle.quic_c_words.specs.declared.words.CFrame.{CFrame}
+use Rattle.quic_c_words.specs.declared.words.CGap.{CGap}
+use Rattle.quic_c_words.specs.Gaps.{gaps_below}
+use Rattle.quic_c_words.specs.Shown.{frame_kind_of, frame_words, invalid_words, type_word, counts_flag}
 use Rattle.quic_results.specs.declared.results.Failure.TheVariants as failure
 use Rattle.quic_results.specs.Results.{failed, frame_failure}
-
--- a range, by its least and its greatest number, below one whose least number is low: the count of numbers between the
--- two, less one, and the count of its own, less one (RFC 9000, section 19.3.1)
-abbrev pub gap_of : ℕ → ℕ × ℕ → CGap
-gap_of low range = record { gap = low - (range.1 + 2); len = range.1 - range.0 }
-
--- the same for ranges, each of which is below the one before it
-abbrev pub gaps_below : ℕ → List (ℕ × ℕ) → List CGap
-gaps_below low [] = []
-gaps_below low (range ∷ ranges) = gap_of low range ∷ gaps_below range.0 ranges
 
 -- So many entries were filled with the first of the ranges below one whose least number is low, and those after them
 -- don't change; more were not filled, as there was no room or no range.

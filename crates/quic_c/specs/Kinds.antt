@@ -10,8 +10,8 @@ use Rattle.quic_frames.specs.declared.frame.rules.Rules.{Rules}
 use Rattle.quic_frames.specs.Meaning.{meaning_of}
 use Rattle.quic_frames.specs.Rules.{breach_of}
 use Rattle.quic_frames.specs.Walk.{Finds, resumed}
-use Rattle.quic_c.specs.declared.words.CFrame.{CFrame}
-use Rattle.quic_c.specs.Shown.{frame_kind_of, frame_words}
+use Rattle.quic_c_words.specs.declared.words.CFrame.{CFrame}
+use Rattle.quic_c_words.specs.Shown.{frame_kind_of, frame_words}
 
 -- These are the words of the frame from start to stop, which is neither PADDING nor an ACK. It is found whichever type
 -- was before it and whether types must be short or not, and it breaks no rule.

@@ -7,9 +7,9 @@ use Rattle.quic_frame_fields.specs.AckPlace.{BeginsWithAck}
 use Rattle.quic_frame_fields.specs.Field.{NumberStops}
 use Rattle.quic_frame_fields.specs.FirstRange.{AreLeft}
 use Rattle.quic_frame_fields.specs.Numbers.{AreEncoded}
-use Rattle.quic_c.specs.declared.words.CFrame.{CFrame}
-use Rattle.quic_c.specs.declared.words.CRange.{CRange}
-use Rattle.quic_c.specs.declared.words.CRangeIter.{CRangeIter}
+use Rattle.quic_c_words.specs.declared.words.CFrame.{CFrame}
+use Rattle.quic_c_words.specs.declared.words.CRange.{CRange}
+use Rattle.quic_c_words.specs.declared.words.CRangeIter.{CRangeIter}
 
 -- the bytes of a frame
 abbrev pub frame_of_words : CFrame → List ℕ → List ℕ

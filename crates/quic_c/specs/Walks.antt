@@ -7,10 +7,10 @@ use Rattle.quic_frames.specs.declared.frame.Frame.TheVariants as frames
 use Rattle.quic_frames.specs.Meaning.{meaning_of}
 use Rattle.quic_frames.specs.Rules.{Checked}
 use Rattle.quic_frames.specs.Walk.{Stands}
-use Rattle.quic_c.specs.declared.words.CFrame.{CFrame}
-use Rattle.quic_c.specs.declared.words.CRange.{CRange}
+use Rattle.quic_c_words.specs.declared.words.CFrame.{CFrame}
+use Rattle.quic_c_words.specs.declared.words.CRange.{CRange}
 use Rattle.quic_c.specs.Filling.{Shows}
-use Rattle.quic_c.specs.Shown.{type_word, frame_words, invalid_words}
+use Rattle.quic_c_words.specs.Shown.{type_word, frame_words, invalid_words}
 use Rattle.quic_results.specs.Results.{failed, frame_failure}
 
 -- an offset in a payload, and the frames from there on

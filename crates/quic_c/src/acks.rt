@@ -4,8 +4,8 @@ ghost use Rattle.quic_frame_fields.specs.declared.frame.fault.Fault.{Fault};
 ghost use Rattle.quic_c.specs.Ranges.{BeginsWithHead, CutRange, GivesHead, GivesRange, LacksHead, LacksRange, TakesRange};
 ghost use Rattle.quic_results.specs.Results.{failed};
 
-use crate::words::{CFrame, CRange, CRangeIter};
 use quic_base::varint::split_var;
+use quic_c_words::words::{CFrame, CRange, CRangeIter};
 use quic_frame_fields::frame::fault::Fault;
 use quic_frames::frame::split_first_range;
 use quic_results::results::Failure;

@@ -1,7 +1,7 @@
 //! Calls that read a frame by the reader for its kind, which the first byte says. What that doesn't take, as an error,
 //! is read by the call for all frames. No call here keeps anything over another, so that each ends by a jump.
 ghost use Rattle.std.specs.Prelude.{◌≡◌, ◌<◌, ◌≤◌, ℕ, List, ◌∷◌, IfSome, length, drop, IsNone};
-ghost use Rattle.quic_c.specs.Shown.{rules_in};
+ghost use Rattle.quic_c_words.specs.Shown.{rules_in};
 ghost use Rattle.quic_c.specs.Answers.{AnswersNext};
 ghost use Rattle.quic_c.specs.Front.{AnswersRead};
 ghost use Rattle.quic_c.specs.Kinds.{AnswersKind, BeginsBy};
@@ -13,7 +13,7 @@ use crate::fast::{
 use crate::fast_acks::{next_ack, read_ack};
 use crate::frames::next_any;
 use crate::front::read_any;
-use crate::words::{CFrame, CFrameIter, CGap};
+use quic_c_words::words::{CFrame, CFrameIter, CGap};
 
 // The first byte from an offset on.
 #[inline(always)]

@@ -6,9 +6,9 @@ ghost use Rattle.quic_frame_fields.specs.Reading.{varint_at, bytes_at, counted_a
 ghost use Rattle.quic_frame_fields.specs.Table.{offset_field, data_field};
 ghost use Rattle.quic_c.specs.Kinds.{AnswersKind, BeginsBy, HasType, HasNoFields, HasTwoNumbers, IsApplicationClose, IsCrypto, IsDataLimit, IsDatagram, IsNewId, IsPath, IsReset, IsRetireId, IsStream, IsStreamLimit, IsToken, IsTransportClose};
 
-use crate::words::CFrame;
 use quic_base::coding::{Codec, are_bytes};
 use quic_base::varint::{split_var, split_var_by_word};
+use quic_c_words::words::CFrame;
 
 // Some kinds of frames that are read alike.
 pub(crate) trait Kind {

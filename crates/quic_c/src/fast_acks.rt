@@ -4,7 +4,7 @@ ghost use Rattle.quic_frame_fields.specs.Acks.{ranges_acked};
 ghost use Rattle.quic_frame_fields.specs.Field.{AreBelow, AreBlocks};
 ghost use Rattle.quic_frame_fields.specs.Reading.{below_at, blocks_at, range_at, varint_at};
 ghost use Rattle.quic_frames.specs.declared.frame.Frame.TheVariants as frames;
-ghost use Rattle.quic_c.specs.Shown.{first_length, frame_words, rules_in};
+ghost use Rattle.quic_c_words.specs.Shown.{first_length, frame_words, rules_in};
 ghost use Rattle.quic_c.specs.Answers.{AnswersNext};
 ghost use Rattle.quic_c.specs.Front.{AnswersRead};
 ghost use Rattle.quic_c.specs.Kinds.{BeginsBy, FindsAck, IsAck, ReadsCounts, ack_type};
@@ -12,9 +12,9 @@ ghost use Rattle.quic_c.specs.Kinds.{BeginsBy, FindsAck, IsAck, ReadsCounts, ack
 use crate::fast::{number, split_type};
 use crate::frames::next_any;
 use crate::front::{read_any, show_ack_of};
-use crate::show::{show_parts, with_first};
-use crate::words::{CFrame, CFrameIter, CGap};
 use quic_base::coding::are_bytes;
+use quic_c_words::show::{show_parts, with_first};
+use quic_c_words::words::{CFrame, CFrameIter, CGap};
 use quic_frame_fields::frame::field;
 use quic_frames::frame::{Ack, EcnCounts};
 

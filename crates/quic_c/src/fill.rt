@@ -1,18 +1,18 @@
 //! Reads the frames of a payload, as many with one call as the caller has room for.
 ghost use Rattle.std.specs.Prelude.{◌≡◌, ◌<◌, ◌≤◌, ℕ, length, drop};
 ghost use Rattle.quic_frames.specs.Padding.{PassesPadding};
-ghost use Rattle.quic_c.specs.Shown.{rules_in, state_of};
+ghost use Rattle.quic_c_words.specs.Shown.{rules_in, state_of};
 ghost use Rattle.quic_frames.specs.declared.frame.rules.Rules.{Rules};
 ghost use Rattle.quic_c.specs.Answers.{AnswersNext, GivesFrameWords};
-ghost use Rattle.quic_c.specs.declared.words.CFrameIter.{CFrameIter};
+ghost use Rattle.quic_c_words.specs.declared.words.CFrameIter.{CFrameIter};
 ghost use Rattle.quic_c.specs.Filling.{AnswersEntry, AnswersFill, AnswersFirst, GivesEntry};
 ghost use Rattle.quic_c.specs.Kinds.{BeginsBy};
 
 use crate::by_kind::{first_at, next_padding, take_by_kind};
 use crate::fast_acks::next_ack;
-use crate::flags::is_last;
 use crate::frames::{next_any, type_in, type_word};
-use crate::words::{CFrame, CFrameIter};
+use quic_c_words::flags::is_last;
+use quic_c_words::words::{CFrame, CFrameIter};
 use quic_frames::frame::Iter;
 use quic_results::results::Failure;
 

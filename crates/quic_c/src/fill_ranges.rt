@@ -5,7 +5,7 @@ ghost use Rattle.quic_c.specs.Filling.{FillsRanges};
 ghost use Rattle.quic_results.specs.Results.{failed};
 
 use crate::acks::split_range;
-use crate::words::{CRange, CRangeIter};
+use quic_c_words::words::{CRange, CRangeIter};
 use quic_results::results::Failure;
 
 // Fills entries with the first ranges that are left: how many, and those that are left then.

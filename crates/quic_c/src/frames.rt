@@ -4,14 +4,14 @@ ghost use Rattle.quic_frames.specs.declared.frame.Frame.{Frame};
 ghost use Rattle.quic_frames.specs.IterState.{IterState};
 ghost use Rattle.quic_frames.specs.Rules.{no_rules};
 ghost use Rattle.quic_frames.specs.Walk.{first_of, Finds};
-ghost use Rattle.quic_c.specs.Shown.{state_of, at_front, has_flag, rules_in, type_in, type_word, invalid_words};
+ghost use Rattle.quic_c_words.specs.Shown.{state_of, at_front, has_flag, rules_in, type_in, type_word, invalid_words};
 ghost use Rattle.quic_c.specs.Answers.{AnswersNext};
 ghost use Rattle.quic_results.specs.Results.{failed, frame_failure};
 
 use crate::by_kind::next_by_kind;
-use crate::flags::{breach_by, broken, is_broken, no_rules, reported_by};
-use crate::show::show;
-use crate::words::{CFrame, CFrameIter};
+use quic_c_words::flags::{breach_by, broken, is_broken, no_rules, reported_by};
+use quic_c_words::show::show;
+use quic_c_words::words::{CFrame, CFrameIter};
 use quic_frames::frame::{FrameType, InvalidFrame, Iter, Rules};
 use quic_results::results::{Failure, frame_failure};
 

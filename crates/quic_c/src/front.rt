@@ -5,17 +5,17 @@ ghost use Rattle.quic_frame_fields.specs.Field.{AreBelow};
 ghost use Rattle.quic_frames.specs.Padding.{PassesPadding};
 ghost use Rattle.quic_frames.specs.Rules.{no_rules};
 ghost use Rattle.quic_frames.specs.Walk.{left, first_of, resumed};
-ghost use Rattle.quic_c.specs.Shown.{first_length, frame_kind_of, frame_words, invalid_words, rules_in, type_word};
+ghost use Rattle.quic_c_words.specs.Shown.{first_length, frame_kind_of, frame_words, invalid_words, rules_in, type_word};
 ghost use Rattle.quic_c.specs.Front.{AnswersRead, FillsGaps, ShowsAck, ShowsFront, moved_by, reported_behind};
 ghost use Rattle.quic_results.specs.Results.{failed, frame_failure};
 
 use crate::by_kind::read_by_kind;
 use crate::fast_acks::two_short;
-use crate::flags::{breach_by, broken, is_broken, no_rules, reported_by};
 use crate::frames::{show_invalid, type_read};
-use crate::show::{parts_of, show, split_blocks, with_first};
-use crate::words::{CFrame, CGap};
 use quic_base::varint::split_var;
+use quic_c_words::flags::{breach_by, broken, is_broken, no_rules, reported_by};
+use quic_c_words::show::{parts_of, show, split_blocks, with_first};
+use quic_c_words::words::{CFrame, CGap};
 use quic_frames::frame::{Ack, Frame, InvalidFrame, Iter, Rules};
 use quic_results::results::{Failure, frame_failure};
 

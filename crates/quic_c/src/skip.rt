@@ -1,10 +1,10 @@
 //! Goes on after a frame that the library doesn't know, and that its caller read.
 ghost use Rattle.std.specs.Prelude.{◌≡◌, ◌<◌, ◌≤◌, ◌≢◌, ◌^◌, ◌⊎◌, ◌↔◌, Some, pos, length};
 ghost use Rattle.quic_frames.specs.Walk.{resumed};
-ghost use Rattle.quic_c.specs.Shown.{has_flag, state_of};
+ghost use Rattle.quic_c_words.specs.Shown.{has_flag, state_of};
 ghost use Rattle.quic_results.specs.Results.{failed};
 
-use crate::words::CFrameIter;
+use quic_c_words::words::CFrameIter;
 use quic_results::results::Failure;
 
 /// Passes over a frame that the caller read, of a type that the library doesn't know: reading goes on at `end`, an offset

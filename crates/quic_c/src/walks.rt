@@ -1,10 +1,10 @@
 //! What is proved of loops over the calls: callers of exported functions, whose clauses are laws.
 ghost use Rattle.std.specs.Prelude.{◌≡◌, ◌≢◌, ◌↔◌, ◌<◌, [], length};
 ghost use Rattle.quic_base.specs.One.{ReturnsOne};
-ghost use Rattle.quic_c.specs.Shown.{rules_in};
+ghost use Rattle.quic_c_words.specs.Shown.{rules_in};
 ghost use Rattle.quic_c.specs.Answers.{GivesFrameWords};
 ghost use Rattle.quic_c.specs.Walks.{ShowsFrame, ShowsRun, StoresFrames, StoresRanges};
-ghost use Rattle.quic_c.specs.declared.words.CFrameIter.{CFrameIter};
+ghost use Rattle.quic_c_words.specs.declared.words.CFrameIter.{CFrameIter};
 ghost use Rattle.quic_frame_fields.specs.Acks.{ranges_acked};
 ghost use Rattle.quic_frame_fields.specs.declared.frame.ack.Ack.{Ack};
 ghost use Rattle.quic_frames.specs.Rules.{IsCheckedOf};
@@ -16,8 +16,8 @@ use crate::acks::{quic_wire_ack_ranges_init_, quic_wire_ack_ranges_next_};
 use crate::fill::{quic_wire_frames_fill_, quic_wire_frames_first_};
 use crate::fill_ranges::quic_wire_ack_ranges_fill_;
 use crate::frames::{quic_wire_frames_init_, quic_wire_frames_next_};
-use crate::words::{CFrame, CFrameIter, CRange, CRangeIter};
 use quic_base::coding::are_bytes;
+use quic_c_words::words::{CFrame, CFrameIter, CRange, CRangeIter};
 use quic_frames::laws::{checked_readings, lasting, one_reading};
 use quic_results::results::Failure;
 

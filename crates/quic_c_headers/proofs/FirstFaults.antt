@@ -8,7 +8,8 @@ use Rattle.quic_header_encode.specs.declared.long_type.HeaderKind.TheVariants as
 use Rattle.quic_header_encode.specs.declared.header.Header.{Header}
 use Rattle.quic_header_encode.specs.Kinds.{row}
 use Rattle.quic_c_headers.specs.declared.words.HeaderFields.{HeaderFields}
-use Rattle.quic_c_headers.specs.Faults.{is_width, can_have_number, all_can, first_false, AreLengths}
+use Rattle.quic_c_headers.specs.Faults.{is_width, can_have_number, all_can, AreLengths}
+use Rattle.quic_results.specs.Faults.{first_false}
 use Rattle.quic_c_headers.specs.Headers.{word_of, CanWriteHeader, DescribesNoHeader, IsNumbered, IsShaped}
 use Rattle.quic_c_headers.proofs.Shaping.{shaped}
 use Rattle.quic_c_headers.proofs.Writing.{can_described, clear_by, header_described}

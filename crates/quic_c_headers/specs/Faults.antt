@@ -6,6 +6,7 @@ use Rattle.quic_header_encode.specs.declared.long_type.HeaderKind.{HeaderKind}
 use Rattle.quic_header_encode.specs.Kinds.{row}
 use Rattle.quic_c_headers.specs.declared.words.HeaderFields.{HeaderFields}
 use Rattle.quic_c_headers.specs.Headers.{word_of}
+use Rattle.quic_results.specs.Faults.{first_false}
 
 -- whether a varint can have that many bytes (section 16)
 abbrev pub is_width : ℕ → Bool
@@ -38,11 +39,6 @@ abbrev pub all_can : HeaderKind → HeaderFields → ℕ → ℕ → ℕ → Lis
 all_can kind words dst src token =
     map (can_have kind words dst src token) (fields_in kind words.version)
     ++ (if (row kind).has_number then can_have_number words ∷ [] else [])
-
--- the index of the first of these that doesn't hold
-abbrev pub first_false : ℕ → List Bool → Option ℕ
-first_false index [] = None
-first_false index (holds ∷ others) = if holds then first_false (index + 1) others else Some index
 
 -- What is found is the index of the first field that can't have its value, if there is one; 0, the first byte's, if
 -- there is no such kind of header.

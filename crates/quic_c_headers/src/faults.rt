@@ -1,12 +1,14 @@
 //! Which field of a header can't be written.
 ghost use Rattle.std.specs.Prelude.{◌≡◌, ◌≢◌, ◌==◌, ◌+◌, ◌<◌, ◌≤◌, ◌^◌, ◌⊎◌, ◌↔◌, ℕ, List, length, Bool, None, Some, IfSome, nat_le, nat_lt};
-ghost use Rattle.quic_c_headers.specs.Faults.{all_can, can_have_number, first_false, is_width, AreLengths, IsWriteFault};
+ghost use Rattle.quic_c_headers.specs.Faults.{all_can, can_have_number, is_width, AreLengths, IsWriteFault};
+ghost use Rattle.quic_results.specs.Faults.{first_false};
 ghost use Rattle.quic_c_headers.specs.Headers.{word_of, CanWriteHeader, DescribesNoHeader};
 ghost use Rattle.quic_header_encode.specs.declared.header.Header.{Header};
 ghost use Rattle.quic_header_encode.specs.Kinds.{row};
 
 use crate::words::{HANDSHAKE, HeaderFields, INITIAL, RETRY, SHORT, VERSION_NEGOTIATION, ZERO_RTT};
 use quic_header_encode::long_type::HeaderKind;
+use quic_results::faults::first_false;
 
 // No field.
 const NO_FIELD: usize = usize::MAX;
@@ -21,20 +23,6 @@ fn has_number(words: &HeaderFields) -> bool
     ensures { result ≡ can_have_number words.now }
 {
     0 < words.number_len && words.number_len <= 4 && words.number < 1 << 62
-}
-
-// The index of the first test that fails.
-fn first_false(index: usize, tests: &[bool]) -> Option<usize>
-    requires { index + length tests.now < 2 ^ 32 }
-    ensures found { result ≡ first_false index tests.now }
-    ensures few { IfSome result (λ found. found < 2 ^ 32) }
-{
-    let (holds, others) = tests.split_first()?;
-    if *holds {
-        first_false(index + 1, others)
-    } else {
-        Some(index)
-    }
 }
 
 // The first field that can't be written in a header of the kind.

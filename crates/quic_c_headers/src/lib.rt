@@ -7,7 +7,6 @@ mod fields;
 mod headers;
 pub mod laws;
 mod negotiation;
-mod numbers;
 mod protection;
 pub mod walks;
 mod words;

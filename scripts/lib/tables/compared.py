@@ -6,7 +6,7 @@ import re
 from lib.tables import proved
 from lib.tables.formats import HEADER, enumeration, packet_kinds, read
 
-SLOTS = "crates/quic_c/specs/Slots.antt"
+SLOTS = "crates/quic_c_words/specs/Slots.antt"
 # The widths in bytes of the types in structs.
 WIDTHS = dict(proved.NUMBERS.values())
 

@@ -1,4 +1,4 @@
-use Rattle.quic_c.specs.Shown.{rules_in}
+use Rattle.quic_c_words.specs.Shown.{rules_in}
 use Rattle.quic_c.proofs.FastCalls.{kind_next}
 use Rattle.quic_c.proofs.by_kind.next_near_end.Goals as goal
 

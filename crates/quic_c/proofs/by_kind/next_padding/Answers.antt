@@ -1,6 +1,6 @@
 use Rattle.std.proofs.Common.{ℕ, subst}
 use Rattle.quic_c.specs.Kinds.{HasType}
-use Rattle.quic_c.specs.Shown.{rules_in}
+use Rattle.quic_c_words.specs.Shown.{rules_in}
 use Rattle.quic_c.proofs.FillSteps.{padding_next}
 use Rattle.quic_c.proofs.by_kind.next_padding.Goals as goal
 

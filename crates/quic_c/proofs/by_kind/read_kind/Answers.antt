@@ -1,5 +1,5 @@
 use Rattle.std.proofs.Common.{◌≡◌, pos, to_z, w64, rules}
-use Rattle.quic_c.specs.Shown.{rules_in}
+use Rattle.quic_c_words.specs.Shown.{rules_in}
 use Rattle.quic_c.proofs.FastCalls.{kind_read}
 use Rattle.quic_c.proofs.by_kind.read_kind.Goals as goal
 

@@ -1,8 +1,8 @@
 use Rattle.std.proofs.Common.{sym, ap, arith}
 use Rattle.quic_frame_fields.specs.Acks.{AckParts}
-use Rattle.quic_c.specs.Shown.{first_length}
+use Rattle.quic_c_words.specs.Shown.{first_length}
 use Rattle.quic_c.proofs.FastAcks.{ack_finds}
-use Rattle.quic_c.proofs.GapFilling.{first_reads}
+use Rattle.quic_c_words.proofs.FirstRange.{first_reads}
 use Rattle.quic_c.proofs.fast_acks.ack_at.Goals as goal
 
 pub returns-clause-finds : goal.returns-clause-finds

@@ -1,7 +1,7 @@
 use Rattle.std.proofs.Common.{ℕ, pos, sym, subst, ap, ◌∙◌}
 use Rattle.quic_frames.specs.declared.frame.Frame.TheVariants as frames
 use Rattle.quic_c.specs.Answers.{AnswersNext}
-use Rattle.quic_c.specs.Shown.{frame_words, rules_in}
+use Rattle.quic_c_words.specs.Shown.{frame_words, rules_in}
 use Rattle.quic_c.proofs.FastCalls.{ack_next}
 use Rattle.quic_c.proofs.fast_acks.next_ack.Goals as goal
 

@@ -1,5 +1,5 @@
 use Rattle.std.proofs.Common.{◌≡◌, pos, to_z, w64, rules, subst}
-use Rattle.quic_c.specs.Shown.{rules_in}
+use Rattle.quic_c_words.specs.Shown.{rules_in}
 use Rattle.quic_c.specs.Front.{ShowsAck}
 use Rattle.quic_c.proofs.FastCalls.{ack_read}
 use Rattle.quic_c.proofs.fast_acks.read_ack.Goals as goal

@@ -3,11 +3,11 @@ use Rattle.std.specs.Prelude.{◌≢◌, ℤ, pos}
 use Rattle.std.proofs.lemmas.Bool.Decides.{nat_tests}
 use Rattle.std.proofs.lemmas.List.{set-get_or}
 use Rattle.quic_results.proofs.FrameFailures.{not_count}
-use Rattle.quic_c.specs.declared.words.CFrame.{CFrame}
-use Rattle.quic_c.specs.declared.words.CFrameIter.{CFrameIter}
+use Rattle.quic_c_words.specs.declared.words.CFrame.{CFrame}
+use Rattle.quic_c_words.specs.declared.words.CFrameIter.{CFrameIter}
 use Rattle.quic_c.specs.Answers.{GivesInvalid}
 use Rattle.quic_c.specs.Filling.{AnswersFill, HasNoFrame, TakesEntry}
-use Rattle.quic_c.specs.Shown.{rules_in, state_of}
+use Rattle.quic_c_words.specs.Shown.{rules_in, state_of}
 use Rattle.quic_c.proofs.Filling.{filling_goes_on}
 use Rattle.quic_c.proofs.FillSteps.{none_given, nothing_left, some_filled}
 use Rattle.quic_c.proofs.fill.fill.Goals as goal

@@ -1,5 +1,5 @@
 use Rattle.std.proofs.Common.{◌≡◌, ◌≤◌, ◌-◌, length}
-use Rattle.quic_c.specs.Shown.{rules_in, state_of}
+use Rattle.quic_c_words.specs.Shown.{rules_in, state_of}
 use Rattle.quic_c.proofs.Filling.{Filling}
 use Rattle.quic_c.proofs.fill.fill.Given as goal
 

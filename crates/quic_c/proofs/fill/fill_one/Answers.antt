@@ -1,5 +1,5 @@
 use Rattle.std.proofs.Common.{inl}
-use Rattle.quic_c.specs.Shown.{rules_in}
+use Rattle.quic_c_words.specs.Shown.{rules_in}
 use Rattle.quic_c.proofs.FillSteps.{kind_entry}
 use Rattle.quic_c.proofs.fill.fill_one.Goals as goal
 

@@ -2,7 +2,7 @@ use Rattle.std.proofs.Common.{◌≡◌, ◌∙◌, inl, inr, refl, rules, subst
 use Rattle.std.specs.Prelude.{◌≢◌, ℤ, pos}
 use Rattle.quic_c.specs.Answers.{GivesInvalid}
 use Rattle.quic_c.specs.Filling.{LeavesEntry}
-use Rattle.quic_c.specs.Shown.{rules_in}
+use Rattle.quic_c_words.specs.Shown.{rules_in}
 use Rattle.quic_c.proofs.FillSteps.{next_left, next_refused}
 use Rattle.quic_c.proofs.fill.fill_other.Goals as goal
 

@@ -5,9 +5,9 @@ use Rattle.quic_frames.specs.IterState.{IterState}
 use Rattle.quic_frames.specs.Checking.{IsRefusedFrame}
 use Rattle.quic_frames.specs.Walk.{invalid_of, Advances, Finds, LacksFrame, IsSpent}
 use Rattle.quic_c.specs.Answers.{GivesInvalid}
-use Rattle.quic_c.specs.declared.words.CFrameIter.{CFrameIter}
+use Rattle.quic_c_words.specs.declared.words.CFrameIter.{CFrameIter}
 use Rattle.quic_c.specs.Filling.{further}
-use Rattle.quic_c.specs.Shown.{type_in, state_of}
+use Rattle.quic_c_words.specs.Shown.{type_in, state_of}
 use Rattle.quic_c.proofs.Types.{behind_frame, gives_frame, is_lacking, is_refused, keeps}
 use Rattle.quic_c.proofs.frames.give_next.Goals as goal
 

@@ -1,6 +1,6 @@
 use Rattle.std.proofs.Common.{ℕ, ◌+◌, ap, ◌∙◌}
 use Rattle.quic_frames.specs.declared.frame.Frame.TheVariants as frames
-use Rattle.quic_c.specs.Shown.{counts_flag, frame_words}
+use Rattle.quic_c_words.specs.Shown.{counts_flag, frame_words}
 use Rattle.quic_c.proofs.GapFilling.{more_is}
 use Rattle.quic_c.proofs.front.show_ack_of.Goals as goal
 

@@ -3,7 +3,7 @@ use Rattle.std.specs.Prelude.{◌≢◌, ℤ, pos}
 use borrow.Rule.Slice.PartMut.{put_mid, mid_of}
 use Rattle.quic_base.specs.One.{ReturnsOne}
 use Rattle.quic_frames.specs.Rules.{IsCheckedOf}
-use Rattle.quic_c.specs.Shown.{rules_in}
+use Rattle.quic_c_words.specs.Shown.{rules_in}
 use Rattle.quic_c.specs.Walks.{ShowsRun, StoresFrames}
 use Rattle.quic_c.proofs.Walking.{put_behind, walking_first, walking_more, first_stops, more_stops, stores_full}
 use Rattle.quic_c.proofs.walks.walk_fill.Goals as goal

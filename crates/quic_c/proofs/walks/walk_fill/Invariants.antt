@@ -1,5 +1,5 @@
 use Rattle.std.proofs.Common.{length, ◌-◌}
-use Rattle.quic_c.specs.Shown.{rules_in}
+use Rattle.quic_c_words.specs.Shown.{rules_in}
 use Rattle.quic_c.specs.Walks.{ShowsRun}
 use Rattle.quic_c.proofs.Walking.{Walking}
 use Rattle.quic_c.proofs.walks.walk_fill.Given as goal

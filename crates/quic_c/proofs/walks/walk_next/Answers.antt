@@ -3,8 +3,8 @@ use Rattle.std.specs.Prelude.{◌≢◌, ℤ, pos}
 use Rattle.std.proofs.lemmas.List.{set-get_or}
 use Rattle.quic_base.specs.One.{ReturnsOne}
 use Rattle.quic_frames.specs.Rules.{IsCheckedOf}
-use Rattle.quic_c.specs.declared.words.CFrameIter.{CFrameIter}
-use Rattle.quic_c.specs.Shown.{rules_in}
+use Rattle.quic_c_words.specs.declared.words.CFrameIter.{CFrameIter}
+use Rattle.quic_c_words.specs.Shown.{rules_in}
 use Rattle.quic_c.specs.Walks.{ShowsFrame, StoresFrames}
 use Rattle.quic_c.proofs.Walking.{walking_begins, walking_next, walking_stops, stores_full}
 use Rattle.quic_c.proofs.walks.walk_next.Goals as goal

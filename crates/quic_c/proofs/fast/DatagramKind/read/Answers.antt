@@ -1,4 +1,4 @@
-use Rattle.quic_c.specs.declared.words.CFrame.{CFrame}
+use Rattle.quic_c_words.specs.declared.words.CFrame.{CFrame}
 use Rattle.std.proofs.Common.{◌-◌, length, sym, ap, subst}
 use Rattle.quic_c.specs.Kinds.{ReadsFrame}
 use Rattle.quic_c.proofs.FastData.{datagram_reads}

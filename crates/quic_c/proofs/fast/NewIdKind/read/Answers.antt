@@ -1,5 +1,5 @@
 use Rattle.std.proofs.Common.{◌-◌, length, sym, ap, subst, arith}
-use Rattle.quic_c.specs.declared.words.CFrame.{CFrame}
+use Rattle.quic_c_words.specs.declared.words.CFrame.{CFrame}
 use Rattle.quic_c.specs.Kinds.{ReadsFrame}
 use Rattle.quic_c.proofs.FastCloses.{new_id_reads}
 use Rattle.quic_c.proofs.fast.NewIdKind.read.Goals as goal

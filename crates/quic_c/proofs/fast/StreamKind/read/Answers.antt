@@ -2,7 +2,7 @@ use mir.Val.{bool_byte}
 use Rattle.std.proofs.Common.{◌≡◌, ℕ, ◌-◌, Bool, true, false, eqb, bit_and, [], ◌∷◌, ◌∙◌, length, refl, ap, sym, subst, arith}
 use Rattle.std.specs.Prelude.{not, if◌then◌else◌}
 use Rattle.quic_frame_fields.proofs.Rows.{row_of_stream}
-use Rattle.quic_c.specs.declared.words.CFrame.{CFrame}
+use Rattle.quic_c_words.specs.declared.words.CFrame.{CFrame}
 use Rattle.quic_c.specs.Kinds.{ReadsFrame}
 use Rattle.quic_c.proofs.FastData.{data_words, stream_reads}
 use Rattle.quic_c.proofs.fast.StreamKind.read.Goals as goal

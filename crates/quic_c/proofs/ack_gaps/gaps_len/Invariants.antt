@@ -1,5 +1,0 @@
-use Rattle.quic_c.proofs.StoredAcks.{CountedOn}
-use Rattle.quic_c.proofs.ack_gaps.gaps_len.Given as goal
-
-abbrev pub invariant-loop-gap : goal.invariant-loop-gap
-invariant-loop-gap l = CountedOn l.low l.gaps l.gap-index l.len

@@ -1,5 +1,0 @@
-use Rattle.std.proofs.Common.{length}
-use Rattle.quic_c.proofs.faults.+first_false.Given as goal
-
-abbrev pub decreases-first_false : goal.decreases-first_false
-decreases-first_false l = length l.tests.now

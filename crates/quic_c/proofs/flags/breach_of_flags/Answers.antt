@@ -1,7 +1,0 @@
-use Rattle.std.proofs.Common.{sym}
-use Rattle.quic_frames.specs.Meaning.{meaning_of}
-use Rattle.quic_c.proofs.Unset.{none_broken}
-use Rattle.quic_c.proofs.flags.breach_of_flags.Goals as goal
-
-pub returns-then-flags-eq0 : goal.returns-then-flags-eq0
-returns-then-flags-eq0 c = sym (none_broken c.args.flags (meaning_of c.args.frame.now) c.if-flags-eq0.true)

@@ -1,6 +1,0 @@
-use Rattle.quic_c.proofs.HeaderOnce.{given}
-use Rattle.quic_c.proofs.headers_read.one_header.Goals as goal
-
-pub returns : goal.returns
-returns c = λ rules bytes header count before after result begins kept answers.
-    let g = given rules bytes header count before after result begins kept answers in (g.counted, g.shown)

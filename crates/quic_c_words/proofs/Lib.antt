@@ -1,0 +1,3 @@
+pub mod Shown
+mod Unset
+pub mod FirstRange

@@ -100,3 +100,30 @@ compared() {
     row "$1: lines; those that panic, are rejected by only one, are read otherwise" \
         "$lines; $panics panic, $read_on rejected" "$refused rejected, $other otherwise"
 }
+
+# has_go: whether the Go on the path builds quic-go.
+has_go() {
+    local minor
+    minor=$(go version 2>/dev/null | sed -n 's/^go version go1\.\([0-9]*\).*/\1/p') && [ "${minor:-0}" -ge 24 ]
+}
+
+# find_go: unpacks Debian 13's Go, if none on the path builds quic-go.
+find_go() {
+    has_go || unpacked go golang-1.24-go golang-1.24-src
+}
+
+# use_go: names that Go, and its folders.
+use_go() {
+    export GO=go GOCACHE=$WORK/go-cache GOPATH=$WORK/go-path GOFLAGS=-mod=mod GOPROXY=off GOSUMDB=off GOTOOLCHAIN=local
+    has_go || GO=$WORK/go/usr/lib/go-1.24/bin/go
+}
+
+# unpacked FOLDER PACKAGE..: packages of Debian 13, unpacked into a folder of WORK.
+unpacked() {
+    local suite=trixie deb
+    debian_lists
+    mkdir -p "$WORK/$1"
+    cd "$WORK/$1"
+    debian download "${@:2}"
+    for deb in ./*.deb; do dpkg -x "$deb" .; done
+}

@@ -116,5 +116,51 @@ class Extension(unittest.TestCase):
         self.assertLessEqual(found.offset, 2000)
 
 
+class ResetStreamAt:
+    """RESET_STREAM_AT, with numbers below 64."""
+
+    def __init__(self, *numbers):
+        self.numbers = numbers
+
+    def encode(self):
+        return bytes([RESET_STREAM_AT, *self.numbers])
+
+
+class Returns:
+    def __init__(self, encoded):
+        self.encode = lambda: encoded
+
+
+class Written(unittest.TestCase):
+    def test_between_frames(self):
+        one, data = ResetStreamAt(4, 1, 8, 5), q.Stream(stream_id=0, data=b"a")
+        rows = [
+            ([one], "2404010805"),
+            ([q.Ping(), one, q.Ping()], "01240401080501"),
+            # A STREAM in front of another frame has a length, the last one hasn't.
+            ([data, one], "0a0001612404010805"),
+            ([one, data], "2404010805080061"),
+        ]
+        for payload, encoded in rows:
+            with self.subTest(encoded):
+                self.assertEqual(q.write_frames(payload).hex(), encoded)
+
+    def test_checks_are_those_of_the_library_alone(self):
+        token = q.NewToken(token=b"")
+        with self.assertRaises(q.FrameError):
+            q.write_frames([ResetStreamAt(0, 0, 0, 1), token], checks=q.Checks.RFC)
+
+    def test_rejected(self):
+        rows = [
+            (TypeError, "payload\\[1\\] must be a Frame or have a method encode, not str", "ping"),
+            (TypeError, "payload\\[1\\] must be a Frame or have a method encode, not int", 1),
+            (TypeError, "payload\\[1\\].encode\\(\\) must return bytes, not bytearray", Returns(bytearray(1))),
+            (ValueError, "payload\\[1\\].encode\\(\\) must return at least a frame's type", Returns(b"")),
+        ]
+        for kind, text, frame in rows:
+            with self.subTest(text), self.assertRaisesRegex(kind, text):
+                q.write_frames([q.Ping(), frame])
+
+
 if __name__ == "__main__":
     unittest.main()

@@ -16,6 +16,7 @@ not change while a call reads them.
 from __future__ import annotations
 
 from collections.abc import Iterable
+from typing import Protocol, runtime_checkable
 
 # Made by scripts/tables:
 from ._wire import (
@@ -56,15 +57,36 @@ __all__ = [
 # End of what is made.
 
 
-def write_frames(payload: Iterable[Frame], *, checks: Checks = Checks.QUINN) -> bytes:
+@runtime_checkable
+class Encodes(Protocol):
+    """A frame that the library doesn't know, which encodes itself."""
+
+    def encode(self) -> bytes:
+        """All its bytes, with its type."""
+
+
+def write_frames(payload: Iterable[Frame | Encodes], *, checks: Checks = Checks.QUINN) -> bytes:
     """A payload of frames, each in its shortest form; the last one without a length that it doesn't need.
+
+    Frames that the library doesn't know are objects with a method encode, which returns their bytes.
 
     Raises FrameError if a frame breaks a rule of checks: what is written can be read with them, unless there is no
     frame, as a payload must not be empty (RFC 9000, section 12.4).
     """
     all_frames = list(payload)
-    for i, frame in enumerate(all_frames):
-        if not isinstance(frame, Frame):
-            raise TypeError(f"payload[{i}] must be a Frame, not {type(frame).__name__}")
     last = len(all_frames) - 1
-    return b"".join(Frame.encode(frame, last=i == last, checks=checks) for i, frame in enumerate(all_frames))
+    return b"".join(
+        Frame.encode(frame, last=i == last, checks=checks) if isinstance(frame, Frame) else _encoded(i, frame)
+        for i, frame in enumerate(all_frames)
+    )
+
+
+def _encoded(i: int, frame: Encodes) -> bytes:
+    if isinstance(frame, str | type) or not isinstance(frame, Encodes):
+        raise TypeError(f"payload[{i}] must be a Frame or have a method encode, not {type(frame).__name__}")
+    encoded = frame.encode()
+    if not isinstance(encoded, bytes):
+        raise TypeError(f"payload[{i}].encode() must return bytes, not {type(encoded).__name__}")
+    if not encoded:
+        raise ValueError(f"payload[{i}].encode() must return at least a frame's type")
+    return encoded

@@ -1,11 +1,11 @@
 -- What is left of a set as the ranges of an ACK are removed from it, one after another.
-use Rattle.std.proofs.Common.{◌≡◌, ℕ, ◌+◌, ◌<◌, ◌≤◌, Bool, true, false, ◌&&◌, ◌||◌, not, List, [], ◌∷◌, refl, sym, ap, ◌∙◌, subst, arith}
+use Rattle.std.proofs.Common.{◌≡◌, ℕ, ◌+◌, ◌<◌, ◌≤◌, Bool, true, false, ◌&&◌, ◌||◌, not, List, [], ◌∷◌, refl, ap, ◌∙◌, arith}
 use Rattle.std.specs.Prelude.{nat_le, nat_lt}
 use Rattle.std.specs.declared.ops.Range.{Range}
 use Rattle.std.proofs.lemmas.Bool.Decides.{nat_tests}
 use Rattle.quic_acked.specs.Acked.{is_acked}
 use Rattle.quic_frame_fields.specs.Sets.{is_in}
-use Rattle.quic_ranges.specs.Runs.{in_difference, in_range, in_subtraction, member, IsRunsOf}
+use Rattle.quic_ranges.specs.Runs.{in_difference, in_subtraction, member, IsRunsOf}
 
 -- What is left of the set and isn't in the ranges to come is what is in the set and in none of the ranges. All is below
 -- an end.

@@ -1,6 +1,6 @@
 -- A range is removed up to its greatest number, or up to the set's end.
 use Rattle.std.proofs.Common.{◌≡◌, ◌+◌, ◌<◌, ◌≤◌, ℕ, List, subst, arith}
-use Rattle.std.specs.Range.{range_inclusive_start, range_inclusive_end}
+use Rattle.std.specs.Range.{range_inclusive_end}
 use Rattle.quic_frame_fields.specs.Acks.{bounds_of, ranges_acked, ranges_left}
 use Rattle.quic_acked.proofs.Left.{goes_on, IsLeft}
 use Rattle.quic_acked.proofs.acked.newly_acknowledged.Goals.{then-greatest-end, else-greatest-end}

@@ -228,9 +228,12 @@ fn answer(line: &str) -> Option<String> {
         // The crate's headers have only the low part of a number.
         "header-write" if context.number("number") > Some(varint::MAX) => return Some("skip".into()),
         "header-write" => write_header(&context),
-        "nonce" | "retry-pseudo" | "version-information-write" | "reset-write" | "reset-read" | "negotiation-answer" => {
-            layer(form, &bytes, &context)
-        }
+        "nonce"
+        | "retry-pseudo"
+        | "version-information-write"
+        | "reset-write"
+        | "reset-read"
+        | "negotiation-answer" => layer(form, &bytes, &context),
         "payload" if context.text("without").is_some() => return Some(read_basic(&bytes)),
         "unprotect" => match unprotect(&mut bytes, &context) {
             Ok(found) => Some(found),

@@ -25,6 +25,7 @@ FILES = {
     "shortest": ("shortest", kinds.shortest_payloads),
     "protection": ("protection", kinds.protection),
     "headers": ("header", kinds.headers),
+    "layer": ("layer", kinds.layer),
     "ciphers": ("cipher", kinds.ciphers),
 }
 

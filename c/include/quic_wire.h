@@ -124,6 +124,7 @@
  *   Packet numbers and varints
  *   Writing packet headers
  *   Reading and writing transport parameters
+ *   Versions, nonces, Retry and resets
  *   Sets of packet numbers, and ACKs of them
  *   Where each field is
  *   Texts
@@ -1718,6 +1719,99 @@ QUIC_WIRE_API int quic_wire_param_is_known(uint64_t id);
 QUIC_WIRE_CHECKED QUIC_WIRE_API int
 quic_wire_params_write_fault(uint32_t side, const quic_wire_params *params,
                              size_t size, uint64_t *id);
+
+/* ---- Versions, nonces, Retry and resets: bytes that every stack makes beside
+ * frames, headers and parameters.  You derive keys and call ciphers.  Each call
+ * that writes puts its bytes at the front of |dest|, returns how many they are,
+ * and leaves the others; 0 means that nothing was written. */
+
+/**
+ * Writes the answer to a packet of a version that you don't support: a Version
+ * Negotiation packet with the ids of |received| exchanged (RFC 8999, section 6;
+ * RFC 9000, section 6.1).  |received| is the datagram that begins with that
+ * packet, whose ids may have up to 255 bytes.  The seven low bits of |first|
+ * become those of the first byte: set 0x40, and make the others at random
+ * (section 17.2.1).  You check that the datagram is long enough to be answered
+ * (section 5.2.2).
+ *
+ * 0 if |received| doesn't begin with a long header, whole up to its ids, of a
+ * version other than 0, so that no Version Negotiation packet is answered; if
+ * there are no |versions|, or one is 0; if |destlen| is too small; or for NULL.
+ */
+QUIC_WIRE_CHECKED QUIC_WIRE_API size_t quic_wire_negotiation_answer(
+    uint8_t first, const uint8_t *received, size_t receivedlen,
+    const uint32_t *versions, size_t nversions, uint8_t *dest, size_t destlen);
+
+/** Writes the value of the transport parameter version_information, 0x11: the
+ * |chosen| version, and those |available|, which you list with the preferred
+ * ones first (RFC 9368, section 3).  0 if one is 0, if |destlen| is too small,
+ * or for NULL. */
+QUIC_WIRE_CHECKED QUIC_WIRE_API size_t quic_wire_version_information_write(
+    uint32_t chosen, const uint32_t *available, size_t navailable,
+    uint8_t *dest, size_t destlen);
+
+/** The chosen version of such a |value|.  The |valuelen| - 4 bytes after the
+ * first four are the available versions, which quic_wire_version_split reads.
+ * 0 if it isn't such a value: it has no version, its length isn't a multiple of
+ * four, or a version is 0.  The connection is then closed with
+ * TRANSPORT_PARAMETER_ERROR (RFC 9368, section 4). */
+QUIC_WIRE_API uint32_t quic_wire_version_information_read(const uint8_t *value,
+                                                          size_t valuelen);
+
+/** The first of the available |versions|, four bytes each, or 0 if there is
+ * none.  The next one is four bytes on. */
+QUIC_WIRE_API uint32_t quic_wire_version_split(const uint8_t *versions,
+                                               size_t versionslen);
+
+/** What quic_wire_constant copies: the salt of Initial secrets, with 20 bytes;
+ * the key and the nonce of a Retry's tag, with 16 and 12; and labels for
+ * HKDF-Expand-Label, without "tls13 ": for a packet's key, its iv, the key of
+ * header protection, and the next secret. */
+#define QUIC_WIRE_CONSTANT_INITIAL_SALT 0u
+#define QUIC_WIRE_CONSTANT_RETRY_KEY 1u
+#define QUIC_WIRE_CONSTANT_RETRY_NONCE 2u
+#define QUIC_WIRE_CONSTANT_KEY_LABEL 3u
+#define QUIC_WIRE_CONSTANT_IV_LABEL 4u
+#define QUIC_WIRE_CONSTANT_HP_LABEL 5u
+#define QUIC_WIRE_CONSTANT_KU_LABEL 6u
+
+/** Copies a constant of QUIC_WIRE_VERSION_1 or QUIC_WIRE_VERSION_2 (RFC 9001,
+ * sections 5.1, 5.2, 5.8 and 6.1; RFC 9369, section 3.3).  20 bytes are room
+ * for each.  0 for another version or constant, if |destlen| is too small, or
+ * for NULL. */
+QUIC_WIRE_CHECKED QUIC_WIRE_API size_t quic_wire_constant(uint32_t version,
+                                                          uint32_t which,
+                                                          uint8_t *dest,
+                                                          size_t destlen);
+
+/** Stores in |nonce|, which has 12 bytes as |iv| does, the nonce of the packet
+ * with this |number| (RFC 9001, section 5.3).  1; 0 for NULL. */
+QUIC_WIRE_API int quic_wire_nonce(const uint8_t *iv, uint64_t number,
+                                  uint8_t *nonce);
+
+/** Writes the Retry Pseudo-Packet, which a Retry's tag protects as associated
+ * data (RFC 9001, section 5.8).  |odcid| is the id to which the client sent its
+ * first Initial packet; |retry| is the whole packet, of which the last 16
+ * bytes, its tag, aren't read.  0 if |odcidlen| is above 20, |retrylen| below
+ * 16 or |destlen| too small, or for NULL. */
+QUIC_WIRE_CHECKED QUIC_WIRE_API size_t quic_wire_retry_pseudo_write(
+    const uint8_t *odcid, size_t odcidlen, const uint8_t *retry,
+    size_t retrylen, uint8_t *dest, size_t destlen);
+
+/** Writes a stateless reset with this |token| of 16 bytes (RFC 9000, section
+ * 10.3): |unpredictable|, which you make at random, with the two highest bits
+ * as in a short header; and the token.  Make it shorter than the packet that it
+ * answers (section 10.3.3).  0 if it would have less than 21 bytes, if
+ * |destlen| is too small, or for NULL. */
+QUIC_WIRE_CHECKED QUIC_WIRE_API size_t quic_wire_reset_write(
+    const uint8_t *unpredictable, size_t len, const uint8_t *token,
+    uint8_t *dest, size_t destlen);
+
+/** Whether a datagram is a stateless reset with this |token| of 16 bytes: 1 if
+ * it has 21 bytes or more and ends in it, 0 if not, and for NULL.  The bytes
+ * are compared as quic_wire_reset_token_equal compares them. */
+QUIC_WIRE_API int quic_wire_is_reset(const uint8_t *datagram,
+                                     size_t datagramlen, const uint8_t *token);
 
 /* ---- Sets of packet numbers, and ACKs of them.  A set is the first |count|
  * entries of an array of |room| entries: sorted runs, none empty, none touching

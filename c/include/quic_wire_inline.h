@@ -93,6 +93,20 @@ int64_t quic_wire_header_write_(const quic_wire_header_fields *,
                                 const uint8_t *, size_t, const uint8_t *,
                                 size_t, const uint8_t *, size_t, uint8_t *,
                                 size_t);
+size_t quic_wire_negotiation_answer_(uint8_t, const uint8_t *, size_t,
+                                     const uint32_t *, size_t, uint8_t *,
+                                     size_t);
+size_t quic_wire_reset_write_(const uint8_t *, size_t, const uint8_t *, size_t,
+                              uint8_t *, size_t);
+uint32_t quic_wire_is_reset_(const uint8_t *, size_t, const uint8_t *, size_t);
+uint32_t quic_wire_nonce_(const uint8_t *, size_t, uint64_t, uint8_t *, size_t);
+size_t quic_wire_retry_pseudo_write_(const uint8_t *, size_t, const uint8_t *,
+                                     size_t, uint8_t *, size_t);
+size_t quic_wire_constant_(uint32_t, uint32_t, uint8_t *, size_t);
+size_t quic_wire_version_information_write_(uint32_t, const uint32_t *, size_t,
+                                            uint8_t *, size_t);
+uint32_t quic_wire_version_information_read_(const uint8_t *, size_t);
+uint32_t quic_wire_version_split_(const uint8_t *, size_t);
 int32_t quic_wire_preferred_address_read_(const uint8_t *, size_t,
                                           quic_wire_params *);
 int32_t quic_wire_preferred_address_write_(const quic_wire_params *, uint8_t *,
@@ -692,6 +706,80 @@ QUIC_WIRE_API int quic_wire_params_write_fault(uint32_t side,
   return quic_wire_params_write_fault_(side ^ 1, params, id);
 }
 
+QUIC_WIRE_API size_t
+quic_wire_negotiation_answer(uint8_t first, const uint8_t *received,
+                             size_t receivedlen, const uint32_t *versions,
+                             size_t nversions, uint8_t *dest, size_t destlen) {
+  if (!received) {
+    if (receivedlen)
+      return 0;
+    received = (const uint8_t *)quic_wire_nothing_();
+  }
+  if (!versions) {
+    if (nversions)
+      return 0;
+    versions = (const uint32_t *)quic_wire_nothing_();
+  }
+  if (!dest) {
+    if (destlen)
+      return 0;
+    dest = (uint8_t *)quic_wire_nothing_();
+  }
+  return quic_wire_negotiation_answer_(first, received, receivedlen, versions,
+                                       nversions, dest, destlen);
+}
+
+QUIC_WIRE_API size_t
+quic_wire_version_information_write(uint32_t chosen, const uint32_t *available,
+                                    size_t navailable, uint8_t *dest,
+                                    size_t destlen) {
+  if (!available) {
+    if (navailable)
+      return 0;
+    available = (const uint32_t *)quic_wire_nothing_();
+  }
+  if (!dest) {
+    if (destlen)
+      return 0;
+    dest = (uint8_t *)quic_wire_nothing_();
+  }
+  return quic_wire_version_information_write_(chosen, available, navailable,
+                                              dest, destlen);
+}
+
+QUIC_WIRE_API size_t quic_wire_constant(uint32_t version, uint32_t which,
+                                        uint8_t *dest, size_t destlen) {
+  if (!dest) {
+    if (destlen)
+      return 0;
+    dest = (uint8_t *)quic_wire_nothing_();
+  }
+  return quic_wire_constant_(version, which, dest, destlen);
+}
+
+QUIC_WIRE_API size_t
+quic_wire_retry_pseudo_write(const uint8_t *odcid, size_t odcidlen,
+                             const uint8_t *retry, size_t retrylen,
+                             uint8_t *dest, size_t destlen) {
+  if (!odcid) {
+    if (odcidlen)
+      return 0;
+    odcid = (const uint8_t *)quic_wire_nothing_();
+  }
+  if (!retry) {
+    if (retrylen)
+      return 0;
+    retry = (const uint8_t *)quic_wire_nothing_();
+  }
+  if (!dest) {
+    if (destlen)
+      return 0;
+    dest = (uint8_t *)quic_wire_nothing_();
+  }
+  return quic_wire_retry_pseudo_write_(odcid, odcidlen, retry, retrylen, dest,
+                                       destlen);
+}
+
 QUIC_WIRE_API int quic_wire_set_insert(quic_wire_range *runs, size_t room,
                                        size_t *count, uint64_t start,
                                        uint64_t end) {
@@ -825,6 +913,37 @@ quic_wire_reset_token(const uint8_t *payload, size_t payloadlen,
 QUIC_WIRE_API int quic_wire_reset_token_equal(const uint8_t *a,
                                               const uint8_t *b) {
   return a && b ? (int)quic_wire_reset_token_equal_(a, 16, b, 16) : 0;
+}
+
+QUIC_WIRE_API uint32_t quic_wire_version_information_read(const uint8_t *value,
+                                                          size_t valuelen) {
+  return value ? quic_wire_version_information_read_(value, valuelen) : 0;
+}
+
+QUIC_WIRE_API uint32_t quic_wire_version_split(const uint8_t *versions,
+                                               size_t versionslen) {
+  return versions ? quic_wire_version_split_(versions, versionslen) : 0;
+}
+
+QUIC_WIRE_API int quic_wire_nonce(const uint8_t *iv, uint64_t number,
+                                  uint8_t *nonce) {
+  return iv && nonce ? (int)quic_wire_nonce_(iv, 12, number, nonce, 12) : 0;
+}
+
+QUIC_WIRE_API size_t quic_wire_reset_write(const uint8_t *unpredictable,
+                                           size_t len, const uint8_t *token,
+                                           uint8_t *dest, size_t destlen) {
+  return unpredictable && token && dest
+             ? quic_wire_reset_write_(unpredictable, len, token, 16, dest,
+                                      destlen)
+             : 0;
+}
+
+QUIC_WIRE_API int quic_wire_is_reset(const uint8_t *datagram,
+                                     size_t datagramlen, const uint8_t *token) {
+  return datagram && token
+             ? (int)quic_wire_is_reset_(datagram, datagramlen, token, 16)
+             : 0;
 }
 
 QUIC_WIRE_API const uint8_t *quic_wire_path_data(const uint8_t *payload,

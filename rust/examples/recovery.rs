@@ -78,10 +78,7 @@ impl Sender {
         if ack.largest() >= self.next {
             return Err(Refused::NeverSent(ack.largest()));
         }
-        // The greatest first; numbers below 2^62 have a successor.
-        for range in ack {
-            self.in_flight.remove(*range.start()..range.end() + 1);
-        }
+        self.in_flight.subtract(&self.in_flight.acknowledged(ack));
         Ok(())
     }
 

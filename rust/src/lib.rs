@@ -2,8 +2,10 @@
 //! section 19, with DATAGRAM of RFC 9221 and the ACK frequency extension) and their shortest form ([`canonical`]);
 //! packet headers and their protection ([`packet`], and [`datagram`] for borrowed bytes; RFC 9000, sections 12.2 and
 //! 17; RFC 9001, section 5); transport parameters ([`transport_parameters`]; RFC 9000, section 18); sets of packet
-//! numbers ([`range_set`]); which packets may carry a frame ([`permitted`]). The names are those of `quinn-proto`,
-//! which keeps these parts private.
+//! numbers ([`range_set`]); which packets may carry a frame ([`permitted`]); version_information and the answer to
+//! packets of other versions ([`versions`]; RFC 9368; RFC 8999, section 6); nonces and what a Retry's tag protects
+//! ([`tls`]; RFC 9001); stateless resets ([`reset`]). The names are those of `quinn-proto`, which keeps these parts
+//! private.
 //!
 //! Reading and writing is proved: each function with a section "Contract" was written in Rattle and proved to fulfil
 //! the clauses that stand there, and a tool made Rust of it. What is written in Rust instead says so. You bring the
@@ -54,9 +56,12 @@ pub mod permitted;
 #[rustfmt::skip]
 mod proved;
 pub mod range_set;
+pub mod reset;
+pub mod tls;
 pub mod transport_error;
 pub mod transport_parameters;
 pub mod varint;
+pub mod versions;
 
 pub use error::{Error, WriteError};
 pub use ids::{ConnectionId, Dir, EcnCodepoint, MAX_CID_SIZE, ResetToken, Side, StreamId};

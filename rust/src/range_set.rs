@@ -8,6 +8,8 @@
 //! assert!(set.contains(8) && !set.contains(9));
 //! ```
 use crate::error::grown;
+use crate::frame::Ack;
+use crate::proved::quic_acked::acked::newly_acknowledged;
 use crate::proved::quic_ranges::range_set as proved;
 use core::fmt;
 use core::iter::FusedIterator;
@@ -183,6 +185,24 @@ impl RangeSet {
     /// Inserts the numbers of another set.
     pub fn add(&mut self, other: &Self) {
         grown(self.0.add(&other.0));
+    }
+}
+
+impl RangeSet {
+    /// The numbers of the set that an ACK acknowledges (RFC 9000, section 19.3). If the set has the packets in flight,
+    /// they are newly acknowledged (RFC 9002, appendix A.7); [`RangeSet::subtract`] then removes them.
+    ///
+    /// ```
+    /// use quic_wire::frame::Ack;
+    /// use quic_wire::range_set::RangeSet;
+    /// let mut in_flight = RangeSet::new();
+    /// in_flight.insert(4..8);
+    /// let ack = Ack::from_parts(9, 0, &[3, 0, 4], None)?;
+    /// assert_eq!(in_flight.acknowledged(&ack).iter().collect::<Vec<_>>(), [4..5, 6..8]);
+    /// # Ok::<(), quic_wire::frame::AckError>(())
+    /// ```
+    pub fn acknowledged(&self, ack: &Ack<'_>) -> RangeSet {
+        RangeSet(grown(newly_acknowledged(ack, &self.0)))
     }
 }
 

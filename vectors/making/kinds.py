@@ -207,3 +207,14 @@ def ciphers(_form, table):
         allowed = rows.invalid(row.rfc, [answer]) if answer in rows.CODES else rows.valid(row.rfc, answer)
         test = row.test(call=call, context=context, input=given.replace("-", ""))
         yield row.group, rows.with_answers(test, [allowed])
+
+
+def layer(_form, table):
+    """A call with its context and input, and its answer or `refused`."""
+    for row in rows.rows(table):
+        words, given, answer = row.columns
+        call, *context = words.split()
+        context = dict(word.split("=") for word in context)
+        allowed = rows.invalid(row.rfc, ["DROP"]) if answer == "refused" else rows.valid(row.rfc, answer.replace(" ", ""))
+        test = row.test(call=call, context=context, input=given.replace("-", ""))
+        yield row.group, rows.with_answers(test, [allowed])

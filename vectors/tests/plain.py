@@ -7,6 +7,7 @@ import sys
 import ciphers
 from reader.frames import read_frames, shortest
 from reader.input import DROP, Input, Rejected, varint
+from reader.layer import answer_negotiation, is_reset, nonce, retry_pseudo, write_information, write_reset
 from reader.packets import expand, number_length, protect, read_datagram, unprotect, write_header
 from reader.parameters import read_parameters, write_parameters
 
@@ -42,6 +43,12 @@ def call(form, context, text):
         "unprotect": lambda: unprotect(data, context),
         "protect": lambda: protect(data, context),
         "header-write": lambda: write_header(context),
+        "nonce": lambda: nonce(context),
+        "retry-pseudo": lambda: retry_pseudo(data, context),
+        "version-information-write": lambda: write_information(context),
+        "reset-write": lambda: write_reset(context),
+        "reset-read": lambda: is_reset(data, context),
+        "negotiation-answer": lambda: answer_negotiation(data, context),
     }
     return calls[form]()
 

@@ -20,7 +20,7 @@ import run  # noqa: E402
 
 SECONDS = 5  # for a changed reader; an endless loop is noticed
 # Its modules, each after those that it imports; the last answers lines, and isn't changed.
-MODULES = ["reader.input", "reader.frames", "reader.packets", "reader.parameters", "plain"]
+MODULES = ["reader.input", "reader.frames", "reader.packets", "reader.parameters", "reader.layer", "plain"]
 COMPARISONS = {
     ast.Lt: ast.LtE, ast.LtE: ast.Lt, ast.Gt: ast.GtE, ast.GtE: ast.Gt, ast.Eq: ast.NotEq, ast.NotEq: ast.Eq,
     ast.In: ast.NotIn, ast.NotIn: ast.In,

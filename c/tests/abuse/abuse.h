@@ -125,6 +125,11 @@ extern int header_written(void);
 extern void negotiation_nulls(void);
 extern void negotiation_any(void);
 
+/* layer.c: versions, nonces, Retry and resets. */
+extern void layer_nulls(void);
+extern void layer_examples(void);
+extern void layer_any(void);
+
 /* numbers.c: varints and packet numbers. */
 extern void numbers_nulls(void);
 extern void varint_any(void);

@@ -58,6 +58,8 @@ static void nulls(void) {
   headers_written_nulls();
   long_tokens();
   negotiation_nulls();
+  layer_nulls();
+  layer_examples();
   numbers_nulls();
   near_nulls();
   near_packets_nulls();
@@ -100,6 +102,7 @@ static void rubbish(int rounds) {
     number_expand_any();
     number_bytes_any();
     negotiation_any();
+    layer_any();
     varint_any();
     near += near_frames(bytes, len);
     near_ones += near_written();

@@ -1,1 +1,2 @@
-mod Lists
+pub mod Lists
+pub mod Stored

@@ -2,3 +2,5 @@
 #![tactic(auto)]
 
 pub mod information;
+pub mod laws;
+pub mod store;

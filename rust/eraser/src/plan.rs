@@ -7,7 +7,16 @@ use std::path::{Path, PathBuf};
 use std::{fs, io};
 
 /// The crates that users call, which no other of the library uses.
-const TOPS_OF_LIBRARY: [&str; 3] = ["quic_wire", "quic_header_fields", "quic_param_fields"];
+const TOPS_OF_LIBRARY: [&str; 8] = [
+    "quic_wire",
+    "quic_header_fields",
+    "quic_param_fields",
+    "quic_tls",
+    "quic_versions",
+    "quic_resets",
+    "quic_negotiation",
+    "quic_acked",
+];
 
 /// What stands before the modules of the library. Only ghost code uses some names of the sources, whose style isn't
 /// Rust's everywhere.

@@ -2,6 +2,7 @@
 //! The proved sources as Rust: what only the prover reads is in comments.
 #![allow(dead_code, non_snake_case, unused_imports, unused_labels, unused_variables)]
 #![allow(clippy::complexity, clippy::derived_hash_with_manual_eq, clippy::style)]
+pub mod quic_acked;
 pub mod quic_base;
 pub mod quic_canon;
 pub mod quic_crypto;
@@ -12,9 +13,13 @@ pub mod quic_frames;
 pub mod quic_header_decode;
 pub mod quic_header_encode;
 pub mod quic_header_fields;
+pub mod quic_negotiation;
 pub mod quic_packets;
 pub mod quic_param_fields;
 pub mod quic_params;
 pub mod quic_permitted;
 pub mod quic_ranges;
+pub mod quic_resets;
+pub mod quic_tls;
+pub mod quic_versions;
 pub mod quic_wire;

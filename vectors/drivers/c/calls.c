@@ -105,17 +105,22 @@ static quic_wire_header_fields header_fields(const line *in) {
   return fields;
 }
 
+/* Versions in hexadecimal with + between them. */
+static size_t versions_in(const char *at, uint32_t *versions, size_t room) {
+  size_t count = 0;
+  for (; at && count < room; at = *at == '+' ? at + 1 : NULL)
+    versions[count++] = (uint32_t)strtoul(at, (char **)&at, 16);
+  return count;
+}
+
 /* A version negotiation, the whole of it. */
 static void answer_negotiation_write(const line *in, const uint8_t *dcid,
                                      size_t dcidlen, const uint8_t *scid,
                                      size_t scidlen) {
-  const char *at = item(in, "supported");
   const unsigned long unused = strtoul(item(in, "unused"), NULL, 16);
   uint32_t versions[8];
   uint8_t out[4096];
-  size_t count = 0, len;
-  for (; at && count < 8; at = *at == '+' ? at + 1 : NULL)
-    versions[count++] = (uint32_t)strtoul(at, (char **)&at, 16);
+  size_t count = versions_in(item(in, "supported"), versions, 8), len;
   if (quic_wire_negotiation_write((uint8_t)(unused ^ QUIC_WIRE_BIT_FIXED), dcid, dcidlen, scid, scidlen, versions, count,
                                   out, sizeof out, &len)) {
     puts("invalid");
@@ -222,6 +227,58 @@ static void answer_shortest(const line *in) {
   free(out);
 }
 
+/* Prints what was written, or that it can't be. */
+static void print_written(const uint8_t *out, size_t len) {
+  if (!len) {
+    puts("invalid");
+    return;
+  }
+  printf("valid \"");
+  print_hex(stdout, out, len);
+  puts("\"");
+}
+
+static void answer_nonce(const line *in) {
+  uint8_t iv[12], out[12];
+  unhex(item(in, "iv"), iv, 12);
+  print_written(out, quic_wire_nonce(iv, number(in, "number", 0), out) ? 12 : 0);
+}
+
+static void answer_retry_pseudo(const line *in) {
+  uint8_t odcid[ID_LEN], out[256];
+  size_t len = unhex(item(in, "odcid"), odcid, ID_LEN);
+  print_written(out, quic_wire_retry_pseudo_write(odcid, len, in->bytes, in->len, out, sizeof out));
+}
+
+static void answer_information(const line *in) {
+  uint32_t versions[8];
+  uint8_t out[64];
+  size_t count = versions_in(item(in, "available"), versions, 8);
+  uint32_t chosen = (uint32_t)strtoul(item(in, "chosen"), NULL, 16);
+  print_written(out, quic_wire_version_information_write(chosen, versions, count, out, sizeof out));
+}
+
+static void answer_reset_write(const line *in) {
+  uint8_t bytes[64], token[16], out[128];
+  size_t len = unhex(item(in, "unpredictable"), bytes, 64);
+  unhex(item(in, "token"), token, 16);
+  print_written(out, quic_wire_reset_write(bytes, len, token, out, sizeof out));
+}
+
+static void answer_reset_read(const line *in) {
+  uint8_t token[16];
+  unhex(item(in, "token"), token, 16);
+  printf("valid \"%d\"\n", quic_wire_is_reset(in->bytes, in->len, token));
+}
+
+static void answer_negotiation_answer(const line *in) {
+  uint32_t versions[8];
+  uint8_t out[1024];
+  size_t count = versions_in(item(in, "supported"), versions, 8);
+  uint8_t unused = (uint8_t)strtoul(item(in, "unused"), NULL, 16);
+  print_written(out, quic_wire_negotiation_answer(unused, in->bytes, in->len, versions, count, out, sizeof out));
+}
+
 typedef struct call {
   const char *form;
   void (*answer)(const line *in);
@@ -234,7 +291,11 @@ void answer_call(const line *in) {
       {"varint-read", answer_varint_read}, {"varint-write", answer_varint_write},
       {"number-expand", answer_number},    {"number-length", answer_number},
       {"unprotect", answer_unprotect},     {"protect", answer_protect},
-      {"header-write", answer_header_write}};
+      {"header-write", answer_header_write},
+      {"nonce", answer_nonce},             {"retry-pseudo", answer_retry_pseudo},
+      {"version-information-write", answer_information},
+      {"reset-write", answer_reset_write}, {"reset-read", answer_reset_read},
+      {"negotiation-answer", answer_negotiation_answer}};
   size_t i;
   for (i = 0; i < sizeof calls / sizeof *calls; i++)
     if (!strcmp(in->form, calls[i].form)) {

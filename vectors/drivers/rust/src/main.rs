@@ -3,7 +3,10 @@ use quic_wire::canonical::canonical;
 use quic_wire::datagram::{Header, PacketPlace, VersionNegotiation};
 use quic_wire::frame::{Iter, Rules};
 use quic_wire::packet::{LongType, PacketNumber};
+use quic_wire::reset::{self, is_reset};
+use quic_wire::tls::{nonce, store_pseudo_packet};
 use quic_wire::transport_parameters::TransportParameters;
+use quic_wire::versions::{answer as answer_version, store};
 use quic_wire::{Side, varint};
 use std::collections::HashMap;
 use std::io::{self, BufRead, Write};
@@ -142,13 +145,44 @@ fn read_basic(payload: &[u8]) -> String {
     }
 }
 
+/// Versions in hexadecimal with `+` between them, or none.
+fn versions(context: &Context<'_>, name: &str) -> Option<Vec<u32>> {
+    let items = context.text(name).unwrap_or_default().split_terminator('+');
+    items.map(|version| u32::from_str_radix(version, 16).ok()).collect()
+}
+
 fn write_negotiation(context: &Context<'_>, dst_cid: &[u8], src_cid: &[u8]) -> Option<String> {
     let random = u8::from_str_radix(context.text("unused")?, 16).ok()?;
-    let supported = context.text("supported")?.split('+');
-    let versions = supported.map(|version| u32::from_str_radix(version, 16).ok()).collect::<Option<Vec<_>>>()?;
+    let versions = versions(context, "supported")?;
     let mut out = Vec::new();
     VersionNegotiation { random, dst_cid, src_cid, versions: &versions }.encode(&mut out).ok()?;
     Some(hex(&out))
+}
+
+/// What stands beside frames, headers and parameters.
+fn layer(form: &str, input: &[u8], context: &Context<'_>) -> Option<String> {
+    let mut out = [0; 256];
+    let len = match form {
+        "nonce" => return Some(hex(&nonce(context.bytes("iv")?.try_into().ok()?, context.number("number")?))),
+        "reset-read" => {
+            let token: [u8; 16] = context.bytes("token")?.try_into().ok()?;
+            return Some(u8::from(is_reset(input, &token.into())).to_string());
+        }
+        "reset-write" => {
+            let token: [u8; 16] = context.bytes("token")?.try_into().ok()?;
+            reset::store(&context.bytes("unpredictable")?, &token.into(), &mut out)
+        }
+        "retry-pseudo" => store_pseudo_packet(&context.bytes("odcid")?, input, &mut out),
+        "version-information-write" => {
+            let chosen = u32::from_str_radix(context.text("chosen")?, 16).ok()?;
+            store(chosen, &versions(context, "available")?, &mut out)
+        }
+        _ => {
+            let unused = u8::from_str_radix(context.text("unused")?, 16).ok()?;
+            answer_version(unused, input, &versions(context, "supported")?, &mut out)
+        }
+    };
+    Some(hex(&out[..len?]))
 }
 
 fn write_header(context: &Context<'_>) -> Option<String> {
@@ -194,6 +228,12 @@ fn answer(line: &str) -> Option<String> {
         // The crate's headers have only the low part of a number.
         "header-write" if context.number("number") > Some(varint::MAX) => return Some("skip".into()),
         "header-write" => write_header(&context),
+        "nonce"
+        | "retry-pseudo"
+        | "version-information-write"
+        | "reset-write"
+        | "reset-read"
+        | "negotiation-answer" => layer(form, &bytes, &context),
         "payload" if context.text("without").is_some() => return Some(read_basic(&bytes)),
         "unprotect" => match unprotect(&mut bytes, &context) {
             Ok(found) => Some(found),

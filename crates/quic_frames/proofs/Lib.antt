@@ -7,6 +7,7 @@ mod Reasons
 pub mod Finding
 mod Placing
 pub mod Places
+pub mod Bodies
 mod Padding
 pub mod Turns
 pub mod Checking

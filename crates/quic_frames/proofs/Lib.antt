@@ -8,6 +8,7 @@ pub mod Finding
 mod Placing
 pub mod Places
 pub mod Bodies
+mod BodyParts
 mod Padding
 pub mod Turns
 pub mod Checking

@@ -73,7 +73,7 @@ impl Frame<'_> {
     /// many bytes are needed. The caller must ensure that the frame is in range, and that data has fewer than 2^62
     /// bytes if its length is written. It doesn't allocate.
     // #[tactic(auto, unfolding(quic_frame_fields::specs::Bodies::shortest_body))]
-    pub(crate) fn encode_body_into(&self, last: bool, dest: &mut [u8]) -> Result<usize, usize> { #![doc = "# Contract\n```text"]
+    pub(crate) fn proved_encode_body_into(&self, last: bool, dest: &mut [u8]) -> Result<usize, usize> { #![doc = "# Contract\n```text"]
         //! requires { CanStand last self.now }
         //! ensures { Puts result (shortest_body last (meaning_of self.now)) dest.old dest.new }
         //! ```

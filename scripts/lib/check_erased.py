@@ -93,7 +93,7 @@ GUARDED = {
     "Datagram": "encode size",
     "EcnCounts": "encode",
     "FixedLengthConnectionIdParser": "new",
-    "Frame": "encode encode_into encoded_len",
+    "Frame": "encode encode_body_into encode_into encoded_len",
     "Header": "encode encoded_len",
     "NewConnectionId": "encode",
     "NewToken": "encode size",

@@ -1,7 +1,7 @@
 -- An ACK that is held, whose numbers are encoded in any widths.
-use Rattle.std.proofs.Common.{◌≡◌, ℕ, ◌+◌, ◌-◌, ◌*◌, ◌/◌, ◌≤◌, Bool, List, [], ◌∷◌, ◌++◌, length, refl, sym, ap, subst, ◌∙◌, append_assoc, arith}
+use Rattle.std.proofs.Common.{◌≡◌, ℕ, zero, suc, ◌+◌, ◌-◌, ◌*◌, ◌/◌, ◌≤◌, Bool, List, [], ◌∷◌, ◌++◌, length, take, drop, refl, sym, ap, subst, ◌∙◌, append_assoc, arith}
 use Rattle.std.specs.Prelude.{Option}
-use Rattle.std.proofs.lemmas.List.{length-append, append-nil}
+use Rattle.std.proofs.lemmas.List.{length-append, append-nil, take-append-drop, take_rest, drop_at, length-take}
 use Rattle.quic_base.specs.Number.{AreBytes}
 use Rattle.quic_base.specs.Varint.{shortest_varint}
 use Rattle.quic_frame_fields.specs.declared.frame.ack.Ack.{Ack}
@@ -15,6 +15,7 @@ use Rattle.quic_frame_fields.specs.Numbers.{AreNumeric, AreEncoded, shortest_var
 use Rattle.quic_frame_fields.proofs.AckParts.{ack_parts, small_type}
 use Rattle.quic_frame_fields.proofs.Apart.{blocks_apart}
 use Rattle.quic_frame_fields.proofs.Blocks.{blocks_of}
+use Rattle.quic_frame_fields.proofs.Encoded.{all_short-append}
 use Rattle.quic_frame_fields.proofs.Sets.{few_below}
 
 -- the numbers that encode ranges: for each its block, and for each except the first its gap
@@ -109,3 +110,48 @@ held_length a h last header counts first second third header_is counts_are one t
     length-append (shortest_varints header) (shortest_varints h.numbers ++ shortest_varints (count_numbers counts)) in
     let back = length-append (shortest_varints h.numbers) (shortest_varints (count_numbers counts)) in
     omega (arith, whole, front, back, one, two, three)
+
+-- the same behind the first numbers of the header
+pub held_behind : (a : Ack) (h : HeldParts a) (last : Bool) (first : ℕ) (header : List ℕ) (counts : Option EcnCounts)
+    → header ≡ drop first (header_numbers a) → counts ≡ a.ecn
+    → drop (length (shortest_varints (take first (header_numbers a)))) (shortest_frame last (ack_meaning a))
+    ≡ shortest_varints header ++ (shortest_varints h.numbers ++ shortest_varints (count_numbers counts))
+held_behind a h last first header counts header_is counts_are =
+    let all = header_numbers a in
+    let front = shortest_varints (take first all) in
+    let back = shortest_varints h.numbers ++ shortest_varints (count_numbers counts) in
+    let whole : shortest_frame last (ack_meaning a) ≡ front ++ (shortest_varints header ++ back) =
+    held_whole a h last all counts refl counts_are
+    ∙ ap (λ (l : List ℕ). shortest_varints l ++ back) (sym (take-append-drop first all))
+    ∙ ap (λ (l : List ℕ). l ++ back) (all_short-append (take first all) (drop first all))
+    ∙ append_assoc front (shortest_varints (drop first all)) back
+    ∙ ap (λ (l : List ℕ). front ++ (shortest_varints l ++ back)) (sym header_is) in
+    ap (drop (length front)) whole ∙ drop_at front (shortest_varints header ++ back) (length front) refl
+
+pub behind_length : (a : Ack) (h : HeldParts a) (last : Bool) (first : ℕ) (header : List ℕ) (counts : Option EcnCounts)
+    (one two three : ℕ)
+    → header ≡ drop first (header_numbers a) → counts ≡ a.ecn → one ≡ length (shortest_varints header)
+    → two ≡ length (shortest_varints h.numbers) → three ≡ length (shortest_varints (count_numbers counts))
+    → one + two + three
+    ≡ length (drop (length (shortest_varints (take first (header_numbers a)))) (shortest_frame last (ack_meaning a)))
+behind_length a h last first header counts one two three header_is counts_are p q r =
+    let whole = ap length (held_behind a h last first header counts header_is counts_are) in
+    let front =
+    length-append (shortest_varints header) (shortest_varints h.numbers ++ shortest_varints (count_numbers counts)) in
+    let back = length-append (shortest_varints h.numbers) (shortest_varints (count_numbers counts)) in
+    omega (arith, whole, front, back, p, q, r)
+
+pub numeric_behind : (first : ℕ) (ns : List ℕ) → AreNumeric ns → AreNumeric (drop first ns)
+numeric_behind zero ns h = h
+numeric_behind (suc first) [] h = h
+numeric_behind (suc first) (n ∷ ns) h = numeric_behind first ns h.1
+
+-- the numbers of an array of four from one on
+pub cut_behind : (header all : List ℕ) (first : ℕ) → header ≡ all → length all ≡ 4
+    → take (4 - first) (drop first header) ≡ drop first all
+cut_behind header all first e four =
+    ap (λ (l : List ℕ). take (4 - first) (drop first l)) e
+    ∙ ap (λ (n : ℕ). take (n - first) (drop first all)) (sym four) ∙ take_rest all first
+
+pub cut_few : (header : List ℕ) (first : ℕ) → length (take (4 - first) (drop first header)) ≤ 4
+cut_few header first = omega (arith, length-take (4 - first) (drop first header))

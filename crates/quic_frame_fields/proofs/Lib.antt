@@ -11,6 +11,7 @@ pub mod Encoded
 pub mod Sets
 pub mod AckParts
 pub mod Held
+pub mod Bodies
 pub mod FirstRanges
 pub mod AckPlaces
 mod ShortBlocks

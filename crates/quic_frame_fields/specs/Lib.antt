@@ -13,6 +13,7 @@ pub mod FirstRange
 pub mod Acks
 pub mod Parts
 pub mod Shortest
+pub mod Bodies
 pub mod Numbers
 pub mod Sets
 pub mod Closes

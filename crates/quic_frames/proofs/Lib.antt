@@ -7,6 +7,8 @@ mod Reasons
 pub mod Finding
 mod Placing
 pub mod Places
+pub mod Bodies
+mod BodyParts
 mod Padding
 pub mod Turns
 pub mod Checking

@@ -26,6 +26,7 @@ pub mod Padding
 pub mod Rules
 pub mod Flags
 pub mod Checking
+pub mod Body
 pub mod Found
 pub mod Placed
 pub mod Written

@@ -6,6 +6,7 @@ ghost use Rattle.quic_frame_fields.specs.Shortest.{shortest_frame};
 use quic_base::ids::{Dir, StreamId};
 use quic_base::varint::VarInt;
 
+mod body;
 mod bounds;
 mod checked;
 mod encode;

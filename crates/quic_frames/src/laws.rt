@@ -6,6 +6,8 @@ ghost use Rattle.quic_base.specs.One.{ExactlyOne};
 ghost use Rattle.quic_ranges.specs.Runs.{IsMaximalRuns, IsGreatest, member};
 ghost use Rattle.quic_frame_fields.specs.Acks.{parts_of, ranges_acked};
 ghost use Rattle.quic_frame_fields.specs.Field.{AreApart, AreBlocks};
+ghost use Rattle.quic_frame_fields.specs.Bodies.{shortest_body, type_written};
+ghost use Rattle.quic_frames.specs.Body.{with_type};
 ghost use Rattle.quic_frames.specs.Found.{found_as};
 ghost use Rattle.quic_frame_fields.specs.Sets.{AreCounts, ranges_in, greatest_in, is_in, ack_of};
 ghost use Rattle.quic_frames.specs.InRange.{IsTypedFrame, AreTyped, HasNoTypeZero, CanStand, CanFollow};
@@ -138,6 +140,13 @@ pub fn read_back()
     // What is required of a frame to be written holds for each frame that is encoded.
     ensures exact { (last : Bool) (t : ℕ) (frame : Frame) (bytes : List ℕ) → HasNoTypeZero frame
         → IsFrame false (found_as t frame) bytes → (is_open t ≡ true → last ≡ true) → CanStand last frame }
+{}
+
+/// The body that `Frame::encode_body_into` stores, behind the type that `Frame::written_type` returns, is the shortest
+/// encoding of the frame, as the last of its payload or not.
+pub fn body_behind_its_type()
+    ensures { (last : Bool) (frame : Meaning)
+        → with_type (type_written last frame) (shortest_body last frame) ≡ shortest_frame last frame }
 {}
 
 /// The header that `StreamMeta::encode` appends, followed by the data, is the shortest encoding of the STREAM: as the

@@ -65,8 +65,8 @@ const OF_PRELUDE: [&str; 17] = [
 ];
 
 /// The same of tests and programs, which call by its name what the crate renames.
-const OF_CHECKS: [&str; 8] =
-    ["encode", "encode_into", "encoded_len", "expand", "finish", "min_len", "open_next", "size"];
+const OF_CHECKS: [&str; 9] =
+    ["encode", "encode_body_into", "encode_into", "encoded_len", "expand", "finish", "min_len", "open_next", "size"];
 
 /// Makes Rust of a Rattle file, with the same lines.
 ///

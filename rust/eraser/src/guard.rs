@@ -17,7 +17,7 @@ const RENAMED: [(&str, &[&str]); 20] = [
     ("Datagram", &["encode", "size"]),
     ("EcnCounts", &["encode"]),
     ("FixedLengthConnectionIdParser", &["new"]),
-    ("Frame", &["encode", "encode_into", "encoded_len"]),
+    ("Frame", &["encode", "encode_body_into", "encode_into", "encoded_len"]),
     ("Header", &["encode", "encoded_len"]),
     ("NewConnectionId", &["encode"]),
     ("NewToken", &["encode", "size"]),

@@ -93,6 +93,27 @@ impl Frame<'_> {
         self.proved_encode_into(last, dest).map_err(|_| WriteError::NoRoom)
     }
 
+    /// Stores the body of the frame, what [`Frame::encode_into`] stores behind the type, which is
+    /// [`Frame::written_type`], and returns how many bytes it has. It doesn't allocate.
+    ///
+    /// ```
+    /// use quic_wire::frame::{Frame, FrameType};
+    /// let frame = Frame::DataBlocked { offset: 5 };
+    /// let mut out = [7; 2];
+    /// assert_eq!((frame.encode_body_into(true, &mut out), out), (Ok(1), [5, 7]));
+    /// assert_eq!(frame.written_type(true), FrameType::DATA_BLOCKED);
+    /// ```
+    ///
+    /// # Errors
+    ///
+    /// If the frame isn't in range, or the slice is shorter than the body. Nothing changes then.
+    #[doc = include_str!("../proved/contracts/Frame.encode_body_into.md")]
+    #[inline]
+    pub fn encode_body_into(&self, last: bool, dest: &mut [u8]) -> Result<usize> {
+        self.check(last)?;
+        self.proved_encode_body_into(last, dest).map_err(|_| WriteError::NoRoom)
+    }
+
     /// How many bytes [`Frame::encode`] appends. It doesn't allocate.
     ///
     /// ```

@@ -1,9 +1,10 @@
 //! Writes numbers and bytes at the front of a slice.
 ghost use Rattle.std.specs.Prelude.{◌≡◌, ◌<◌, ◌≤◌, ◌+◌, ◌^◌, ◌++◌, ℕ, List, Bool, length, take, drop, IfSome};
+ghost use Rattle.quic_frame_fields.specs.Bodies.{shortest_body};
 ghost use Rattle.quic_frame_fields.specs.Numbers.{AreNumeric, AreEncoded, shortest_varints};
 ghost use Rattle.quic_frame_fields.specs.Parts.{ack_meaning};
 ghost use Rattle.quic_frame_fields.specs.Putting.{Stores, Puts, Shortens};
-ghost use Rattle.quic_frame_fields.specs.Sets.{AreCounts, IsAckInRange, count_numbers};
+ghost use Rattle.quic_frame_fields.specs.Sets.{AreCounts, IsAckInRange, count_numbers, header_numbers};
 ghost use Rattle.quic_frame_fields.specs.Shortest.{shortest_frame, stream_header};
 
 use super::ack_encode::header_of;
@@ -150,9 +151,28 @@ pub fn ack(dest: &mut [u8], ack: &Ack<'_>) -> Result<usize, usize>
     requires { IsAckInRange ack.now }
     ensures { (last : Bool) → Puts result (shortest_frame last (ack_meaning ack.now)) dest.old dest.new }
 {
+    ack_behind(dest, ack, 0)
+}
+
+/// The same of its body, which its type isn't part of.
+pub fn ack_body(dest: &mut [u8], ack: &Ack<'_>) -> Result<usize, usize>
+    requires { IsAckInRange ack.now }
+    ensures { (last : Bool) → Puts result (shortest_body last (ack_meaning ack.now)) dest.old dest.new }
+{
+    ack_behind(dest, ack, 1)
+}
+
+// The same of what an acknowledgement has behind that many of its first four numbers, of which the type is one.
+#[inline(always)]
+fn ack_behind(dest: &mut [u8], ack: &Ack<'_>, first: usize) -> Result<usize, usize>
+    requires in_range { IsAckInRange ack.now }
+    requires first { first ≤ 4 }
+    ensures { (last : Bool) → Puts result (drop (length (shortest_varints (take first (header_numbers ack.now))))
+        (shortest_frame last (ack_meaning ack.now))) dest.old dest.new }
+{
     let (numbers, blocks) = count_and_len(ack.additional());
     let mut header = [0; HEADER_ROOM];
-    let header_len = store_numbers(&mut header, &header_of(ack, numbers));
+    let header_len = store_numbers(&mut header, &header_of(ack, numbers)[first..]);
     let mut counts = [0; HEADER_ROOM];
     let counts_len = store_counts(&mut counts, ack.ecn());
     let needed = header_len + blocks as usize + counts_len;

@@ -7,6 +7,7 @@
 use crate::proved::quic_base::ids::{Dir, StreamId};
 use crate::proved::quic_base::varint::VarInt;
 
+mod body;
 mod bounds;
 mod checked;
 mod encode;

@@ -1,6 +1,6 @@
 //! What `--help` prints.
 
-pub const USAGE: &str = "usage: quic-wire frames|canon|datagram|params|number|ranges [OPTION..] [FILE..]";
+pub const USAGE: &str = "usage: quic-wire frames|canon|datagram|params|number|ranges|capture [OPTION..] [FILE..]";
 
 pub const HELP: &str = "\
 Decode QUIC v1 and v2 frames, packets and transport parameters, and print every field.
@@ -58,4 +58,7 @@ options:
 
 Exit status: 0 all lines were read, 1 an error was printed, 2 usage error, 3 reading or writing failed, or a line
 doesn't fit into memory. If a file can't be read, the others are still read.
+";
+
+pub const CAPTURE: &str = "\
 ";

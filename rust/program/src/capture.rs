@@ -1,6 +1,7 @@
 //! The mode `capture`: the packets of captures, and the frames of those that there are keys for.
 mod json;
 mod keys;
+mod object;
 mod qlog;
 mod report;
 mod screen;

@@ -1,6 +1,5 @@
 //! Objects for programs, a line each: docs/capture.schema.json of the repository describes them.
-mod object;
-
+use super::object::Object;
 use super::report::{Fault, Form, Packet, Part, Place, Sum, Tally, Whole, is_plain};
 use super::screen::Screen;
 use super::words::{self, Date, Said, Seconds};
@@ -8,7 +7,6 @@ use crate::datagram;
 use crate::frames;
 use crate::output::{Field, Value};
 use crate::params;
-use object::Object;
 use quic_wire::Side;
 use quic_wire::datagram::{HeaderKind, PacketRef};
 use quic_wire_capture::opened::Opened;

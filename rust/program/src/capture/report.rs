@@ -59,6 +59,15 @@ pub struct Packet<'a> {
 }
 
 impl Packet<'_> {
+    /// The close in it, if it is the first one of its side that counts.
+    pub fn close_in(&self, connection: &Connection, side: Side, index: u64) -> Option<Said> {
+        connection.end(side).closed().filter(|closed| closed.sent.index == index)?;
+        self.parts.iter().find_map(|part| match part {
+            Part::Frame { range, forbidden: None, .. } => words::close(self.opened.payload().get(range.clone())?),
+            _ => None,
+        })
+    }
+
     // Whether RFC 9000 rejects something in it.
     fn is_rejected(&self) -> bool {
         self.parts.iter().any(|part| match part {
@@ -168,16 +177,15 @@ impl<'a> Report<'a> {
 
     // Counts a packet, and shows it if it fits.
     fn packet(&mut self, place: &Place<'_>, opened: &Opened<'_>, again: Option<Option<u64>>) {
-        let close =
-            place.owner.and_then(|(connection, side)| close_in(connection, side, place.index, opened, &self.parts));
+        let parts = std::mem::take(&mut self.parts);
+        let packet = Packet { opened, parts: &parts, again };
+        let close = place.owner.and_then(|(connection, side)| packet.close_in(connection, side, place.index));
         if let Some(half) = self.half(place.owner) {
             let from = place.datagram.from;
             half.opened += 1;
             half.addresses = Some((half.addresses.map_or(from, |(first, _)| first), from));
             half.close = half.close.take().or(close);
         }
-        let parts = std::mem::take(&mut self.parts);
-        let packet = Packet { opened, parts: &parts, again };
         let types = parts.iter().filter_map(|part| match part {
             Part::Frame { ty, .. } => Some(*ty),
             _ => None,
@@ -301,15 +309,6 @@ impl Sink for Report<'_> {
 fn rules_of(connection: &Connection, sender: Side) -> Rules {
     let parameters = connection.end(!sender).parameters();
     Rules { no_ack_frequency: parameters.is_some_and(|list| list.min_ack_delay.is_none()), ..Rules::RFC }
-}
-
-// The close in a packet, if it is the first one of its side that counts.
-fn close_in(connection: &Connection, side: Side, index: u64, opened: &Opened<'_>, parts: &[Part]) -> Option<Said> {
-    connection.end(side).closed().filter(|closed| closed.sent.index == index)?;
-    parts.iter().find_map(|part| match part {
-        Part::Frame { range, forbidden: None, .. } => words::close(opened.payload().get(range.clone())?),
-        _ => None,
-    })
 }
 
 /// The frame in the bytes of a part.

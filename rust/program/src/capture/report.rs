@@ -183,7 +183,10 @@ impl<'a> Report<'a> {
         if let Some(half) = self.half(place.owner) {
             let from = place.datagram.from;
             half.opened += 1;
-            half.addresses = Some((half.addresses.map_or(from, |(first, _)| first), from));
+            // Anyone can send a packet again, from elsewhere.
+            if again.is_none() {
+                half.addresses = Some((half.addresses.map_or(from, |(first, _)| first), from));
+            }
             half.close = half.close.take().or(close);
         }
         let types = parts.iter().filter_map(|part| match part {

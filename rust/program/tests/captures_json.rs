@@ -219,32 +219,3 @@ fn places_are_those_of_the_rfc() {
     assert_eq!(all.at("2.frames.1.data").text().len(), 180);
     assert!(all.at("2.frames.1.data").text().ends_with("002b00020304"));
 }
-
-#[test]
-fn traces_say_what_objects_say() {
-    let folder = Folder::new("traces");
-    let (made, frames) = every_frame();
-    let keys = folder.write("keys", made.key_log());
-    let file = folder.write("frames.pcap", pcap(&frames));
-    let packets = objects(&[&file, "--keylog", &keys]);
-    assert_eq!(objects(&[&file, "--keylog", &keys, "--qlog", &folder.path("qlog")]).len(), 2);
-    let trace = std::fs::read_to_string(folder.path("qlog/frames.pcap.0.sqlog")).unwrap();
-    assert!(trace.starts_with('\x1e') && trace.ends_with("}\n"));
-    let records: Vec<_> = trace[1..].split("\n\x1e").map(Json::read).collect();
-    assert_eq!(records[0].at("qlog_version").text(), "0.3");
-    let events = records[1..].iter().filter(|record| record.at("name").text().starts_with("transport:packet_"));
-    let packets = packets.iter().filter(|one| one.at("kind").text() == "packet" && one.get("again").is_none());
-    for (event, packet) in events.zip(packets) {
-        let is_sent = event.at("name").text() == "transport:packet_sent";
-        assert_eq!(is_sent, packet.at("sender").text() == "client");
-        assert_eq!(event.at("data.header.packet_number"), packet.at("number"));
-        let names = |list: &Json, name: &str| {
-            list.items().iter().map(|one| one.at(name).text().to_uppercase()).collect::<Vec<_>>()
-        };
-        let short = |name: &String| {
-            name.trim_end_matches("_UNI").trim_end_matches("_BIDI").replace("APPLICATION", "CONNECTION")
-        };
-        let wanted: Vec<_> = names(packet.at("frames"), "frame").iter().map(short).collect();
-        assert_eq!(names(event.at("data.frames"), "frame_type"), wanted);
-    }
-}

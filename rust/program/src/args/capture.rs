@@ -19,6 +19,7 @@ pub struct Captures {
 }
 
 /// Which packets are shown: those that have all that is given, and of each list one.
+#[cfg_attr(not(feature = "capture"), expect(dead_code, reason = "nothing reads captures"))]
 #[derive(Default)]
 pub struct Filter {
     pub connections: Vec<usize>,

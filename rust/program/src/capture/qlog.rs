@@ -1,6 +1,6 @@
-//! Traces in qlog 0.3 (draft-ietf-quic-qlog-main-schema-02, draft-ietf-quic-qlog-quic-events-01), as JSON text sequences
-//! (RFC 7464): a file for each connection, as someone between its sides sees it. What the client sends is sent, what
-//! the server sends is received.
+//! Traces in qlog 0.3 (draft-ietf-quic-qlog-main-schema-02, draft-ietf-quic-qlog-quic-events-01), as JSON text
+//! sequences (RFC 7464): a file for each connection, as someone between its sides sees it. What the client sends is
+//! sent, what the server sends is received.
 mod frames;
 
 use super::object::Object;

@@ -39,7 +39,7 @@ pub enum Part {
     },
     /// What can't be read, from an offset on.
     Invalid(Fault),
-    Parameters(Vec<u8>, TransportParameters),
+    Parameters(Vec<u8>, Box<TransportParameters>),
     InvalidParameters(Fault),
 }
 
@@ -257,7 +257,7 @@ impl Sink for Report<'_> {
                 let what = "packet payload is empty".into();
                 Part::Invalid(Fault { what, at: Some(0), fields: fault::of_empty_payload() })
             }
-            Event::Parameters { list, read: Ok(read), .. } => Part::Parameters(list.to_vec(), **read),
+            Event::Parameters { list, read: Ok(read), .. } => Part::Parameters(list.to_vec(), Box::new(**read)),
             Event::Parameters { opened, list, read: Err(refusal) } => {
                 let (at, fields) = fault::of_parameters(list, !opened.sender(), ReadOptions::RFC, **refusal);
                 Part::InvalidParameters(Fault { what: params::what(refusal).into(), at, fields })

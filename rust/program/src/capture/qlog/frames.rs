@@ -35,7 +35,6 @@ fn name(frame: &Frame<'_>) -> String {
 }
 
 fn fields(object: &mut Object<'_>, frame: &Frame<'_>, bytes: &[u8], exponent: u64) {
-    let direction = |dir: Dir| if dir == Dir::Bi { "bidirectional" } else { "unidirectional" };
     let mut number = |name: &str, value: u64| object.number(name, value);
     match *frame {
         Frame::Padding => ["length", "payload_length"].iter().for_each(|name| number(name, bytes.len() as u64)),
@@ -58,27 +57,37 @@ fn fields(object: &mut Object<'_>, frame: &Frame<'_>, bytes: &[u8], exponent: u6
             number("stream_id", one.id.into());
             number("error_code", one.error_code.into());
         }
-        Frame::MaxData(maximum) => number("maximum", maximum.into()),
-        Frame::DataBlocked { offset } => number("limit", offset),
+        Frame::RetireConnectionId { sequence } => number("sequence_number", sequence),
+        Frame::Datagram(ref one) => number("length", one.bytes.len() as u64),
+        ref other => {
+            limits(object, other);
+            more_fields(object, other, bytes, exponent);
+        }
+    }
+}
+
+fn limits(object: &mut Object<'_>, frame: &Frame<'_>) {
+    let direction = |dir: Dir| if dir == Dir::Bi { "bidirectional" } else { "unidirectional" };
+    match *frame {
+        Frame::MaxData(maximum) => object.number("maximum", maximum.into()),
+        Frame::DataBlocked { offset } => object.number("limit", offset),
         Frame::MaxStreamData { id, offset } => {
-            number("stream_id", id.into());
-            number("maximum", offset);
+            object.number("stream_id", id.into());
+            object.number("maximum", offset);
         }
         Frame::StreamDataBlocked { id, offset } => {
-            number("stream_id", id.into());
-            number("limit", offset);
+            object.number("stream_id", id.into());
+            object.number("limit", offset);
         }
         Frame::MaxStreams { dir, count } => {
-            number("maximum", count);
+            object.number("maximum", count);
             object.word("stream_type", direction(dir));
         }
         Frame::StreamsBlocked { dir, limit } => {
-            number("limit", limit);
+            object.number("limit", limit);
             object.word("stream_type", direction(dir));
         }
-        Frame::RetireConnectionId { sequence } => number("sequence_number", sequence),
-        Frame::Datagram(ref one) => number("length", one.bytes.len() as u64),
-        ref other => more_fields(object, other, bytes, exponent),
+        _ => {}
     }
 }
 

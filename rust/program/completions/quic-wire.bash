@@ -8,6 +8,11 @@ _quic_wire_words() {
         --color) echo 'always never auto' ;;
         --cid-len) echo {0..20} ;;
         --versions) echo '1 6b3343cf 1,6b3343cf' ;;
+        --frame)
+            echo 'PADDING PING ACK RESET_STREAM STOP_SENDING CRYPTO NEW_TOKEN STREAM MAX_DATA MAX_STREAM_DATA'
+            echo 'MAX_STREAMS DATA_BLOCKED STREAM_DATA_BLOCKED STREAMS_BLOCKED NEW_CONNECTION_ID RETIRE_CONNECTION_ID'
+            echo 'PATH_CHALLENGE PATH_RESPONSE CONNECTION_CLOSE HANDSHAKE_DONE DATAGRAM ACK_FREQUENCY IMMEDIATE_ACK'
+            ;;
         *)
             case $1 in
                 frames) echo '--base64 --json --color --rfc --quinn --strict' ;;
@@ -16,9 +21,12 @@ _quic_wire_words() {
                 params) echo '--base64 --json --color --rfc --quinn --side' ;;
                 number) echo '--base64 --json --color --rfc --quinn --largest' ;;
                 ranges) echo '--base64 --json --color' ;;
+                capture)
+                    echo '--json --color --keylog --qlog --connection --side --number --frame --rejected --help'
+                    ;;
                 *)
                     echo '--base64 --json --color --rfc --quinn --strict --cid-len --versions --grease --side --largest'
-                    echo '--help --version'
+                    echo '--keylog --qlog --connection --number --frame --rejected --help --version'
                     ;;
             esac
             ;;
@@ -35,16 +43,25 @@ _quic_wire() {
     fi
     for word in "${COMP_WORDS[@]:1:COMP_CWORD-1}"; do
         case $word in
-            frames | canon | datagram | params | number | ranges) mode=$word && break ;;
+            frames | canon | datagram | params | number | ranges | capture) mode=$word && break ;;
         esac
     done
     case $before,$current in
-        --side,* | --color,* | --cid-len,* | --versions,* | *,-*)
+        --qlog,*)
+            compopt -o filenames 2>/dev/null
+            mapfile -t COMPREPLY < <(compgen -d -- "$current")
+            ;;
+        --keylog,*)
+            compopt -o filenames 2>/dev/null
+            mapfile -t COMPREPLY < <(compgen -f -- "$current")
+            ;;
+        --connection,* | --number,*) ;;
+        --side,* | --color,* | --cid-len,* | --versions,* | --frame,* | *,-*)
             mapfile -t COMPREPLY < <(compgen -W "$(_quic_wire_words "$mode" "$before")" -- "$current")
             ;;
         *)
             if [ -z "$mode" ]; then
-                mapfile -t COMPREPLY < <(compgen -W 'frames canon datagram params number ranges' -- "$current")
+                mapfile -t COMPREPLY < <(compgen -W 'frames canon datagram params number ranges capture' -- "$current")
             else
                 compopt -o filenames 2>/dev/null
                 mapfile -t COMPREPLY < <(compgen -f -- "$current")

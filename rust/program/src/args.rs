@@ -1,7 +1,11 @@
 //! The program's arguments.
+mod capture;
+
 use crate::colour::When;
-use crate::help::HELP;
+use crate::help::{CAPTURE, HELP};
 use crate::input::Plain;
+pub use capture::{Captures, Filter};
+use capture::{connection, frames, numbers};
 use quic_wire::datagram::HeaderChecks;
 use quic_wire::frame::Rules;
 use quic_wire::packet::DEFAULT_SUPPORTED_VERSIONS;
@@ -11,6 +15,7 @@ use std::ffi::{OsStr, OsString};
 
 pub enum Call {
     Show(Args),
+    Capture(Captures),
     Print(String),
 }
 
@@ -71,7 +76,9 @@ impl Datagrams {
     }
 }
 
-const MODES: [&str; 6] = ["frames", "canon", "datagram", "params", "number", "ranges"];
+const MODES: [&str; 7] = ["frames", "canon", "datagram", "params", "number", "ranges", "capture"];
+// Those that read lines.
+const LINES: &[&str] = &["frames", "canon", "datagram", "params", "number", "ranges"];
 // Those that read by rules.
 const READERS: &[&str] = &["frames", "canon", "datagram", "params", "number"];
 
@@ -86,11 +93,11 @@ const fn known(name: &'static str, value: Option<&'static str>, modes: &'static 
     Known { name, value, modes }
 }
 
-const OPTIONS: [Known; 13] = [
+const OPTIONS: [Known; 19] = [
     known("--help", None, &[]),
     known("--version", None, &[]),
     known("--json", None, &[]),
-    known("--base64", None, &[]),
+    known("--base64", None, LINES),
     known("--color", Some("always, never or auto"), &[]),
     known("--rfc", None, READERS),
     known("--quinn", None, READERS),
@@ -98,8 +105,14 @@ const OPTIONS: [Known; 13] = [
     known("--cid-len", Some("how many bytes an id has, 0 to 20"), &["datagram"]),
     known("--versions", Some("versions in hexadecimal, with commas between them"), &["datagram"]),
     known("--grease", None, &["datagram"]),
-    known("--side", Some("client or server"), &["params"]),
+    known("--side", Some("client or server"), &["params", "capture"]),
     known("--largest", Some("the largest packet number that was received"), &["number"]),
+    known("--keylog", Some("a key log file"), &["capture"]),
+    known("--qlog", Some("a folder"), &["capture"]),
+    known("--connection", Some("the number of a connection"), &["capture"]),
+    known("--number", Some("a packet number, or a range of them"), &["capture"]),
+    known("--frame", Some("the name of a frame"), &["capture"]),
+    known("--rejected", None, &["capture"]),
 ];
 
 const WHEN: [(&str, When); 3] = [("always", When::Always), ("never", When::Never), ("auto", When::Auto)];
@@ -119,6 +132,9 @@ struct Options {
     versions: Option<Vec<u32>>,
     side: Option<Side>,
     largest: Option<u64>,
+    keylogs: Vec<OsString>,
+    qlog: Option<OsString>,
+    filter: Filter,
     // Those that not all modes accept.
     of_modes: Vec<&'static Known>,
 }
@@ -130,7 +146,10 @@ pub fn parse(words: impl Iterator<Item = OsString>) -> Result<Call, String> {
     while let Some(word) = words.next() {
         let text = word.to_str().unwrap_or_default();
         match text {
-            "--help" | "-h" if !only_files => return Ok(Call::Print(HELP.into())),
+            "--help" | "-h" if !only_files => {
+                let is_capture = mode.is_some_and(|mode: OsString| mode == "capture");
+                return Ok(Call::Print(if is_capture { CAPTURE } else { HELP }.into()));
+            }
             "--version" | "-V" if !only_files => {
                 return Ok(Call::Print(concat!("quic-wire ", env!("CARGO_PKG_VERSION"), "\n").into()));
             }
@@ -144,6 +163,9 @@ pub fn parse(words: impl Iterator<Item = OsString>) -> Result<Call, String> {
         files.push("-".into());
     }
     let mode = mode.ok_or_else(|| format!("missing MODE: {}", MODES.join(", ")))?;
+    if mode == "capture" {
+        return options.capture(files).map(Call::Capture);
+    }
     let (json, colours, base64) = (options.json, options.colours, options.base64);
     let mode = options.mode(&mode)?;
     let plain = match mode {
@@ -157,7 +179,7 @@ pub fn parse(words: impl Iterator<Item = OsString>) -> Result<Call, String> {
 impl Options {
     fn take(&mut self, word: &str, rest: &mut impl Iterator<Item = OsString>) -> Result<(), String> {
         let (name, given) = match word.split_once('=') {
-            Some((name, value)) => (name, Some(value.to_string())),
+            Some((name, value)) => (name, Some(value.into())),
             None => (word, None),
         };
         let Some(option) = OPTIONS.iter().find(|option| option.name == name) else {
@@ -168,14 +190,17 @@ impl Options {
         }
         let value = match (option.value, given) {
             (None, Some(_)) => return Err(format!("{name} takes no value")),
-            (None, None) => String::new(),
+            (None, None) => OsString::new(),
             (Some(_), Some(value)) => value,
-            (Some(what), None) => rest
-                .next()
-                .and_then(|word| word.into_string().ok())
-                .ok_or_else(|| format!("{name} needs a value: {what}"))?,
+            (Some(what), None) => rest.next().ok_or_else(|| format!("{name} needs a value: {what}"))?,
         };
-        self.set(option, &value)
+        match (name, value.to_str()) {
+            ("--keylog", _) => self.keylogs.push(value),
+            ("--qlog", _) => self.qlog = Some(value),
+            (_, Some(value)) => self.set(option, value)?,
+            (_, None) => return Err(format!("{name} needs a value: {}", option.value.unwrap_or_default())),
+        }
+        Ok(())
     }
 
     fn set(&mut self, option: &Known, value: &str) -> Result<(), String> {
@@ -190,17 +215,27 @@ impl Options {
             "--cid-len" => self.cid_len = Some(cid_len(value)?),
             "--versions" => self.versions = Some(versions(value)?),
             "--side" => self.side = Some(choice(option, value, &SIDES)?),
+            "--connection" => self.filter.connections.push(connection(value)?),
+            "--number" => self.filter.numbers.push(numbers(value)?),
+            "--frame" => self.filter.frames.extend(frames(value)?),
+            "--rejected" => self.filter.rejected = true,
             _ => self.largest = Some(largest(value)?),
         }
         Ok(())
     }
 
+    // Whether a mode accepts all of them.
+    fn check_for(&self, mode: &str) -> Result<(), String> {
+        let other = self.of_modes.iter().find(|option| !option.modes.contains(&mode));
+        match other.filter(|_| MODES.contains(&mode)) {
+            Some(other) => Err(format!("{} is an option of {}, not of {mode}", other.name, other.modes.join(", "))),
+            None => Ok(()),
+        }
+    }
+
     fn mode(self, name: &OsStr) -> Result<Mode, String> {
         let text = &*name.to_string_lossy();
-        let other = self.of_modes.iter().find(|option| !option.modes.contains(&text));
-        if let Some(other) = other.filter(|_| MODES.contains(&text)) {
-            return Err(format!("{} is an option of {}, not of {text}", other.name, other.modes.join(", ")));
-        }
+        self.check_for(text)?;
         let reading = self.reading()?;
         Ok(match text {
             "frames" if self.strict => Mode::Frames(Rules { short_types: true, ..reading.rules() }),

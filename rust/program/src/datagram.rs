@@ -132,6 +132,13 @@ fn names(kind: HeaderKind) -> (&'static str, &'static str) {
     }
 }
 
+/// What is shown of a header, without offsets.
+#[cfg(feature = "capture")]
+pub fn shown<'a>(places: &HeaderPlaces, packet: &'a [u8]) -> Vec<Field<'a>> {
+    let fields = fields(places, packet, 0).1.into_iter();
+    fields.filter(|(name, _)| !matches!(*name, "token_at" | "number_at" | "len")).collect()
+}
+
 fn fields<'a>(places: &HeaderPlaces, packet: &'a [u8], begin: usize) -> (&'static str, Vec<Field<'a>>) {
     let (name, of_rfc) = names(places.kind());
     let shown = HEADERS.iter().find(|row| row.name == of_rfc).map_or(&[][..], |row| row.shown);

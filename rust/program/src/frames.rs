@@ -63,6 +63,18 @@ fn padding(mut run: &[u8]) -> u64 {
     count
 }
 
+/// The name of the frame in the bytes, its type, and what is shown of it; a run of PADDING is one. Nothing is shown of
+/// bytes that aren't a frame.
+#[cfg(feature = "capture")]
+pub fn named(bytes: &[u8]) -> (String, u64, Vec<Field<'_>>) {
+    let raw_type = varint::read(bytes).map_or(0, |(ty, _)| ty);
+    match Iter::new(bytes).ok().and_then(|mut frames| frames.next()) {
+        Some(Ok(Frame::Padding)) => ("PADDING".into(), 0, vec![("count", Number(padding(bytes)))]),
+        Some(Ok(frame)) => (frame.ty().to_string(), raw_type, fields(&frame, bytes, raw_type)),
+        _ => (String::new(), raw_type, vec![]),
+    }
+}
+
 // What is shown of a frame, by its row.
 fn fields<'a>(frame: &Frame<'a>, bytes: &'a [u8], ty: u64) -> Vec<Field<'a>> {
     let read = fields::of_frame(bytes, Rules::default());

@@ -1,6 +1,6 @@
 //! What `--help` prints.
 
-pub const USAGE: &str = "usage: quic-wire frames|canon|datagram|params|number|ranges [OPTION..] [FILE..]";
+pub const USAGE: &str = "usage: quic-wire frames|canon|datagram|params|number|ranges|capture [OPTION..] [FILE..]";
 
 pub const HELP: &str = "\
 Decode QUIC v1 and v2 frames, packets and transport parameters, and print every field.
@@ -14,6 +14,9 @@ MODE says what a line is:
   params      a list of transport parameters
   number      varints or, with --largest, a truncated packet number
   ranges      packet numbers in decimal, such as 1-3 7 9: print the set of them, and an ACK of it
+or what a FILE is:
+  capture     a capture file, pcap or pcapng: print its QUIC packets, and the frames of those that there are keys for
+              (`quic-wire capture --help` has its options)
 
 Output:
   1: 0..2 PADDING count=1    line 1, bytes 0 and 1: the frame and its fields
@@ -58,4 +61,43 @@ options:
 
 Exit status: 0 all lines were read, 1 an error was printed, 2 usage error, 3 reading or writing failed, or a line
 doesn't fit into memory. If a file can't be read, the others are still read.
+";
+
+pub const CAPTURE: &str = "\
+Follow the QUIC v1 and v2 connections of captures, open their packets, and print every field of their frames.
+
+usage: quic-wire capture [OPTION..] [FILE..]
+
+FILE is a capture, pcap or pcapng, also compressed by gzip. Without FILE, and for -, read standard input. Initial
+packets need no secrets. The others are opened with the secrets of key logs and of a pcapng file itself.
+
+Output:
+  12: 0.027150 10.0.0.2:443 > 10.0.0.1:4433 connection=0 server 1-RTT len=42 number=4
+                             record 12 of the file, seconds since its first datagram, source and destination, the
+                             connection, the sender, and the packet: its type, its length in bytes and its number
+      0..4 ACK ..            a frame of it, in bytes 0 to 3 of its payload. Data are cut after 32 bytes
+      error at 4: ..         what RFC 9000 rejects, from byte 4 of the payload on
+  not opened: ..             why a packet has no frames
+  no packet: ..              what bytes after the packets of a datagram are
+A connection has a summary when it is forgotten, 10 seconds or more after its end, or at the end of the file: what was
+opened of each side, what wasn't and why, and how it ended. The last lines of a file have the same of the whole file.
+With more than one FILE, each line of a packet or summary begins with its name.
+
+options, of which --keylog, --connection, --number and --frame may be repeated:
+  --keylog FILE        read secrets from a key log, such as the file that SSLKEYLOGFILE names. If a capture comes from
+                       standard input, lines that are added meanwhile are read too
+  --connection N       show only connection N, 0 being the first of a file
+  --side client|server show only what this side sent
+  --number N           show only packets with this number or, for 1-3 or 1..4, those with numbers 1 to 3
+  --frame NAME         show only packets with such a frame; NAME is the RFC's, such as ACK or STREAM
+  --rejected           show only what isn't opened, and packets in which RFC 9000 rejects something
+  --json               print a JSON object per line, without colours, with all data
+  --qlog DIR           write the packets to DIR as qlog 0.3 (JSON-SEQ), a file for each connection, and print only the
+                       summaries
+  --color WHEN         always, never or auto: on a terminal, unless NO_COLOR is set or TERM is dumb; default auto
+  -h, --help; -V, --version
+A packet is shown if it fits all options, and one of those that are repeated.
+
+Exit status: 0 all files were read, 2 usage error, 3 reading or writing failed, or a file is cut off. If a file can't be
+read, the others are still read.
 ";

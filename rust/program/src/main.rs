@@ -1,6 +1,8 @@
-//! The program `quic-wire`, which decodes QUIC from lines of hexadecimal or dumps.
+//! The program `quic-wire`, which decodes QUIC from lines of hexadecimal, dumps or captures.
 mod args;
 mod canon;
+#[cfg(feature = "capture")]
+mod capture;
 mod closed;
 mod colour;
 mod datagram;
@@ -19,7 +21,7 @@ mod params;
 mod plain;
 mod ranges;
 
-use args::{Args, Call, Mode};
+use args::{Args, Call, Captures, Mode};
 use datagram::Ids;
 use input::{Piece, Pieces};
 use output::{Look, Output};
@@ -45,6 +47,7 @@ fn main() -> ExitCode {
             ExitCode::from(FAILED)
         }
         Ok(Call::Show(args)) => show(&args),
+        Ok(Call::Capture(args)) => show_captures(&args),
         Ok(Call::Print(text)) => status(io::stdout().write_all(text.as_bytes()), true),
         Err(what) => {
             say(format_args!("{what}\n{}\n--help says more", help::USAGE));
@@ -56,6 +59,17 @@ fn main() -> ExitCode {
 // A line on standard error. If that fails, nothing can be done.
 fn say(what: impl Display) {
     let _ = writeln!(io::stderr(), "quic-wire: {what}");
+}
+
+#[cfg(feature = "capture")]
+fn show_captures(args: &Captures) -> ExitCode {
+    capture::run(args)
+}
+
+#[cfg(not(feature = "capture"))]
+fn show_captures(_: &Captures) -> ExitCode {
+    say("the mode capture isn't in this program, which was built without its feature of this name");
+    ExitCode::from(WRONG_CALL)
 }
 
 fn show(args: &Args) -> ExitCode {

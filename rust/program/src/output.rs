@@ -5,8 +5,7 @@ use crate::colour::{Painted, Part};
 use std::fmt::Display;
 use std::io::{self, Write};
 use std::ops::Range;
-pub use value::{Field, Value, unknown};
-use value::{Json, Quoted};
+pub use value::{Field, Json, Quoted, Value, unknown};
 
 /// How lines look.
 #[derive(Clone, Copy, PartialEq)]

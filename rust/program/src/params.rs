@@ -3,7 +3,9 @@ use crate::fault;
 use crate::formats::{Kind, PARAMETERS};
 use crate::output::{Field, Output, Value, unknown};
 use Value::{Flag, Ids, Number, Unknown, Word};
-use quic_wire::transport_parameters::{Error, PreferredAddress, ReadOptions, TransportParameters, entries, known};
+use quic_wire::transport_parameters::{
+    Error, PreferredAddress, ReadOptions, Refusal, TransportParameters, entries, known,
+};
 use quic_wire::{Side, varint};
 use std::io::{self, Write};
 
@@ -11,17 +13,26 @@ pub fn show(list: &[u8], side: Side, options: ReadOptions, output: &mut Output<i
     let read = match TransportParameters::read_list(side, options, list) {
         Ok(read) => read,
         Err(refusal) => {
-            let what = if refusal.error == Error::IllegalValue { "illegal value" } else { "malformed" };
             let (at, fields) = fault::of_parameters(list, side, options, refusal);
-            return output.error(what, at, &fields);
+            return output.error(what(&refusal), at, &fields);
         }
     };
-    let mut fields = fields(list, &read);
+    output.fields(&all(list, &read), &[])
+}
+
+/// Why a list is rejected.
+pub fn what(refusal: &Refusal) -> &'static str {
+    if refusal.error == Error::IllegalValue { "illegal value" } else { "malformed" }
+}
+
+/// What is shown of a list.
+pub fn all<'a>(list: &'a [u8], read: &TransportParameters) -> Vec<Field<'a>> {
+    let mut fields = fields(list, read);
     if unknown(list).next().is_some() {
         fields.push(("unknown", Unknown(list)));
     }
     fields.push(("order", Ids(list)));
-    output.fields(&fields, &[])
+    fields
 }
 
 // What differs from its default.

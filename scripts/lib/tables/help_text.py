@@ -13,11 +13,7 @@ Made by scripts/tables from {SOURCE} and scripts/lib/tables/help_text.py: change
 # Where Python's program differs: what quic-wire says, and what it says instead.
 OTHERWISE = [
     ("usage: quic-wire MODE", "usage: python -m quic_wire MODE"),
-    (
-        "and an ACK of it\n",
-        "and an ACK of it\nor what a FILE is:\n  capture     a capture file, pcap or pcapng: print its QUIC packets, and the"
-        " frames of those that there are keys for\n",
-    ),
+    ("              (`quic-wire capture --help` has its options)\n", ""),
     (
         "The manual page, INPUT, has the rule. A datagram may begin with its Ethernet, IP and UDP headers,\nas captures",
         "The manual page of quic-wire, INPUT, has the rule. A datagram may begin with its Ethernet, IP and\nUDP headers,"

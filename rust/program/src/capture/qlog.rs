@@ -1,0 +1,341 @@
+//! Traces in qlog 0.3 (draft-ietf-quic-qlog-main-schema-02, draft-ietf-quic-qlog-quic-events-01), as JSON text
+//! sequences (RFC 7464): a file for each connection, as someone between its sides sees it. What the client sends is
+//! sent, what the server sends is received.
+mod frames;
+
+use super::object::Object;
+use super::report::{Form, Packet, Part, Place, Sum, Whole, is_plain};
+use super::screen::Screen;
+use super::words::{self, Said};
+use crate::datagram;
+use crate::formats::PARAMETERS;
+use crate::output::{Field, Value};
+use crate::params;
+use quic_wire::datagram::{HeaderKind, PacketRef};
+use quic_wire::transport_parameters::{PreferredAddress, TransportParameters};
+use quic_wire::{ResetToken, Side};
+use quic_wire_capture::connection::Connection;
+use quic_wire_capture::sink::{Rest, Unopened};
+use std::collections::{HashMap, HashSet};
+use std::ffi::{OsStr, OsString};
+use std::fs::{self, File};
+use std::io::{self, Write};
+use std::path::{Path, PathBuf};
+
+// How much text waits to be written at most, of a trace and of all.
+const MOST_OF_TRACE: usize = 1 << 16;
+const MOST: usize = 1 << 24;
+
+// RFC 7464, section 2.2.
+const RECORD: char = '\x1e';
+
+/// Writes traces to a folder.
+pub struct Qlog<'s> {
+    screen: &'s Screen,
+    folder: PathBuf,
+    /// What the names of a capture's files begin with, and those of all captures.
+    stem: OsString,
+    stems: HashSet<OsString>,
+    traces: HashMap<usize, Trace>,
+    waiting: usize,
+}
+
+/// A file, and the end of it that isn't written yet.
+struct Trace {
+    path: PathBuf,
+    is_there: bool,
+    text: String,
+}
+
+impl Trace {
+    fn write(&mut self) -> io::Result<()> {
+        let is_there = std::mem::replace(&mut self.is_there, true);
+        let mut file = match is_there {
+            true => File::options().append(true).open(&self.path)?,
+            false => File::create(&self.path)?,
+        };
+        file.write_all(self.text.as_bytes())?;
+        self.text.clear();
+        Ok(())
+    }
+}
+
+impl<'s> Qlog<'s> {
+    pub fn new(screen: &'s Screen, folder: &OsStr) -> Self {
+        let folder = PathBuf::from(folder);
+        if let Err(error) = fs::create_dir_all(&folder) {
+            screen.fail(format!("{}: {error}", folder.display()));
+        }
+        let (stem, stems, traces) = (OsString::new(), HashSet::new(), HashMap::new());
+        Qlog { screen, folder, stem, stems, traces, waiting: 0 }
+    }
+
+    // Adds an event to a connection's trace, which begins with the first one.
+    fn event(&mut self, connection: &Connection, time: u64, name: &str, fill: impl FnOnce(&mut Object<'_>)) {
+        let number = connection.number();
+        let trace = self.traces.entry(number).or_insert_with(|| {
+            let mut name = self.stem.clone();
+            name.push(format!(".{number}.sqlog"));
+            Trace { path: self.folder.join(name), is_there: false, text: header(connection, &self.stem) }
+        });
+        let before = trace.text.len();
+        record(&mut trace.text, |object| {
+            object.plain("time", format_args!("{}", Millis(words::after(connection.times().0, time))));
+            object.word("name", name);
+            object.inner("data", fill);
+        });
+        self.waiting += trace.text.len() - before;
+        if trace.text.len() > MOST_OF_TRACE {
+            self.write(number);
+        }
+        if self.waiting > MOST {
+            let numbers: Vec<_> = self.traces.keys().copied().collect();
+            numbers.into_iter().for_each(|number| self.write(number));
+        }
+    }
+
+    fn write(&mut self, number: usize) {
+        let Some(trace) = self.traces.get_mut(&number).filter(|_| !self.screen.has_failed()) else { return };
+        self.waiting = self.waiting.saturating_sub(trace.text.len());
+        if let Err(error) = trace.write() {
+            self.screen.fail(format!("{}: {error}", trace.path.display()));
+        }
+    }
+
+    fn closed(&mut self, connection: &Connection, time: u64, side: Side, said: &Said) {
+        self.event(connection, time, "connectivity:connection_closed", |object| {
+            object.word("owner", owner(side));
+            match said.by_application {
+                true => object.number("application_code", said.code),
+                false => frames::error(object, "connection_code", said),
+            }
+            object.field(&("reason", Value::Text(&said.reason)));
+        });
+    }
+}
+
+// The first record.
+fn header(connection: &Connection, stem: &OsStr) -> String {
+    let mut text = String::new();
+    let id = Value::bytes(connection.first_dcid());
+    record(&mut text, |object| {
+        object.word("qlog_format", "JSON-SEQ");
+        object.word("qlog_version", "0.3");
+        object.inner("trace", |object| {
+            object.inner("common_fields", |object| {
+                object.field(&("ODCID", id.clone()));
+                object.field(&("group_id", id));
+                object.plain("protocol_type", format_args!("[\"QUIC\"]"));
+                object.plain("reference_time", format_args!("{}", Millis(words::after(0, connection.times().0))));
+                object.word("time_format", "relative");
+            });
+            object.inner("vantage_point", |object| {
+                object.word("name", &stem.to_string_lossy());
+                object.word("type", "network");
+                object.word("flow", "client");
+            });
+        });
+    });
+    text
+}
+
+fn record(text: &mut String, fill: impl FnOnce(&mut Object<'_>)) {
+    text.push(RECORD);
+    let mut object = Object::new(text);
+    fill(&mut object);
+    object.end();
+    text.push('\n');
+}
+
+/// Nanoseconds as milliseconds.
+struct Millis(i64);
+
+impl std::fmt::Display for Millis {
+    fn fmt(&self, f: &mut std::fmt::Formatter<'_>) -> std::fmt::Result {
+        let (sign, nanos) = (if self.0 < 0 { "-" } else { "" }, self.0.unsigned_abs());
+        write!(f, "{sign}{}.{:06}", nanos / 1_000_000, nanos % 1_000_000)
+    }
+}
+
+fn owner(side: Side) -> &'static str {
+    match side {
+        Side::Client => "local",
+        Side::Server => "remote",
+    }
+}
+
+fn event_name(side: Side) -> &'static str {
+    match side {
+        Side::Client => "transport:packet_sent",
+        Side::Server => "transport:packet_received",
+    }
+}
+
+fn packet_type(kind: HeaderKind) -> &'static str {
+    match kind {
+        HeaderKind::Initial => "initial",
+        HeaderKind::ZeroRtt => "0RTT",
+        HeaderKind::Handshake => "handshake",
+        HeaderKind::Retry => "retry",
+        HeaderKind::Short => "1RTT",
+        HeaderKind::VersionNegotiate => "version_negotiation",
+    }
+}
+
+fn ids(object: &mut Object<'_>, packet: &PacketRef<'_>) {
+    if !packet.header().is_short() {
+        object.field(&("version", Value::Version(packet.header().version())));
+        object.number("scil", packet.src_cid().len() as u64);
+    }
+    object.number("dcil", packet.dst_cid().len() as u64);
+    if !packet.header().is_short() {
+        object.field(&("scid", Value::bytes(packet.src_cid())));
+    }
+    object.field(&("dcid", Value::bytes(packet.dst_cid())));
+}
+
+// Bytes as qlog has tokens.
+fn token(object: &mut Object<'_>, name: &str, bytes: &[u8]) {
+    object.inner(name, |object| {
+        object.inner("raw", |object| {
+            object.number("length", bytes.len() as u64);
+            object.field(&("data", Value::bytes(bytes)));
+        });
+    });
+}
+
+fn parameters(object: &mut Object<'_>, side: Side, list: &[u8], read: &TransportParameters) {
+    object.word("owner", owner(side));
+    for (name, value) in params::all(list, read) {
+        match (name, &value) {
+            ("stateless_reset_token", Value::Bytes(bytes)) => token(object, name, bytes),
+            ("unknown" | "order", _) => {}
+            _ if name.starts_with("preferred_address") => {}
+            _ => {
+                let named = PARAMETERS.iter().find(|known| known.quinn_proto == name);
+                object.field(&(named.map_or(name, |known| known.name), value));
+            }
+        }
+    }
+    if let Some(address) = &read.preferred_address {
+        object.inner("preferred_address", |object| preferred_address(object, address));
+    }
+}
+
+fn preferred_address(object: &mut Object<'_>, address: &PreferredAddress) {
+    if let Some(v4) = address.address_v4 {
+        object.word("ip_v4", &v4.ip().to_string());
+        object.number("port_v4", v4.port().into());
+    }
+    if let Some(v6) = address.address_v6 {
+        object.word("ip_v6", &v6.ip().to_string());
+        object.number("port_v6", v6.port().into());
+    }
+    object.field(&("connection_id", Value::bytes(&address.connection_id)));
+    let bytes: &ResetToken = &address.stateless_reset_token;
+    token(object, "stateless_reset_token", &bytes[..]);
+}
+
+impl Form for Qlog<'_> {
+    fn begin(&mut self, file: &OsStr) {
+        let name = Path::new(file).file_name().filter(|_| file != "-").unwrap_or(OsStr::new("stdin"));
+        let mut stem = name.to_os_string();
+        for count in 2.. {
+            if self.stems.insert(stem.clone()) {
+                break;
+            }
+            stem = name.to_os_string();
+            stem.push(format!("-{count}"));
+        }
+        self.stem = stem;
+    }
+
+    fn opened(&mut self, place: &Place<'_>, packet: &Packet<'_>) {
+        let Some((connection, side)) = place.owner.filter(|_| packet.again.is_none()) else { return };
+        let (opened, time) = (packet.opened, place.datagram.time);
+        let exponent = connection.end(side).parameters().map_or(3, |list| list.ack_delay_exponent.into_inner());
+        self.event(connection, time, event_name(side), |object| {
+            object.inner("header", |object| {
+                object.word("packet_type", packet_type(opened.kind()));
+                object.number("packet_number", opened.number());
+                object.number("flags", opened.unprotected().first.into());
+                ids(object, opened.packet());
+                if !opened.packet().token().is_empty() {
+                    token(object, "token", opened.packet().token());
+                }
+            });
+            object.inner("raw", |object| {
+                object.number("length", opened.packet().data().len() as u64);
+                object.number("payload_length", opened.payload().len() as u64);
+            });
+            object.number("datagram_id", place.datagram.record);
+            frames::list(object, opened.payload(), packet.parts, exponent);
+        });
+        for part in packet.parts {
+            if let Part::Parameters(list, read) = part {
+                self.event(connection, time, "transport:parameters_set", |object| parameters(object, side, list, read));
+            }
+        }
+        if let Some(said) = packet.close_in(connection, side, place.index) {
+            self.closed(connection, time, side, &said);
+        }
+    }
+
+    fn unopened(&mut self, place: &Place<'_>, packet: &PacketRef<'_>, why: Unopened) {
+        let Some((connection, side)) = place.owner.filter(|_| is_plain(why)) else { return };
+        let (time, is_reset) = (place.datagram.time, why == Unopened::StatelessReset);
+        self.event(connection, time, event_name(side), |object| {
+            object.inner("header", |object| match is_reset {
+                true => object.word("packet_type", "stateless_reset"),
+                false => {
+                    object.word("packet_type", packet_type(packet.header().kind()));
+                    ids(object, packet);
+                }
+            });
+            for (name, value) in datagram::shown(packet.header(), packet.data()) {
+                unprotected(object, (name, value), why);
+            }
+            object.inner("raw", |object| object.number("length", packet.data().len() as u64));
+            object.number("datagram_id", place.datagram.record);
+        });
+        if is_reset {
+            self.event(connection, time, "connectivity:connection_closed", |object| {
+                object.word("owner", owner(side));
+                object.word("trigger", "stateless_reset");
+            });
+        }
+    }
+
+    fn rest(&mut self, _: &Place<'_>, _: usize, _: Rest) {}
+
+    fn connection(&mut self, sum: &Sum<'_>) {
+        self.write(sum.connection.number());
+        self.traces.remove(&sum.connection.number());
+    }
+
+    fn end(&mut self, _: &Whole<'_>) {
+        let numbers: Vec<_> = self.traces.keys().copied().collect();
+        numbers.into_iter().for_each(|number| self.write(number));
+        self.traces.clear();
+    }
+}
+
+// What a Retry or a version negotiation has beside its ids.
+fn unprotected(object: &mut Object<'_>, field: Field<'_>, why: Unopened) {
+    match (why, field) {
+        (Unopened::Retry, ("token", Value::Bytes(bytes))) => token(object, "retry_token", &bytes),
+        (Unopened::VersionNegotiation, ("versions", versions)) => object.field(&("supported_versions", versions)),
+        _ => {}
+    }
+}
+
+#[cfg(test)]
+mod tests {
+    use super::*;
+
+    #[test]
+    fn milliseconds() {
+        assert_eq!(Millis(-1_500_000).to_string(), "-1.500000");
+        assert_eq!(Millis(1_000_000_001).to_string(), "1000.000001");
+    }
+}

@@ -7,6 +7,7 @@ use crate::end::{Closed, End, Outcome, Sent};
 use crate::keylog::{KeyLog, Label};
 use crate::keyring::{Candidate, Keyring, Known, Offloaded};
 use crate::opened::{Opened, Reset, Retried, id_of, space_and_type};
+use crate::search::{Found, Source};
 use crate::sink::{Ended, Event, Unopened};
 use crate::tls::Said;
 use quic_wire::datagram::{HeaderKind, PacketRef};
@@ -37,6 +38,9 @@ pub struct Connection {
     reset: Option<Side>,
     begun: u64,
     last: u64,
+    began_before: bool,
+    /// Whether a packet with keys of the key log was opened.
+    pub(crate) is_named: bool,
     keys: Keyring,
 }
 
@@ -52,11 +56,34 @@ impl Connection {
         if packet.header().kind() != HeaderKind::Initial {
             return None;
         }
-        let first_dcid = id_of(packet.dst_cid());
-        let mut connection = Connection {
+        let mut connection = Connection::new(number, time, packet.header().version(), id_of(packet.dst_cid()));
+        let opened = connection.open(packet, Side::Client, keylog, buffer)?;
+        Some((connection, opened))
+    }
+
+    /// A connection that began before the capture is known by one of its packets.
+    pub(crate) fn continued<'a>(
+        number: usize,
+        time: u64,
+        (packet, found): (&PacketRef<'a>, Found),
+        keylog: &KeyLog,
+        buffer: &'a mut Vec<u8>,
+    ) -> Option<(Connection, Opened<'a>)> {
+        let Source { random, suite, version, label } = *found.source();
+        let mut connection = Connection::new(number, time, version, ConnectionId::default());
+        connection.began_before = true;
+        connection.random = Some(random);
+        connection.suite = Some(suite.number());
+        connection.adopt(packet, found);
+        let opened = connection.open(packet, label.sender(), keylog, buffer)?;
+        Some((connection, opened))
+    }
+
+    fn new(number: usize, time: u64, version: u32, first_dcid: ConnectionId) -> Connection {
+        Connection {
             number,
             ends: Default::default(),
-            version: packet.header().version(),
+            version,
             first_dcid,
             retry_id: None,
             random: None,
@@ -64,10 +91,23 @@ impl Connection {
             reset: None,
             begun: time,
             last: time,
+            began_before: false,
+            is_named: false,
             keys: Keyring::new(first_dcid),
-        };
-        let opened = connection.open(packet, Side::Client, keylog, buffer)?;
-        Some((connection, opened))
+        }
+    }
+
+    /// Takes the keys and the number of a packet that were found.
+    pub(crate) fn adopt(&mut self, packet: &PacketRef<'_>, found: Found) {
+        if let Some((space, _)) = space_and_type(packet.header().kind()) {
+            self.ends[found.source().label.sender() as usize].expect(space, found.number());
+        }
+        self.keys.adopt(found);
+    }
+
+    /// Whether no 1-RTT packet of a side was opened.
+    pub(crate) fn lacks_keys(&self, sender: Side) -> bool {
+        self.keys.lacks(sender)
     }
 
     /// Its number among the connections of the capture, from 0 on, in the order in which they began.
@@ -85,7 +125,14 @@ impl Connection {
         self.version
     }
 
-    /// The id to which the client sent its first Initial packet.
+    /// Whether it began before the capture: its client's first Initial packet wasn't captured, and its keys were found by
+    /// trying the secrets of the key log. [`Connection::suite`] is then the one whose keys open its packets.
+    pub fn began_before(&self) -> bool {
+        self.began_before
+    }
+
+    /// The id to which the client sent its first Initial packet; without bytes if the connection began before the
+    /// capture.
     pub fn first_dcid(&self) -> &ConnectionId {
         &self.first_dcid
     }
@@ -139,10 +186,16 @@ impl Connection {
         buffer: &'a mut Vec<u8>,
     ) -> Option<Opened<'a>> {
         let (space, _) = space_and_type(packet.header().kind())?;
-        let expected = self.end(sender).expected(space);
+        let (expected, also) = (self.end(sender).expected(space), self.end(sender).also_expected(space));
         let Connection { random, suite, version, keys, .. } = self;
         let known = Known { random: random.as_ref(), suite: *suite, version: *version, keylog };
-        keys.open(Candidate { packet: *packet, sender, expected }, &known, buffer)
+        let mut candidate = Candidate { packet: *packet, sender, expected };
+        if let Some(also) = also {
+            if keys.open(candidate, &known, buffer).is_none() {
+                candidate.expected = also;
+            }
+        }
+        keys.open(candidate, &known, buffer)
     }
 
     /// As [`Keyring::segment_len`].
@@ -152,10 +205,12 @@ impl Connection {
         keylog: &KeyLog,
         buffer: &mut Vec<u8>,
     ) -> Option<usize> {
-        let expected = self.end(datagram.sender).expected(SpaceId::Data);
+        let end = self.end(datagram.sender);
+        let numbers = [Some(end.expected(SpaceId::Data)), end.also_expected(SpaceId::Data)];
         let Connection { random, suite, version, keys, .. } = self;
         let known = Known { random: random.as_ref(), suite: *suite, version: *version, keylog };
-        keys.segment_len(datagram, expected, &known, buffer)
+        let mut numbers = numbers.into_iter().flatten();
+        numbers.find_map(|expected| keys.segment_len(datagram, expected, &known, buffer))
     }
 
     /// Why a packet isn't opened.
@@ -166,6 +221,7 @@ impl Connection {
             (HeaderKind::Handshake, Side::Server) => Label::ServerHandshake,
             (HeaderKind::Short, Side::Client) => Label::ClientTraffic,
             (HeaderKind::Short, Side::Server) => Label::ServerTraffic,
+            _ if self.began_before => return Unopened::NoFirstId,
             _ => return Unopened::WrongTag,
         };
         match self.random.map(|random| keylog.secret(&random, label)) {
@@ -178,7 +234,7 @@ impl Connection {
 
     /// Whether a Retry can still come: nothing else of the server was opened (RFC 9000, section 17.2.5.2).
     pub(crate) fn may_retry(&self) -> bool {
-        self.retry_id.is_none() && self.end(Side::Server).scid.is_none()
+        !self.began_before && self.retry_id.is_none() && self.end(Side::Server).scid.is_none()
     }
 
     /// Takes a Retry.
@@ -223,8 +279,11 @@ impl Connection {
 
     fn take_header(&mut self, opened: &Opened<'_>, sent: Sent, tell: &mut Tell<'_>) {
         let (packet, sender) = (opened.packet(), opened.sender());
+        self.ends[sender as usize].add_sent(sent);
+        if self.began_before {
+            self.take_dcid(opened, tell);
+        }
         let end = &mut self.ends[sender as usize];
-        end.add_sent(sent);
         if opened.kind() == HeaderKind::Short {
             return;
         }
@@ -239,6 +298,19 @@ impl Connection {
         let is_first = self.end(Side::Server).scid.is_none();
         if is_first || sender == Side::Server || opened.kind() == HeaderKind::Handshake {
             self.version = packet.header().version();
+        }
+    }
+
+    // The ids of a connection that began before the capture are known by packets to them.
+    fn take_dcid(&mut self, opened: &Opened<'_>, tell: &mut Tell<'_>) {
+        let (id, side) = (id_of(opened.packet().dst_cid()), !opened.sender());
+        let end = &mut self.ends[side as usize];
+        end.scid.get_or_insert(id);
+        if opened.kind() == HeaderKind::Handshake {
+            end.add_id(0, id, None);
+        }
+        if end.last_dcid.replace(id) != Some(id) {
+            tell(self, Event::NewId(id, side));
         }
     }
 

@@ -52,6 +52,8 @@ struct Space {
     lost: BTreeMap<u64, Sent>,
     largest: Option<u64>,
     acknowledged: Option<u64>,
+    /// A number that is near to the next, as an ACK or a search has said it.
+    told: Option<u64>,
 }
 
 /// What an acknowledgment says of a packet.
@@ -70,10 +72,13 @@ pub struct End {
     pub(crate) parameters: Option<TransportParameters>,
     pub(crate) closed: Option<Closed>,
     pub(crate) has_handshake: bool,
+    /// The id of the last packet to it, if the connection began before the capture.
+    pub(crate) last_dcid: Option<ConnectionId>,
 }
 
 impl End {
-    /// The source id of its first packet that was opened.
+    /// The source id of its first packet that was opened. If the connection began before the capture, it may be the id
+    /// of the first packet to it that was opened.
     pub fn first_scid(&self) -> Option<&ConnectionId> {
         self.scid.as_ref()
     }
@@ -123,6 +128,17 @@ impl End {
         self.largest(space).map_or(0, |number| number + 1)
     }
 
+    /// Another number for that, if its peer has acknowledged more than is known, or if the connection began before the
+    /// capture.
+    pub(crate) fn also_expected(&self, space: SpaceId) -> Option<u64> {
+        self.spaces[space as usize].told.filter(|told| *told > self.expected(space))
+    }
+
+    pub(crate) fn expect(&mut self, space: SpaceId, number: u64) {
+        let told = &mut self.spaces[space as usize].told;
+        *told = (*told).max(Some(number));
+    }
+
     pub(crate) fn add_sent(&mut self, sent: Sent) {
         let space = &mut self.spaces[sent.space as usize];
         space.sent.insert(sent.number, sent);
@@ -158,6 +174,7 @@ impl End {
 
     /// Takes an ACK of its peer, and returns what that says of packets.
     pub(crate) fn take_ack(&mut self, space: SpaceId, ack: &Ack<'_>) -> Vec<Outcome> {
+        self.expect(space, ack.largest().saturating_add(1));
         let space = &mut self.spaces[space as usize];
         let largest = space.largest.map(|sent| sent.min(ack.largest()));
         space.acknowledged = space.acknowledged.max(largest);

@@ -1,5 +1,6 @@
 //! Key logs, as browsers and TLS libraries write them (SSLKEYLOGFILE).
 
+use quic_wire::Side;
 use std::collections::HashMap;
 
 // The connections whose secrets are kept at most. Lines of further ones are counted as skipped.
@@ -21,6 +22,16 @@ pub enum Label {
     ClientTraffic,
     /// `SERVER_TRAFFIC_SECRET_0`, the same of the server.
     ServerTraffic,
+}
+
+impl Label {
+    /// The side whose packets have keys of the secret.
+    pub fn sender(self) -> Side {
+        match self {
+            Label::ClientEarly | Label::ClientHandshake | Label::ClientTraffic => Side::Client,
+            Label::ServerHandshake | Label::ServerTraffic => Side::Server,
+        }
+    }
 }
 
 const LABELS: [(&[u8], Label); 5] = [
@@ -50,6 +61,8 @@ struct Secret {
 #[derive(Default)]
 pub struct KeyLog {
     secrets: HashMap<[u8; 32], [Option<Secret>; LABELS.len()]>,
+    // The connections in the order in which they came.
+    randoms: Vec<[u8; 32]>,
     skipped: u64,
 }
 
@@ -72,6 +85,16 @@ impl KeyLog {
     /// Whether it has no secrets.
     pub fn is_empty(&self) -> bool {
         self.secrets.is_empty()
+    }
+
+    /// How many connections it has secrets of.
+    pub fn len(&self) -> usize {
+        self.randoms.len()
+    }
+
+    /// The random bytes of the connections that it has secrets of, in the order in which they came.
+    pub fn randoms(&self) -> impl DoubleEndedIterator<Item = &[u8; 32]> {
+        self.randoms.iter()
     }
 
     /// Whether it has a secret of a connection.
@@ -101,9 +124,12 @@ impl KeyLog {
         };
         let mut bytes = [0; 48];
         let (Some(random), Some(len)) = (unhex_all(random), unhex(secret, &mut bytes)) else { return false };
-        let has_room = self.secrets.len() < MOST_CONNECTIONS || self.secrets.contains_key(&random);
-        if !has_room || !matches!(len, 32 | 48) {
+        let is_new = !self.secrets.contains_key(&random);
+        if is_new && self.secrets.len() >= MOST_CONNECTIONS || !matches!(len, 32 | 48) {
             return false;
+        }
+        if is_new {
+            self.randoms.push(random);
         }
         self.secrets.entry(random).or_default()[*label as usize] = Some(Secret { bytes, len });
         true

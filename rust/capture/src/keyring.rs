@@ -4,6 +4,7 @@ use crate::ciphers::{Suite, TAG_LEN};
 use crate::keylog::{KeyLog, Label};
 use crate::keys::{PacketKeys, VERSIONS};
 use crate::opened::{Opened, Retried, Unmasked};
+use crate::search::Found;
 use quic_wire::datagram::{HeaderChecks, HeaderKind, PacketRef, Packets};
 use quic_wire::{ConnectionId, Side};
 
@@ -45,6 +46,11 @@ impl<'a> Candidate<'a> {
 
     fn is_opened_by(self, keys: &PacketKeys, buffer: &mut Vec<u8>) -> bool {
         self.open(keys, buffer).is_some()
+    }
+
+    /// The packet's number if keys open it.
+    pub(crate) fn number_by(self, keys: &PacketKeys, buffer: &mut Vec<u8>) -> Option<u64> {
+        self.open(keys, buffer).map(|opened| opened.number())
     }
 }
 
@@ -110,6 +116,21 @@ impl Keyring {
     /// After a Retry, Initial packets have keys of its id, except those of the client that came late.
     pub(crate) fn retry(&mut self, retried: &Retried) {
         self.retry_id = Some(retried.id());
+    }
+
+    /// Takes the keys of a connection that began before the capture, as a packet of it has shown them.
+    pub(crate) fn adopt(&mut self, found: Found) {
+        let label = found.source().label;
+        let sender = label.sender();
+        if matches!(label, Label::ClientTraffic | Label::ServerTraffic) && self.lacks(sender) {
+            let (keys, bit) = found.into_phase();
+            self.phases[sender as usize] = Some(Box::new(Phase { bit, ..Phase::new(keys) }));
+        }
+    }
+
+    /// Whether no 1-RTT packet of a side was opened.
+    pub(crate) fn lacks(&self, sender: Side) -> bool {
+        self.phases[sender as usize].is_none()
     }
 
     /// Opens a packet, if there are keys for it.

@@ -58,5 +58,6 @@ mod keyring;
 pub mod keys;
 mod net;
 pub mod opened;
+mod search;
 pub mod sink;
 mod tls;

@@ -84,7 +84,7 @@ pub enum Unopened {
     StatelessReset,
     /// The capture doesn't have all bytes of it.
     NotCaptured,
-    /// No connection is known by its id or its addresses.
+    /// No connection is known by its id or its addresses, and no secret of the key log was found for it.
     NoConnection,
     /// A 0-RTT packet whose connection didn't begin.
     NoInitial,
@@ -96,6 +96,8 @@ pub enum Unopened {
     UnknownSuite,
     /// No key of the connection opens it.
     WrongTag,
+    /// An Initial packet of a connection that began before the capture: its keys follow from the client's first id.
+    NoFirstId,
 }
 
 impl fmt::Display for Unopened {
@@ -112,6 +114,7 @@ impl fmt::Display for Unopened {
             Unopened::NoSecret => "the key log has no secret for it",
             Unopened::UnknownSuite => "its cipher suite isn't known",
             Unopened::WrongTag => "no key of the connection opens it",
+            Unopened::NoFirstId => "its keys follow from the client's first id, which came before the capture",
         })
     }
 }

@@ -112,9 +112,10 @@ fn early_data() {
         all.extend(later.clone());
         all_opened(&made, &all, 8);
     }
-    let (_, rows) = rows_of(&[&made], &early);
+    let other = Made::new(2);
+    let (_, rows) = rows_of(&[&other], &early);
     assert_eq!(rows.unopened, [Unopened::NoInitial; 3]);
-    let (_, rows) = rows_of(&[&made], &vec![early[0].clone(); 100]);
+    let (_, rows) = rows_of(&[&other], &vec![early[0].clone(); 100]);
     assert_eq!(rows.unopened, [Unopened::NoInitial; 100]);
 }
 
@@ -257,8 +258,8 @@ fn reasons() {
     all.extend([made.send(Client, Short, PING), made.send(Server, Short, PING)]);
     let why = |keys: &[u8], all: &[Kept]| follow_with(keys, all).1.unopened;
     let keys = made.key_log();
-    // It began before the capture.
-    assert_eq!(why(keys.as_bytes(), &all[1..]), [Unopened::NoConnection; 5]);
+    // It began before the capture, and the key log is another's.
+    assert_eq!(why(Made::new(2).key_log().as_bytes(), &all[1..]), [Unopened::NoConnection; 5]);
     assert_eq!(why(b"", &all), [Unopened::NoSecret; 4]);
     // The ClientHello isn't whole.
     let mut other = Made::new(1);

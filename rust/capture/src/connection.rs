@@ -3,16 +3,17 @@
 
 use crate::capture::Datagram;
 use crate::ciphers::Suite;
-use crate::end::{Closed, End, Outcome, Sent};
+use crate::end::{Closed, End, MOST_PACKETS, Sent};
 use crate::keylog::{KeyLog, Label};
 use crate::keyring::{Candidate, Keyring, Known, Offloaded};
 use crate::opened::{Opened, Reset, Retried, id_of, space_and_type};
+use crate::recovery::Outcome;
 use crate::search::{Found, Source};
 use crate::sink::{Ended, Event, Unopened};
 use crate::tls::Said;
 use quic_wire::datagram::{HeaderKind, PacketRef};
 use quic_wire::fields;
-use quic_wire::frame::{Close, Frame, Iter, Rules};
+use quic_wire::frame::{Ack, Close, Frame, Iter, Rules};
 use quic_wire::ids::SpaceId;
 use quic_wire::permitted::permits;
 use quic_wire::transport_parameters::{ReadOptions, TransportParameters};
@@ -41,6 +42,10 @@ pub struct Connection {
     began_before: bool,
     /// Whether a packet with keys of the key log was opened.
     pub(crate) is_named: bool,
+    /// How many packets of each number space are remembered.
+    pub(crate) most_packets: usize,
+    /// Whether the handshake is confirmed (RFC 9001, section 4.1.2).
+    is_confirmed: bool,
     keys: Keyring,
 }
 
@@ -72,6 +77,7 @@ impl Connection {
         let Source { random, suite, version, label } = *found.source();
         let mut connection = Connection::new(number, time, version, ConnectionId::default());
         connection.began_before = true;
+        connection.is_confirmed = packet.header().is_short();
         connection.random = Some(random);
         connection.suite = Some(suite.number());
         connection.adopt(packet, found);
@@ -93,6 +99,8 @@ impl Connection {
             last: time,
             began_before: false,
             is_named: false,
+            most_packets: MOST_PACKETS,
+            is_confirmed: false,
             keys: Keyring::new(first_dcid),
         }
     }
@@ -261,7 +269,8 @@ impl Connection {
     ) -> bool {
         let (sender, space, number) = (opened.sender(), opened.space(), opened.number());
         let Datagram { record, time, .. } = *datagram;
-        let sent = Sent { space, number, record, time, index, tag: opened.tag() };
+        let (tag, acknowledged, lost) = (opened.tag(), None, None);
+        let sent = Sent { sender, space, number, record, time, index, tag, acknowledged, lost };
         if self.end(sender).was_sent(space, number) {
             let before = self.end(sender).sent(space, number).copied();
             tell(self, Event::Again(opened, before.as_ref()));
@@ -269,9 +278,13 @@ impl Connection {
         }
         tell(self, Event::Packet(opened));
         self.last = self.last.max(time);
+        for side in [Side::Client, Side::Server] {
+            let outcomes = self.ends[side as usize].recovery.expire(time);
+            self.tell_outcomes(outcomes, tell);
+        }
         self.take_header(opened, sent, tell);
         if self.take_payload(opened, &sent, tell) {
-            self.ends[sender as usize].add_waiting(sent);
+            self.ends[sender as usize].add_waiting(&sent);
         }
         tell(self, Event::Done(opened));
         true
@@ -279,7 +292,7 @@ impl Connection {
 
     fn take_header(&mut self, opened: &Opened<'_>, sent: Sent, tell: &mut Tell<'_>) {
         let (packet, sender) = (opened.packet(), opened.sender());
-        self.ends[sender as usize].add_sent(sent);
+        self.ends[sender as usize].add_sent(sent, self.most_packets);
         if self.began_before {
             self.take_dcid(opened, tell);
         }
@@ -359,16 +372,10 @@ impl Connection {
         let (sender, space) = (opened.sender(), opened.space());
         match frame {
             Frame::Ack(ack) => {
-                for outcome in self.ends[!sender as usize].take_ack(space, ack) {
-                    tell(
-                        self,
-                        match outcome {
-                            Outcome::Acknowledged { sent, was_lost } => Event::Acknowledged { sent, was_lost },
-                            Outcome::Lost(sent) => Event::Lost(sent),
-                        },
-                    );
-                }
+                let outcomes = self.take_ack(ack, sent, sender);
+                self.tell_outcomes(outcomes, tell);
             }
+            Frame::HandshakeDone => self.is_confirmed = true,
             Frame::Crypto(crypto) => {
                 let streams = &mut self.ends[sender as usize].crypto;
                 let said = streams.get_mut(space as usize).and_then(|one| one.take(crypto.offset, crypto.bytes));
@@ -382,6 +389,32 @@ impl Connection {
             }
             Frame::Close(close) => self.take_close(close, sent, sender),
             _ => {}
+        }
+    }
+
+    // Takes the ACK that a side sent in a packet. Its delay counts as RFC 9002, section 5.3, says.
+    fn take_ack(&mut self, ack: &Ack<'_>, sent: &Sent, sender: Side) -> Vec<Outcome> {
+        let parameters = self.end(sender).parameters();
+        let exponent = parameters.map_or(3, |list| list.ack_delay_exponent.into_inner().min(20));
+        let most = parameters.map_or(25, |list| list.max_ack_delay.into_inner()).saturating_mul(1_000_000);
+        let delay = ack.delay().saturating_mul(1 << exponent).saturating_mul(1000);
+        let delay = match sent.space {
+            SpaceId::Initial => 0,
+            _ if self.is_confirmed => delay.min(most),
+            _ => delay,
+        };
+        let end = &mut self.ends[!sender as usize];
+        end.expect(sent.space, ack.largest().saturating_add(1));
+        end.recovery.take_ack(sent.space, ack, sent.time, delay)
+    }
+
+    fn tell_outcomes(&self, outcomes: Vec<Outcome>, tell: &mut Tell<'_>) {
+        for outcome in outcomes {
+            let event = match outcome {
+                Outcome::Acknowledged(sent) => Event::Acknowledged { sent, was_lost: sent.lost.is_some() },
+                Outcome::Lost(sent) => Event::Lost(sent),
+            };
+            tell(self, event);
         }
     }
 

@@ -55,14 +55,15 @@ pub enum Event<'a> {
         /// What they are, or why they are rejected.
         read: Result<&'a TransportParameters, &'a Refusal>,
     },
-    /// A packet of the peer was acknowledged.
+    /// A packet of the peer was acknowledged, for the first time.
     Acknowledged {
-        /// It.
+        /// It, with the time of its acknowledgment.
         sent: Sent,
-        /// Whether it counted as lost before.
+        /// Whether it counted as lost before: it wasn't.
         was_lost: bool,
     },
-    /// A packet of the peer counts as lost (RFC 9002, section 6.1.1).
+    /// A packet of either side counts as lost; [`Sent::lost`] says when and why (RFC 9002, section 6.1). If that was
+    /// after the last acknowledgment, this comes with the next packet of the connection.
     Lost(Sent),
     /// An id of a side.
     NewId(ConnectionId, Side),

@@ -316,20 +316,6 @@ fn forbidden_frames() {
 }
 
 #[test]
-fn acknowledged_and_lost() {
-    let mut made = Made::new(1);
-    let mut all = made.handshake();
-    all.extend((0..6).map(|_| made.send(Client, Short, PING)));
-    // ACKs of 5, and of 5 to 1.
-    all.extend([made.send(Server, Short, &[2, 5, 0, 0, 0]), made.send(Server, Short, &[2, 5, 0, 0, 4])]);
-    let rows = all_opened(&made, &all, 12);
-    let text = |row: usize| &rows.rows[row].text[..];
-    assert!(text(10).contains("acknowledged 5 false, lost 0, lost 1, lost 2"), "{}", text(10));
-    let again = "acknowledged 3 false, acknowledged 4 false, acknowledged 1 true, acknowledged 2 true";
-    assert!(text(11).contains(again), "{}", text(11));
-}
-
-#[test]
 fn packets_that_come_again() {
     let mut made = Made::new(1);
     let mut all = made.handshake();

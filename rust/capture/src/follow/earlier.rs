@@ -78,8 +78,9 @@ impl Strays {
     fn enter(&mut self, path: Path, log_len: usize) -> usize {
         if !self.paths.contains_key(&path) {
             self.order.push_back(path);
-            if let Some(oldest) = Some(MOST_PATHS).filter(|most| self.order.len() > *most).and(self.order.pop_front()) {
-                self.paths.remove(&oldest);
+            if self.order.len() > MOST_PATHS {
+                let oldest = self.order.pop_front();
+                oldest.and_then(|oldest| self.paths.remove(&oldest));
             }
         }
         let stray = self.paths.entry(path).or_default();

@@ -133,8 +133,8 @@ impl Connection {
         self.version
     }
 
-    /// Whether it began before the capture: its client's first Initial packet wasn't captured, and its keys were found by
-    /// trying the secrets of the key log. [`Connection::suite`] is then the one whose keys open its packets.
+    /// Whether it began before the capture: its client's first Initial packet wasn't captured, and its keys were found
+    /// by trying the secrets of the key log. [`Connection::suite`] is then the one whose keys open its packets.
     pub fn began_before(&self) -> bool {
         self.began_before
     }

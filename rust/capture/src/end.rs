@@ -5,7 +5,6 @@ use crate::tls::CryptoStream;
 use quic_wire::ids::SpaceId;
 use quic_wire::transport_parameters::TransportParameters;
 use quic_wire::{ConnectionId, ResetToken};
-use std::collections::BTreeMap;
 
 pub use crate::recovery::{MOST_PACKETS, Sent};
 
@@ -25,7 +24,8 @@ pub struct Closed {
 #[derive(Default)]
 pub struct End {
     pub(crate) scid: Option<ConnectionId>,
-    ids: BTreeMap<u64, (ConnectionId, Option<ResetToken>)>,
+    /// By their sequence numbers.
+    ids: Vec<(u64, ConnectionId, Option<ResetToken>)>,
     pub(crate) recovery: Recovery,
     /// In each space a number that is near to the next, as an ACK or a search has said it.
     told: [Option<u64>; 3],
@@ -46,7 +46,7 @@ impl End {
 
     /// The ids that it gave, with their sequence numbers and reset tokens: at most [`MOST_IDS`].
     pub fn ids(&self) -> impl Iterator<Item = (u64, &ConnectionId, Option<&ResetToken>)> {
-        self.ids.iter().map(|(sequence, (id, token))| (*sequence, id, token.as_ref()))
+        self.ids.iter().map(|(sequence, id, token)| (*sequence, id, token.as_ref()))
     }
 
     /// Its transport parameters, if they could be read.
@@ -117,20 +117,22 @@ impl End {
 
     /// Notes an id. The first one that comes with a sequence number stays.
     pub(crate) fn add_id(&mut self, sequence: u64, id: ConnectionId, token: Option<ResetToken>) {
-        self.ids.entry(sequence).or_insert((id, token));
+        let Err(place) = self.ids.binary_search_by_key(&sequence, |(sequence, ..)| *sequence) else { return };
+        self.ids.reserve_exact(1);
+        self.ids.insert(place, (sequence, id, token));
         if self.ids.len() > MOST_IDS {
-            self.ids.pop_first();
+            self.ids.remove(0);
         }
     }
 
     /// Notes the reset token of the id that a transport parameter has it for.
     pub(crate) fn add_token(&mut self, token: ResetToken) {
-        if let Some((_, unset @ None)) = self.ids.get_mut(&0) {
+        if let Some((0, _, unset @ None)) = self.ids.first_mut() {
             *unset = Some(token);
         }
     }
 
     pub(crate) fn tokens(&self) -> impl Iterator<Item = &ResetToken> {
-        self.ids.values().filter_map(|(_, token)| token.as_ref())
+        self.ids.iter().filter_map(|(_, _, token)| token.as_ref())
     }
 }

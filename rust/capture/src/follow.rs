@@ -2,6 +2,7 @@
 
 use crate::capture::Datagram;
 use crate::connection::Connection;
+use crate::end::MOST_PACKETS;
 use crate::held::Waiting;
 use crate::index::{Index, Owner};
 use crate::keylog::KeyLog;
@@ -21,6 +22,10 @@ mod earlier;
 /// How many connections are followed at once. For a further one others are forgotten, first those without a Handshake
 /// packet that was opened, then those that said nothing for the longest time.
 pub const MOST_CONNECTIONS: usize = 1 << 15;
+
+/// How many packets of each number space are remembered: so many of all connections together, but at least some.
+const MOST_REMEMBERED: usize = 1 << 18;
+const LEAST_REMEMBERED: usize = 32;
 
 // After how many datagrams connections that ended are looked for, at least.
 const SWEEP: usize = 1 << 10;
@@ -95,7 +100,10 @@ impl Follower {
         let Some(first) = datagram.bytes.first() else { return };
         self.counts.datagrams += 1;
         self.sweep(datagram.time, sink);
-        let (owners, id_len) = self.owners(datagram, *first);
+        let (mut owners, mut id_len) = self.owners(datagram, *first);
+        if owners.is_empty() && first & LONG_HEADER_FORM == 0 && may_be_several(datagram) {
+            (owners, id_len) = self.near_offloaded(datagram).unwrap_or((owners, id_len));
+        }
         let size = self.segment_len(datagram, &owners, id_len).unwrap_or(datagram.bytes.len());
         for segment in datagram.bytes.chunks(size) {
             let course = Course { owners: owners.clone(), first_id: None };
@@ -106,7 +114,7 @@ impl Follower {
     /// Ends the capture: 0-RTT packets that still wait are given up.
     pub fn finish(&mut self, sink: &mut dyn Sink) {
         while let Some(held) = self.waiting.pop() {
-            self.give_up(&held, sink);
+            self.give_up(&held, true, sink);
         }
     }
 
@@ -137,7 +145,7 @@ impl Follower {
     // The size of the segments of a datagram that is longer than usual and has several.
     fn segment_len(&mut self, datagram: &Datagram<'_>, owners: &[Owner], id_len: usize) -> Option<usize> {
         let bytes = datagram.bytes;
-        if bytes.len() <= MOST_USUAL || datagram.missing > 0 {
+        if !may_be_several(datagram) {
             return None;
         }
         let short = Packets::with_checks(bytes, id_len, &VERSIONS, CHECKS)
@@ -222,10 +230,12 @@ impl Follower {
         sink: &mut dyn Sink,
     ) -> Option<Owner> {
         let mut buffer = std::mem::take(&mut self.buffer);
+        let most_packets = MOST_REMEMBERED / self.connections.len().max(1);
         let opened_by = owners.iter().copied().find(|(number, sender)| {
             let Follower { connections, keylog, .. } = self;
             let Some(connection) = connections.get_mut(number) else { return false };
             let Some(opened) = connection.open(packet, *sender, keylog, &mut buffer) else { return false };
+            connection.most_packets = most_packets.clamp(LEAST_REMEMBERED, MOST_PACKETS);
             if let Some(ids) = take(connection, &opened, datagram, self.packets, sink) {
                 self.strays.name(connection, opened.kind());
                 self.learn((*number, *sender), datagram, &ids);
@@ -301,7 +311,7 @@ impl Follower {
         };
         if kind == HeaderKind::ZeroRtt && matches!(why, Unopened::NoConnection | Unopened::NoClientHello) {
             for held in self.waiting.push(id_of(packet.dst_cid()), datagram, place.start) {
-                self.give_up(&held, sink);
+                self.give_up(&held, false, sink);
             }
             return;
         }
@@ -411,6 +421,11 @@ fn packet_at<'a>(datagram: &Datagram<'a>, offset: usize, id_len: usize) -> Optio
     Packets::with_checks(datagram.bytes, id_len, &VERSIONS, CHECKS)
         .map_while(Result::ok)
         .find(|packet| packet.place().range().start == offset)
+}
+
+// Whether a network card may cut a datagram into several.
+fn may_be_several(datagram: &Datagram<'_>) -> bool {
+    datagram.bytes.len() > MOST_USUAL && datagram.missing == 0
 }
 
 fn packets_are_over(rest: &[u8]) -> bool {

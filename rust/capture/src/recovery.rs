@@ -1,13 +1,17 @@
-//! Which packets of a side were acknowledged, and which count as lost (RFC 9002, sections 5 and 6.1). Times are those of
-//! the capture: the nearer it was made to the sender, the nearer they are to the sender's.
+//! Which packets of a side were acknowledged, and which count as lost (RFC 9002, sections 5 and 6.1). Times are those
+//! of the capture: the nearer it was made to the sender, the nearer they are to the sender's.
 
 use quic_wire::Side;
 use quic_wire::frame::Ack;
 use quic_wire::ids::SpaceId;
-use std::collections::{BTreeMap, BTreeSet};
+use quic_wire::range_set::ArrayRangeSet;
+use std::collections::{BTreeSet, VecDeque};
 
-/// How many packets of a number space are remembered at most. An older one counts as sent again.
+/// How many packets of a number space are remembered at most.
 pub const MOST_PACKETS: usize = 1 << 14;
+
+/// How many runs of numbers are remembered. A number below them counts as sent before.
+const MOST_RUNS: usize = 1 << 8;
 
 /// A packet counts as lost once one with a number this much greater is acknowledged (RFC 9002, section 6.1.1).
 pub const PACKET_THRESHOLD: u64 = 3;
@@ -100,10 +104,12 @@ pub(crate) enum Outcome {
 /// The packets of a side in a number space.
 #[derive(Default)]
 pub(crate) struct Space {
-    sent: BTreeMap<u64, Sent>,
-    /// Lower numbers were forgotten.
+    /// The last ones, by their numbers.
+    sent: VecDeque<Sent>,
+    /// The numbers that were used, from `floor` on.
+    used: ArrayRangeSet,
     floor: u64,
-    /// Those that weren't acknowledged.
+    /// Those of `sent` that weren't acknowledged.
     open: BTreeSet<u64>,
     /// Of these, those that elicit an acknowledgment and don't count as lost.
     waiting: BTreeSet<u64>,
@@ -114,27 +120,42 @@ pub(crate) struct Space {
 }
 
 impl Space {
+    fn place(&self, number: u64) -> Result<usize, usize> {
+        self.sent.binary_search_by_key(&number, |sent| sent.number)
+    }
+
     /// A packet, if it is remembered.
     pub(crate) fn sent(&self, number: u64) -> Option<&Sent> {
-        self.sent.get(&number)
+        self.place(number).ok().and_then(|place| self.sent.get(place))
+    }
+
+    fn sent_mut(&mut self, number: u64) -> Option<&mut Sent> {
+        self.place(number).ok().and_then(|place| self.sent.get_mut(place))
     }
 
     /// Whether a number may have been used before.
     pub(crate) fn was_sent(&self, number: u64) -> bool {
-        number < self.floor || self.sent.contains_key(&number)
+        number < self.floor || self.used.contains(number)
     }
 
-    /// Adds a packet. Only so many are remembered.
+    /// Adds a packet whose number wasn't used before. Only so many are remembered.
     pub(crate) fn add(&mut self, sent: Sent, most: usize) {
-        self.sent.insert(sent.number, sent);
-        self.open.insert(sent.number);
-        self.largest = self.largest.max(Some(sent.number));
-        while self.sent.len() > most {
-            let Some((number, _)) = self.sent.pop_first() else { return };
-            self.floor = number + 1;
+        while self.sent.len() >= most.max(1) {
+            let Some(Sent { number, .. }) = self.sent.pop_front() else { break };
             self.open.remove(&number);
             self.waiting.remove(&number);
         }
+        if self.sent.capacity() > 4 * most {
+            self.sent.shrink_to(most);
+        }
+        self.used.insert_one(sent.number);
+        if self.used.len() > MOST_RUNS {
+            self.floor = self.used.pop_min().map_or(self.floor, |run| run.end);
+        }
+        self.open.insert(sent.number);
+        self.largest = self.largest.max(Some(sent.number));
+        let place = self.place(sent.number).unwrap_or_else(|place| place);
+        self.sent.insert(place, sent);
     }
 
     /// Notes that a packet elicits an acknowledgment.
@@ -153,7 +174,7 @@ impl Space {
             for number in numbers {
                 self.open.remove(&number);
                 let was_waiting = self.waiting.remove(&number);
-                let Some(sent) = self.sent.get_mut(&number) else { continue };
+                let Some(sent) = self.sent_mut(number) else { continue };
                 sent.acknowledged = Some(now);
                 elicits |= was_waiting || sent.lost.is_some();
                 if number == ack.largest() {
@@ -171,7 +192,7 @@ impl Space {
         let Some(acknowledged) = self.acknowledged else { return };
         let before: Vec<u64> = self.waiting.range(..acknowledged).copied().collect();
         for number in before {
-            let Some(sent) = self.sent.get_mut(&number) else { continue };
+            let Some(sent) = self.sent_mut(number) else { continue };
             let due = sent.time.saturating_add(threshold);
             let by = match acknowledged - number {
                 PACKET_THRESHOLD.. => Threshold::Packets,

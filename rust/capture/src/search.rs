@@ -8,6 +8,7 @@ use crate::keyring::{CHECKS, Candidate};
 use crate::keys::{PacketKeys, VERSIONS, mask_of};
 use crate::opened::Unmasked;
 use quic_wire::datagram::{PacketRef, Packets};
+use std::ops::RangeInclusive;
 
 /// How many bytes the longest id has.
 pub(crate) const MOST_ID: usize = 20;
@@ -104,6 +105,18 @@ impl Front {
     }
 }
 
+/// A packet with a short header whose keys aren't known.
+pub(crate) struct Stray<'a> {
+    /// Its datagram, which has no other packet.
+    pub(crate) datagram: &'a [u8],
+    /// The fronts of those before it on its path.
+    pub(crate) before: &'a [Front],
+    /// A number that its own may be near to.
+    pub(crate) acknowledged: Option<u64>,
+    /// How many bytes its id may have.
+    pub(crate) id_lens: RangeInclusive<usize>,
+}
+
 /// The packet that a datagram has if the ids of its short headers have so many bytes.
 pub(crate) fn short_packet(datagram: &[u8], id_len: usize) -> Option<PacketRef<'_>> {
     let first = Packets::with_checks(datagram, id_len, &VERSIONS, CHECKS).next();
@@ -118,7 +131,7 @@ struct Reading<'a> {
 
 impl<'a> Reading<'a> {
     // If there are packets before, the id of one of them comes again.
-    fn all(front: &'a Front, before: &'a [Front]) -> Vec<Reading<'a>> {
+    fn all(front: &'a Front, before: &'a [Front], id_lens: RangeInclusive<usize>) -> Vec<Reading<'a>> {
         let reading = |id_len| {
             let own = front.with_id_len(id_len)?;
             let same = before.iter().filter_map(|one| one.with_id_len(id_len));
@@ -126,7 +139,7 @@ impl<'a> Reading<'a> {
             let packets: Vec<_> = std::iter::once(own).chain(same).collect();
             (before.is_empty() || packets.len() > 1).then_some(Reading { id_len, packets })
         };
-        (0..=MOST_ID).filter_map(reading).collect()
+        id_lens.filter_map(reading).collect()
     }
 }
 
@@ -147,17 +160,11 @@ pub(crate) struct Search<'a> {
 }
 
 impl Search<'_> {
-    /// Tries keys on a datagram that is a packet with a short header, with the fronts of those before it on its path.
-    /// `acknowledged` is a number that the packet's may be near to.
-    pub(crate) fn short(
-        &mut self,
-        datagram: &[u8],
-        before: &[Front],
-        acknowledged: Option<u64>,
-        sources: impl Iterator<Item = Source>,
-    ) -> Option<Found> {
+    /// Tries keys on a packet with a short header.
+    pub(crate) fn short(&mut self, stray: &Stray<'_>, sources: impl Iterator<Item = Source>) -> Option<Found> {
+        let Stray { datagram, before, acknowledged, ref id_lens } = *stray;
         let front = Front::new(datagram);
-        let mut guesses = self.guesses(&Reading::all(&front, before), sources);
+        let mut guesses = self.guesses(&Reading::all(&front, before, id_lens.clone()), sources);
         guesses.sort_by_key(|guess| std::cmp::Reverse(guess.agreeing));
         guesses.truncate(MOST_GUESSES);
         let count = guesses.len();

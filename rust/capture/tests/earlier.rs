@@ -199,3 +199,39 @@ fn connections_that_ended() {
     let (follower, rows) = rows_of(&made.key_log(), &all);
     assert_eq!((rows.ended.len(), rows.unopened.len(), follower.counts().began_before), (1, 1100, 0));
 }
+
+// A secret comes after more packets than a number of one byte can count.
+#[test]
+fn secrets_that_come_late() {
+    let mut made = Made::new(1);
+    let (mut follower, mut rows) = (Follower::default(), Rows::default());
+    let keys = made.key_log();
+    let (handshake, traffic): (Vec<_>, Vec<_>) = keys.lines().partition(|line| !line.contains("_TRAFFIC_SECRET_0"));
+    follower.keylog.add(handshake.join("\n").as_bytes());
+    made.handshake().iter().for_each(|kept| follower.take(&kept.datagram(), &mut rows));
+    (0..1000).for_each(|_| follower.take(&made.send(Server, Short, PING).datagram(), &mut rows));
+    assert_eq!((rows.opened(0), &rows.unopened[..]), (4, &[Unopened::NoSecret; 1000][..]));
+    follower.keylog.add(traffic.join("\n").as_bytes());
+    (0..3).for_each(|_| follower.take(&made.send(Server, Short, PING).datagram(), &mut rows));
+    assert_eq!((rows.opened(0), follower.counts().connections), (7, 1));
+    assert_eq!(numbers(&rows)[4..], [1000, 1001, 1002]);
+}
+
+// The server's packets are ones that a network card cuts; the client's say which numbers they have.
+#[test]
+fn segmentation_offload() {
+    for ids in [[vec![0xc1; 5], vec![0xd1; 8]], [vec![], vec![]]] {
+        let mut made = begun(Made { ids, ..Made::new(1) }, [5, 1000]);
+        let mut all = vec![made.send(Client, Short, &[2, 0x43, 0xe7, 0, 0, 0])];
+        for _ in 0..2 {
+            let overhead = made.clone().packet(Server, Short, &[0; 100]).len() - 100;
+            let mut packets: Vec<_> =
+                (0..4).flat_map(|_| made.packet(Server, Short, &vec![0; 1200 - overhead])).collect();
+            packets.extend(made.packet(Server, Short, &[0; 50]));
+            all.push(made.datagram(Server, packets));
+        }
+        let expected: Vec<u64> = std::iter::once(5).chain(1000..1010).collect();
+        let follower = all_opened(&made.key_log(), &all, &expected);
+        assert_eq!((follower.counts().offloaded, follower.counts().segments), (2, 10));
+    }
+}

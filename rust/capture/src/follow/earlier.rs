@@ -6,13 +6,14 @@ use crate::connection::Connection;
 use crate::held::Held;
 use crate::index::{Owner, Path};
 use crate::keylog::{KeyLog, Label};
-use crate::keyring::MOST_USUAL;
+use crate::keyring::{MOST_USUAL, Offloaded};
 use crate::keys::VERSIONS;
-use crate::search::{Found, Front, MOST_ID, Search, Source, short_packet};
+use crate::search::{Found, Front, MOST_ID, Search, Source, Stray, short_packet};
 use crate::sink::{Ended, Sink, Unopened};
 use quic_wire::datagram::{HeaderKind, PacketRef};
 use quic_wire::ids::SpaceId;
 use std::collections::{BTreeMap, HashMap, HashSet, VecDeque};
+use std::ops::RangeInclusive;
 
 /// How many paths are remembered whose packets belong to no connection.
 const MOST_PATHS: usize = 1 << 12;
@@ -31,25 +32,26 @@ const MOST_COST: u64 = 1 << 23;
 const ONE_RTT: [Label; 2] = [Label::ClientTraffic, Label::ServerTraffic];
 const HANDSHAKE: [Label; 2] = [Label::ClientHandshake, Label::ServerHandshake];
 
-/// A path whose packets belong to no connection.
+/// What is known of a path whose packets belong to no connection.
 #[derive(Default)]
-struct Stray {
+struct Tried {
     tries: usize,
-    // How many connections the key log had then.
-    log_len: usize,
+    // How many secrets the key log had had then.
+    added: u64,
     fronts: Vec<Front>,
 }
 
 /// What is known for the search.
 #[derive(Default)]
 pub(super) struct Strays {
-    paths: HashMap<Path, Stray>,
+    paths: HashMap<Path, Tried>,
     order: VecDeque<Path>,
     cost: u64,
     // The connections with a packet whose keys came from the key log.
     named: HashMap<[u8; 32], usize>,
-    // The connections of the key log that ended.
+    // The last connections of the key log that ended.
     over: HashSet<[u8; 32]>,
+    over_order: VecDeque<[u8; 32]>,
 }
 
 impl Strays {
@@ -68,14 +70,18 @@ impl Strays {
         let named = connection.random().filter(|random| self.named.get(*random) == Some(&connection.number()));
         if let Some(random) = named {
             self.named.remove(random);
-            if matches!(how, Ended::Closed | Ended::Reset) {
-                self.over.insert(*random);
+            if matches!(how, Ended::Closed | Ended::Reset) && self.over.insert(*random) {
+                self.over_order.push_back(*random);
+            }
+            if self.over_order.len() > MOST_SCANNED {
+                let oldest = self.over_order.pop_front();
+                oldest.map(|oldest| self.over.remove(&oldest));
             }
         }
     }
 
     // How often packets of a path were tried, with this one. It begins again once the key log has more.
-    fn enter(&mut self, path: Path, log_len: usize) -> usize {
+    fn enter(&mut self, path: Path, added: u64) -> usize {
         if !self.paths.contains_key(&path) {
             self.order.push_back(path);
             if self.order.len() > MOST_PATHS {
@@ -84,8 +90,8 @@ impl Strays {
             }
         }
         let stray = self.paths.entry(path).or_default();
-        if stray.log_len != log_len {
-            (stray.tries, stray.log_len) = (0, log_len);
+        if stray.added != added {
+            (stray.tries, stray.added) = (0, added);
         }
         stray.tries = stray.tries.saturating_add(1);
         stray.tries
@@ -130,7 +136,8 @@ impl Strays {
 }
 
 impl Follower {
-    /// Opens a packet that no known id names as one of a connection that began before the capture.
+    /// Opens a packet that no known id names as one of a connection that began before the capture, or one whose secret
+    /// came late, after too many packets for its number to be known.
     pub(super) fn earlier(
         &mut self,
         datagram: &Datagram<'_>,
@@ -142,42 +149,80 @@ impl Follower {
             return None;
         }
         match packet.header().kind() {
-            HeaderKind::Short if owners.is_empty() => self.earlier_short(datagram, packet, sink),
+            HeaderKind::Short if packet.place().range().start == 0 => {
+                self.earlier_short(datagram, packet, owners, sink)
+            }
             HeaderKind::Handshake if self.index.to_id(packet.dst_cid()).is_empty() => {
                 let found = self.search_long(datagram, packet, &HANDSHAKE)?;
-                self.adopt(datagram, packet, found, sink)
+                self.adopt(datagram, packet, (None, found), sink)
             }
             _ => None,
         }
     }
 
-    /// Gives up a 0-RTT packet whose Initial packet didn't come, unless its connection began before the capture.
-    pub(super) fn give_up(&mut self, held: &Held, sink: &mut dyn Sink) {
+    /// Whose a datagram is that a network card would cut, if its id isn't known: a connection's on its path that began
+    /// before the capture.
+    pub(super) fn near_offloaded(&mut self, datagram: &Datagram<'_>) -> Option<(Vec<Owner>, usize)> {
+        let near = self.near(datagram);
+        if near.is_empty() || self.strays.enter((datagram.from, datagram.to), self.keylog.added()) > TRIES_OF_KNOWN {
+            return None;
+        }
+        let Follower { connections, keylog, buffer, .. } = self;
+        let mut tries = near.iter().flat_map(|owner| (0..=MOST_ID).map(move |id_len| (*owner, id_len)));
+        let (owner, id_len) = tries.find(|((number, sender), id_len)| {
+            let offloaded = Offloaded { bytes: datagram.bytes, begin: 0, id_len: *id_len, sender: *sender };
+            let connection = connections.get_mut(number);
+            connection.is_some_and(|one| one.segment_len(offloaded, keylog, buffer).is_some())
+        })?;
+        Some((vec![owner], id_len))
+    }
+
+    // The connections on a path that began before the capture.
+    fn near(&self, datagram: &Datagram<'_>) -> Vec<Owner> {
+        let began_before = |(number, _): &Owner| self.connections.get(number).is_some_and(|one| one.began_before());
+        self.index.on_path((datagram.from, datagram.to)).filter(began_before).collect()
+    }
+
+    /// Gives up a 0-RTT packet whose Initial packet didn't come, unless its connection began before the capture. Only
+    /// at the end no Initial packet can come any more.
+    pub(super) fn give_up(&mut self, held: &Held, is_end: bool, sink: &mut dyn Sink) {
         let datagram = held.datagram();
         let Some(packet) = packet_at(&datagram, held.offset, held.dcid.len()) else { return };
         let owners: Vec<_> = self.index.on_path((datagram.from, datagram.to)).collect();
         let owner = self.open(&datagram, &packet, &owners, sink).or_else(|| {
-            let found = self.search_long(&datagram, &packet, &[Label::ClientEarly])?;
-            self.adopt(&datagram, &packet, found, sink)
+            let found = is_end.then(|| self.search_long(&datagram, &packet, &[Label::ClientEarly]))??;
+            self.adopt(&datagram, &packet, (None, found), sink)
         });
         if owner.is_none() {
             self.unopened(None, &datagram, &packet, Unopened::NoInitial, sink);
         }
     }
 
-    fn earlier_short(&mut self, datagram: &Datagram<'_>, packet: &PacketRef<'_>, sink: &mut dyn Sink) -> Option<Owner> {
-        if packet.place().range().start > 0 {
+    fn earlier_short(
+        &mut self,
+        datagram: &Datagram<'_>,
+        packet: &PacketRef<'_>,
+        owners: &[Owner],
+        sink: &mut dyn Sink,
+    ) -> Option<Owner> {
+        let lacks_keys =
+            |(number, sender): &Owner| self.connections.get(number).is_some_and(|one| one.lacks_keys(*sender));
+        let (near, id_lens) = if owners.is_empty() {
+            (self.near(datagram), 0..=MOST_ID)
+        } else {
+            let id_len = packet.dst_cid().len();
+            (owners.iter().copied().filter(lacks_keys).collect(), id_len..=id_len)
+        };
+        if near.is_empty() && !owners.is_empty() {
             return None;
         }
-        let began_before = |(number, _): &Owner| self.connections.get(number).is_some_and(|one| one.began_before());
-        let near: Vec<_> = self.index.on_path((datagram.from, datagram.to)).filter(began_before).collect();
         let by_known = near.iter().find_map(|owner| {
             let id_len = self.id_len_of(datagram, *owner)?;
             self.open(datagram, &short_packet(datagram.bytes, id_len)?, &[*owner], sink)
         });
         by_known.or_else(|| {
-            let found = self.search_short(datagram, &near)?;
-            let packet = short_packet(datagram.bytes, found.id_len())?;
+            let found = self.search_short(datagram, &near, id_lens, owners.is_empty())?;
+            let packet = short_packet(datagram.bytes, found.1.id_len())?;
             self.adopt(datagram, &packet, found, sink)
         })
     }
@@ -192,31 +237,40 @@ impl Follower {
         })
     }
 
-    // Searches the secrets of the connections that are near, and then those of the key log.
-    fn search_short(&mut self, datagram: &Datagram<'_>, near: &[Owner]) -> Option<Found> {
+    // Searches the secrets of the connections that are near, and then those of the key log. Returns the connection too
+    // if it is one of those.
+    fn search_short(
+        &mut self,
+        datagram: &Datagram<'_>,
+        near: &[Owner],
+        id_lens: RangeInclusive<usize>,
+        in_log: bool,
+    ) -> Option<(Option<usize>, Found)> {
         let Follower { connections, keylog, buffer, strays, .. } = self;
         let path = (datagram.from, datagram.to);
-        let tries = strays.enter(path, keylog.len());
+        let tries = strays.enter(path, keylog.added());
         if strays.cost > MOST_COST || tries > TRIES_OF_KNOWN || datagram.bytes.len() > MOST_USUAL {
             return None;
         }
-        let mut fronts = strays.take_fronts(&path);
+        let mut before = strays.take_fronts(&path);
         let mut search = Search { keylog, buffer, cost: 0 };
+        let mut stray = Stray { datagram: datagram.bytes, before: &before, acknowledged: None, id_lens };
         let of_near = near.iter().find_map(|(number, sender)| {
             let connection = connections.get(number).filter(|one| one.lacks_keys(*sender))?;
+            stray.acknowledged = connection.end(*sender).also_expected(SpaceId::Data);
             let versions = [connection.version()];
             let sources = Source::all(keylog, connection.random()?, ONE_RTT[*sender as usize], &versions);
-            search.short(datagram.bytes, &fronts, connection.end(*sender).also_expected(SpaceId::Data), sources)
+            Some((Some(*number), search.short(&stray, sources)?))
         });
         let found = of_near.or_else(|| {
-            let sources = strays.sources(keylog, connections, &ONE_RTT, &VERSIONS).take_while(|_| tries <= TRIES);
-            search.short(datagram.bytes, &fronts, None, sources)
+            let sources = strays.sources(keylog, connections, &ONE_RTT, &VERSIONS);
+            Some((None, search.short(&stray, sources.take_while(|_| in_log && tries <= TRIES))?))
         });
         let cost = search.cost;
-        if fronts.len() < TRIES {
-            fronts.push(Front::new(datagram.bytes));
+        if before.len() < TRIES {
+            before.push(Front::new(datagram.bytes));
         }
-        strays.leave(&path, fronts, cost);
+        strays.leave(&path, before, cost);
         found
     }
 
@@ -224,7 +278,7 @@ impl Follower {
     fn search_long(&mut self, datagram: &Datagram<'_>, packet: &PacketRef<'_>, labels: &[Label]) -> Option<Found> {
         let Follower { connections, keylog, buffer, strays, .. } = self;
         let path = (datagram.from, datagram.to);
-        if strays.enter(path, keylog.len()) > TRIES || strays.cost > MOST_COST {
+        if strays.enter(path, keylog.added()) > TRIES || strays.cost > MOST_COST {
             return None;
         }
         let versions = [packet.header().version()];
@@ -239,12 +293,12 @@ impl Follower {
         &mut self,
         datagram: &Datagram<'_>,
         packet: &PacketRef<'_>,
-        found: Found,
+        (known, found): (Option<usize>, Found),
         sink: &mut dyn Sink,
     ) -> Option<Owner> {
         self.strays.cost = 0;
         let Source { random, label, .. } = *found.source();
-        let known = self.strays.named.get(&random).copied();
+        let known = known.or_else(|| self.strays.named.get(&random).copied());
         let Some(connection) = known.and_then(|number| self.connections.get_mut(&number)) else {
             return self.begin(datagram, packet, Some(found), sink);
         };

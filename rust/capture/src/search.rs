@@ -16,11 +16,16 @@ pub(crate) const MOST_ID: usize = 20;
 /// The first byte, the longest id, the longest number and a sample.
 const FRONT: usize = 1 + MOST_ID + 4 + SAMPLE_LEN;
 
-/// How many guesses are tried on a packet, and how often all of them together if none of the packets before it agrees:
-/// twice as often for each that does.
+/// How many guesses are tried on a packet, and how often all of them together if it is the first on its path. It is
+/// twice as often for each packet before it that agrees.
 const MOST_GUESSES: usize = 1 << 12;
 const FEWEST_TRIALS: usize = 1 << 10;
 const MOST_AGREEING: usize = 7;
+
+/// How many guesses are tried, and how often each, with which packets before it on its path don't agree: those may be
+/// of other connections.
+const MOST_ALONE: usize = 1 << 8;
+const TRIALS_ALONE: usize = 4;
 
 /// How many numbers are tried for a packet with a long header, whose space has few.
 const LONG_TRIALS: u64 = 4;
@@ -123,21 +128,20 @@ pub(crate) fn short_packet(datagram: &[u8], id_len: usize) -> Option<PacketRef<'
     first?.ok().filter(|packet| packet.header().is_short())
 }
 
-/// The fronts of a packet and of those before it on its path to the same id, if ids have so many bytes.
+/// The front of a packet, and of those before it on its path to the same id, if ids have so many bytes.
 struct Reading<'a> {
     id_len: usize,
-    packets: Vec<PacketRef<'a>>,
+    own: PacketRef<'a>,
+    same: Vec<PacketRef<'a>>,
 }
 
 impl<'a> Reading<'a> {
-    // If there are packets before, the id of one of them comes again.
     fn all(front: &'a Front, before: &'a [Front], id_lens: RangeInclusive<usize>) -> Vec<Reading<'a>> {
         let reading = |id_len| {
             let own = front.with_id_len(id_len)?;
             let same = before.iter().filter_map(|one| one.with_id_len(id_len));
-            let same = same.filter(|one| one.dst_cid() == own.dst_cid());
-            let packets: Vec<_> = std::iter::once(own).chain(same).collect();
-            (before.is_empty() || packets.len() > 1).then_some(Reading { id_len, packets })
+            let same = same.filter(|one| one.dst_cid() == own.dst_cid()).collect();
+            Some(Reading { id_len, own, same })
         };
         id_lens.filter_map(reading).collect()
     }
@@ -147,8 +151,8 @@ impl<'a> Reading<'a> {
 struct Guess {
     source: Source,
     id_len: usize,
-    /// How many packets before it agree.
-    agreeing: usize,
+    /// How many packets before it agree, if all to the same id do and there are some, or if it is the first.
+    agreeing: Option<usize>,
 }
 
 /// A search.
@@ -164,30 +168,39 @@ impl Search<'_> {
     pub(crate) fn short(&mut self, stray: &Stray<'_>, sources: impl Iterator<Item = Source>) -> Option<Found> {
         let Stray { datagram, before, acknowledged, ref id_lens } = *stray;
         let front = Front::new(datagram);
-        let mut guesses = self.guesses(&Reading::all(&front, before, id_lens.clone()), sources);
-        guesses.sort_by_key(|guess| std::cmp::Reverse(guess.agreeing));
-        guesses.truncate(MOST_GUESSES);
-        let count = guesses.len();
-        guesses.iter().find_map(|guess| {
-            let trials = (FEWEST_TRIALS << guess.agreeing.min(MOST_AGREEING)) / count;
+        let guesses = self.guesses(&Reading::all(&front, before, id_lens.clone()), before.is_empty(), sources);
+        let (mut agreed, mut alone): (Vec<_>, Vec<_>) = guesses.into_iter().partition(|one| one.agreeing.is_some());
+        agreed.sort_by_key(|guess| std::cmp::Reverse(guess.agreeing));
+        agreed.truncate(MOST_GUESSES);
+        if alone.len() > MOST_ALONE {
+            alone.clear();
+        }
+        let count = agreed.len();
+        agreed.iter().chain(&alone).find_map(|guess| {
+            let trials = guess.agreeing.map(|agreeing| (FEWEST_TRIALS << agreeing.min(MOST_AGREEING)) / count);
             let packet = short_packet(datagram, guess.id_len)?;
-            self.try_guess(guess, packet, acknowledged, trials.max(1))
+            self.try_guess(guess, packet, acknowledged, trials.unwrap_or(TRIALS_ALONE).max(1))
         })
     }
 
-    // The keys with which the reserved bits of all packets to an id are zero (RFC 9000, section 17.3.1).
-    fn guesses(&mut self, readings: &[Reading<'_>], sources: impl Iterator<Item = Source>) -> Vec<Guess> {
+    // The keys with which the reserved bits are zero (RFC 9000, section 17.3.1).
+    fn guesses(
+        &mut self,
+        readings: &[Reading<'_>],
+        is_first: bool,
+        sources: impl Iterator<Item = Source>,
+    ) -> Vec<Guess> {
         let (mut guesses, mut header) = (Vec::new(), Vec::new());
-        for source in sources.filter(|_| !readings.is_empty()) {
+        for source in sources.take_while(|_| !readings.is_empty()) {
             self.cost += MASK_COST;
             let Some(mask) = source.mask(self.keylog) else { continue };
-            let fits = readings
-                .iter()
-                .filter(|reading| reading.packets.iter().all(|packet| has_zero_bits(&mask, packet, &mut header)));
-            guesses.extend(fits.map(|reading| {
-                let Reading { id_len, packets } = reading;
-                Guess { source, id_len: *id_len, agreeing: packets.len() - 1 }
-            }));
+            let mut fits = |packet: &PacketRef<'_>| has_zero_bits(&mask, packet, &mut header);
+            for Reading { id_len, own, same } in readings {
+                if fits(own) {
+                    let is_agreed = (is_first || !same.is_empty()) && same.iter().all(&mut fits);
+                    guesses.push(Guess { source, id_len: *id_len, agreeing: is_agreed.then_some(same.len()) });
+                }
+            }
         }
         guesses
     }

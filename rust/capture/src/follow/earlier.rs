@@ -254,7 +254,7 @@ impl Follower {
         }
         let mut before = strays.take_fronts(&path);
         let mut search = Search { keylog, buffer, cost: 0 };
-        let mut stray = Stray { datagram: datagram.bytes, before: &before, acknowledged: None, id_lens };
+        let mut stray = Stray { datagram: datagram.bytes, before: &[], acknowledged: None, id_lens };
         let of_near = near.iter().find_map(|(number, sender)| {
             let connection = connections.get(number).filter(|one| one.lacks_keys(*sender))?;
             stray.acknowledged = connection.end(*sender).also_expected(SpaceId::Data);
@@ -264,6 +264,7 @@ impl Follower {
         });
         let found = of_near.or_else(|| {
             let sources = strays.sources(keylog, connections, &ONE_RTT, &VERSIONS);
+            (stray.before, stray.acknowledged) = (&before, None);
             Some((None, search.short(&stray, sources.take_while(|_| in_log && tries <= TRIES))?))
         });
         let cost = search.cost;

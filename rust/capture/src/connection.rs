@@ -3,15 +3,17 @@
 
 use crate::capture::Datagram;
 use crate::ciphers::Suite;
-use crate::end::{Closed, End, Outcome, Sent};
+use crate::end::{Closed, End, MOST_PACKETS, Sent};
 use crate::keylog::{KeyLog, Label};
 use crate::keyring::{Candidate, Keyring, Known, Offloaded};
 use crate::opened::{Opened, Reset, Retried, id_of, space_and_type};
+use crate::recovery::Outcome;
+use crate::search::{Found, Source};
 use crate::sink::{Ended, Event, Unopened};
 use crate::tls::Said;
 use quic_wire::datagram::{HeaderKind, PacketRef};
 use quic_wire::fields;
-use quic_wire::frame::{Close, Frame, Iter, Rules};
+use quic_wire::frame::{Ack, Close, Frame, Iter, Rules};
 use quic_wire::ids::SpaceId;
 use quic_wire::permitted::permits;
 use quic_wire::transport_parameters::{ReadOptions, TransportParameters};
@@ -37,6 +39,13 @@ pub struct Connection {
     reset: Option<Side>,
     begun: u64,
     last: u64,
+    began_before: bool,
+    /// Whether a packet with keys of the key log was opened.
+    pub(crate) is_named: bool,
+    /// How many packets of each number space are remembered.
+    pub(crate) most_packets: usize,
+    /// Whether the handshake is confirmed (RFC 9001, section 4.1.2).
+    is_confirmed: bool,
     keys: Keyring,
 }
 
@@ -52,11 +61,35 @@ impl Connection {
         if packet.header().kind() != HeaderKind::Initial {
             return None;
         }
-        let first_dcid = id_of(packet.dst_cid());
-        let mut connection = Connection {
+        let mut connection = Connection::new(number, time, packet.header().version(), id_of(packet.dst_cid()));
+        let opened = connection.open(packet, Side::Client, keylog, buffer)?;
+        Some((connection, opened))
+    }
+
+    /// A connection that began before the capture is known by one of its packets.
+    pub(crate) fn continued<'a>(
+        number: usize,
+        time: u64,
+        (packet, found): (&PacketRef<'a>, Found),
+        keylog: &KeyLog,
+        buffer: &'a mut Vec<u8>,
+    ) -> Option<(Connection, Opened<'a>)> {
+        let Source { random, suite, version, label } = *found.source();
+        let mut connection = Connection::new(number, time, version, ConnectionId::default());
+        connection.began_before = true;
+        connection.is_confirmed = packet.header().is_short();
+        connection.random = Some(random);
+        connection.suite = Some(suite.number());
+        connection.adopt(packet, found);
+        let opened = connection.open(packet, label.sender(), keylog, buffer)?;
+        Some((connection, opened))
+    }
+
+    fn new(number: usize, time: u64, version: u32, first_dcid: ConnectionId) -> Connection {
+        Connection {
             number,
             ends: Default::default(),
-            version: packet.header().version(),
+            version,
             first_dcid,
             retry_id: None,
             random: None,
@@ -64,10 +97,25 @@ impl Connection {
             reset: None,
             begun: time,
             last: time,
+            began_before: false,
+            is_named: false,
+            most_packets: MOST_PACKETS,
+            is_confirmed: false,
             keys: Keyring::new(first_dcid),
-        };
-        let opened = connection.open(packet, Side::Client, keylog, buffer)?;
-        Some((connection, opened))
+        }
+    }
+
+    /// Takes the keys and the number of a packet that were found.
+    pub(crate) fn adopt(&mut self, packet: &PacketRef<'_>, found: Found) {
+        if let Some((space, _)) = space_and_type(packet.header().kind()) {
+            self.ends[found.source().label.sender() as usize].expect(space, found.number());
+        }
+        self.keys.adopt(found);
+    }
+
+    /// Whether no 1-RTT packet of a side was opened.
+    pub(crate) fn lacks_keys(&self, sender: Side) -> bool {
+        self.keys.lacks(sender)
     }
 
     /// Its number among the connections of the capture, from 0 on, in the order in which they began.
@@ -85,7 +133,14 @@ impl Connection {
         self.version
     }
 
-    /// The id to which the client sent its first Initial packet.
+    /// Whether it began before the capture: its client's first Initial packet wasn't captured, and its keys were found
+    /// by trying the secrets of the key log. [`Connection::suite`] is then the one whose keys open its packets.
+    pub fn began_before(&self) -> bool {
+        self.began_before
+    }
+
+    /// The id to which the client sent its first Initial packet; without bytes if the connection began before the
+    /// capture.
     pub fn first_dcid(&self) -> &ConnectionId {
         &self.first_dcid
     }
@@ -139,10 +194,16 @@ impl Connection {
         buffer: &'a mut Vec<u8>,
     ) -> Option<Opened<'a>> {
         let (space, _) = space_and_type(packet.header().kind())?;
-        let expected = self.end(sender).expected(space);
+        let (expected, also) = (self.end(sender).expected(space), self.end(sender).also_expected(space));
         let Connection { random, suite, version, keys, .. } = self;
         let known = Known { random: random.as_ref(), suite: *suite, version: *version, keylog };
-        keys.open(Candidate { packet: *packet, sender, expected }, &known, buffer)
+        let mut candidate = Candidate { packet: *packet, sender, expected };
+        if let Some(also) = also {
+            if keys.open(candidate, &known, buffer).is_none() {
+                candidate.expected = also;
+            }
+        }
+        keys.open(candidate, &known, buffer)
     }
 
     /// As [`Keyring::segment_len`].
@@ -152,10 +213,12 @@ impl Connection {
         keylog: &KeyLog,
         buffer: &mut Vec<u8>,
     ) -> Option<usize> {
-        let expected = self.end(datagram.sender).expected(SpaceId::Data);
+        let end = self.end(datagram.sender);
+        let numbers = [Some(end.expected(SpaceId::Data)), end.also_expected(SpaceId::Data)];
         let Connection { random, suite, version, keys, .. } = self;
         let known = Known { random: random.as_ref(), suite: *suite, version: *version, keylog };
-        keys.segment_len(datagram, expected, &known, buffer)
+        let mut numbers = numbers.into_iter().flatten();
+        numbers.find_map(|expected| keys.segment_len(datagram, expected, &known, buffer))
     }
 
     /// Why a packet isn't opened.
@@ -166,6 +229,7 @@ impl Connection {
             (HeaderKind::Handshake, Side::Server) => Label::ServerHandshake,
             (HeaderKind::Short, Side::Client) => Label::ClientTraffic,
             (HeaderKind::Short, Side::Server) => Label::ServerTraffic,
+            _ if self.began_before => return Unopened::NoFirstId,
             _ => return Unopened::WrongTag,
         };
         match self.random.map(|random| keylog.secret(&random, label)) {
@@ -178,7 +242,7 @@ impl Connection {
 
     /// Whether a Retry can still come: nothing else of the server was opened (RFC 9000, section 17.2.5.2).
     pub(crate) fn may_retry(&self) -> bool {
-        self.retry_id.is_none() && self.end(Side::Server).scid.is_none()
+        !self.began_before && self.retry_id.is_none() && self.end(Side::Server).scid.is_none()
     }
 
     /// Takes a Retry.
@@ -205,7 +269,8 @@ impl Connection {
     ) -> bool {
         let (sender, space, number) = (opened.sender(), opened.space(), opened.number());
         let Datagram { record, time, .. } = *datagram;
-        let sent = Sent { space, number, record, time, index, tag: opened.tag() };
+        let (tag, acknowledged, lost) = (opened.tag(), None, None);
+        let sent = Sent { sender, space, number, record, time, index, tag, acknowledged, lost };
         if self.end(sender).was_sent(space, number) {
             let before = self.end(sender).sent(space, number).copied();
             tell(self, Event::Again(opened, before.as_ref()));
@@ -213,9 +278,13 @@ impl Connection {
         }
         tell(self, Event::Packet(opened));
         self.last = self.last.max(time);
+        for side in [Side::Client, Side::Server] {
+            let outcomes = self.ends[side as usize].recovery.expire(time);
+            self.tell_outcomes(outcomes, tell);
+        }
         self.take_header(opened, sent, tell);
         if self.take_payload(opened, &sent, tell) {
-            self.ends[sender as usize].add_waiting(sent);
+            self.ends[sender as usize].add_waiting(&sent);
         }
         tell(self, Event::Done(opened));
         true
@@ -223,8 +292,11 @@ impl Connection {
 
     fn take_header(&mut self, opened: &Opened<'_>, sent: Sent, tell: &mut Tell<'_>) {
         let (packet, sender) = (opened.packet(), opened.sender());
+        self.ends[sender as usize].add_sent(sent, self.most_packets);
+        if self.began_before {
+            self.take_dcid(opened, tell);
+        }
         let end = &mut self.ends[sender as usize];
-        end.add_sent(sent);
         if opened.kind() == HeaderKind::Short {
             return;
         }
@@ -239,6 +311,19 @@ impl Connection {
         let is_first = self.end(Side::Server).scid.is_none();
         if is_first || sender == Side::Server || opened.kind() == HeaderKind::Handshake {
             self.version = packet.header().version();
+        }
+    }
+
+    // The ids of a connection that began before the capture are known by packets to them.
+    fn take_dcid(&mut self, opened: &Opened<'_>, tell: &mut Tell<'_>) {
+        let (id, side) = (id_of(opened.packet().dst_cid()), !opened.sender());
+        let end = &mut self.ends[side as usize];
+        end.scid.get_or_insert(id);
+        if opened.kind() == HeaderKind::Handshake {
+            end.add_id(0, id, None);
+        }
+        if end.last_dcid.replace(id) != Some(id) {
+            tell(self, Event::NewId(id, side));
         }
     }
 
@@ -287,16 +372,10 @@ impl Connection {
         let (sender, space) = (opened.sender(), opened.space());
         match frame {
             Frame::Ack(ack) => {
-                for outcome in self.ends[!sender as usize].take_ack(space, ack) {
-                    tell(
-                        self,
-                        match outcome {
-                            Outcome::Acknowledged { sent, was_lost } => Event::Acknowledged { sent, was_lost },
-                            Outcome::Lost(sent) => Event::Lost(sent),
-                        },
-                    );
-                }
+                let outcomes = self.take_ack(ack, sent, sender);
+                self.tell_outcomes(outcomes, tell);
             }
+            Frame::HandshakeDone => self.is_confirmed = true,
             Frame::Crypto(crypto) => {
                 let streams = &mut self.ends[sender as usize].crypto;
                 let said = streams.get_mut(space as usize).and_then(|one| one.take(crypto.offset, crypto.bytes));
@@ -310,6 +389,32 @@ impl Connection {
             }
             Frame::Close(close) => self.take_close(close, sent, sender),
             _ => {}
+        }
+    }
+
+    // Takes the ACK that a side sent in a packet. Its delay counts as RFC 9002, section 5.3, says.
+    fn take_ack(&mut self, ack: &Ack<'_>, sent: &Sent, sender: Side) -> Vec<Outcome> {
+        let parameters = self.end(sender).parameters();
+        let exponent = parameters.map_or(3, |list| list.ack_delay_exponent.into_inner().min(20));
+        let most = parameters.map_or(25, |list| list.max_ack_delay.into_inner()).saturating_mul(1_000_000);
+        let delay = ack.delay().saturating_mul(1 << exponent).saturating_mul(1000);
+        let delay = match sent.space {
+            SpaceId::Initial => 0,
+            _ if self.is_confirmed => delay.min(most),
+            _ => delay,
+        };
+        let end = &mut self.ends[!sender as usize];
+        end.expect(sent.space, ack.largest().saturating_add(1));
+        end.recovery.take_ack(sent.space, ack, sent.time, delay)
+    }
+
+    fn tell_outcomes(&self, outcomes: Vec<Outcome>, tell: &mut Tell<'_>) {
+        for outcome in outcomes {
+            let event = match outcome {
+                Outcome::Acknowledged(sent) => Event::Acknowledged { sent, was_lost: sent.lost.is_some() },
+                Outcome::Lost(sent) => Event::Lost(sent),
+            };
+            tell(self, event);
         }
     }
 

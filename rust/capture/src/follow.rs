@@ -2,21 +2,30 @@
 
 use crate::capture::Datagram;
 use crate::connection::Connection;
-use crate::held::{Held, Waiting};
+use crate::end::MOST_PACKETS;
+use crate::held::Waiting;
 use crate::index::{Index, Owner};
 use crate::keylog::KeyLog;
 use crate::keyring::{CHECKS, MOST_USUAL, Offloaded};
 use crate::keys::VERSIONS;
 use crate::opened::{Reset, Retried, id_of};
+use crate::search::Found;
 use crate::sink::{Ended, Event, Rest, Sink, Unopened};
+use earlier::Strays;
 use quic_wire::datagram::{HeaderError, HeaderKind, PacketRef, Packets};
 use quic_wire::packet::LONG_HEADER_FORM;
 use quic_wire::{ConnectionId, Side};
 use std::collections::BTreeMap;
 
+mod earlier;
+
 /// How many connections are followed at once. For a further one others are forgotten, first those without a Handshake
 /// packet that was opened, then those that said nothing for the longest time.
 pub const MOST_CONNECTIONS: usize = 1 << 15;
+
+/// How many packets of each number space are remembered: so many of all connections together, but at least some.
+const MOST_REMEMBERED: usize = 1 << 18;
+const LEAST_REMEMBERED: usize = 32;
 
 // After how many datagrams connections that ended are looked for, at least.
 const SWEEP: usize = 1 << 10;
@@ -33,8 +42,10 @@ pub struct Counts {
     pub unopened: BTreeMap<Unopened, u64>,
     /// Ends of datagrams that are no packets, by [`Rest::kind`].
     pub rests: BTreeMap<&'static str, u64>,
-    /// Connections that began.
+    /// Connections that began, or that began before the capture.
     pub connections: usize,
+    /// Of these, those that began before the capture.
+    pub began_before: usize,
     /// Datagrams that were cut apart, as a network card does with those of Linux that are longer than usual.
     pub offloaded: u64,
     /// Into how many.
@@ -60,6 +71,7 @@ pub struct Follower {
     connections: BTreeMap<usize, Box<Connection>>,
     index: Index,
     waiting: Waiting,
+    strays: Strays,
     counts: Counts,
     packets: u64,
     since_sweep: usize,
@@ -88,7 +100,10 @@ impl Follower {
         let Some(first) = datagram.bytes.first() else { return };
         self.counts.datagrams += 1;
         self.sweep(datagram.time, sink);
-        let (owners, id_len) = self.owners(datagram, *first);
+        let (mut owners, mut id_len) = self.owners(datagram, *first);
+        if owners.is_empty() && first & LONG_HEADER_FORM == 0 && may_be_several(datagram) {
+            (owners, id_len) = self.near_offloaded(datagram).unwrap_or((owners, id_len));
+        }
         let size = self.segment_len(datagram, &owners, id_len).unwrap_or(datagram.bytes.len());
         for segment in datagram.bytes.chunks(size) {
             let course = Course { owners: owners.clone(), first_id: None };
@@ -99,7 +114,7 @@ impl Follower {
     /// Ends the capture: 0-RTT packets that still wait are given up.
     pub fn finish(&mut self, sink: &mut dyn Sink) {
         while let Some(held) = self.waiting.pop() {
-            self.give_up(&held, sink);
+            self.give_up(&held, true, sink);
         }
     }
 
@@ -130,7 +145,7 @@ impl Follower {
     // The size of the segments of a datagram that is longer than usual and has several.
     fn segment_len(&mut self, datagram: &Datagram<'_>, owners: &[Owner], id_len: usize) -> Option<usize> {
         let bytes = datagram.bytes;
-        if bytes.len() <= MOST_USUAL || datagram.missing > 0 {
+        if !may_be_several(datagram) {
             return None;
         }
         let short = Packets::with_checks(bytes, id_len, &VERSIONS, CHECKS)
@@ -195,7 +210,10 @@ impl Follower {
             HeaderKind::VersionNegotiate => {
                 return self.unopened(owners.first(), datagram, packet, Unopened::VersionNegotiation, sink);
             }
-            _ => self.open(datagram, packet, owners, sink).or_else(|| self.begin(datagram, packet, sink)),
+            _ => self
+                .open(datagram, packet, owners, sink)
+                .or_else(|| self.begin(datagram, packet, None, sink))
+                .or_else(|| self.earlier(datagram, packet, owners, sink)),
         };
         match owner {
             Some(owner) => *owners = vec![owner],
@@ -212,11 +230,14 @@ impl Follower {
         sink: &mut dyn Sink,
     ) -> Option<Owner> {
         let mut buffer = std::mem::take(&mut self.buffer);
+        let most_packets = MOST_REMEMBERED / self.connections.len().max(1);
         let opened_by = owners.iter().copied().find(|(number, sender)| {
             let Follower { connections, keylog, .. } = self;
             let Some(connection) = connections.get_mut(number) else { return false };
             let Some(opened) = connection.open(packet, *sender, keylog, &mut buffer) else { return false };
+            connection.most_packets = most_packets.clamp(LEAST_REMEMBERED, MOST_PACKETS);
             if let Some(ids) = take(connection, &opened, datagram, self.packets, sink) {
+                self.strays.name(connection, opened.kind());
                 self.learn((*number, *sender), datagram, &ids);
             }
             true
@@ -229,19 +250,28 @@ impl Follower {
         Some(owner)
     }
 
-    // Begins a connection with a packet.
-    fn begin(&mut self, datagram: &Datagram<'_>, packet: &PacketRef<'_>, sink: &mut dyn Sink) -> Option<Owner> {
-        let (number, owner) = (self.counts.connections, (self.counts.connections, Side::Client));
-        let mut buffer = std::mem::take(&mut self.buffer);
-        let begun = Connection::begin(number, datagram.time, packet, &self.keylog, &mut buffer).map(
-            |(mut connection, opened)| {
-                let ids = take(&mut connection, &opened, datagram, self.packets, sink);
-                (connection, ids.unwrap_or_default())
-            },
-        );
+    // Begins a connection with a packet; with one that was found to be of a connection which began before the capture.
+    fn begin(
+        &mut self,
+        datagram: &Datagram<'_>,
+        packet: &PacketRef<'_>,
+        found: Option<Found>,
+        sink: &mut dyn Sink,
+    ) -> Option<Owner> {
+        let (number, time, mut buffer) = (self.counts.connections, datagram.time, std::mem::take(&mut self.buffer));
+        let begun = match found {
+            None => Connection::begin(number, time, packet, &self.keylog, &mut buffer),
+            Some(found) => Connection::continued(number, time, (packet, found), &self.keylog, &mut buffer),
+        };
+        let begun = begun.map(|(mut connection, opened)| {
+            let ids = take(&mut connection, &opened, datagram, self.packets, sink);
+            self.strays.name(&mut connection, opened.kind());
+            (connection, (number, opened.sender()), ids.unwrap_or_default())
+        });
         self.buffer = buffer;
-        let (connection, ids) = begun?;
+        let (connection, owner, ids) = begun?;
         self.counts.connections += 1;
+        self.counts.began_before += usize::from(connection.began_before());
         self.counts.opened += 1;
         self.packets += 1;
         self.make_room(sink);
@@ -281,7 +311,7 @@ impl Follower {
         };
         if kind == HeaderKind::ZeroRtt && matches!(why, Unopened::NoConnection | Unopened::NoClientHello) {
             for held in self.waiting.push(id_of(packet.dst_cid()), datagram, place.start) {
-                self.give_up(&held, sink);
+                self.give_up(&held, false, sink);
             }
             return;
         }
@@ -315,22 +345,14 @@ impl Follower {
     // Opens the packets that waited for a connection's ClientHello.
     fn release(&mut self, number: usize, sink: &mut dyn Sink) {
         let Some(connection) = self.connections.get(&number).filter(|_| !self.waiting.is_empty()) else { return };
-        if connection.random().is_none() {
+        if connection.random().is_none() || connection.began_before() {
             return;
         }
         let ids = [Some(*connection.first_dcid()), connection.retry_id().copied()];
-        let held: Vec<_> = ids.into_iter().flatten().flat_map(|id| self.waiting.take(&id)).collect();
-        for held in held {
+        for held in self.waiting.take(|held| ids.contains(&Some(held.dcid))) {
             let datagram = held.datagram();
             let Some(packet) = packet_at(&datagram, held.offset, held.dcid.len()) else { continue };
             self.packet(&datagram, &packet, &mut vec![(number, Side::Client)], sink);
-        }
-    }
-
-    fn give_up(&mut self, held: &Held, sink: &mut dyn Sink) {
-        let datagram = held.datagram();
-        if let Some(packet) = packet_at(&datagram, held.offset, held.dcid.len()) {
-            self.unopened(None, &datagram, &packet, Unopened::NoInitial, sink);
         }
     }
 
@@ -370,6 +392,7 @@ impl Follower {
     fn forget(&mut self, number: usize, how: Ended, sink: &mut dyn Sink) {
         self.index.forget(number);
         if let Some(connection) = self.connections.remove(&number) {
+            self.strays.forget(&connection, how);
             sink.ended(&connection, how);
         }
     }
@@ -398,6 +421,11 @@ fn packet_at<'a>(datagram: &Datagram<'a>, offset: usize, id_len: usize) -> Optio
     Packets::with_checks(datagram.bytes, id_len, &VERSIONS, CHECKS)
         .map_while(Result::ok)
         .find(|packet| packet.place().range().start == offset)
+}
+
+// Whether a network card may cut a datagram into several.
+fn may_be_several(datagram: &Datagram<'_>) -> bool {
+    datagram.bytes.len() > MOST_USUAL && datagram.missing == 0
 }
 
 fn packets_are_over(rest: &[u8]) -> bool {

@@ -55,9 +55,9 @@ impl Waiting {
         Some(held)
     }
 
-    /// The packets to an id.
-    pub(crate) fn take(&mut self, dcid: &ConnectionId) -> Vec<Held> {
-        let (taken, left): (VecDeque<_>, VecDeque<_>) = self.packets.drain(..).partition(|held| held.dcid == *dcid);
+    /// Removes packets, and returns them.
+    pub(crate) fn take(&mut self, is_taken: impl FnMut(&Held) -> bool) -> Vec<Held> {
+        let (taken, left): (VecDeque<_>, VecDeque<_>) = self.packets.drain(..).partition(is_taken);
         self.bytes = left.iter().map(|held| held.bytes.len()).sum();
         self.packets = left;
         taken.into()

@@ -2,6 +2,7 @@
 
 use crate::capture::{Capture, Item};
 use crate::file::FileError;
+use crate::keylog::KeyLog;
 use std::fmt;
 use std::io::{self, Read};
 
@@ -69,6 +70,20 @@ pub fn read(mut source: impl Read, capture: &mut Capture, each: impl FnMut(Item<
     return read_plain(flate2::read::MultiGzDecoder::new(source), capture, each);
     #[cfg(not(feature = "gzip"))]
     Err(InputError::Compressed)
+}
+
+/// Reads the key logs of a source to its end, and nothing else. A key log opens only packets that come after it: who has
+/// a file with key logs behind their packets reads it twice, first for the key logs.
+///
+/// # Errors
+///
+/// As [`read`]. The key logs before are in the log.
+pub fn read_secrets(source: impl Read, log: &mut KeyLog) -> Result<(), InputError> {
+    read(source, &mut Capture::default(), |item| {
+        if let Item::Secrets(text) = item {
+            log.add(text);
+        }
+    })
 }
 
 fn read_plain(mut source: impl Read, capture: &mut Capture, mut each: impl FnMut(Item<'_>)) -> Result<(), InputError> {

@@ -1,8 +1,9 @@
 //! Key logs, as browsers and TLS libraries write them (SSLKEYLOGFILE).
 
-use std::collections::HashMap;
+use quic_wire::Side;
+use std::collections::{HashMap, VecDeque};
 
-// The connections whose secrets are kept at most. Lines of further ones are counted as skipped.
+// The connections whose secrets are kept at most, the latest.
 const MOST_CONNECTIONS: usize = 1 << 18;
 
 // The longest line that matters has a label, 32 bytes and 48 bytes as digits.
@@ -23,6 +24,16 @@ pub enum Label {
     ServerTraffic,
 }
 
+impl Label {
+    /// The side whose packets have keys of the secret.
+    pub fn sender(self) -> Side {
+        match self {
+            Label::ClientEarly | Label::ClientHandshake | Label::ClientTraffic => Side::Client,
+            Label::ServerHandshake | Label::ServerTraffic => Side::Server,
+        }
+    }
+}
+
 const LABELS: [(&[u8], Label); 5] = [
     (b"CLIENT_EARLY_TRAFFIC_SECRET", Label::ClientEarly),
     (b"CLIENT_HANDSHAKE_TRAFFIC_SECRET", Label::ClientHandshake),
@@ -31,13 +42,17 @@ const LABELS: [(&[u8], Label); 5] = [
     (b"SERVER_TRAFFIC_SECRET_0", Label::ServerTraffic),
 ];
 
+// Without bytes it isn't known.
 #[derive(Clone, Copy)]
 struct Secret {
     bytes: [u8; 48],
-    len: usize,
+    len: u8,
 }
 
-/// The secrets of connections, by the 32 random bytes of their ClientHello.
+const NO_SECRET: Secret = Secret { bytes: [0; 48], len: 0 };
+
+/// The secrets of connections, by the 32 random bytes of their ClientHello. Those of the latest 262,144 connections are
+/// kept.
 ///
 /// ```
 /// use quic_wire_capture::keylog::{KeyLog, Label};
@@ -49,7 +64,11 @@ struct Secret {
 /// ```
 #[derive(Default)]
 pub struct KeyLog {
-    secrets: HashMap<[u8; 32], [Option<Secret>; LABELS.len()]>,
+    secrets: HashMap<[u8; 32], [Secret; LABELS.len()]>,
+    // The connections in the order in which they came.
+    randoms: VecDeque<[u8; 32]>,
+    // How many secrets came, also those that were forgotten.
+    added: u64,
     skipped: u64,
 }
 
@@ -74,6 +93,21 @@ impl KeyLog {
         self.secrets.is_empty()
     }
 
+    /// How many connections it has secrets of.
+    pub fn len(&self) -> usize {
+        self.randoms.len()
+    }
+
+    /// The random bytes of the connections that it has secrets of, in the order in which they came.
+    pub fn randoms(&self) -> impl DoubleEndedIterator<Item = &[u8; 32]> {
+        self.randoms.iter()
+    }
+
+    /// How many secrets came, also those that were forgotten.
+    pub(crate) fn added(&self) -> u64 {
+        self.added
+    }
+
     /// Whether it has a secret of a connection.
     pub fn knows(&self, random: &[u8; 32]) -> bool {
         self.secrets.contains_key(random)
@@ -81,8 +115,8 @@ impl KeyLog {
 
     /// A secret of a connection, of 32 or 48 bytes.
     pub fn secret(&self, random: &[u8; 32], label: Label) -> Option<&[u8]> {
-        let secret = self.secrets.get(random)?[label as usize].as_ref()?;
-        secret.bytes.get(..secret.len)
+        let secret = &self.secrets.get(random)?[label as usize];
+        secret.bytes.get(..secret.len.into()).filter(|bytes| !bytes.is_empty())
     }
 
     // Takes a line. False if it can't be read.
@@ -101,12 +135,26 @@ impl KeyLog {
         };
         let mut bytes = [0; 48];
         let (Some(random), Some(len)) = (unhex_all(random), unhex(secret, &mut bytes)) else { return false };
-        let has_room = self.secrets.len() < MOST_CONNECTIONS || self.secrets.contains_key(&random);
-        if !has_room || !matches!(len, 32 | 48) {
+        let is_new = !self.secrets.contains_key(&random);
+        if !matches!(len, 32 | 48) {
             return false;
         }
-        self.secrets.entry(random).or_default()[*label as usize] = Some(Secret { bytes, len });
+        if is_new {
+            self.make_room();
+            self.randoms.push_back(random);
+        }
+        self.added += 1;
+        let secrets = self.secrets.entry(random).or_insert([NO_SECRET; LABELS.len()]);
+        secrets[*label as usize] = Secret { bytes, len: len as u8 };
         true
+    }
+
+    // Forgets the connection that came first if there are too many.
+    fn make_room(&mut self) {
+        if self.randoms.len() >= MOST_CONNECTIONS {
+            let oldest = self.randoms.pop_front();
+            oldest.and_then(|oldest| self.secrets.remove(&oldest));
+        }
     }
 }
 

@@ -4,6 +4,7 @@ use crate::ciphers::{Suite, TAG_LEN};
 use crate::keylog::{KeyLog, Label};
 use crate::keys::{PacketKeys, VERSIONS};
 use crate::opened::{Opened, Retried, Unmasked};
+use crate::search::Found;
 use quic_wire::datagram::{HeaderChecks, HeaderKind, PacketRef, Packets};
 use quic_wire::{ConnectionId, Side};
 
@@ -46,6 +47,11 @@ impl<'a> Candidate<'a> {
     fn is_opened_by(self, keys: &PacketKeys, buffer: &mut Vec<u8>) -> bool {
         self.open(keys, buffer).is_some()
     }
+
+    /// The packet's number if keys open it.
+    pub(crate) fn number_by(self, keys: &PacketKeys, buffer: &mut Vec<u8>) -> Option<u64> {
+        self.open(keys, buffer).map(|opened| opened.number())
+    }
 }
 
 /// A datagram that may be several: where its first short packet begins, and how many bytes that packet's id has.
@@ -74,8 +80,8 @@ impl<'a> Offloaded<'a> {
 struct Phase {
     keys: PacketKeys,
     bit: bool,
-    before: Option<PacketKeys>,
-    after: Option<PacketKeys>,
+    before: Option<Box<PacketKeys>>,
+    after: Option<Box<PacketKeys>>,
 }
 
 // What the keys of Initial packets follow from: the version, the sender, and an id of the client's packets.
@@ -112,7 +118,23 @@ impl Keyring {
         self.retry_id = Some(retried.id());
     }
 
-    /// Opens a packet, if there are keys for it.
+    /// Takes the keys of a connection that began before the capture, as a packet of it has shown them.
+    pub(crate) fn adopt(&mut self, found: Found) {
+        let label = found.source().label;
+        let sender = label.sender();
+        if matches!(label, Label::ClientTraffic | Label::ServerTraffic) && self.lacks(sender) {
+            let (keys, bit) = found.into_phase();
+            self.phases[sender as usize] = Some(Box::new(Phase { bit, ..Phase::new(keys) }));
+        }
+    }
+
+    /// Whether no 1-RTT packet of a side was opened.
+    pub(crate) fn lacks(&self, sender: Side) -> bool {
+        self.phases[sender as usize].is_none()
+    }
+
+    /// Opens a packet, if there are keys for it. Once both sides have keys of a later kind, earlier ones are forgotten;
+    /// packets that come late make them again.
     pub(crate) fn open<'a>(
         &mut self,
         candidate: Candidate<'a>,
@@ -122,7 +144,13 @@ impl Keyring {
         let (header, sender) = (candidate.packet.header(), candidate.sender);
         let (slot, label) = match (header.kind(), sender) {
             (HeaderKind::Initial, _) => return candidate.open(self.initial(&candidate)?, buffer),
-            (HeaderKind::Short, _) => return self.open_short(candidate, known, buffer),
+            (HeaderKind::Short, _) => {
+                let opened = self.open_short(candidate, known, buffer);
+                if self.phases.iter().all(Option::is_some) {
+                    (self.initial, self.early, self.handshake) = (Vec::new(), None, [None, None]);
+                }
+                return opened;
+            }
             (HeaderKind::ZeroRtt, Side::Client) => (&mut self.early, Label::ClientEarly),
             (HeaderKind::Handshake, Side::Client) => (&mut self.handshake[0], Label::ClientHandshake),
             (HeaderKind::Handshake, Side::Server) => (&mut self.handshake[1], Label::ServerHandshake),
@@ -132,7 +160,11 @@ impl Keyring {
             let mut keys = keys_of(known, [header.version()], label);
             *slot = Some(Box::new(keys.find(|keys| candidate.is_opened_by(keys, buffer))?));
         }
-        candidate.open(slot.as_ref()?, buffer)
+        let opened = candidate.open(slot.as_ref()?, buffer);
+        if self.handshake.iter().all(Option::is_some) {
+            self.initial = Vec::new();
+        }
+        opened
     }
 
     fn initial(&mut self, candidate: &Candidate<'_>) -> Option<&PacketKeys> {
@@ -202,10 +234,11 @@ impl Phase {
             return candidate.open(before, buffer);
         }
         if self.after.is_none() {
-            self.after = self.keys.updated();
+            self.after = self.keys.updated().map(Box::new);
         }
         let opened = candidate.open(self.after.as_ref()?, buffer)?;
-        self.before = Some(std::mem::replace(&mut self.keys, self.after.take()?));
+        let before = std::mem::replace(&mut self.keys, *self.after.take()?);
+        self.before = Some(Box::new(before));
         self.bit = !self.bit;
         Some(opened)
     }

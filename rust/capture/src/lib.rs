@@ -58,5 +58,7 @@ mod keyring;
 pub mod keys;
 mod net;
 pub mod opened;
+pub mod recovery;
+mod search;
 pub mod sink;
 mod tls;

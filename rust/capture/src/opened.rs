@@ -74,6 +74,11 @@ impl<'a> Unmasked<'a> {
     pub(crate) fn key_phase(&self) -> bool {
         self.number.key_phase()
     }
+
+    /// The number and the first byte, which anyone may have changed.
+    pub(crate) fn number(&self) -> &Number {
+        &self.number
+    }
 }
 
 impl<'a> Opened<'a> {

@@ -55,14 +55,15 @@ pub enum Event<'a> {
         /// What they are, or why they are rejected.
         read: Result<&'a TransportParameters, &'a Refusal>,
     },
-    /// A packet of the peer was acknowledged.
+    /// A packet of the peer was acknowledged, for the first time.
     Acknowledged {
-        /// It.
+        /// It, with the time of its acknowledgment.
         sent: Sent,
-        /// Whether it counted as lost before.
+        /// Whether it counted as lost before: it wasn't.
         was_lost: bool,
     },
-    /// A packet of the peer counts as lost (RFC 9002, section 6.1.1).
+    /// A packet of either side counts as lost; [`Sent::lost`] says when and why (RFC 9002, section 6.1). If that was
+    /// after the last acknowledgment, this comes with the next packet of the connection.
     Lost(Sent),
     /// An id of a side.
     NewId(ConnectionId, Side),
@@ -84,7 +85,7 @@ pub enum Unopened {
     StatelessReset,
     /// The capture doesn't have all bytes of it.
     NotCaptured,
-    /// No connection is known by its id or its addresses.
+    /// No connection is known by its id or its addresses, and no secret of the key log was found for it.
     NoConnection,
     /// A 0-RTT packet whose connection didn't begin.
     NoInitial,
@@ -96,6 +97,8 @@ pub enum Unopened {
     UnknownSuite,
     /// No key of the connection opens it.
     WrongTag,
+    /// An Initial packet of a connection that began before the capture: its keys follow from the client's first id.
+    NoFirstId,
 }
 
 impl fmt::Display for Unopened {
@@ -112,6 +115,7 @@ impl fmt::Display for Unopened {
             Unopened::NoSecret => "the key log has no secret for it",
             Unopened::UnknownSuite => "its cipher suite isn't known",
             Unopened::WrongTag => "no key of the connection opens it",
+            Unopened::NoFirstId => "its keys follow from the client's first id, which came before the capture",
         })
     }
 }

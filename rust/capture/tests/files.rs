@@ -3,10 +3,14 @@
 mod files;
 
 use files::{Order, block, interface, ipv4, ipv6, packet, pcap, secrets, section, udp};
+use quic_wire::datagram::{HeaderChecks, HeaderKind, Packets};
 use quic_wire_capture::capture::{Capture, Item};
 use quic_wire_capture::file::FileError;
-use quic_wire_capture::input::{InputError, read};
+use quic_wire_capture::follow::Follower;
+use quic_wire_capture::input::{InputError, read, read_secrets};
+use quic_wire_capture::keylog::KeyLog;
 
+const KEYS: &[u8] = include_bytes!("data/small.keys");
 const SMALL: &[u8] = include_bytes!("data/small.pcap");
 const RAW: u32 = 101;
 const ETHERNET: u32 = 1;
@@ -237,6 +241,95 @@ fn records_that_are_too_long() {
     assert_eq!(found_with(&long(6)).1, Err(FileError::BlockLength(len)));
     let (capture, found) = found_with(&long(0x0bad));
     assert_eq!((found, capture.is_cut()), (Ok(Found::default()), true));
+}
+
+// The longest record of both formats has a datagram, with padding behind it.
+#[test]
+fn longest_records() {
+    let order = Order::Little;
+    let mut long = frame(b"hello");
+    long.resize(262_144, 0);
+    let file = [section(order), interface(order, 101, &[]), packet(order, 0, 5, &long)].concat();
+    for file in [&file, &pcap(order, 0xa1b2_c3d4, RAW, &[&long])] {
+        assert_eq!(found(file).bytes(), [b"hello"]);
+    }
+    long.push(0);
+    let file = [section(order), interface(order, 101, &[]), packet(order, 0, 5, &long)].concat();
+    assert_eq!(found_with(&file).1, Err(FileError::LongRecord { record: 1, len: 262_145 }));
+}
+
+// Key logs before, between and behind packets, of which one is longer than a piece.
+#[test]
+fn secrets_anywhere() {
+    let order = Order::Little;
+    let line =
+        |random: u8| format!("CLIENT_TRAFFIC_SECRET_0 {} {}\n", format!("{random:02x}").repeat(32), "01".repeat(32));
+    let long = "# a comment\n".repeat(100_000) + &line(2);
+    let file = [
+        section(order),
+        interface(order, 101, &[]),
+        secrets(order, line(1).as_bytes()),
+        packet(order, 0, 5, &frame(b"hello")),
+        secrets(order, long.as_bytes()),
+        packet(order, 0, 6, &frame(b"hello")),
+        // Secrets of another kind.
+        block(order, 10, &[0; 20]),
+        secrets(order, line(3).as_bytes()),
+    ];
+    let (mut log, file) = (KeyLog::default(), file.concat());
+    read_secrets(&file[..], &mut log).unwrap();
+    assert!([1, 2, 3].iter().all(|random| log.knows(&[*random; 32])) && log.skipped() == 0);
+    assert_eq!((log.len(), found(&file).bytes()), (3, vec![&b"hello"[..]; 2]));
+    let randoms: Vec<_> = log.randoms().map(|random| random[0]).collect();
+    assert_eq!(randoms, [1, 2, 3]);
+    // A key log that lies about its length.
+    let mut lies = secrets(order, line(1).as_bytes());
+    lies[14] ^= 0x80;
+    let file = [section(order), lies].concat();
+    assert_eq!(found_with(&file).1, Err(FileError::CutBlock { after: 0 }));
+}
+
+// Several key logs, of the same file and of others, open the packets behind them.
+#[test]
+fn secrets_of_a_capture() {
+    let lines: Vec<&str> = std::str::from_utf8(KEYS).unwrap().lines().collect();
+    let (order, ethernet) = (Order::Big, 1);
+    let records = frames_of(SMALL);
+    // Packets before the key logs are opened only if they are Initial packets.
+    let shut = |record: &&[u8]| kinds_of(&record[42..]).iter().filter(|kind| **kind != HeaderKind::Initial).count();
+    for begin in [0, 1, 5, records.len()] {
+        let opened = 16 - records[..begin].iter().map(shut).sum::<usize>() as u64;
+        let mut parts = vec![section(order), interface(order, ethernet, &[])];
+        let mut packets = records.iter().map(|record| packet(order, 0, 5, record));
+        parts.extend(packets.by_ref().take(begin));
+        parts.extend(lines.iter().map(|line| secrets(order, line.as_bytes())));
+        parts.extend(packets);
+        let (mut capture, mut follower) = (Capture::default(), Follower::default());
+        read(&parts.concat()[..], &mut capture, |item| match item {
+            Item::Datagram(datagram) => follower.take(&datagram, &mut ()),
+            Item::Secrets(text) => follower.keylog.add(text),
+        })
+        .unwrap();
+        assert_eq!(follower.counts().opened, opened, "key logs after {begin} packets");
+    }
+}
+
+// The kinds of a datagram's packets, of which one with a short header is the last.
+fn kinds_of(datagram: &[u8]) -> Vec<HeaderKind> {
+    let checks = HeaderChecks { grease_quic_bit: true, any_version: true, whole_retry: false };
+    let packets = Packets::with_checks(datagram, 0, &[1], checks).map_while(Result::ok);
+    packets.map(|packet| packet.header().kind()).collect()
+}
+
+// The frames of a pcap file in little-endian order.
+fn frames_of(mut file: &[u8]) -> Vec<&[u8]> {
+    file = &file[24..];
+    let mut frames = Vec::new();
+    while let Some((header, rest)) = file.split_first_chunk::<16>() {
+        let (frame, rest) = rest.split_at(u32::from_le_bytes(header[8..12].try_into().unwrap()) as usize);
+        (file, frames) = (rest, [frames, vec![frame]].concat());
+    }
+    frames
 }
 
 #[test]

@@ -112,9 +112,10 @@ fn early_data() {
         all.extend(later.clone());
         all_opened(&made, &all, 8);
     }
-    let (_, rows) = rows_of(&[&made], &early);
+    let other = Made::new(2);
+    let (_, rows) = rows_of(&[&other], &early);
     assert_eq!(rows.unopened, [Unopened::NoInitial; 3]);
-    let (_, rows) = rows_of(&[&made], &vec![early[0].clone(); 100]);
+    let (_, rows) = rows_of(&[&other], &vec![early[0].clone(); 100]);
     assert_eq!(rows.unopened, [Unopened::NoInitial; 100]);
 }
 
@@ -257,8 +258,8 @@ fn reasons() {
     all.extend([made.send(Client, Short, PING), made.send(Server, Short, PING)]);
     let why = |keys: &[u8], all: &[Kept]| follow_with(keys, all).1.unopened;
     let keys = made.key_log();
-    // It began before the capture.
-    assert_eq!(why(keys.as_bytes(), &all[1..]), [Unopened::NoConnection; 5]);
+    // It began before the capture, and the key log is another's.
+    assert_eq!(why(Made::new(2).key_log().as_bytes(), &all[1..]), [Unopened::NoConnection; 5]);
     assert_eq!(why(b"", &all), [Unopened::NoSecret; 4]);
     // The ClientHello isn't whole.
     let mut other = Made::new(1);
@@ -312,20 +313,6 @@ fn forbidden_frames() {
     assert!(rows.rows[4].text.contains("Err(Packet)"), "{:?}", rows.rows[4]);
     assert_eq!(rows.unopened, [Unopened::NoConnection]);
     assert_eq!(follower.connections().next().unwrap().end(Side::Server).ids().count(), 1);
-}
-
-#[test]
-fn acknowledged_and_lost() {
-    let mut made = Made::new(1);
-    let mut all = made.handshake();
-    all.extend((0..6).map(|_| made.send(Client, Short, PING)));
-    // ACKs of 5, and of 5 to 1.
-    all.extend([made.send(Server, Short, &[2, 5, 0, 0, 0]), made.send(Server, Short, &[2, 5, 0, 0, 4])]);
-    let rows = all_opened(&made, &all, 12);
-    let text = |row: usize| &rows.rows[row].text[..];
-    assert!(text(10).contains("acknowledged 5 false, lost 0, lost 1, lost 2"), "{}", text(10));
-    let again = "acknowledged 3 false, acknowledged 4 false, acknowledged 1 true, acknowledged 2 true";
-    assert!(text(11).contains(again), "{}", text(11));
 }
 
 #[test]

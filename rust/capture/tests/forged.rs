@@ -161,3 +161,70 @@ fn made_connections() {
         });
     }
 }
+
+// A connection that began before the capture, with an acknowledgment, a key update, and ids and addresses that nothing
+// in the capture gave.
+fn begun(mut made: Made) -> (Made, Vec<Kept>) {
+    made.first_dcid = None;
+    made.numbers = [[1, 1, 40], [1, 1, 7]];
+    let mut all = vec![made.send(Client, Short, &[2, 7, 0, 0, 0]), made.send(Server, Short, &[1])];
+    made.updates[0] += 1;
+    all.extend([made.send(Client, Short, &[1]), made.send(Client, Short, &[2, 8, 0, 0, 1])]);
+    all.extend([made.send(Server, Short, &[2, 42, 0, 0, 0]), made.send(Server, Short, &[2, 42, 0, 0, 2])]);
+    if !made.ids[1].is_empty() {
+        made.ids = [b"client's second".to_vec(), b"server's second".to_vec()];
+        all.extend([made.send(Client, Short, &[1]), made.send(Server, Short, &[1])]);
+        made.addresses[0] = ([192, 0, 2, 1], 5).into();
+        all.extend([made.send(Client, Short, &[1]), made.send(Server, Short, &[1])]);
+    }
+    let packets: Vec<_> = [1200, 1200, 300].iter().flat_map(|len| made.packet(Server, Short, &vec![0; *len])).collect();
+    all.push(made.datagram(Server, packets));
+    let all = all.into_iter().zip(1..).map(|(kept, record)| Kept { record, ..kept }).collect();
+    (made, all)
+}
+
+#[test]
+fn connections_that_began_before() {
+    let empty = Made { ids: [vec![], vec![]], ..Made::new(1) };
+    for ((made, all), packets) in [(begun(Made::new(1)), 13), (begun(empty), 9)] {
+        // The key log has connections that the capture doesn't.
+        let keys = made.key_log() + &Made::new(2).key_log();
+        let with = |make: &dyn Fn(&Kept, u64) -> Option<Kept>| {
+            with_forged_in(keys.as_bytes(), &all, packets, make);
+        };
+        for place in [0, 1, 3, 7, 20] {
+            with(&|kept, seed| {
+                let mut bytes = kept.bytes.clone();
+                *bytes.get_mut(place)? ^= 1 << (seed % 8);
+                *bytes.last_mut()? ^= 1;
+                Some(Kept { bytes, ..kept.clone() })
+            });
+        }
+        with(&|kept, seed| Some(Kept { from: ([10, 9, 9, 9], seed as u16).into(), ..kept.clone() }));
+        with(&|kept, _| Some(Kept { from: kept.to, to: kept.from, ..kept.clone() }));
+        with(&|kept, seed| {
+            let mut random = Random(seed);
+            let bytes = (0..21 + random.below(1300)).map(|_| random.byte()).collect();
+            Some(Kept { bytes, ..kept.clone() })
+        });
+    }
+}
+
+// Random packets alone begin no connection, whatever their form.
+#[test]
+fn nothing_begins_by_chance() {
+    let keys: String = (1..4).map(|seed| Made::new(seed).key_log()).collect();
+    let mut random = Random(5);
+    let mut model = Made::new(1);
+    let model = model.send(Client, Short, &[0; 40]);
+    let all: Vec<_> = (0..200u16)
+        .map(|n| {
+            let mut bytes: Vec<u8> = (0..21 + random.below(200)).map(|_| random.byte()).collect();
+            bytes[0] = [0x40, 0xe0, 0xd0, 0xc0][random.below(4)] | random.below(16) as u8;
+            bytes[1..6].copy_from_slice(&[0, 0, 0, 1, 0]);
+            Kept { bytes, from: ([10, 0, 0, 1], n / 10).into(), ..model.clone() }
+        })
+        .collect();
+    let (follower, rows) = follow_with(keys.as_bytes(), &all);
+    assert_eq!((follower.counts().connections, follower.counts().opened, rows.plain.len()), (0, 0, 0));
+}

@@ -2,7 +2,9 @@
 //! ROUNDS and CONNECTIONS of the environment make it longer.
 mod common;
 
-use common::{KEYS, Kept, Plain, Random, Rows, Sealer, datagrams, opened};
+use common::{CAPTURE, KEYS, Kept, Plain, Random, Rows, Sealer, datagrams, follow_with, opened};
+use quic_wire::datagram::HeaderKind;
+use quic_wire_capture::capture::{Capture, Item};
 use quic_wire_capture::follow::{Follower, MOST_CONNECTIONS};
 
 const TYPES: &[u8] = &[
@@ -35,28 +37,90 @@ fn payload(random: &mut Random, model: &Plain) -> Vec<u8> {
     payload
 }
 
+fn rounds() -> u64 {
+    std::env::var("ROUNDS").ok().and_then(|text| text.parse().ok()).unwrap_or(200)
+}
+
+// Follows a part of the capture, and then packets of any contents. Returns how many of these were opened.
+fn round(random: &mut Random, sealer: &Sealer, plain: &[Plain], part: &[Kept]) -> u64 {
+    let all = datagrams();
+    let (mut follower, mut rows) = (Follower::default(), Rows::default());
+    follower.keylog.add(KEYS);
+    part.iter().for_each(|kept| follower.take(&kept.datagram(), &mut rows));
+    let before = follower.counts().opened;
+    for i in 0..20 {
+        let model = &plain[random.below(plain.len())];
+        let number = if random.below(4) == 0 { random.below(1 << 31) as u64 } else { 20 + i };
+        let bytes = sealer.seal(&Plain { payload: payload(random, model), number, ..model.clone() });
+        let time = 1_000_000 * random.below(2000) as u64;
+        let kept = Kept { bytes, record: 100 + i, time, ..all[model.place].clone() };
+        follower.take(&kept.datagram(), &mut rows);
+    }
+    follower.finish(&mut rows);
+    follower.counts().opened - before
+}
+
 #[test]
 fn any_contents() {
-    let rounds = std::env::var("ROUNDS").ok().and_then(|text| text.parse().ok()).unwrap_or(200);
     let (sealer, all, plain) = (Sealer::of_capture(1), datagrams(), opened());
     let mut random = Random(7);
-    let mut packets = 0;
-    for _ in 0..rounds {
-        let (mut follower, mut rows) = (Follower::default(), Rows::default());
-        follower.keylog.add(KEYS);
-        let cut = random.below(all.len());
-        all[..=cut].iter().for_each(|kept| follower.take(&kept.datagram(), &mut rows));
-        let before = follower.counts().opened;
-        for i in 0..20 {
-            let model = &plain[random.below(plain.len())];
-            let number = if random.below(4) == 0 { random.below(1 << 31) as u64 } else { 20 + i };
-            let bytes = sealer.seal(&Plain { payload: payload(&mut random, model), number, ..model.clone() });
-            let kept = Kept { bytes, record: 100 + i, ..all[model.place].clone() };
-            follower.take(&kept.datagram(), &mut rows);
+    let packets: u64 = (0..rounds())
+        .map(|_| {
+            let cut = random.below(all.len());
+            round(&mut random, &sealer, &plain, &all[..=cut])
+        })
+        .sum();
+    assert!(packets > 10 * rounds(), "{packets} packets were opened");
+}
+
+// The same of connections that began before the capture.
+#[test]
+fn any_contents_without_a_handshake() {
+    let (sealer, all) = (Sealer::of_capture(1), datagrams());
+    let plain: Vec<_> = opened().into_iter().filter(|plain| plain.kind != HeaderKind::Initial).collect();
+    let mut random = Random(8);
+    let packets: u64 = (0..rounds())
+        .map(|_| {
+            let begin = 1 + random.below(all.len() - 1);
+            let end = begin + random.below(all.len() - begin + 1);
+            round(&mut random, &sealer, &plain, &all[begin..end])
+        })
+        .sum();
+    assert!(packets > 5 * rounds(), "{packets} packets were opened");
+}
+
+// Captures whose bytes, key logs and order of datagrams are changed.
+#[test]
+fn changed_captures() {
+    let mut random = Random(9);
+    let mut opened = 0;
+    for _ in 0..rounds() {
+        let (mut file, mut keys) = (CAPTURE.to_vec(), KEYS.to_vec());
+        for _ in 0..random.below(8) {
+            let at = random.below(file.len());
+            file[at] ^= 1 << random.below(8);
         }
-        packets += follower.counts().opened - before;
+        if random.below(4) == 0 {
+            let at = random.below(keys.len());
+            keys[at] ^= 1 << random.below(8);
+        }
+        let (mut capture, mut all) = (Capture::default(), Vec::new());
+        capture.feed(&file);
+        while let Ok(Some(item)) = capture.next() {
+            if let Item::Datagram(datagram) = item {
+                all.push(Kept::new(&datagram));
+            }
+        }
+        let count = all.len().max(1);
+        all.drain(..random.below(count));
+        for _ in 0..random.below(if all.is_empty() { 1 } else { 4 }) {
+            let (one, two) = (random.below(all.len()), random.below(all.len()));
+            all.swap(one, two);
+        }
+        let (follower, _) = follow_with(&keys, &all);
+        opened += follower.counts().opened;
     }
-    assert!(packets > 10 * rounds, "{packets} packets were opened");
+    assert!(opened > 2 * rounds(), "{opened} packets were opened");
 }
 
 // Connections that anyone can begin don't push out one of the same addresses.

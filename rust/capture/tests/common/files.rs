@@ -1,4 +1,5 @@
 //! Capture files, made of frames.
+#![allow(dead_code, reason = "each test uses a part")]
 
 /// How numbers are written.
 #[derive(Clone, Copy, PartialEq, Eq)]

@@ -26,6 +26,8 @@ const LABELS: [&str; 5] = [
 #[derive(Clone)]
 pub struct Made {
     pub seed: u8,
+    /// Of which secrets and random bytes are made too.
+    pub salt: u32,
     pub version: u32,
     pub suite: Suite,
     /// The id to which the client sends first.
@@ -50,6 +52,7 @@ impl Made {
         let first = vec![seed, 0xf1, 0xf2, 0xf3, 0xf4, 0xf5, 0xf6, 0xf7];
         Made {
             seed,
+            salt: 0,
             version: VERSION_1,
             suite: Suite::Aes128Gcm,
             original_id: first.clone(),
@@ -66,11 +69,16 @@ impl Made {
     }
 
     fn secret(&self, label: usize) -> Vec<u8> {
-        vec![self.seed ^ (0x10 * (label as u8 + 1)); self.suite.secret_len()]
+        self.salted(vec![self.seed ^ (0x10 * (label as u8 + 1)); self.suite.secret_len()])
     }
 
-    fn random(&self) -> [u8; 32] {
-        [self.seed; 32]
+    fn random(&self) -> Vec<u8> {
+        self.salted(vec![self.seed; 32])
+    }
+
+    fn salted(&self, mut bytes: Vec<u8>) -> Vec<u8> {
+        bytes.iter_mut().zip(self.salt.to_be_bytes()).for_each(|(byte, salt)| *byte ^= salt);
+        bytes
     }
 
     pub fn key_log(&self) -> String {

@@ -1,0 +1,91 @@
+//! Writes a capture of many connections to standard output, as pcapng with their secrets: so many are live at any time,
+//! of which each closes after some packets and makes room for another, until the file has so many bytes.
+//!
+//! `generate CONNECTIONS BYTES [PACKETS_OF_EACH]`
+#[path = "../tests/common/mod.rs"]
+mod common;
+#[path = "../tests/common/files.rs"]
+mod files;
+#[path = "../tests/common/made.rs"]
+mod made;
+
+use common::Kept;
+use files::{Order, interface, packet, secrets, section};
+use made::{Client, Made, Server, Short};
+use std::error::Error;
+use std::io::{self, BufWriter, Write};
+use std::net::SocketAddr;
+
+/// How long after a packet the next one is sent, in nanoseconds.
+const STEP: u64 = 100_000;
+
+struct File<W: Write> {
+    out: W,
+    time: u64,
+    written: u64,
+}
+
+impl<W: Write> File<W> {
+    fn block(&mut self, block: &[u8]) -> io::Result<()> {
+        self.written += block.len() as u64;
+        self.out.write_all(block)
+    }
+
+    // A datagram of IPv4.
+    fn datagram(&mut self, kept: &Kept) -> io::Result<()> {
+        self.time += STEP;
+        let (SocketAddr::V4(from), SocketAddr::V4(to)) = (kept.from, kept.to) else { return Ok(()) };
+        let len = kept.bytes.len() as u16;
+        let mut frame = [&[0x45, 0][..], &(len + 28).to_be_bytes(), &[0, 0, 0, 0, 64, 17, 0, 0]].concat();
+        frame.extend([from.ip().octets(), to.ip().octets()].concat());
+        frame.extend([from.port(), to.port(), len + 8, 0].iter().flat_map(|number| number.to_be_bytes()));
+        frame.extend_from_slice(&kept.bytes);
+        self.block(&packet(Order::Little, 0, self.time / 1000, &frame))
+    }
+
+    fn begin(&mut self, number: u32) -> io::Result<Made> {
+        let id = |kind: u8| [&[kind][..], &number.to_be_bytes(), &[kind; 3]].concat();
+        let mut made = Made { salt: number, ids: [id(1), id(2)], ..Made::new(7) };
+        (made.original_id, made.initial_id, made.first_dcid) = (id(3), id(3), Some(id(3)));
+        let [_, a, b, c] = number.to_be_bytes();
+        made.addresses[0] = ([10, a, b, c], 4433).into();
+        self.block(&secrets(Order::Little, made.key_log().as_bytes()))?;
+        made.handshake().iter().try_for_each(|kept| self.datagram(kept))?;
+        Ok(made)
+    }
+}
+
+fn main() -> Result<(), Box<dyn Error>> {
+    let numbers: Vec<u64> = std::env::args().skip(1).map(|text| text.parse()).collect::<Result<_, _>>()?;
+    let (&[count, bytes, ref more @ ..], [] | [_]) = (&numbers[..], numbers.get(2..).unwrap_or_default()) else {
+        return Err("generate CONNECTIONS BYTES [PACKETS_OF_EACH]".into());
+    };
+    let packets = more.first().copied().unwrap_or(100);
+    let mut file = File { out: BufWriter::new(io::stdout().lock()), time: 1_000_000_000, written: 0 };
+    file.block(&[section(Order::Little), interface(Order::Little, 101, &[])].concat())?;
+    let mut begun = u32::try_from(count)?;
+    let mut live: Vec<Made> = (0..begun).map(|number| file.begin(number)).collect::<Result<_, _>>()?;
+    // They don't all close at the same time.
+    let mut left: Vec<u64> = (0..count).map(|number| 1 + number * packets / count).collect();
+    while file.written < bytes {
+        for (made, left) in live.iter_mut().zip(&mut left) {
+            if *left == 0 {
+                let close = made.send(Client, Short, &[0x1d, 0, 0]);
+                file.datagram(&close)?;
+                *made = file.begin(begun)?;
+                (begun, *left) = (begun + 1, packets);
+            }
+            // The client's PING and the server's ACK of it.
+            let largest = made.numbers[0][2] as u16 | 0x4000;
+            let ping = made.send(Client, Short, &[1; 40]);
+            let ack = [&[2][..], &largest.to_be_bytes(), &[0, 0, 0], &[1; 40]].concat();
+            let answer = made.send(Server, Short, &ack);
+            file.datagram(&ping)?;
+            file.datagram(&answer)?;
+            *left -= 1;
+        }
+    }
+    file.out.flush()?;
+    eprintln!("{begun} connections, {} bytes", file.written);
+    Ok(())
+}

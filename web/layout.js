@@ -42,9 +42,9 @@ export const CALLS = {
   param_value_fields: [64, 64, 64, 32, 64, 64, 64],
   packet_fields: [64, 64, 64, 64, 64, 32, 64, 64, 64],
   header_read: [64, 64, 32, 64, 64, 32, 64],
+  unprotect_copy: [64, 64, 64, 64, 64, 64, 64, 64],
   varint_read: [64, 64, 64],
   varint_len: [64],
-  unprotect_copy: [64, 64, 64, 64, 64, 64, 64, 64],
   params_read: [32, 32, 64, 64, 64, 64],
 };
 

@@ -758,19 +758,6 @@ typedef struct quic_wire_fields {
 #endif
 #ifdef QUIC_WIRE_ASSERT
 /* Made by scripts/tables: */
-QUIC_WIRE_ASSERT(sizeof(quic_wire_frame_iter) == 24);
-QUIC_WIRE_ASSERT(offsetof(quic_wire_frame_iter, ended) == 16);
-QUIC_WIRE_ASSERT(offsetof(quic_wire_frame_iter, flags) == 20);
-QUIC_WIRE_ASSERT(sizeof(quic_wire_frame) == 80);
-QUIC_WIRE_ASSERT(offsetof(quic_wire_frame, flags) == 4);
-QUIC_WIRE_ASSERT(offsetof(quic_wire_frame, begin) == 8);
-QUIC_WIRE_ASSERT(offsetof(quic_wire_frame, numbers) == 40);
-QUIC_WIRE_ASSERT(sizeof(quic_wire_range) == 16);
-QUIC_WIRE_ASSERT(offsetof(quic_wire_range, end) == 8);
-QUIC_WIRE_ASSERT(sizeof(quic_wire_gap) == 16);
-QUIC_WIRE_ASSERT(offsetof(quic_wire_gap, len) == 8);
-QUIC_WIRE_ASSERT(sizeof(quic_wire_range_iter) == 24);
-QUIC_WIRE_ASSERT(offsetof(quic_wire_range_iter, largest) == 16);
 QUIC_WIRE_ASSERT(sizeof(quic_wire_canon) == 16);
 QUIC_WIRE_ASSERT(offsetof(quic_wire_canon, last_type) == 8);
 QUIC_WIRE_ASSERT(sizeof(quic_wire_header) == 32);
@@ -789,6 +776,19 @@ QUIC_WIRE_ASSERT(sizeof(quic_wire_param) == 24);
 QUIC_WIRE_ASSERT(offsetof(quic_wire_param, valuelen) == 16);
 QUIC_WIRE_ASSERT(sizeof(quic_wire_refusal) == 16);
 QUIC_WIRE_ASSERT(offsetof(quic_wire_refusal, offset) == 8);
+QUIC_WIRE_ASSERT(sizeof(quic_wire_range) == 16);
+QUIC_WIRE_ASSERT(offsetof(quic_wire_range, end) == 8);
+QUIC_WIRE_ASSERT(sizeof(quic_wire_frame_iter) == 24);
+QUIC_WIRE_ASSERT(offsetof(quic_wire_frame_iter, ended) == 16);
+QUIC_WIRE_ASSERT(offsetof(quic_wire_frame_iter, flags) == 20);
+QUIC_WIRE_ASSERT(sizeof(quic_wire_frame) == 80);
+QUIC_WIRE_ASSERT(offsetof(quic_wire_frame, flags) == 4);
+QUIC_WIRE_ASSERT(offsetof(quic_wire_frame, begin) == 8);
+QUIC_WIRE_ASSERT(offsetof(quic_wire_frame, numbers) == 40);
+QUIC_WIRE_ASSERT(sizeof(quic_wire_gap) == 16);
+QUIC_WIRE_ASSERT(offsetof(quic_wire_gap, len) == 8);
+QUIC_WIRE_ASSERT(sizeof(quic_wire_range_iter) == 24);
+QUIC_WIRE_ASSERT(offsetof(quic_wire_range_iter, largest) == 16);
 QUIC_WIRE_ASSERT(sizeof(quic_wire_span) == 32);
 QUIC_WIRE_ASSERT(offsetof(quic_wire_span, number) == 24);
 QUIC_WIRE_ASSERT(sizeof(quic_wire_fields) == 32);

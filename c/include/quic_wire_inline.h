@@ -17,18 +17,11 @@
 /* The functions of the proved library.  Their pointers must not be NULL.  A
  * slice of its crates is a pointer and a length here. */
 /* Made by scripts/tables: */
-int32_t quic_wire_ack_gaps_write_(const quic_wire_frame *,
-                                  const quic_wire_gap *, size_t, uint8_t *,
-                                  size_t, size_t *);
 int32_t quic_wire_ack_ranges_init_(quic_wire_range_iter *, const uint8_t *,
                                    size_t, const quic_wire_frame *);
 int32_t quic_wire_ack_ranges_next_(quic_wire_range_iter *, const uint8_t *,
                                    size_t, quic_wire_range *);
 uint32_t quic_wire_close_code_(int32_t);
-int32_t quic_wire_frame_header_write_(const quic_wire_frame *, uint32_t,
-                                      uint8_t *, size_t, size_t *);
-size_t quic_wire_frame_write_fault_(const quic_wire_frame *, const uint8_t *,
-                                    size_t, uint32_t);
 int32_t quic_wire_frames_fill_(quic_wire_frame_iter *, const uint8_t *, size_t,
                                quic_wire_frame *, size_t, size_t *);
 int32_t quic_wire_frames_first_(quic_wire_frame_iter *, const uint8_t *, size_t,
@@ -41,12 +34,8 @@ int32_t quic_wire_frames_next_(quic_wire_frame_iter *, const uint8_t *, size_t,
                                quic_wire_frame *);
 int64_t quic_wire_frame_read_(const uint8_t *, size_t, uint32_t,
                               quic_wire_frame *, quic_wire_gap *, size_t);
-int64_t quic_wire_frame_header_read_(const uint8_t *, size_t, uint32_t,
-                                     quic_wire_frame *);
 int32_t quic_wire_frames_skip_(quic_wire_frame_iter *, const uint8_t *, size_t,
                                size_t, uint64_t);
-int32_t quic_wire_frame_write_(const quic_wire_frame *, const uint8_t *, size_t,
-                               uint32_t, uint8_t *, size_t, size_t *);
 int32_t quic_wire_canonical_(const uint8_t *, size_t, uint8_t *, size_t,
                              quic_wire_canon *);
 int32_t quic_wire_canonical_with_(const uint8_t *, size_t, uint32_t, uint8_t *,
@@ -73,13 +62,6 @@ int64_t quic_wire_negotiation_read_(const uint8_t *, size_t,
 int32_t quic_wire_negotiation_write_(uint8_t, const uint8_t *, size_t,
                                      const uint8_t *, size_t, const uint32_t *,
                                      size_t, uint8_t *, size_t, size_t *);
-size_t quic_wire_varint_read_(const uint8_t *, size_t, uint64_t *);
-size_t quic_wire_varint_len_(uint64_t);
-size_t quic_wire_varint_write_(uint64_t, uint32_t, uint8_t *, size_t);
-int32_t quic_wire_number_len_(uint64_t, uint64_t);
-int32_t quic_wire_number_read_(const uint8_t *, size_t, uint32_t, uint64_t *);
-int32_t quic_wire_number_write_(uint64_t, uint32_t, uint8_t *, size_t);
-uint64_t quic_wire_number_expand_(uint64_t, uint32_t, uint64_t);
 int32_t quic_wire_unprotect_(uint8_t *, size_t, size_t, const uint8_t *,
                              uint64_t, uint64_t *);
 int32_t quic_wire_unprotect_copy_(const uint8_t *, size_t, size_t,
@@ -107,6 +89,13 @@ size_t quic_wire_version_information_write_(uint32_t, const uint32_t *, size_t,
                                             uint8_t *, size_t);
 uint32_t quic_wire_version_information_read_(const uint8_t *, size_t);
 uint32_t quic_wire_version_split_(const uint8_t *, size_t);
+size_t quic_wire_varint_read_(const uint8_t *, size_t, uint64_t *);
+size_t quic_wire_varint_len_(uint64_t);
+size_t quic_wire_varint_write_(uint64_t, uint32_t, uint8_t *, size_t);
+int32_t quic_wire_number_len_(uint64_t, uint64_t);
+int32_t quic_wire_number_read_(const uint8_t *, size_t, uint32_t, uint64_t *);
+int32_t quic_wire_number_write_(uint64_t, uint32_t, uint8_t *, size_t);
+uint64_t quic_wire_number_expand_(uint64_t, uint32_t, uint64_t);
 int32_t quic_wire_preferred_address_read_(const uint8_t *, size_t,
                                           quic_wire_params *);
 int32_t quic_wire_preferred_address_write_(const quic_wire_params *, uint8_t *,
@@ -145,6 +134,17 @@ int32_t quic_wire_set_remove_(quic_wire_range *, size_t, size_t *, uint64_t,
                               uint64_t);
 int32_t quic_wire_set_contains_(const quic_wire_range *, size_t, size_t,
                                 uint64_t);
+int32_t quic_wire_ack_gaps_write_(const quic_wire_frame *,
+                                  const quic_wire_gap *, size_t, uint8_t *,
+                                  size_t, size_t *);
+int32_t quic_wire_frame_header_write_(const quic_wire_frame *, uint32_t,
+                                      uint8_t *, size_t, size_t *);
+size_t quic_wire_frame_write_fault_(const quic_wire_frame *, const uint8_t *,
+                                    size_t, uint32_t);
+int64_t quic_wire_frame_header_read_(const uint8_t *, size_t, uint32_t,
+                                     quic_wire_frame *);
+int32_t quic_wire_frame_write_(const quic_wire_frame *, const uint8_t *, size_t,
+                               uint32_t, uint8_t *, size_t, size_t *);
 /* End of what is made. */
 
 /* An address for arrays without items, since the proved library accepts no

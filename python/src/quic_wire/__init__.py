@@ -16,7 +16,6 @@ not change while a call reads them.
 from __future__ import annotations
 
 from collections.abc import Iterable
-from typing import Protocol, runtime_checkable
 
 # Made by scripts/tables:
 from ._wire import (
@@ -30,6 +29,8 @@ from ._wire import (
     write_parameter, write_varint, write_version_negotiation,
 )  # fmt: skip
 # End of what is made.
+from . import _own
+from ._own import Encodes
 from ._version import VERSION
 from .checks import Checks
 from .errors import Code, Error, FrameError, PacketError, ParameterError
@@ -42,7 +43,7 @@ __version__ = VERSION
 # Made by scripts/tables:
 __all__ = [
     "LIBRARY_VERSION", "Ack", "AckFrequency", "ApplicationClose", "Checks", "Code", "ConnectionClose", "Crypto",
-    "DataBlocked", "Datagram", "Error", "Field", "Frame", "FrameError", "FrameIterator", "Handshake",
+    "DataBlocked", "Datagram", "Encodes", "Error", "Field", "Frame", "FrameError", "FrameIterator", "Handshake",
     "HandshakeDone", "ImmediateAck", "Initial", "MaxData", "MaxStreamData", "MaxStreamsBidi", "MaxStreamsUni",
     "NewConnectionId", "NewToken", "OneRtt", "Packet", "PacketError", "PacketType", "Padding", "Parameter",
     "ParameterError", "PathChallenge", "PathResponse", "Ping", "PreferredAddress", "RangeSet", "ResetStream",
@@ -57,14 +58,6 @@ __all__ = [
 # End of what is made.
 
 
-@runtime_checkable
-class Encodes(Protocol):
-    """A frame that the library doesn't know, which encodes itself."""
-
-    def encode(self) -> bytes:
-        """All its bytes, with its type."""
-
-
 def write_frames(payload: Iterable[Frame | Encodes], *, checks: Checks = Checks.QUINN) -> bytes:
     """A payload of frames, each in its shortest form; the last one without a length that it doesn't need.
 
@@ -76,17 +69,6 @@ def write_frames(payload: Iterable[Frame | Encodes], *, checks: Checks = Checks.
     all_frames = list(payload)
     last = len(all_frames) - 1
     return b"".join(
-        Frame.encode(frame, last=i == last, checks=checks) if isinstance(frame, Frame) else _encoded(i, frame)
+        Frame.encode(frame, last=i == last, checks=checks) if isinstance(frame, Frame) else _own.encoded(i, frame)
         for i, frame in enumerate(all_frames)
     )
-
-
-def _encoded(i: int, frame: Encodes) -> bytes:
-    if isinstance(frame, str | type) or not isinstance(frame, Encodes):
-        raise TypeError(f"payload[{i}] must be a Frame or have a method encode, not {type(frame).__name__}")
-    encoded = frame.encode()
-    if not isinstance(encoded, bytes):
-        raise TypeError(f"payload[{i}].encode() must return bytes, not {type(encoded).__name__}")
-    if not encoded:
-        raise ValueError(f"payload[{i}].encode() must return at least a frame's type")
-    return encoded

@@ -38,7 +38,7 @@ def of_wire(formats):
 def of_others(source):
     """The names that the package has from its other modules and defines itself, without those of other packages."""
     for node in ast.parse(source).body:
-        if isinstance(node, ast.ImportFrom) and node.level and node.module not in ("_wire", "_version"):
+        if isinstance(node, ast.ImportFrom) and node.level and node.module not in (None, "_wire", "_version"):
             yield from (one.name for one in node.names)
         elif isinstance(node, ast.FunctionDef):
             yield node.name

@@ -24,6 +24,7 @@ mod AckRanges
 mod RangeWalks
 mod ReadingOn
 mod Types
+mod BodyReads
 pub mod FirstFaults
 mod FastReads
 mod FastData

@@ -4,6 +4,7 @@
 
 mod ack_gaps;
 mod acks;
+mod body;
 mod by_kind;
 mod codes;
 mod data_headers;

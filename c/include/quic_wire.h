@@ -937,6 +937,29 @@ quic_wire_frame_read(const uint8_t *payload, size_t payloadlen, uint32_t flags,
                      quic_wire_frame *frame, quic_wire_gap *gaps, size_t room);
 
 /**
+ * Reads the body of a frame, the fields behind its type, where you have read
+ * the |type|; or the part of an extension's frame that is the body of one that
+ * the library knows.  What it reads, and why it rejects something, is what
+ * quic_wire_frame_read says of the type and these bytes, except that it reads
+ * one byte of PADDING, whose body is empty.  Offsets in |frame| count from
+ * |body|.  |type| isn't encoded here: QUIC_WIRE_READ_SHORT_TYPES doesn't matter.
+ *
+ * |gaps| and QUIC_WIRE_FLAG_MORE are as there, but quic_wire_ack_ranges_init
+ * can't read an ACK's body: |bodylen| / 2 entries always suffice.
+ *
+ * Returns:
+ *  - where the body ends, which may be 0
+ *  - QUIC_WIRE_ERR_NUMBER if |type| is 2^62 or more; |frame| doesn't change
+ *  - QUIC_WIRE_ERR_FRAME_... if the body is invalid or rejected by |flags|, or
+ *    the type unknown, with the type in |frame|
+ *  - QUIC_WIRE_ERR_ARGUMENT for NULL
+ */
+QUIC_WIRE_CHECKED QUIC_WIRE_API int64_t
+quic_wire_frame_body_read(const uint8_t *body, size_t bodylen, uint64_t type,
+                          uint32_t flags, quic_wire_frame *frame,
+                          quic_wire_gap *gaps, size_t room);
+
+/**
  * Reads the header of a STREAM, CRYPTO or DATAGRAM at the front of |bytes|: the
  * frame up to its data, as quic_wire_frame_header_write writes it.  The data
  * may be in another buffer, or not there yet.  |frame| has the fields that

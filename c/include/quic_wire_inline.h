@@ -21,6 +21,8 @@ int32_t quic_wire_ack_ranges_init_(quic_wire_range_iter *, const uint8_t *,
                                    size_t, const quic_wire_frame *);
 int32_t quic_wire_ack_ranges_next_(quic_wire_range_iter *, const uint8_t *,
                                    size_t, quic_wire_range *);
+int64_t quic_wire_frame_body_read_(const uint8_t *, size_t, uint64_t, uint32_t,
+                                   quic_wire_frame *, quic_wire_gap *, size_t);
 uint32_t quic_wire_close_code_(int32_t);
 int32_t quic_wire_frames_fill_(quic_wire_frame_iter *, const uint8_t *, size_t,
                                quic_wire_frame *, size_t, size_t *);
@@ -259,6 +261,26 @@ QUIC_WIRE_API int64_t quic_wire_frame_read(const uint8_t *payload,
     gaps = (quic_wire_gap *)quic_wire_nothing_();
   }
   return quic_wire_frame_read_(payload, payloadlen, flags, frame, gaps, room);
+}
+
+QUIC_WIRE_API int64_t
+quic_wire_frame_body_read(const uint8_t *body, size_t bodylen, uint64_t type,
+                          uint32_t flags, quic_wire_frame *frame,
+                          quic_wire_gap *gaps, size_t room) {
+  if (!frame)
+    return QUIC_WIRE_ERR_ARGUMENT;
+  if (!body) {
+    if (bodylen)
+      return QUIC_WIRE_ERR_ARGUMENT;
+    body = (const uint8_t *)quic_wire_nothing_();
+  }
+  if (!gaps) {
+    if (room)
+      return QUIC_WIRE_ERR_ARGUMENT;
+    gaps = (quic_wire_gap *)quic_wire_nothing_();
+  }
+  return quic_wire_frame_body_read_(body, bodylen, type, flags, frame, gaps,
+                                    room);
 }
 
 QUIC_WIRE_API int64_t quic_wire_frame_header_read(const uint8_t *bytes,

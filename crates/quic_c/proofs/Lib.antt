@@ -10,6 +10,7 @@ mod AckRanges
 mod RangeWalks
 mod ReadingOn
 mod Types
+mod BodyReads
 mod FastReads
 mod FastData
 mod FastCloses

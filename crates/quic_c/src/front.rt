@@ -107,7 +107,7 @@ fn show_ack(end: usize, ty: u16, ack: &Ack<'_>, gaps: &mut [CGap]) -> CFrame
 
 // The words of a frame of this type at the front.
 #[inline(always)]
-fn show_front(end: usize, ty: u16, frame: &Frame<'_>, gaps: &mut [CGap]) -> CFrame
+pub(crate) fn show_front(end: usize, ty: u16, frame: &Frame<'_>, gaps: &mut [CGap]) -> CFrame
     ensures { ShowsFront end ty frame.now gaps.old result gaps.new }
 {
     match frame {
@@ -133,7 +133,7 @@ fn pass_run(iter: &mut Iter<'_>, frame: &Frame<'_>) -> usize
 }
 
 // Reports why the frame at the front isn't given.
-fn refuse(invalid: &InvalidFrame, out: &mut CFrame) -> i64
+pub(crate) fn refuse(invalid: &InvalidFrame, out: &mut CFrame) -> i64
     ensures reason { result ≡ failed (frame_failure invalid.now.reason.now) }
     ensures words { out.new ≡ invalid_words 0 (type_word invalid.now.ty) }
 {

@@ -3,6 +3,7 @@
 #![tactic(auto)]
 
 mod acks;
+mod body;
 mod by_kind;
 mod codes;
 mod fast;

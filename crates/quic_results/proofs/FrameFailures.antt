@@ -34,3 +34,7 @@ not_room reason = five (λ (z : ℤ). z ≡ failed failure.NoRoom) _ _ _ _ (λ e
 pub not_empty : (reason : List ℕ) → failed (frame_failure reason) ≡ failed failure.PayloadEmpty → ⊥
 not_empty reason = five (λ (z : ℤ). z ≡ failed failure.PayloadEmpty) _ _ _ _ (λ e. cc) (λ e. cc) (λ e. cc) (λ e. cc)
     (λ e. cc)
+
+pub not_number : (reason : List ℕ) → failed (frame_failure reason) ≡ failed failure.Number → ⊥
+not_number reason = five (λ (z : ℤ). z ≡ failed failure.Number) _ _ _ _ (λ e. cc) (λ e. cc) (λ e. cc) (λ e. cc)
+    (λ e. cc)

@@ -4,16 +4,12 @@
 mod captures;
 #[path = "../../capture/tests/common/mod.rs"]
 mod common;
-#[allow(dead_code, reason = "a part is used")]
-#[path = "../../capture/tests/common/files.rs"]
-mod files;
 #[path = "../../capture/tests/common/made.rs"]
 mod made;
 #[path = "common/mod.rs"]
 mod program;
 
-use captures::{Folder, SMALL, SMALL_KEYS, a2, kept, pcap};
-use files::{Order, block, interface, packet, secrets, section};
+use captures::{Folder, SMALL, SMALL_KEYS, a2, block, gzip, kept, pcap, pcapng, section};
 use made::{Client, Made, Server, Short};
 use program::run;
 use std::fs;
@@ -21,23 +17,10 @@ use std::io::{BufRead, BufReader, Write};
 use std::process::{Command, Stdio};
 
 const PING: &[u8] = &[1];
-const RAW: u16 = 101;
 
 fn capture(arguments: &[&str], input: &[u8]) -> (Vec<String>, String, i32) {
     let (text, said, status) = run(&[&["capture"], arguments].concat(), input);
     (text.lines().map(String::from).collect(), said, status)
-}
-
-// RFC 1952 and RFC 1951: a file in a block that isn't compressed.
-fn gzip(bytes: &[u8]) -> Vec<u8> {
-    let mut crc = u32::MAX;
-    for byte in bytes {
-        crc ^= u32::from(*byte);
-        (0..8).for_each(|_| crc = crc >> 1 ^ if crc & 1 == 1 { 0xedb8_8320 } else { 0 });
-    }
-    let len = bytes.len() as u16;
-    let block = [&[1][..], &len.to_le_bytes(), &(!len).to_le_bytes(), bytes].concat();
-    [&[0x1f, 0x8b, 8, 0, 0, 0, 0, 0, 0, 255][..], &block, &(!crc).to_le_bytes(), &u32::from(len).to_le_bytes()].concat()
 }
 
 #[test]
@@ -90,16 +73,7 @@ fn several_key_logs_and_secrets_in_the_file() {
     let mut made = Made::new(1);
     let mut all = made.handshake();
     all.push(made.send(Client, Short, PING));
-    let mut file = [section(Order::Big), interface(Order::Big, RAW, &[])].concat();
-    file.extend(secrets(Order::Big, made.key_log().as_bytes()));
-    let records = pcap(&all);
-    let mut at = 24;
-    while at < records.len() {
-        let len = u32::from_le_bytes(records[at + 8..at + 12].try_into().unwrap()) as usize;
-        file.extend(packet(Order::Big, 0, at as u64, &records[at + 16..at + 16 + len]));
-        at += 16 + len;
-    }
-    let file = folder.write("secrets.pcapng", file);
+    let file = folder.write("secrets.pcapng", pcapng(&all, made.key_log().as_bytes()));
     assert!(capture(&[&file], b"").0.last().unwrap().ends_with(" 4 datagrams, 1 connection, 5 packets opened"));
 }
 
@@ -117,10 +91,7 @@ fn files_that_cannot_be_read() {
         (folder.write("text", "this is text"), "the file is neither pcap nor pcapng"),
         (folder.write("empty", ""), "the file is empty"),
         (folder.write("damaged.gz", &gzip(&small)[..3000]), "after record "),
-        (
-            folder.write("block.pcapng", [section(Order::Little), block(Order::Little, 6, &[0; 20])].concat()),
-            "interface 0 isn't described",
-        ),
+        (folder.write("block.pcapng", [section(), block(6, &[0; 20])].concat()), "interface 0 isn't described"),
         (folder.path("none"), "No such file or directory"),
         (folder.path(""), "Is a directory"),
     ];

@@ -12,7 +12,7 @@ mod made;
 #[path = "common/mod.rs"]
 mod program;
 
-use captures::{Folder, SMALL, SMALL_KEYS, pcap};
+use captures::{Folder, SMALL, SMALL_KEYS, gzip, pcap, pcapng};
 use common::{Random, Sealer, datagrams, opened};
 use json::{Json, Schema};
 use program::run;
@@ -57,15 +57,16 @@ fn changed_captures_and_key_logs() {
     let rounds = std::env::var("ROUNDS").ok().and_then(|text| text.parse().ok()).unwrap_or(100usize);
     let folder = Folder::new("hostile");
     let (small, keys) = (fs::read(SMALL).unwrap(), fs::read(SMALL_KEYS).unwrap());
+    let bases = [pcapng(&datagrams(), &keys), gzip(&small), small];
     let (mut random, mut schema) = (Random(11), Schema::read(SCHEMA));
     let mut read = 0;
     for round in 0..rounds.div_ceil(FILES) {
         let names: Vec<_> = (0..FILES).map(|n| format!("{n}.pcap")).collect();
         let files: Vec<_> = names
             .iter()
-            .map(|name| match random.below(3) {
-                0 => folder.write(name, sealed(&mut random)),
-                _ => folder.write(name, changed(&mut random, &small)),
+            .map(|name| match bases.get(random.below(4)) {
+                None => folder.write(name, sealed(&mut random)),
+                Some(base) => folder.write(name, changed(&mut random, base)),
             })
             .collect();
         let log = match round % 3 {
@@ -90,6 +91,6 @@ fn changed_captures_and_key_logs() {
         }
         read += FILES - said.lines().count();
     }
-    assert!(read > rounds / 3, "{read} files were read to their end");
+    assert!(read > rounds / 4, "{read} files were read to their end");
     println!("{} files, {read} of them read to their end", rounds.div_ceil(FILES) * FILES);
 }

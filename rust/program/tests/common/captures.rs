@@ -1,7 +1,11 @@
 //! Captures for the program: of packets that were made, of the RFC's examples, and of a real connection.
 #![allow(dead_code, reason = "each test uses a part")]
 
+#[path = "../../../capture/tests/common/files.rs"]
+mod files;
+
 use crate::common::Kept;
+use files::{Order, interface, packet, secrets};
 use std::fs;
 use std::net::{IpAddr, SocketAddr};
 use std::path::PathBuf;
@@ -86,6 +90,37 @@ pub fn pcap_of(kept: &[Kept], most: usize) -> Vec<u8> {
 
 pub fn pcap(kept: &[Kept]) -> Vec<u8> {
     pcap_of(kept, usize::MAX)
+}
+
+/// The block that begins a pcapng file.
+pub fn section() -> Vec<u8> {
+    files::section(Order::Big)
+}
+
+/// A block of such a file.
+pub fn block(kind: u32, body: &[u8]) -> Vec<u8> {
+    files::block(Order::Big, kind, body)
+}
+
+/// A pcapng file of the same records, with secrets before them.
+pub fn pcapng(kept: &[Kept], key_log: &[u8]) -> Vec<u8> {
+    let (order, nanos) = (Order::Big, (9, &[9][..]));
+    let mut file = [section(), interface(order, 101, &[nanos]), secrets(order, key_log)].concat();
+    kept.iter().for_each(|one| file.extend(packet(order, 0, one.time, &ip_packet(one))));
+    file
+}
+
+/// A file in a block that isn't compressed (RFC 1952, RFC 1951), of at most 65,535 bytes.
+pub fn gzip(bytes: &[u8]) -> Vec<u8> {
+    let mut crc = u32::MAX;
+    for byte in bytes {
+        crc ^= u32::from(*byte);
+        (0..8).for_each(|_| crc = crc >> 1 ^ if crc & 1 == 1 { 0xedb8_8320 } else { 0 });
+    }
+    let len = u16::try_from(bytes.len()).unwrap();
+    let block = [&[1][..], &len.to_le_bytes(), &(!len).to_le_bytes(), bytes].concat();
+    let end = [(!crc).to_le_bytes(), u32::from(len).to_le_bytes()].concat();
+    [&[0x1f, 0x8b, 8, 0, 0, 0, 0, 0, 0, 255][..], &block, &end].concat()
 }
 
 pub fn unhex(text: &str) -> Vec<u8> {

@@ -1,7 +1,8 @@
 /* Frames that the library doesn't know: RESET_STREAM_AT, which has the type
- * 0x24 and four numbers (draft-ietf-quic-reliable-stream-reset, section 4).
- * Payloads, lines of hexadecimal, are read with them, and one is written.  To
- * build and run it:
+ * 0x24 and four numbers (draft-ietf-quic-reliable-stream-reset, section 4), and
+ * PATH_ACK, which has the type 0x3e, a path's id, and then what an ACK has
+ * behind its type (draft-ietf-quic-multipath).  Payloads, lines of hexadecimal,
+ * are read with them, and one is written.  To build and run it:
  *
  *   cc -o extension extension.c -IPREFIX/include PREFIX/lib/libquic_wire.a
  *   echo 01240401080501 | ./extension
@@ -9,7 +10,7 @@
 #include "paths.h"
 #include "quic_wire.h"
 
-enum { RESET_STREAM_AT = 0x24 };
+enum { RESET_STREAM_AT = 0x24, PATH_ACK = 0x3e, MOST_GAPS = 64 };
 
 /* A stream ends early, but its first |reliable_size| bytes are delivered. */
 typedef struct reset_at {
@@ -50,6 +51,36 @@ static int read_reset_at(quic_wire_frame_iter *frames, const uint8_t *payload,
                                RESET_STREAM_AT);
 }
 
+/* Reads a PATH_ACK where |frames| stopped, and passes over it. */
+static int read_path_ack(quic_wire_frame_iter *frames, const uint8_t *payload,
+                         size_t len) {
+  /* The type has one byte: in a longer encoding it isn't accepted by these
+   * flags. */
+  size_t at = frames->offset + 1, n;
+  uint64_t path, least;
+  quic_wire_frame ack;
+  quic_wire_gap gaps[MOST_GAPS];
+  int64_t end;
+  if (!(n = quic_wire_varint_read(payload + at, len - at, &path)))
+    return QUIC_WIRE_ERR_FRAME_END;
+  at += n;
+  end = quic_wire_frame_body_read(payload + at, len - at, QUIC_WIRE_FRAME_ACK,
+                                  QUIC_WIRE_READ_RFC, &ack, gaps, MOST_GAPS);
+  if (end < 0)
+    return (int)end;
+  least = ack.ack.largest - ack.first_range;
+  printf(" PATH_ACK of path %" PRIu64 ": %" PRIu64 " to %" PRIu64, path, least,
+         ack.ack.largest);
+  for (n = 0; n < ack.ngaps; n++) {
+    const uint64_t largest = least - gaps[n].gap - 2;
+    least = largest - gaps[n].len;
+    printf(", %" PRIu64 " to %" PRIu64, least, largest);
+  }
+  printf("%s,", ack.flags & QUIC_WIRE_FLAG_MORE ? " and more" : "");
+  return quic_wire_frames_skip(frames, payload, len, at + (size_t)end,
+                               PATH_ACK);
+}
+
 static int read_payload(const uint8_t *payload, size_t len) {
   quic_wire_frame_iter frames;
   quic_wire_frame frame;
@@ -64,6 +95,9 @@ static int read_payload(const uint8_t *payload, size_t len) {
     else if (answer == QUIC_WIRE_ERR_FRAME_TYPE &&
              quic_wire_error_type(&frame) == RESET_STREAM_AT)
       answer = read_reset_at(&frames, payload, len);
+    else if (answer == QUIC_WIRE_ERR_FRAME_TYPE &&
+             quic_wire_error_type(&frame) == PATH_ACK)
+      answer = read_path_ack(&frames, payload, len);
     if (answer < 0)
       return answer;
   }

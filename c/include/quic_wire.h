@@ -481,8 +481,9 @@ typedef struct quic_wire_frame {
                              phrase of a close; the id of a NEW_CONNECTION_ID,
                              which its token follows.  Of other kinds except ACK
                              |end| */
-    quic_wire_size ngaps; /* ACK: how many gaps quic_wire_frame_read wrote; 0
-                             from other functions */
+    quic_wire_size ngaps; /* ACK: how many gaps quic_wire_frame_read or
+                             quic_wire_frame_body_read wrote; 0 from other
+                             functions */
   };
   QUIC_WIRE_EXTENSION union {
     quic_wire_size datalen;     /* how many bytes the data has, without that

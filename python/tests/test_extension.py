@@ -7,6 +7,7 @@ import unittest
 import quic_wire as q
 
 RESET_STREAM_AT = 0x24
+PATH_ACK = 0x3e
 UNKNOWN = "invalid frame ID"
 
 
@@ -114,6 +115,76 @@ class Extension(unittest.TestCase):
         for thread in threads:
             thread.join()
         self.assertLessEqual(found.offset, 2000)
+
+
+class PathAck:
+    """PATH_ACK (draft-ietf-quic-multipath): its type, a path's id, and the body of an ACK."""
+
+    def __init__(self, path, ack):
+        self.path, self.ack = path, ack
+
+    def encode(self):
+        return q.write_varint(PATH_ACK) + q.write_varint(self.path) + q.write_frame_body(self.ack)[1]
+
+    @staticmethod
+    def read(payload, begin):
+        frame_type, at = q.read_varint(payload, begin)
+        path, at = q.read_varint(payload, at)
+        ack, end = q.read_frame_body(0x02, payload[at:], checks=q.Checks.RFC)
+        return PathAck(path, ack), at + end
+
+
+class Bodies(unittest.TestCase):
+    def test_path_ack(self):
+        # Path 7: 9, 8 and 7, and 5 to 2; then PING.
+        payload = bytes.fromhex("3e07090001020003" + "01")
+        found = q.frames(payload, checks=q.Checks.RFC)
+        with self.assertRaises(q.FrameError) as raised:
+            next(found)
+        self.assertEqual((raised.exception.frame_type, raised.exception.reason), (PATH_ACK, UNKNOWN))
+        read, end = PathAck.read(payload, found.offset)
+        self.assertEqual((read.path, read.ack.ranges), (7, (range(7, 10), range(2, 6))))
+        found.skip(end, PATH_ACK)
+        self.assertEqual(list(found), [q.Ping()])
+        self.assertEqual(q.write_frames([read, q.Ping()]), payload)
+
+    # RFC 9000, sections 19.1, 19.8, 19.21.
+    def test_read(self):
+        rows = [
+            (0x0a, "04026869" + "01", q.Stream(stream_id=4, data=b"hi"), 4),
+            (0x08, "046869", q.Stream(stream_id=4, data=b"hi"), 3),
+            (0x1a, "0102030405060708" + "00", q.PathChallenge(bytes(range(1, 9))), 8),
+            (0x01, "01", q.Ping(), 0),
+            (0x00, "0000", q.Padding(1), 0),
+            (0x00, "", q.Padding(1), 0),
+        ]
+        for frame_type, body, frame, end in rows:
+            with self.subTest(frame_type=frame_type, body=body):
+                self.assertEqual(q.read_frame_body(frame_type, bytes.fromhex(body)), (frame, end))
+
+    def test_written(self):
+        rows = [
+            (q.Stream(stream_id=4, data=b"hi"), False, 0x0a, "04026869"),
+            (q.Stream(stream_id=4, data=b"hi"), True, 0x08, "046869"),
+            (q.Ack(ranges=[range(7, 10)]), False, 0x02, "09000002"),
+            (q.HandshakeDone(), False, 0x1e, ""),
+        ]
+        for frame, last, frame_type, body in rows:
+            with self.subTest(frame, last=last):
+                self.assertEqual(q.write_frame_body(frame, last=last), (frame_type, bytes.fromhex(body)))
+
+    def test_rejected(self):
+        rows = [
+            (q.FrameError, "unexpected end", 0x02, b"\x09"),
+            (q.FrameError, "malformed", 0x02, bytes.fromhex("02000003")),
+            (q.FrameError, UNKNOWN, 0x24, b"\x04"),
+            (ValueError, "", 2**62, b""),
+            (TypeError, "", "2", b""),
+            (TypeError, "", 0x02, "09000002"),
+        ]
+        for kind, text, frame_type, body in rows:
+            with self.subTest(frame_type=frame_type, body=body), self.assertRaisesRegex(kind, text):
+                q.read_frame_body(frame_type, body)
 
 
 class ResetStreamAt:

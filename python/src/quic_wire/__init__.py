@@ -30,7 +30,7 @@ from ._wire import (
 )  # fmt: skip
 # End of what is made.
 from . import _own
-from ._own import Encodes
+from ._own import Encodes, read_frame_body, write_frame_body
 from ._version import VERSION
 from .checks import Checks
 from .errors import Code, Error, FrameError, PacketError, ParameterError
@@ -50,10 +50,10 @@ __all__ = [
     "RetireConnectionId", "Retry", "Side", "StopSending", "Stream", "StreamDataBlocked", "StreamsBlockedBidi",
     "StreamsBlockedUni", "TransportParameters", "UnknownVersion", "Version", "VersionNegotiation", "ZeroRtt",
     "canonical", "check_type", "expand_packet_number", "frame_fields", "frames", "is_known_parameter",
-    "packet_fields", "packet_number_len", "packets", "parameter_fields", "parameters", "protect", "read_frames",
-    "read_packet", "read_packet_number", "read_packets", "read_varint", "set_length", "type_name", "unprotect",
-    "varint_len", "write_frames", "write_header", "write_packet_number", "write_parameter", "write_varint",
-    "write_version_negotiation",
+    "packet_fields", "packet_number_len", "packets", "parameter_fields", "parameters", "protect", "read_frame_body",
+    "read_frames", "read_packet", "read_packet_number", "read_packets", "read_varint", "set_length", "type_name",
+    "unprotect", "varint_len", "write_frame_body", "write_frames", "write_header", "write_packet_number",
+    "write_parameter", "write_varint", "write_version_negotiation",
 ]  # fmt: skip
 # End of what is made.
 

@@ -38,6 +38,21 @@ int wire_version(PyObject *value, uint32_t *out) {
   return wire_fail(PyExc_ValueError, "a version must be below 2^32");
 }
 
+uint32_t *wire_versions(PyObject *versions, size_t *count) {
+  PyObject *list = PySequence_List(versions);
+  const Py_ssize_t len = list ? PyList_Size(list) : 0;
+  uint32_t *out = list ? PyMem_Calloc((size_t)len + 1, sizeof *out) : NULL;
+  Py_ssize_t i;
+  for (i = 0; out && i < len; i++)
+    if (wire_version(PyList_GetItem(list, i), &out[i]) < 0) {
+      PyMem_Free(out);
+      out = NULL;
+    }
+  Py_XDECREF(list);
+  *count = (size_t)len;
+  return out;
+}
+
 int wire_to_uint32(PyObject *value, void *out) {
   uint64_t number;
   if (number_of(value, "this argument", 32, &number) < 0)

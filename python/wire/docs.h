@@ -86,6 +86,35 @@
   "A Version Negotiation packet (RFC 9000, section 17.2.1), with the unused bits of its\n" \
   "first byte.")
 #define NAMES_write_version_negotiation {"dcid", "scid", "versions", "unused", NULL}
+#define DOC_nonce PyDoc_STR( \
+  "nonce($module, iv, number, /)\n--\n\n" \
+  "The nonce of a packet, by the iv of its keys, of 12 bytes, and its whole number\n" \
+  "(RFC 9001, section 5.3).")
+#define DOC_retry_pseudo_packet PyDoc_STR( \
+  "retry_pseudo_packet($module, original, retry, /)\n--\n\n" \
+  "What a Retry's tag protects: original is the id to which the client sent its first\n" \
+  "Initial packet, retry the whole packet (RFC 9001, section 5.8).")
+#define DOC_write_version_information PyDoc_STR( \
+  "write_version_information($module, chosen, available, /)\n--\n\n" \
+  "The value of the transport parameter version_information, 0x11, with the preferred\n" \
+  "versions first (RFC 9368, section 3).")
+#define DOC_read_version_information PyDoc_STR( \
+  "read_version_information($module, value, /)\n--\n\n" \
+  "The chosen version and the available ones of that parameter's value. Raises ValueError\n" \
+  "if it isn't one: the connection is closed (RFC 9368, section 4).")
+#define DOC_write_stateless_reset PyDoc_STR( \
+  "write_stateless_reset($module, unpredictable, token, /)\n--\n\n" \
+  "A stateless reset with this token of 16 bytes, behind bytes that the caller makes at\n" \
+  "random, 5 or more (RFC 9000, section 10.3).")
+#define DOC_is_stateless_reset PyDoc_STR( \
+  "is_stateless_reset($module, datagram, token, /)\n--\n\n" \
+  "Whether a datagram is a stateless reset with this token, compared in constant time\n" \
+  "(RFC 9000, section 10.3.1).")
+#define DOC_answer_version PyDoc_STR( \
+  "answer_version($module, received, versions, unused=0x40)\n--\n\n" \
+  "The Version Negotiation packet that answers a packet of a version that isn't supported:\n" \
+  "with its ids exchanged, and the unused bits of the first byte (RFC 8999, section 6).")
+#define NAMES_answer_version {"received", "versions", "unused", NULL}
 #define DOC_read_varint PyDoc_STR( \
   "read_varint($module, data, at=0, /)\n--\n\n" \
   "The variable-length integer at an offset, and where it ends (RFC 9000, section 16).")

@@ -77,6 +77,7 @@ static int exec(PyObject *module) {
       PyModule_AddFunctions(module, wire_number_functions) < 0 ||
       PyModule_AddFunctions(module, wire_parameter_functions) < 0 ||
       PyModule_AddFunctions(module, wire_field_functions) < 0 ||
+      PyModule_AddFunctions(module, wire_layer_functions) < 0 ||
       wire_add_frames(module, state) < 0 ||
       wire_add_iterator(module, state) < 0 ||
       wire_add_packets(module, state) < 0 ||

@@ -165,22 +165,6 @@ static PyObject *write_header(PyObject *Py_UNUSED(module), PyObject *args,
   return wire_written(out, (int)result, (size_t)result);
 }
 
-/* The versions of an iterable: free them with PyMem_Free. */
-static uint32_t *versions_of(PyObject *versions, size_t *count) {
-  PyObject *list = PySequence_List(versions);
-  const Py_ssize_t len = list ? PyList_Size(list) : 0;
-  uint32_t *out = list ? PyMem_Calloc((size_t)len + 1, sizeof *out) : NULL;
-  Py_ssize_t i;
-  for (i = 0; out && i < len; i++)
-    if (wire_version(PyList_GetItem(list, i), &out[i]) < 0) {
-      PyMem_Free(out);
-      out = NULL;
-    }
-  Py_XDECREF(list);
-  *count = (size_t)len;
-  return out;
-}
-
 static PyObject *write_negotiation(PyObject *Py_UNUSED(module), PyObject *args,
                                    PyObject *keywords) {
   static char *names[] = NAMES_write_version_negotiation;
@@ -195,7 +179,7 @@ static PyObject *write_negotiation(PyObject *Py_UNUSED(module), PyObject *args,
           args, keywords, "y*y*O|O&:write_version_negotiation", names, &dcid,
           &scid, &versions, wire_to_uint8, &unused))
     return NULL;
-  list = versions_of(versions, &count);
+  list = wire_versions(versions, &count);
   room = 7 + (size_t)dcid.len + (size_t)scid.len + 4 * count;
   out = list ? wire_new_bytes(room, &at) : NULL;
   if (out)

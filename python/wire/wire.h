@@ -100,6 +100,9 @@ int wire_to_checks(PyObject *value, void *out);
  * ones of a METH_FASTCALL | METH_KEYWORDS function. -1 with an exception. */
 int wire_checks(PyObject *const *args, Py_ssize_t nargs, PyObject *names,
                 uint32_t *flags);
+/* The versions of an iterable, and how many: free them with PyMem_Free.  NULL
+ * with an exception. */
+uint32_t *wire_versions(PyObject *versions, size_t *count);
 /* The ranges of an iterable of `range` or of pairs, as a set: free it with
  * PyMem_Free.  NULL with an exception. */
 quic_wire_range *wire_ranges(PyObject *ranges, size_t *count);
@@ -211,6 +214,7 @@ extern PyMethodDef wire_packet_functions[];
 extern PyMethodDef wire_number_functions[];
 extern PyMethodDef wire_parameter_functions[];
 extern PyMethodDef wire_field_functions[];
+extern PyMethodDef wire_layer_functions[];
 
 /* Rows of tables of functions and of methods, with what docs.h says of them. */
 #define WIRE_CALL(name, call, flags, doc)                                      \

@@ -23,13 +23,16 @@ from ._wire import (
     FrameIterator, Handshake, HandshakeDone, ImmediateAck, Initial, MaxData, MaxStreamData, MaxStreamsBidi,
     MaxStreamsUni, NewConnectionId, NewToken, OneRtt, Packet, Padding, PathChallenge, PathResponse, Ping, RangeSet,
     ResetStream, RetireConnectionId, Retry, StopSending, Stream, StreamDataBlocked, StreamsBlockedBidi,
-    StreamsBlockedUni, UnknownVersion, VersionNegotiation, ZeroRtt, canonical, check_type, expand_packet_number,
-    frames, is_known_parameter, packet_number_len, protect, read_frames, read_packet, read_packet_number,
-    read_packets, read_varint, set_length, type_name, unprotect, varint_len, write_header, write_packet_number,
-    write_parameter, write_varint, write_version_negotiation,
+    StreamsBlockedUni, UnknownVersion, VersionNegotiation, ZeroRtt, answer_version, canonical, check_type,
+    expand_packet_number, frames, is_known_parameter, is_stateless_reset, nonce, packet_number_len, protect,
+    read_frames, read_packet, read_packet_number, read_packets, read_varint, read_version_information,
+    retry_pseudo_packet, set_length, type_name, unprotect, varint_len, write_header, write_packet_number,
+    write_parameter, write_stateless_reset, write_varint, write_version_information, write_version_negotiation,
 )  # fmt: skip
 # End of what is made.
 from . import _own
+from ._acks import acknowledged
+from ._constants import Constants, constants
 from ._own import Encodes, read_frame_body, write_frame_body
 from ._version import VERSION
 from .checks import Checks
@@ -42,18 +45,20 @@ __version__ = VERSION
 
 # Made by scripts/tables:
 __all__ = [
-    "LIBRARY_VERSION", "Ack", "AckFrequency", "ApplicationClose", "Checks", "Code", "ConnectionClose", "Crypto",
-    "DataBlocked", "Datagram", "Encodes", "Error", "Field", "Frame", "FrameError", "FrameIterator", "Handshake",
-    "HandshakeDone", "ImmediateAck", "Initial", "MaxData", "MaxStreamData", "MaxStreamsBidi", "MaxStreamsUni",
-    "NewConnectionId", "NewToken", "OneRtt", "Packet", "PacketError", "PacketType", "Padding", "Parameter",
-    "ParameterError", "PathChallenge", "PathResponse", "Ping", "PreferredAddress", "RangeSet", "ResetStream",
-    "RetireConnectionId", "Retry", "Side", "StopSending", "Stream", "StreamDataBlocked", "StreamsBlockedBidi",
-    "StreamsBlockedUni", "TransportParameters", "UnknownVersion", "Version", "VersionNegotiation", "ZeroRtt",
-    "canonical", "check_type", "expand_packet_number", "frame_fields", "frames", "is_known_parameter",
+    "LIBRARY_VERSION", "Ack", "AckFrequency", "ApplicationClose", "Checks", "Code", "ConnectionClose", "Constants",
+    "Crypto", "DataBlocked", "Datagram", "Encodes", "Error", "Field", "Frame", "FrameError", "FrameIterator",
+    "Handshake", "HandshakeDone", "ImmediateAck", "Initial", "MaxData", "MaxStreamData", "MaxStreamsBidi",
+    "MaxStreamsUni", "NewConnectionId", "NewToken", "OneRtt", "Packet", "PacketError", "PacketType", "Padding",
+    "Parameter", "ParameterError", "PathChallenge", "PathResponse", "Ping", "PreferredAddress", "RangeSet",
+    "ResetStream", "RetireConnectionId", "Retry", "Side", "StopSending", "Stream", "StreamDataBlocked",
+    "StreamsBlockedBidi", "StreamsBlockedUni", "TransportParameters", "UnknownVersion", "Version",
+    "VersionNegotiation", "ZeroRtt", "acknowledged", "answer_version", "canonical", "check_type", "constants",
+    "expand_packet_number", "frame_fields", "frames", "is_known_parameter", "is_stateless_reset", "nonce",
     "packet_fields", "packet_number_len", "packets", "parameter_fields", "parameters", "protect", "read_frame_body",
-    "read_frames", "read_packet", "read_packet_number", "read_packets", "read_varint", "set_length", "type_name",
-    "unprotect", "varint_len", "write_frame_body", "write_frames", "write_header", "write_packet_number",
-    "write_parameter", "write_varint", "write_version_negotiation",
+    "read_frames", "read_packet", "read_packet_number", "read_packets", "read_varint", "read_version_information",
+    "retry_pseudo_packet", "set_length", "type_name", "unprotect", "varint_len", "write_frame_body", "write_frames",
+    "write_header", "write_packet_number", "write_parameter", "write_stateless_reset", "write_varint",
+    "write_version_information", "write_version_negotiation",
 ]  # fmt: skip
 # End of what is made.
 

@@ -475,6 +475,31 @@ def write_version_negotiation(dcid: Buffer, scid: Buffer, versions: Iterable[int
     """A Version Negotiation packet (RFC 9000, section 17.2.1), with the unused bits of its
     first byte."""
 
+# ---- What stacks write beside these
+
+def nonce(iv: Buffer, number: int, /) -> bytes:
+    """The nonce of a packet, by the iv of its keys, of 12 bytes, and its whole number
+    (RFC 9001, section 5.3)."""
+def retry_pseudo_packet(original: Buffer, retry: Buffer, /) -> bytes:
+    """What a Retry's tag protects: original is the id to which the client sent its first
+    Initial packet, retry the whole packet (RFC 9001, section 5.8)."""
+def version_constants(version: int, /) -> tuple[bytes, bytes, bytes, bytes, bytes, bytes, bytes]: ...
+def write_version_information(chosen: int, available: Iterable[int], /) -> bytes:
+    """The value of the transport parameter version_information, 0x11, with the preferred
+    versions first (RFC 9368, section 3)."""
+def read_version_information(value: Buffer, /) -> tuple[int, tuple[int, ...]]:
+    """The chosen version and the available ones of that parameter's value. Raises ValueError
+    if it isn't one: the connection is closed (RFC 9368, section 4)."""
+def write_stateless_reset(unpredictable: Buffer, token: Buffer, /) -> bytes:
+    """A stateless reset with this token of 16 bytes, behind bytes that the caller makes at
+    random, 5 or more (RFC 9000, section 10.3)."""
+def is_stateless_reset(datagram: Buffer, token: Buffer, /) -> bool:
+    """Whether a datagram is a stateless reset with this token, compared in constant time
+    (RFC 9000, section 10.3.1)."""
+def answer_version(received: Buffer, versions: Iterable[int], unused: int = 0x40) -> bytes:
+    """The Version Negotiation packet that answers a packet of a version that isn't supported:
+    with its ids exchanged, and the unused bits of the first byte (RFC 8999, section 6)."""
+
 # ---- Numbers
 
 def read_varint(data: Buffer, at: int = 0, /) -> tuple[int, int]:

@@ -1,12 +1,14 @@
 //! Frames that are written and read again: what callers learn from the contracts of both.
-ghost use Rattle.std.specs.Prelude.{◌≡◌, ◌<◌, ◌^◌, true, ℕ, List, IfErr, IfOk, []};
+ghost use Rattle.std.specs.Prelude.{◌≡◌, ◌<◌, ◌^◌, true, ℕ, List, IfErr, IfOk, [], length};
 ghost use Rattle.quic_frame_fields.specs.Acks.{fault_of, ranges_left};
+ghost use Rattle.quic_frame_fields.specs.Bodies.{shortest_body};
 ghost use Rattle.quic_frame_fields.specs.Field.{AreApart, AreBlocks};
 ghost use Rattle.quic_frame_fields.specs.Refusal.{AreNoBlocks};
 ghost use Rattle.quic_frames.specs.InRange.{CanStand};
 ghost use Rattle.quic_frames.specs.Meaning.{meaning_of};
 
 use quic_base::coding::NoRoom;
+use quic_base::varint::var_size;
 use quic_frames::frame::{Ack, AckError, AckIter, Frame, Iter};
 use quic_frames::laws;
 
@@ -28,6 +30,17 @@ pub fn written_and_read<'a>(frame: &Frame<'_>, out: &'a mut Vec<u8>) -> Result<F
         Some(Err(_)) => unreachable!(),
         None => unreachable!(),
     }
+}
+
+/// How many bytes the body of a frame has, which `Frame::encode_body_into` stores, `last` or not. The caller must ensure
+/// that the frame can be written.
+pub fn body_len(frame: &Frame<'_>, last: bool) -> u128
+    requires { CanStand last frame.now }
+    ensures { result ≡ length (shortest_body last (meaning_of frame.now)) }
+{
+    laws::body_behind_its_type();
+    let ty = frame.written_type(last).into_inner();
+    frame.encoded_len(last) - var_size(ty) as u128
 }
 
 /// The ranges of an ACK's blocks below its largest number, in the blocks' order: they are those that the blocks encode,

@@ -137,12 +137,12 @@ fn closes_are_words() {
         (
             b"\x1c\x0a\x08\x03bye",
             "0..7 CONNECTION_CLOSE error_name=\"PROTOCOL_VIOLATION\" frame_name=STREAM reason=\"bye\"",
-            "the client closed it with PROTOCOL_VIOLATION for a frame STREAM, \"bye\"",
+            "the client closed it with PROTOCOL_VIOLATION in STREAM, \"bye\"",
         ),
         (
             &[0x1c, 0x41, 0x74, 0x06, 0x00],
             "0..5 CONNECTION_CLOSE error_name=\"CRYPTO_ERROR certificate_required\" frame_name=CRYPTO reason=\"\"",
-            "the client closed it with CRYPTO_ERROR certificate_required for a frame CRYPTO",
+            "the client closed it with CRYPTO_ERROR certificate_required in CRYPTO",
         ),
         (
             b"\x1c\x00\x00\x0c70:net error",
@@ -183,7 +183,7 @@ fn how_connections_end() {
     let ends: Vec<_> =
         shown(&[&file, "--keylog", &keys]).into_iter().filter(|line| line.starts_with("    end: ")).collect();
     let all = [
-        "    end: the server closed it with PROTOCOL_VIOLATION for a frame STREAM, \"bye\"; the client closed it with \
+        "    end: the server closed it with PROTOCOL_VIOLATION in STREAM, \"bye\"; the client closed it with \
          NO_ERROR",
         "    end: the server sent a stateless reset",
         "    end: nothing more came, until it had timed out",

@@ -32,6 +32,7 @@ pub struct Place<'a> {
 
 /// A part of a payload, or what it says.
 pub enum Part {
+    /// Its bytes in the payload, its type, and why it may not be there.
     Frame {
         range: Range<usize>,
         ty: u64,
@@ -92,6 +93,7 @@ pub struct Half {
     pub unopened: BTreeMap<Unopened, u64>,
     /// From where it sent first, and last.
     pub addresses: Option<(SocketAddr, SocketAddr)>,
+    /// The first one that counts, which may be shortened.
     pub close: Option<Said>,
 }
 
@@ -187,7 +189,7 @@ impl<'a> Report<'a> {
             if again.is_none() {
                 half.addresses = Some((half.addresses.map_or(from, |(first, _)| first), from));
             }
-            half.close = half.close.take().or(close);
+            half.close = half.close.take().or(close.map(Said::shortened));
         }
         let types = parts.iter().filter_map(|part| match part {
             Part::Frame { ty, .. } => Some(*ty),

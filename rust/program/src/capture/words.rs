@@ -1,6 +1,7 @@
 //! Names, closes and times, as people say them.
 use super::report::{Sum, Tally, frame_of};
 use crate::fault;
+use crate::output::Value;
 use quic_wire::Side;
 use quic_wire::datagram::HeaderKind;
 use quic_wire::frame::{Close, Frame};
@@ -11,6 +12,8 @@ use quic_wire_capture::follow::MOST_CONNECTIONS;
 use quic_wire_capture::sink::Ended;
 use std::fmt::{self, Display, Formatter};
 
+// How many bytes of a reason are kept until a connection is summed up.
+const MOST_REASON: usize = 1 << 10;
 const SECOND: u64 = 1_000_000_000;
 const DAY: u64 = 86_400;
 
@@ -90,16 +93,20 @@ impl Said {
             (None, None) => String::new(),
         }
     }
-}
 
-// As a clause: by whom, with what, why.
-impl Said {
+    /// The same with the front of a reason that is very long.
+    pub fn shortened(mut self) -> Said {
+        self.reason.truncate(MOST_REASON);
+        self
+    }
+
+    // As a clause: by whom, with what, why.
     fn clause(&self, side: Side) -> String {
         let whose = if self.by_application { "'s application" } else { "" };
-        let frame = self.frame_name.as_ref().map_or(String::new(), |name| format!(" for a frame {name}"));
+        let frame = self.frame_name.as_ref().map_or(String::new(), |name| format!(" in {name}"));
         let reason = match &self.reason[..] {
             [] => String::new(),
-            reason => format!(", {}", crate::output::Value::Text(reason)),
+            reason => format!(", {}", Value::Text(reason)),
         };
         format!("the {}{whose} closed it with {}{frame}{reason}", side_name(side), self.error())
     }

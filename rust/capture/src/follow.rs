@@ -392,7 +392,7 @@ impl Follower {
     fn forget(&mut self, number: usize, how: Ended, sink: &mut dyn Sink) {
         self.index.forget(number);
         if let Some(connection) = self.connections.remove(&number) {
-            self.strays.forget(&connection, how);
+            self.strays.forget(&connection, how, &mut self.keylog);
             sink.ended(&connection, how);
         }
     }

@@ -6,6 +6,9 @@ use std::collections::{HashMap, VecDeque};
 // The connections whose secrets are kept at most, the latest.
 const MOST_CONNECTIONS: usize = 1 << 18;
 
+// With more connections, the secrets of one that ended are forgotten.
+const MOST_ENDED: usize = 1 << 14;
+
 // The longest line that matters has a label, 32 bytes and 48 bytes as digits.
 const MOST_LINE: usize = 256;
 
@@ -52,7 +55,7 @@ struct Secret {
 const NO_SECRET: Secret = Secret { bytes: [0; 48], len: 0 };
 
 /// The secrets of connections, by the 32 random bytes of their ClientHello. Those of the latest 262,144 connections are
-/// kept.
+/// kept; above 16,384, those of connections that ended are forgotten with them.
 ///
 /// ```
 /// use quic_wire_capture::keylog::{KeyLog, Label};
@@ -95,12 +98,12 @@ impl KeyLog {
 
     /// How many connections it has secrets of.
     pub fn len(&self) -> usize {
-        self.randoms.len()
+        self.secrets.len()
     }
 
     /// The random bytes of the connections that it has secrets of, in the order in which they came.
     pub fn randoms(&self) -> impl DoubleEndedIterator<Item = &[u8; 32]> {
-        self.randoms.iter()
+        self.randoms.iter().filter(|random| self.secrets.contains_key(*random))
     }
 
     /// How many secrets came, also those that were forgotten.
@@ -151,9 +154,19 @@ impl KeyLog {
 
     // Forgets the connection that came first if there are too many.
     fn make_room(&mut self) {
-        if self.randoms.len() >= MOST_CONNECTIONS {
-            let oldest = self.randoms.pop_front();
-            oldest.and_then(|oldest| self.secrets.remove(&oldest));
+        while self.secrets.len() >= MOST_CONNECTIONS {
+            let Some(oldest) = self.randoms.pop_front() else { return };
+            self.secrets.remove(&oldest);
+        }
+    }
+
+    /// Takes note that a connection ended. If there are many, its secrets are forgotten.
+    pub(crate) fn end(&mut self, random: &[u8; 32]) {
+        if self.secrets.len() > MOST_ENDED {
+            self.secrets.remove(random);
+        }
+        if self.randoms.len() > 2 * self.secrets.len().max(MOST_ENDED) {
+            self.randoms.retain(|random| self.secrets.contains_key(random));
         }
     }
 }

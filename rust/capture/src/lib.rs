@@ -1,6 +1,6 @@
 //! Reads captures of QUIC, versions 1 and 2 (RFC 9000, RFC 9001, RFC 9369): the datagrams of a file ([`capture`],
-//! [`input`]), key logs ([`keylog`]), and the connections of the datagrams, whose packets are opened ([`follow`]). What
-//! it finds goes to a [`sink::Sink`].
+//! [`input`]), key logs ([`keylog`]), and the connections of the datagrams, whose packets are opened ([`follow`]) and
+//! acknowledged or lost ([`recovery`]). What it finds goes to a [`sink::Sink`].
 //!
 //! Only what was authenticated changes what is known of a connection: an [`opened::Opened`] packet, an
 //! [`opened::Retried`] or an [`opened::Reset`], each of which only its own module makes, after a tag or token was found

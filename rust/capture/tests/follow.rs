@@ -352,4 +352,13 @@ fn ended_connections() {
     assert_eq!((rows.opened(0), &rows.ended[..]), (6, &[(0, Ended::Closed)][..]));
     assert_eq!(rows.unopened, [Unopened::NoConnection; 1100]);
     assert_eq!((follower.connections().count(), follower.counts().connections), (0, 1));
+    assert!(follower.keylog.knows(&[1; 32]));
+
+    // If the key log has many connections, the secrets are forgotten too.
+    let others = (1..=16_384).map(|salt| Made { salt, ..Made::new(2) }.key_log().lines().next().unwrap().to_string());
+    let keys = others.chain([made.key_log()]).collect::<Vec<_>>().join("\n");
+    let (follower, rows) = follow_with(keys.as_bytes(), &all);
+    assert_eq!((&rows.ended[..], follower.keylog.len()), (&[(0, Ended::Closed)][..], 16_384));
+    assert!(!follower.keylog.knows(&[1; 32]));
+    assert_eq!(follower.keylog.randoms().count(), 16_384);
 }

@@ -26,8 +26,10 @@ const TRIES_OF_KNOWN: usize = 64;
 const MOST_RANDOMS: usize = 1 << 10;
 const MOST_SCANNED: usize = 1 << 14;
 
-/// How much searching costs in all, in trials of opening a packet, until something is found.
+/// How much searching costs in all, in trials of opening a packet, until something is found; and how much more for each
+/// datagram of the capture.
 const MOST_COST: u64 = 1 << 23;
+const COST_OF_DATAGRAM: u64 = 1 << 4;
 
 const ONE_RTT: [Label; 2] = [Label::ClientTraffic, Label::ServerTraffic];
 const HANDSHAKE: [Label; 2] = [Label::ClientHandshake, Label::ServerHandshake];
@@ -65,11 +67,14 @@ impl Strays {
         }
     }
 
-    /// Notes that a connection is forgotten.
-    pub(super) fn forget(&mut self, connection: &Connection, how: Ended) {
+    /// Notes that a connection is forgotten, whose secrets may be forgotten too.
+    pub(super) fn forget(&mut self, connection: &Connection, how: Ended, keylog: &mut KeyLog) {
         let named = connection.random().filter(|random| self.named.get(*random) == Some(&connection.number()));
         if let Some(random) = named {
             self.named.remove(random);
+            if how != Ended::Crowded {
+                keylog.end(random);
+            }
             if matches!(how, Ended::Closed | Ended::Reset) && self.over.insert(*random) {
                 self.over_order.push_back(*random);
             }
@@ -177,10 +182,11 @@ impl Follower {
         Some((vec![owner], id_len))
     }
 
-    // The connections on a path that began before the capture.
+    // The connections on a path that began before the capture and didn't end.
     fn near(&self, datagram: &Datagram<'_>) -> Vec<Owner> {
-        let began_before = |(number, _): &Owner| self.connections.get(number).is_some_and(|one| one.began_before());
-        self.index.on_path((datagram.from, datagram.to)).filter(began_before).collect()
+        let is_live = |one: &Connection| one.began_before() && one.ended(datagram.time).is_none();
+        let near = self.index.on_path((datagram.from, datagram.to));
+        near.filter(|(number, _)| self.connections.get(number).is_some_and(|one| is_live(one))).collect()
     }
 
     /// Gives up a 0-RTT packet whose Initial packet didn't come, unless its connection began before the capture. Only
@@ -237,6 +243,10 @@ impl Follower {
         })
     }
 
+    fn most_cost(&self) -> u64 {
+        MOST_COST + COST_OF_DATAGRAM * self.counts.datagrams
+    }
+
     // Searches the secrets of the connections that are near, and then those of the key log. Returns the connection too
     // if it is one of those.
     fn search_short(
@@ -246,10 +256,11 @@ impl Follower {
         id_lens: RangeInclusive<usize>,
         in_log: bool,
     ) -> Option<(Option<usize>, Found)> {
+        let most_cost = self.most_cost();
         let Follower { connections, keylog, buffer, strays, .. } = self;
         let path = (datagram.from, datagram.to);
         let tries = strays.enter(path, keylog.added());
-        if strays.cost > MOST_COST || tries > TRIES_OF_KNOWN || datagram.bytes.len() > MOST_USUAL {
+        if strays.cost > most_cost || tries > TRIES_OF_KNOWN || datagram.bytes.len() > MOST_USUAL {
             return None;
         }
         let mut before = strays.take_fronts(&path);
@@ -277,9 +288,10 @@ impl Follower {
 
     // Searches the secrets of the key log for a packet with a long header.
     fn search_long(&mut self, datagram: &Datagram<'_>, packet: &PacketRef<'_>, labels: &[Label]) -> Option<Found> {
+        let most_cost = self.most_cost();
         let Follower { connections, keylog, buffer, strays, .. } = self;
         let path = (datagram.from, datagram.to);
-        if strays.enter(path, keylog.added()) > TRIES || strays.cost > MOST_COST {
+        if strays.enter(path, keylog.added()) > TRIES || strays.cost > most_cost {
             return None;
         }
         let versions = [packet.header().version()];
@@ -303,6 +315,9 @@ impl Follower {
         let Some(connection) = known.and_then(|number| self.connections.get_mut(&number)) else {
             return self.begin(datagram, packet, Some(found), sink);
         };
+        if connection.ended(datagram.time).is_some() {
+            return None;
+        }
         let owner = (connection.number(), label.sender());
         connection.adopt(packet, found);
         self.open(datagram, packet, &[owner], sink)

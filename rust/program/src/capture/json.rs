@@ -164,9 +164,11 @@ fn how(sum: &Sum<'_>) -> &'static str {
     match sum.how {
         _ if is_closed => "closed",
         _ if sum.tally.reset.is_some() => "reset",
+        Some(Ended::Closed) => "closed",
+        Some(Ended::Reset) => "reset",
         Some(Ended::Silent) => "silent",
         Some(Ended::Crowded) => "crowded",
-        _ => "open",
+        None => "open",
     }
 }
 

@@ -127,7 +127,9 @@ pub fn ended(sum: &Sum<'_>) -> String {
         _ if !said.is_empty() => said.join("; "),
         Some(Ended::Silent) => "nothing more came, until it had timed out".into(),
         Some(Ended::Crowded) => format!("it was forgotten, since there were {MOST_CONNECTIONS} at once"),
-        _ => "it was open at the end of the capture".into(),
+        Some(Ended::Closed) => "it was closed".into(),
+        Some(Ended::Reset) => "it was reset".into(),
+        None => "it was open at the end of the capture".into(),
     }
 }
 

@@ -60,6 +60,10 @@ extern int short_types_any(const uint8_t *bytes, size_t len);
 extern void skip_nulls(void);
 extern void skip_rubbish(const uint8_t *payload, size_t len);
 
+/* body.c: frames behind types that the caller has read. */
+extern void body_nulls(void);
+extern void body_rubbish(const uint8_t *body, size_t len);
+
 /* The next frame from single calls, with a run of PADDING as one, is
  * |entry|. */
 extern void next_is(quic_wire_frame_iter *one, const uint8_t *payload,

@@ -44,6 +44,7 @@ static void nulls(void) {
   results_examples();
   frames_nulls();
   skip_nulls();
+  body_nulls();
   fronts_nulls();
   rules_examples();
   permitted_examples();
@@ -86,6 +87,7 @@ static void rubbish(int rounds) {
     padding_any();
     first_rubbish(bytes, len);
     skip_rubbish(bytes, len);
+    body_rubbish(bytes, len);
     front_rubbish(bytes, len);
     fill_ranges_rubbish(bytes, len);
     write_rubbish(bytes, len);

@@ -51,6 +51,31 @@ fn is_refused(frame: &Frame<'_>, last: bool, len: usize) -> bool
     frame.encode_into(last, short) == Err(len) && is_untouched(&little)
 }
 
+// Whether the bytes behind the type, which has one byte here, are written as the body, whole or not at all.
+fn is_body(frame: &Frame<'_>, last: bool, wanted: &[u8]) -> bool
+    requires { CanStand last frame.now }
+{
+    let Some((ty, body)) = wanted.split_first() else {
+        return false;
+    };
+    let mut room = [0xff; 40];
+    frame.written_type(last).into_inner() == u64::from(*ty)
+        && frame.encode_body_into(last, &mut room) == Ok(body.len())
+        && is_front(&room, body)
+        && is_body_refused(frame, last, body.len())
+}
+
+// Whether nothing is written of a body if there is room for one byte less.
+fn is_body_refused(frame: &Frame<'_>, last: bool, len: usize) -> bool
+    requires { CanStand last frame.now }
+{
+    let mut little = [0xff; 40];
+    let Some(short) = little.get_mut(..len.saturating_sub(1)) else {
+        return false;
+    };
+    len == 0 || frame.encode_body_into(last, short) == Err(len) && is_untouched(&little)
+}
+
 // Whether the first frame of a payload is written as these bytes, whole or not at all.
 fn is_stored(payload: &[u8], last: bool, wanted: &[u8]) -> bool {
     let Some(mut iter) = Iter::new(payload).ok() else {
@@ -62,7 +87,9 @@ fn is_stored(payload: &[u8], last: bool, wanted: &[u8]) -> bool {
     if !frame.in_range() || !can_be_stored(&frame) {
         return false;
     }
-    is_whole(&frame, last, wanted) && is_refused(&frame, last, wanted.len())
+    is_whole(&frame, last, wanted)
+        && is_refused(&frame, last, wanted.len())
+        && is_body(&frame, last, wanted)
 }
 
 // What is read, and what is written for it before other frames and as the last.

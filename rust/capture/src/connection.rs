@@ -36,6 +36,8 @@ pub struct Connection {
     retry_id: Option<ConnectionId>,
     random: Option<[u8; 32]>,
     suite: Option<u16>,
+    server_name: Option<Vec<u8>>,
+    protocol: Option<Vec<u8>>,
     reset: Option<Side>,
     begun: u64,
     last: u64,
@@ -94,6 +96,8 @@ impl Connection {
             retry_id: None,
             random: None,
             suite: None,
+            server_name: None,
+            protocol: None,
             reset: None,
             begun: time,
             last: time,
@@ -158,6 +162,16 @@ impl Connection {
     /// The number of the cipher suite in TLS, as the server chose it.
     pub fn suite(&self) -> Option<u16> {
         self.suite
+    }
+
+    /// The server's name, as the client called it (SNI), of at most 255 bytes.
+    pub fn server_name(&self) -> Option<&[u8]> {
+        self.server_name.as_deref()
+    }
+
+    /// The application's protocol, as the server chose it (ALPN).
+    pub fn protocol(&self) -> Option<&[u8]> {
+        self.protocol.as_deref()
     }
 
     /// When its first and its last packet were captured, in nanoseconds since 1970.
@@ -428,15 +442,18 @@ impl Connection {
 
     fn take_message(&mut self, opened: &Opened<'_>, said: Said, tell: &mut Tell<'_>) {
         let (list, sender) = match (said, opened.sender(), opened.space()) {
-            (Said::ClientHello { random, parameters }, Side::Client, SpaceId::Initial) => {
-                self.random = Some(random);
+            (Said::ClientHello { random, parameters, server_name }, Side::Client, SpaceId::Initial) => {
+                (self.random, self.server_name) = (Some(random), server_name);
                 (parameters, Side::Client)
             }
             (Said::ServerHello { suite }, Side::Server, SpaceId::Initial) => {
                 self.suite = Some(suite);
                 (None, Side::Server)
             }
-            (Said::EncryptedExtensions { parameters }, Side::Server, SpaceId::Handshake) => (parameters, Side::Server),
+            (Said::EncryptedExtensions { parameters, protocol }, Side::Server, SpaceId::Handshake) => {
+                self.protocol = protocol;
+                (parameters, Side::Server)
+            }
             _ => return,
         };
         if let Some(list) = list {

@@ -10,13 +10,18 @@ const CLIENT_HELLO: u8 = 1;
 const SERVER_HELLO: u8 = 2;
 const ENCRYPTED_EXTENSIONS: u8 = 8;
 const QUIC_TRANSPORT_PARAMETERS: u16 = 0x39;
+const SERVER_NAME: u16 = 0;
+const ALPN: u16 = 16;
+
+/// The most bytes of a server's name: those of a name in the DNS.
+const MOST_NAME: usize = 255;
 
 /// What the first message of a side's CRYPTO data in a number space says.
 #[derive(Clone, Debug, PartialEq, Eq)]
 pub(crate) enum Said {
-    ClientHello { random: [u8; 32], parameters: Option<Vec<u8>> },
+    ClientHello { random: [u8; 32], parameters: Option<Vec<u8>>, server_name: Option<Vec<u8>> },
     ServerHello { suite: u16 },
-    EncryptedExtensions { parameters: Option<Vec<u8>> },
+    EncryptedExtensions { parameters: Option<Vec<u8>>, protocol: Option<Vec<u8>> },
     Nothing,
 }
 
@@ -65,13 +70,21 @@ fn read(kind: u8, body: &[u8]) -> Option<Said> {
             let (_session, rest) = split_short(rest)?;
             let (_suites, rest) = split_long(rest)?;
             let (_compression, rest) = split_short(rest)?;
-            Some(Said::ClientHello { random: *random, parameters: parameters(split_long(rest)?.0) })
+            let extensions = split_long(rest)?.0;
+            let parameters = extension(extensions, QUIC_TRANSPORT_PARAMETERS).map(<[u8]>::to_vec);
+            let server_name = extension(extensions, SERVER_NAME).and_then(host_name).map(<[u8]>::to_vec);
+            Some(Said::ClientHello { random: *random, parameters, server_name })
         }
         SERVER_HELLO => {
             let (_session, rest) = split_short(body.get(34..)?)?;
             rest.first_chunk().map(|suite| Said::ServerHello { suite: u16::from_be_bytes(*suite) })
         }
-        ENCRYPTED_EXTENSIONS => Some(Said::EncryptedExtensions { parameters: parameters(split_long(body)?.0) }),
+        ENCRYPTED_EXTENSIONS => {
+            let extensions = split_long(body)?.0;
+            let parameters = extension(extensions, QUIC_TRANSPORT_PARAMETERS).map(<[u8]>::to_vec);
+            let protocol = extension(extensions, ALPN).and_then(only_protocol).map(<[u8]>::to_vec);
+            Some(Said::EncryptedExtensions { parameters, protocol })
+        }
         _ => None,
     }
 }
@@ -88,31 +101,43 @@ fn split_long(bytes: &[u8]) -> Option<(&[u8], &[u8])> {
     rest.split_at_checked(u16::from_be_bytes(*len).into())
 }
 
-// The transport parameters among extensions.
-fn parameters(mut extensions: &[u8]) -> Option<Vec<u8>> {
+// The first extension of a kind.
+fn extension(mut extensions: &[u8], wanted: u16) -> Option<&[u8]> {
     loop {
         let (kind, rest) = extensions.split_first_chunk()?;
         let (value, rest) = split_long(rest)?;
-        if u16::from_be_bytes(*kind) == QUIC_TRANSPORT_PARAMETERS {
-            return Some(value.to_vec());
+        if u16::from_be_bytes(*kind) == wanted {
+            return Some(value);
         }
         extensions = rest;
     }
+}
+
+// The first name of a server, if it is one of a host (RFC 6066, section 3).
+fn host_name(list: &[u8]) -> Option<&[u8]> {
+    let (kind, rest) = split_long(list)?.0.split_first()?;
+    Some(split_long(rest)?.0).filter(|name| *kind == 0 && name.len() <= MOST_NAME)
+}
+
+// The protocol that a server chose (RFC 7301, section 3.1).
+fn only_protocol(list: &[u8]) -> Option<&[u8]> {
+    let (name, rest) = split_short(split_long(list)?.0)?;
+    Some(name).filter(|_| rest.is_empty())
 }
 
 #[cfg(test)]
 mod tests {
     use super::*;
 
-    // A ClientHello with a session id, one suite and two extensions.
+    // A ClientHello with a session id, one suite and three extensions.
     fn hello() -> Vec<u8> {
-        let extensions = [0, 10, 0, 1, 7, 0, 0x39, 0, 2, 1, 2];
-        let body = [&[3, 3][..], &[9; 32], &[2, 5, 5], &[0, 2, 0x13, 1], &[1, 0], &[0, 11], &extensions].concat();
+        let extensions = [0, 10, 0, 1, 7, 0, 0, 0, 6, 0, 4, 0, 0, 1, b'a', 0, 0x39, 0, 2, 1, 2];
+        let body = [&[3, 3][..], &[9; 32], &[2, 5, 5], &[0, 2, 0x13, 1], &[1, 0], &[0, 21], &extensions].concat();
         [&[CLIENT_HELLO, 0, 0, body.len() as u8], &body[..]].concat()
     }
 
     fn said() -> Said {
-        Said::ClientHello { random: [9; 32], parameters: Some(vec![1, 2]) }
+        Said::ClientHello { random: [9; 32], parameters: Some(vec![1, 2]), server_name: Some(b"a".to_vec()) }
     }
 
     #[test]
@@ -138,6 +163,29 @@ mod tests {
             assert!(is_short, "{len}: {said:?}");
         }
         assert_eq!(CryptoStream::default().take(0, &[4, 0, 0, 0]), Some(Said::Nothing));
+    }
+
+    // RFC 7301, section 3.1; RFC 6066, section 3.
+    #[test]
+    fn names() {
+        let protocol = |list: &[u8]| {
+            let extension = [&[0, 16, 0, list.len() as u8][..], list].concat();
+            let message = [&[8, 0, 0, extension.len() as u8 + 2, 0, extension.len() as u8][..], &extension].concat();
+            match CryptoStream::default().take(0, &message) {
+                Some(Said::EncryptedExtensions { parameters: None, protocol }) => protocol,
+                said => panic!("{said:?}"),
+            }
+        };
+        assert_eq!(protocol(&[0, 3, 2, b'h', b'3']), Some(b"h3".to_vec()));
+        for wrong in [&[][..], &[0, 0], &[0, 3, 3, b'h', b'3'], &[0, 5, 2, b'h', b'3', 1, b'a'], &[0, 4, 2, b'h', b'3']]
+        {
+            assert_eq!(protocol(wrong), None, "{wrong:?}");
+        }
+        assert_eq!(host_name(&[0, 4, 0, 0, 1, b'a']), Some(&b"a"[..]));
+        let long = [&[1, 3, 0, 1, 0][..], &[b'a'; 256]].concat();
+        for wrong in [&[0, 4, 1, 0, 1, b'a'][..], &[0, 4, 0, 0, 2, b'a'], &[0, 0], &long] {
+            assert_eq!(host_name(wrong), None, "{wrong:?}");
+        }
     }
 
     #[test]

@@ -80,7 +80,7 @@ fn a_real_connection_is_read_as_tshark_does() {
     }
 }
 
-// Times, ports, the ALPN protocol's close with 0x100 and the suite as tshark has them.
+// Times, ports, names, the suite and the close with 0x100 as tshark has them.
 #[test]
 fn lines_for_people() {
     let lines = shown(&[SMALL, "--keylog", SMALL_KEYS]);
@@ -93,8 +93,8 @@ fn lines_for_people() {
     let last = [
         "13: 0.027264 127.0.0.1:40354 > 127.0.0.1:21001 connection=0 client 1-RTT len=40 number=5",
         "    0..4 APPLICATION_CLOSE error_name=\"application error 0x100\" reason=\"\"",
-        "connection 0: QUIC version 1, TLS_AES_128_GCM_SHA256, 0.000000 to 0.027264 \
-         first_dst=43017239077a7568efe8cfb20ac40529e5c1",
+        "connection 0: QUIC version 1, TLS_AES_128_GCM_SHA256, server name \"localhost\", protocol \"h3\", 0.000000 to \
+         0.027264 first_dst=43017239077a7568efe8cfb20ac40529e5c1",
         "    client 127.0.0.1:40354: 9 packets opened",
         "    server 127.0.0.1:21001: 7 packets opened",
         "    end: the client's application closed it with application error 0x100",
@@ -121,7 +121,10 @@ fn the_examples_of_the_rfc() {
     assert!(
         lines[at + 2].starts_with("    5..99 CRYPTO offset=0 len=90 data=020000560303eefce7f7b37ba1d1632e96677825")
     );
-    assert!(lines[at + 3].starts_with("connection 0: QUIC version 1, TLS_AES_128_GCM_SHA256, 0.000000 to 0.007000 "));
+    assert!(
+        lines[at + 3]
+            .starts_with("connection 0: QUIC version 1, TLS_AES_128_GCM_SHA256, server name \"example.com\", 0.0")
+    );
     assert!(lines[at + 3].ends_with("first_dst=8394c8f03e515708"));
     assert_eq!(lines[at + 6], "    end: it was open at the end of the capture");
     let file = folder.write("retry.pcap", pcap(&[kept(true, 0, &a2()), kept(false, 1, &a4())]));

@@ -233,6 +233,9 @@ impl Form for Json<'_> {
             if let Some(suite) = connection.suite() {
                 object.word("suite", &words::suite_name(suite));
             }
+            for (what, name) in [("server_name", connection.server_name()), ("protocol", connection.protocol())] {
+                name.into_iter().for_each(|name| object.field(&(what, Value::Text(name))));
+            }
             let (first, last) = connection.times();
             for (name, time) in [("begin", first), ("last", last)] {
                 object.plain(name, format_args!("{:#}", Seconds(words::after(sum.begun, time))));

@@ -217,6 +217,10 @@ impl Form for Text<'_> {
         if let Some(suite) = connection.suite() {
             put!(self.lines, ", {}", words::suite_name(suite));
         }
+        let names = [("server name", connection.server_name()), ("protocol", connection.protocol())];
+        for (what, name) in names.iter().filter_map(|(what, name)| Some((what, name.as_ref()?))) {
+            put!(self.lines, ", {what} {}", Value::Text(name));
+        }
         let (first, last) = connection.times();
         let [first, last] = [first, last].map(|time| Seconds(words::after(sum.begun, time)));
         put!(self.lines, ", {first} to {last}");

@@ -37,8 +37,8 @@ fn payload(random: &mut Random, model: &Plain) -> Vec<u8> {
     payload
 }
 
-fn rounds() -> u64 {
-    std::env::var("ROUNDS").ok().and_then(|text| text.parse().ok()).unwrap_or(200)
+fn rounds(default: u64) -> u64 {
+    std::env::var("ROUNDS").ok().and_then(|text| text.parse().ok()).unwrap_or(default)
 }
 
 // Follows a part of the capture, and then packets of any contents. Returns how many of these were opened.
@@ -63,14 +63,15 @@ fn round(random: &mut Random, sealer: &Sealer, plain: &[Plain], part: &[Kept]) -
 #[test]
 fn any_contents() {
     let (sealer, all, plain) = (Sealer::of_capture(1), datagrams(), opened());
+    let rounds = rounds(200);
     let mut random = Random(7);
-    let packets: u64 = (0..rounds())
+    let packets: u64 = (0..rounds)
         .map(|_| {
             let cut = random.below(all.len());
             round(&mut random, &sealer, &plain, &all[..=cut])
         })
         .sum();
-    assert!(packets > 10 * rounds(), "{packets} packets were opened");
+    assert!(packets > 10 * rounds, "{packets} packets were opened");
 }
 
 // The same of connections that began before the capture.
@@ -78,23 +79,25 @@ fn any_contents() {
 fn any_contents_without_a_handshake() {
     let (sealer, all) = (Sealer::of_capture(1), datagrams());
     let plain: Vec<_> = opened().into_iter().filter(|plain| plain.kind != HeaderKind::Initial).collect();
+    let rounds = rounds(40);
     let mut random = Random(8);
-    let packets: u64 = (0..rounds())
+    let packets: u64 = (0..rounds)
         .map(|_| {
             let begin = 1 + random.below(all.len() - 1);
             let end = begin + random.below(all.len() - begin + 1);
             round(&mut random, &sealer, &plain, &all[begin..end])
         })
         .sum();
-    assert!(packets > 5 * rounds(), "{packets} packets were opened");
+    assert!(packets > 5 * rounds, "{packets} packets were opened");
 }
 
 // Captures whose bytes, key logs and order of datagrams are changed.
 #[test]
 fn changed_captures() {
+    let rounds = rounds(40);
     let mut random = Random(9);
     let mut opened = 0;
-    for _ in 0..rounds() {
+    for _ in 0..rounds {
         let (mut file, mut keys) = (CAPTURE.to_vec(), KEYS.to_vec());
         for _ in 0..random.below(8) {
             let at = random.below(file.len());
@@ -120,7 +123,7 @@ fn changed_captures() {
         let (follower, _) = follow_with(&keys, &all);
         opened += follower.counts().opened;
     }
-    assert!(opened > 2 * rounds(), "{opened} packets were opened");
+    assert!(opened > 2 * rounds, "{opened} packets were opened");
 }
 
 // Connections that anyone can begin don't push out one of the same addresses.

@@ -271,7 +271,8 @@ impl Follower {
             stray.acknowledged = connection.end(*sender).also_expected(SpaceId::Data);
             let versions = [connection.version()];
             let sources = Source::all(keylog, connection.random()?, ONE_RTT[*sender as usize], &versions);
-            Some((Some(*number), search.short(&stray, sources)?))
+            let fits = |source: &Source| connection.suite().is_none_or(|suite| suite == source.suite.number());
+            Some((Some(*number), search.short(&stray, sources.filter(fits))?))
         });
         let found = of_near.or_else(|| {
             let sources = strays.sources(keylog, connections, &ONE_RTT, &VERSIONS);

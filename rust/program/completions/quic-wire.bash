@@ -22,11 +22,11 @@ _quic_wire_words() {
                 number) echo '--base64 --json --color --rfc --quinn --largest' ;;
                 ranges) echo '--base64 --json --color' ;;
                 capture)
-                    echo '--json --color --keylog --qlog --connection --side --number --frame --rejected --help'
+                    echo '--json --color --keylog --qlog --connection --side --number --frame --rejected --lost --help'
                     ;;
                 *)
                     echo '--base64 --json --color --rfc --quinn --strict --cid-len --versions --grease --side --largest'
-                    echo '--keylog --qlog --connection --number --frame --rejected --help --version'
+                    echo '--keylog --qlog --connection --number --frame --rejected --lost --help --version'
                     ;;
             esac
             ;;

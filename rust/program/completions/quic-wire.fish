@@ -40,3 +40,4 @@ complete -c quic-wire -n $of_capture -l connection -x -d 'Show only a connection
 complete -c quic-wire -n $of_capture -l number -x -d 'Show only these packet numbers'
 complete -c quic-wire -n $of_capture -l frame -x -a "$frames" -d 'Show only packets with such a frame'
 complete -c quic-wire -n $of_capture -l rejected -d 'Show only what is not opened or is rejected'
+complete -c quic-wire -n $of_capture -l lost -d 'Show only packets from which on others count as lost'

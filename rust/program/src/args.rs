@@ -93,7 +93,7 @@ const fn known(name: &'static str, value: Option<&'static str>, modes: &'static 
     Known { name, value, modes }
 }
 
-const OPTIONS: [Known; 19] = [
+const OPTIONS: [Known; 20] = [
     known("--help", None, &[]),
     known("--version", None, &[]),
     known("--json", None, &[]),
@@ -113,6 +113,7 @@ const OPTIONS: [Known; 19] = [
     known("--number", Some("a packet number, or a range of them"), &["capture"]),
     known("--frame", Some("the name of a frame"), &["capture"]),
     known("--rejected", None, &["capture"]),
+    known("--lost", None, &["capture"]),
 ];
 
 const WHEN: [(&str, When); 3] = [("always", When::Always), ("never", When::Never), ("auto", When::Auto)];
@@ -219,6 +220,7 @@ impl Options {
             "--number" => self.filter.numbers.push(numbers(value)?),
             "--frame" => self.filter.frames.extend(frames(value)?),
             "--rejected" => self.filter.rejected = true,
+            "--lost" => self.filter.lost = true,
             _ => self.largest = Some(largest(value)?),
         }
         Ok(())

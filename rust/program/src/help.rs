@@ -77,6 +77,7 @@ Output:
                              connection, the sender, and the packet: its type, its length in bytes and its number
       0..4 ACK ..            a frame of it, in bytes 0 to 3 of its payload. Data are cut after 32 bytes
       error at 4: ..         what RFC 9000 rejects, from byte 4 of the payload on
+      lost: ..               a packet that counts as lost from here on, and why
   not opened: ..             why a packet has no frames
   no packet: ..              what bytes after the packets of a datagram are
 A connection has a summary when it is forgotten, 10 seconds or more after its end, or at the end of the file: what was
@@ -91,6 +92,7 @@ options, of which --keylog, --connection, --number and --frame may be repeated:
   --number N           show only packets with this number or, for 1-3 or 1..4, those with numbers 1 to 3
   --frame NAME         show only packets with such a frame; NAME is the RFC's, such as ACK or STREAM
   --rejected           show only what isn't opened, and packets in which RFC 9000 rejects something
+  --lost               show only packets from which on others count as lost (RFC 9002, section 6.1)
   --json               print a JSON object per line, without colours, with all data
   --qlog DIR           write the packets to DIR as qlog 0.3 (JSON-SEQ), a file for each connection, and print only the
                        summaries

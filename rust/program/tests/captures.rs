@@ -133,6 +133,36 @@ fn the_examples_of_the_rfc() {
     assert!(shown(&[&file]).contains(&retry.into()));
 }
 
+// Of numbers 0 to 4 the server acknowledges 4, so that 0 and 1 count as lost (RFC 9002, section 6.1.1), and then 0 too.
+fn losses() -> (Made, Vec<Kept>) {
+    let mut made = Made::new(1);
+    let mut all = made.handshake();
+    all.extend((0..5).map(|_| made.send(Client, Short, PING)));
+    all.extend([made.send(Server, Short, &[2, 4, 0, 0, 0]), made.send(Server, Short, &[2, 4, 0, 1, 0, 2, 0])]);
+    (made, all)
+}
+
+#[test]
+fn lost_packets() {
+    let folder = Folder::new("lost");
+    let (made, all) = losses();
+    let (file, keys) = files(&folder, &[&made], &all);
+    // The round-trip time is 1 ms, so that what was sent 9/8 of that before 4's acknowledgment, or earlier, is lost too
+    // (section 6.1.2).
+    let by_packets = "since one with a number greater by 3 or more was acknowledged";
+    let by_time = "since it was sent too long before a later one was acknowledged";
+    let lost =
+        |number: u64, why| format!("    lost: client application data number={number} of record {}, {why}", number + 4);
+    let first = "9: 0.008000 10.0.0.2:443 > 10.0.0.1:1001 connection=0 server 1-RTT len=27 number=0";
+    let mut lines = vec![first.into(), "    0..5 ACK largest=4 delay=0 ranges=4-4".into()];
+    lines.extend([(0, by_packets), (1, by_packets), (2, by_time), (3, by_time)].map(|(number, why)| lost(number, why)));
+    let found = shown(&[&file, "--keylog", &keys, "--lost"]);
+    assert_eq!(found[..6], lines);
+    let sums = "    client 10.0.0.1:1001: 7 packets opened, 4 lost, 1 of them acknowledged later";
+    assert_eq!(found[7], sums);
+    assert!(shown(&[&file, "--keylog", &keys]).contains(&lines[2]));
+}
+
 #[test]
 fn closes_are_words() {
     let folder = Folder::new("closes");

@@ -148,20 +148,31 @@ fn the_rest() -> (Made, Vec<Kept>) {
     (made, all)
 }
 
+// Of five packets the last one is acknowledged.
+fn losses() -> (Made, Vec<Kept>) {
+    let mut made = Made::new(3);
+    let mut all = made.handshake();
+    all.extend((0..5).map(|_| made.send(Client, Short, PING)));
+    all.push(made.send(Server, Short, &[2, 4, 0, 0, 0]));
+    (made, all)
+}
+
 #[test]
 fn all_objects_fit_the_schema_and_have_what_it_names() {
     let folder = Folder::new("schema");
-    let ((one, frames), (two, rest)) = (every_frame(), the_rest());
-    let keys = folder.write("keys", one.key_log() + &two.key_log());
+    let ((one, frames), (two, rest), (three, lost)) = (every_frame(), the_rest(), losses());
+    let keys = folder.write("keys", one.key_log() + &two.key_log() + &three.key_log());
+    let lost = folder.write("lost.pcap", pcap(&lost));
     let frames = folder.write("frames.pcap", pcap(&frames));
     let rest = folder.write("rest.pcap", pcap_of(&rest, 1100));
     let rfc = folder.write("rfc.pcap", pcap(&[kept(true, 0, &a2()), kept(false, 1, &a4()), kept(false, 2, &a3())]));
     let mut schema = Schema::read(SCHEMA);
-    let calls: [&[&str]; 4] = [
+    let calls: [&[&str]; 5] = [
         &[SMALL, "--keylog", SMALL_KEYS],
         &[SMALL],
         &[&frames, &rest, &rfc, "--keylog", &keys],
         &[&rest, "--keylog", &keys, "--rejected"],
+        &[&lost, "--keylog", &keys, "--lost"],
     ];
     for call in calls {
         objects(call).iter().for_each(|object| schema.check(object));
@@ -184,6 +195,7 @@ fn all_objects_fit_the_schema_and_have_what_it_names() {
         Unopened::NoSecret,
         Unopened::UnknownSuite,
         Unopened::WrongTag,
+        Unopened::NoFirstId,
     ];
     assert!(reasons.iter().map(Json::text).eq(all.iter().map(ToString::to_string)));
 }

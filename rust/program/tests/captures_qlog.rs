@@ -159,6 +159,26 @@ fn every_kind_of_frame() {
     assert_eq!(named(&records, "connectivity:connection_closed"), [&Json::read(closed)]);
 }
 
+// Number 4 is acknowledged, so that 0 and 1 are lost (RFC 9002, section 6.1.1).
+#[test]
+fn lost_packets() {
+    let folder = Folder::new("lost-traces");
+    let mut made = Made::new(1);
+    let mut all = made.handshake();
+    all.extend((0..5).map(|_| made.send(Client, Short, PING)));
+    all.push(made.send(Server, Short, &[2, 4, 0, 0, 0]));
+    let records = traces(&folder, &made, &all);
+    let lost = named(&records, "recovery:packet_lost");
+    let by_packets = |number: u64| {
+        let text = format!(
+            r#"{{"header":{{"packet_type":"1RTT","packet_number":{number}}},"trigger":"reordering_threshold"}}"#
+        );
+        Json::read(&text)
+    };
+    assert_eq!(lost[..2], [&by_packets(0), &by_packets(1)]);
+    assert_eq!(lost[2].at("trigger").text(), "time_threshold");
+}
+
 #[test]
 fn packets_without_frames() {
     let folder = Folder::new("without");

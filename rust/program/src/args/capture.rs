@@ -29,6 +29,8 @@ pub struct Filter {
     pub frames: Vec<u64>,
     /// Packets that weren't opened, or in which RFC 9000 rejects something.
     pub rejected: bool,
+    /// Packets after which others count as lost.
+    pub lost: bool,
 }
 
 impl Options {

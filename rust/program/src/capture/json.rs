@@ -123,7 +123,7 @@ fn parts(object: &mut Object<'_>, packet: &Packet<'_>) {
     object.list("frames", frames, |object, part| frame(object, packet.opened, part));
     for part in packet.parts {
         match part {
-            Part::Frame { .. } => {}
+            Part::Frame { .. } | Part::Lost(_) => {}
             Part::Invalid(what) => object.inner("invalid", |object| fault(object, what, "offset_in_payload")),
             Part::Parameters(list, read) => object.inner("parameters", |object| {
                 params::all(list, read).iter().for_each(|field| object.field(field));
@@ -133,6 +133,21 @@ fn parts(object: &mut Object<'_>, packet: &Packet<'_>) {
             }
         }
     }
+}
+
+// The packets that count as lost from here on.
+fn lost(object: &mut Object<'_>, parts: &[Part]) {
+    let lost = parts.iter().filter_map(|part| match part {
+        Part::Lost(sent) => Some(sent),
+        _ => None,
+    });
+    object.list("lost", lost, |object, sent| {
+        object.word("sender", words::side_name(sent.sender));
+        object.word("space", words::space_name(sent.space));
+        object.number("number", sent.number);
+        object.number("record", sent.record);
+        object.word("threshold", words::threshold_name(sent));
+    });
 }
 
 fn unopened(object: &mut Object<'_>, counts: &BTreeMap<Unopened, u64>) {
@@ -149,6 +164,8 @@ fn half(object: &mut Object<'_>, tally: &Tally, side: Side) {
         object.word("last_address", &last.to_string());
     }
     object.number("opened", half.opened);
+    object.number("lost", half.lost);
+    object.number("lost_but_acknowledged", half.lost_in_vain);
     unopened(object, &half.unopened);
     if let Some(said) = &half.close {
         object.inner("close", |object| {
@@ -189,6 +206,9 @@ impl Form for Json<'_> {
                 record.into_iter().for_each(|record| object.number("first_record", record));
             }
             parts(object, packet);
+            if packet.parts.iter().any(|part| matches!(part, Part::Lost(_))) {
+                lost(object, packet.parts);
+            }
         });
     }
 

@@ -12,9 +12,11 @@ use crate::formats::PARAMETERS;
 use crate::output::{Field, Value};
 use crate::params;
 use quic_wire::datagram::{HeaderKind, PacketRef};
+use quic_wire::ids::SpaceId;
 use quic_wire::transport_parameters::{PreferredAddress, TransportParameters};
 use quic_wire::{ResetToken, Side};
 use quic_wire_capture::connection::Connection;
+use quic_wire_capture::recovery::Sent;
 use quic_wire_capture::sink::{Rest, Unopened};
 use std::collections::{HashMap, HashSet};
 use std::ffi::{OsStr, OsString};
@@ -182,6 +184,28 @@ fn packet_type(kind: HeaderKind) -> &'static str {
     }
 }
 
+// A packet of the application data space may be a 0-RTT one, which isn't remembered.
+fn lost(object: &mut Object<'_>, sent: &Sent) {
+    object.inner("header", |object| {
+        object.word(
+            "packet_type",
+            match sent.space {
+                SpaceId::Initial => "initial",
+                SpaceId::Handshake => "handshake",
+                SpaceId::Data => "1RTT",
+            },
+        );
+        object.number("packet_number", sent.number);
+    });
+    object.word(
+        "trigger",
+        match words::threshold_name(sent) {
+            "time" => "time_threshold",
+            _ => "reordering_threshold",
+        },
+    );
+}
+
 fn ids(object: &mut Object<'_>, packet: &PacketRef<'_>) {
     if !packet.header().is_short() {
         object.field(&("version", Value::Version(packet.header().version())));
@@ -272,8 +296,14 @@ impl Form for Qlog<'_> {
             frames::list(object, opened.payload(), packet.parts, exponent);
         });
         for part in packet.parts {
-            if let Part::Parameters(list, read) = part {
-                self.event(connection, time, "transport:parameters_set", |object| parameters(object, side, list, read));
+            match part {
+                Part::Parameters(list, read) => {
+                    self.event(connection, time, "transport:parameters_set", |object| {
+                        parameters(object, side, list, read);
+                    });
+                }
+                Part::Lost(sent) => self.event(connection, time, "recovery:packet_lost", |object| lost(object, sent)),
+                _ => {}
             }
         }
         if let Some(said) = packet.close_in(connection, side, place.index) {

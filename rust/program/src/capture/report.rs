@@ -13,6 +13,7 @@ use quic_wire_capture::capture::{Capture, Datagram};
 use quic_wire_capture::connection::Connection;
 use quic_wire_capture::follow::{Counts, Follower};
 use quic_wire_capture::opened::Opened;
+use quic_wire_capture::recovery::Sent;
 use quic_wire_capture::sink::{Ended, Event, Rest, Sink, Unopened};
 use std::collections::{BTreeMap, HashMap};
 use std::ffi::OsStr;
@@ -42,6 +43,8 @@ pub enum Part {
     Invalid(Fault),
     Parameters(Vec<u8>, Box<TransportParameters>),
     InvalidParameters(Fault),
+    /// A packet that counts as lost from here on.
+    Lost(Sent),
 }
 
 /// Why something is rejected, and what is known about it.
@@ -74,8 +77,13 @@ impl Packet<'_> {
         self.parts.iter().any(|part| match part {
             Part::Frame { forbidden, .. } => forbidden.is_some(),
             Part::Invalid(_) | Part::InvalidParameters(_) => true,
-            Part::Parameters(..) => false,
+            Part::Parameters(..) | Part::Lost(_) => false,
         })
+    }
+
+    // Whether others count as lost from here on.
+    fn has_lost(&self) -> bool {
+        self.parts.iter().any(|part| matches!(part, Part::Lost(_)))
     }
 }
 
@@ -91,6 +99,9 @@ pub struct Tally {
 pub struct Half {
     pub opened: u64,
     pub unopened: BTreeMap<Unopened, u64>,
+    /// How many of its packets counted as lost, and how many of these were acknowledged later.
+    pub lost: u64,
+    pub lost_in_vain: u64,
     /// From where it sent first, and last.
     pub addresses: Option<(SocketAddr, SocketAddr)>,
     /// The first one that counts, which may be shortened.
@@ -171,6 +182,12 @@ impl<'a> Report<'a> {
         Place { datagram, index, owner, time: words::after(begun, datagram.time) }
     }
 
+    fn count(&mut self, connection: &Connection, side: Side, how: impl FnOnce(&mut Half)) {
+        if let Some(half) = self.half(Some((connection, side))) {
+            how(half);
+        }
+    }
+
     // The sums of a side.
     fn half(&mut self, owner: Option<(&Connection, Side)>) -> Option<&mut Half> {
         let (connection, side) = owner?;
@@ -195,7 +212,8 @@ impl<'a> Report<'a> {
             Part::Frame { ty, .. } => Some(*ty),
             _ => None,
         });
-        if self.filter.fits(place, Some(opened.number()), types, packet.is_rejected()) {
+        let marks = Marks { rejected: packet.is_rejected(), lost: packet.has_lost() };
+        if self.filter.fits(place, Some(opened.number()), types, marks) {
             self.forms.iter_mut().for_each(|form| form.opened(place, &packet));
         }
         self.parts = parts;
@@ -210,6 +228,13 @@ impl<'a> Report<'a> {
     }
 }
 
+/// What filters ask of a packet beside its fields.
+#[derive(Default)]
+struct Marks {
+    rejected: bool,
+    lost: bool,
+}
+
 impl Filter {
     fn has_connection(&self, connection: Option<&Connection>) -> bool {
         let is_it = |one: &Connection| self.connections.contains(&one.number());
@@ -222,14 +247,15 @@ impl Filter {
         place: &Place<'_>,
         number: Option<u64>,
         mut frames: impl Iterator<Item = u64>,
-        is_rejected: bool,
+        marks: Marks,
     ) -> bool {
         self.has_connection(place.owner.map(|owner| owner.0))
             && self.sender.is_none_or(|side| place.owner.is_some_and(|owner| owner.1 == side))
             && (self.numbers.is_empty()
                 || number.is_some_and(|number| self.numbers.iter().any(|range| range.contains(&number))))
             && (self.frames.is_empty() || frames.any(|ty| self.frames.contains(&ty)))
-            && (is_rejected || !self.rejected)
+            && (marks.rejected || !self.rejected)
+            && (marks.lost || !self.lost)
     }
 }
 
@@ -264,7 +290,14 @@ impl Sink for Report<'_> {
                 let (at, fields) = fault::of_parameters(list, !opened.sender(), ReadOptions::RFC, **refusal);
                 Part::InvalidParameters(Fault { what: params::what(refusal).into(), at, fields })
             }
-            // What a packet says of others.
+            Event::Lost(sent) => {
+                self.count(connection, sent.sender, |half| half.lost += 1);
+                Part::Lost(*sent)
+            }
+            Event::Acknowledged { sent, was_lost: true } => {
+                return self.count(connection, sent.sender, |half| half.lost_in_vain += 1);
+            }
+            // What else a packet says of others.
             _ => return,
         };
         self.parts.push(part);
@@ -285,7 +318,8 @@ impl Sink for Report<'_> {
             self.tallies.entry(connection.number()).or_default().reset.get_or_insert(side);
         }
         let place = self.place(owner, datagram, index);
-        if self.filter.fits(&place, None, std::iter::empty(), !is_plain(why)) {
+        let marks = Marks { rejected: !is_plain(why), ..Marks::default() };
+        if self.filter.fits(&place, None, std::iter::empty(), marks) {
             self.forms.iter_mut().for_each(|form| form.unopened(&place, packet, why));
         }
     }
@@ -299,7 +333,8 @@ impl Sink for Report<'_> {
         why: Rest,
     ) {
         let place = self.place(owner, datagram, index);
-        if self.filter.fits(&place, None, std::iter::empty(), why != Rest::Zeros) {
+        let marks = Marks { rejected: why != Rest::Zeros, ..Marks::default() };
+        if self.filter.fits(&place, None, std::iter::empty(), marks) {
             self.forms.iter_mut().for_each(|form| form.rest(&place, offset, why));
         }
     }

@@ -100,6 +100,10 @@ impl<'s> Text<'s> {
                 self.fields(&params::all(list, read));
             }
             Part::InvalidParameters(fault) => self.fault("transport parameters: ", fault),
+            Part::Lost(sent) => {
+                let error = self.paint(Tone::Error, "lost:");
+                put!(self.lines, "{error} {}", words::lost(sent));
+            }
         }
         self.line_end();
     }
@@ -143,6 +147,12 @@ impl<'s> Text<'s> {
             }
         }
         put!(self.lines, ": {}", count(half.opened, "packet", "opened"));
+        if half.lost > 0 {
+            put!(self.lines, ", {} lost", half.lost);
+        }
+        if half.lost_in_vain > 0 {
+            put!(self.lines, ", {} of them acknowledged later", half.lost_in_vain);
+        }
         for (why, count) in &half.unopened {
             put!(self.lines, "; {}", unopened(*why, *count));
         }

@@ -5,10 +5,12 @@ use crate::output::Value;
 use quic_wire::Side;
 use quic_wire::datagram::HeaderKind;
 use quic_wire::frame::{Close, Frame};
+use quic_wire::ids::SpaceId;
 use quic_wire::packet::VERSION_2;
 use quic_wire::transport_error::Code;
 use quic_wire_capture::ciphers::Suite;
 use quic_wire_capture::follow::MOST_CONNECTIONS;
+use quic_wire_capture::recovery::{Sent, Threshold};
 use quic_wire_capture::sink::Ended;
 use std::fmt::{self, Display, Formatter};
 
@@ -130,6 +132,34 @@ pub fn ended(sum: &Sum<'_>) -> String {
         Some(Ended::Closed) => "it was closed".into(),
         Some(Ended::Reset) => "it was reset".into(),
         None => "it was open at the end of the capture".into(),
+    }
+}
+
+/// A packet that counts as lost, and why (RFC 9002, sections 6.1.1 and 6.1.2).
+pub fn lost(sent: &Sent) -> String {
+    let Sent { sender, space, number, record, .. } = sent;
+    let why = match sent.lost.map(|loss| loss.by) {
+        Some(Threshold::Time) => ", since it was sent too long before a later one was acknowledged",
+        Some(Threshold::Packets) => ", since one with a number greater by 3 or more was acknowledged",
+        None => "",
+    };
+    format!("{} {} number={number} of record {record}{why}", side_name(*sender), space_name(*space))
+}
+
+/// Why a packet counts as lost, in a word.
+pub fn threshold_name(sent: &Sent) -> &'static str {
+    match sent.lost.map(|loss| loss.by) {
+        Some(Threshold::Time) => "time",
+        _ => "packets",
+    }
+}
+
+/// A packet number space (RFC 9000, section 12.3).
+pub fn space_name(space: SpaceId) -> &'static str {
+    match space {
+        SpaceId::Initial => "Initial",
+        SpaceId::Handshake => "Handshake",
+        SpaceId::Data => "application data",
     }
 }
 

@@ -12,8 +12,10 @@ UNKNOWN = "invalid frame ID"
 
 
 def frames(payload):
-    """The names of a payload's frames, also of RESET_STREAM_AT (draft-ietf-quic-reliable-stream-reset, section 4), which
-    has a type of one byte and four numbers."""
+    """The names of a payload's frames, also of RESET_STREAM_AT (draft-ietf-quic-reliable-stream-reset, section 4).
+
+    It has a type of one byte and four numbers.
+    """
     found = q.frames(payload, checks=q.Checks.RFC)
     while True:
         try:

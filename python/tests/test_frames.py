@@ -177,7 +177,7 @@ class Frames(unittest.TestCase):
             (ValueError, "count must be 1 or more", lambda: q.Padding(0)),
             (TypeError, "instances", q.Frame),
             (TypeError, "^payload\\[0\\] must be a Frame or have .* not NoneType$", lambda: q.write_frames([None])),
-            (TypeError, "^payload\\[1\\] must be a Frame or have .* not str$", lambda: q.write_frames([q.Ping(), "01"])),
+            (TypeError, "^payload\\[1\\] must be a Frame or have .* not str$", lambda: q.write_frames([q.Ping(), "1"])),
             (TypeError, "^payload\\[0\\] must be a Frame or have .* not type$", lambda: q.write_frames([q.Ping])),
             (TypeError, "not iterable", lambda: q.write_frames(q.Ping())),
         ]

@@ -78,7 +78,8 @@ class Versions(unittest.TestCase):
         self.assertEqual(q.read_packets(negotiation, 0)[0].versions, (1, 0x6B3343CF))
         long = bytes.fromhex("c000000005") + b"\xff" + bytes(255) + b"\xff" + b"\x01" * 255
         self.assertEqual(q.answer_version(long, [1])[5:7].hex(), "ff01")
-        for wrong, versions in [(negotiation, [1]), (received, []), (received, [0]), (received[:7], [1]), (b"\x40", [1])]:
+        rows = [(negotiation, [1]), (received, []), (received, [0]), (received[:7], [1]), (b"\x40", [1])]
+        for wrong, versions in rows:
             with self.subTest(wrong, versions=versions), self.assertRaisesRegex(ValueError, "long header"):
                 q.answer_version(wrong, versions)
 

@@ -6,8 +6,11 @@ from ._wire import Ack, RangeSet
 
 
 def acknowledged(in_flight: RangeSet, ack: Ack) -> RangeSet:
-    """The numbers of a set that an ACK acknowledges (RFC 9000, section 19.3). If the set has the packets in flight, they
-    are newly acknowledged (RFC 9002, appendix A.7): remove them from it. It takes one pass over both."""
+    """The numbers of a set that an ACK acknowledges (RFC 9000, section 19.3).
+
+    If the set has the packets in flight, they are newly acknowledged (RFC 9002, appendix A.7): remove them from it. It
+    takes one pass over both.
+    """
     own, theirs = list(in_flight), ack.ranges[::-1]
     both, i, j = [], 0, 0
     while i < len(own) and j < len(theirs):

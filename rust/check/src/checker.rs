@@ -39,7 +39,7 @@ pub struct Checker {
 }
 
 // A datagram, or a segment of one: its record, and where its bytes are in memory.
-type Key = (u64, *const u8, usize);
+type Key = (u64, usize, usize);
 
 /// What is known of the capture as a whole.
 #[derive(Default)]
@@ -211,10 +211,12 @@ impl Checker {
 
     // Notes a datagram of a side. Returns whether it is a new one.
     fn begin_datagram(&mut self, connection: &Connection, sender: Side, datagram: &Datagram<'_>) -> bool {
-        let key = (datagram.record, datagram.bytes.as_ptr(), datagram.bytes.len());
+        let key = (datagram.record, datagram.bytes.as_ptr().addr(), datagram.bytes.len());
         let is_new = self.datagram.replace(key) != Some(key);
         if is_new {
-            self.histories.entry(connection.number()).or_default().take_datagram(datagram, sender);
+            let history = self.history(connection);
+            history.try_due(connection, datagram.time);
+            history.take_datagram(datagram, sender);
         }
         is_new
     }
@@ -230,7 +232,6 @@ impl Checker {
             });
         }
         let most = (MOST_REMEMBERED / self.histories.len().max(1)).max(LEAST_REMEMBERED);
-        self.history(connection).try_due(connection, datagram.time);
         self.judge(what, place, |rule, about| match rule {
             Check::Packet(check) => Some(check(about, opened)),
             _ => None,
@@ -336,14 +337,7 @@ impl Sink for Checker {
         }
     }
 
-    fn rest(
-        &mut self,
-        owner: Option<(&Connection, Side)>,
-        datagram: &Datagram<'_>,
-        _: u64,
-        offset: usize,
-        why: Rest,
-    ) {
+    fn rest(&mut self, owner: Option<(&Connection, Side)>, datagram: &Datagram<'_>, _: u64, offset: usize, why: Rest) {
         let Some((connection, sender)) = owner else { return self.facts.add_stray(datagram) };
         self.begin_datagram(connection, sender, datagram);
         // Only a packet of it that was opened shows whose a datagram is.

@@ -76,7 +76,8 @@ impl Claim {
                 limits.is_some_and(|limits| until > stream_limit(limits, history, sender, id))
             }
             Claim::Streams(id) => limits.is_some_and(|limits| id.index() >= count_limit(limits, history, sender, id)),
-            Claim::Number { space, number, most } => distance(connection, sender, space, number) > most,
+            // An ACK refutes it.
+            Claim::Number { .. } => true,
             Claim::Ids => limits.is_some_and(|limits| {
                 active_ids(connection, history, sender, None) > limits.active_connection_id_limit.into_inner()
             }),
@@ -119,12 +120,7 @@ pub(crate) fn distance(connection: &Connection, sender: Side, space: SpaceId, nu
 }
 
 /// How many ids of a side are active, with a further one (RFC 9000, section 5.1.1).
-pub(crate) fn active_ids(
-    connection: &Connection,
-    history: &History,
-    sender: Side,
-    new: Option<(u64, u64)>,
-) -> u64 {
+pub(crate) fn active_ids(connection: &Connection, history: &History, sender: Side, new: Option<(u64, u64)>) -> u64 {
     let own = history.half(sender);
     let prior = own.prior.max(new.map_or(0, |(_, prior)| prior));
     let is_active = |sequence: u64| sequence >= prior && !own.retired.contains(&sequence);
@@ -174,8 +170,14 @@ impl Waiting {
         None
     }
 
-    /// Takes a packet that acknowledges others: what its sender had sent by then has smaller numbers.
-    pub(crate) fn prove(&mut self, sender: Side, in_space: SpaceId, sent: u64, acknowledged: u64) {
+    /// Takes a packet that acknowledges others: what its sender had sent by then has smaller numbers. An ACK that isn't
+    /// of a packet itself may have come before that was sent.
+    pub(crate) fn take_ack(&mut self, sender: Side, in_space: SpaceId, sent: u64, acknowledged: u64) {
+        self.claims.retain(|one| {
+            let Claim::Number { space, number, most } = one.claim else { return true };
+            let is_before = one.due.is_some() && one.finding.sender != sender && space == in_space;
+            !is_before || acknowledged >= number || number - acknowledged > most
+        });
         for one in &mut self.unsent {
             if let Claim::Unsent { space, number, by } = one.claim {
                 let is_after = one.finding.sender != sender && space == in_space && acknowledged >= by;

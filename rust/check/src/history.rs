@@ -145,9 +145,7 @@ pub(crate) fn stream_of(frame: &Frame<'_>) -> Option<StreamId> {
 /// The stream that a frame has data of, where they end, and whether they end for good.
 pub(crate) fn data_of(frame: &Frame<'_>) -> Option<(StreamId, u64, bool)> {
     match frame {
-        Frame::Stream(stream) => {
-            Some((stream.id, stream.offset.saturating_add(stream.bytes.len() as u64), stream.fin))
-        }
+        Frame::Stream(stream) => Some((stream.id, stream.offset.saturating_add(stream.bytes.len() as u64), stream.fin)),
         Frame::ResetStream(reset) => Some((reset.id, reset.final_offset.into_inner(), true)),
         _ => None,
     }
@@ -257,7 +255,7 @@ impl History {
         self.is_confirmed |= sender == Side::Server && space == SpaceId::Handshake;
         // A packet that was never sent shows nothing.
         if connection.end(!sender).largest(space).is_some_and(|largest| ack.largest() <= largest) {
-            self.waiting.prove(sender, space, opened.number(), ack.largest());
+            self.waiting.take_ack(sender, space, opened.number(), ack.largest());
         }
     }
 

@@ -1,8 +1,8 @@
 //! Finds the packets of a capture that break a rule of RFC 9000 or of its companions. [`rules::all`] is the table of
 //! rules; a [`checker::Checker`] takes the datagrams of a capture and returns a [`finding::Report`].
 //!
-//! What a capture doesn't show is never found: a rule is silent about packets that weren't opened, connections that began
-//! before the capture, and what a lost or reordered packet may explain. How often it was, and why, is counted.
+//! What a capture doesn't show is never found: a rule is silent about packets that weren't opened, connections that
+//! began before the capture, and what a lost or reordered packet may explain. How often it was, and why, is counted.
 //!
 //! ```
 //! use quic_wire_capture::capture::{Capture, Item};

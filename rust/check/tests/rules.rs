@@ -3,6 +3,7 @@
 mod common;
 #[path = "../../capture/tests/common/made.rs"]
 mod made;
+#[path = "common/talk.rs"]
 mod talk;
 
 use common::{CAPTURE, KEYS, read};
@@ -27,7 +28,9 @@ fn new_id(sequence: u64, retire_prior_to: u64, id: &[u8], token: u8) -> Vec<u8> 
 fn lawful_connections() {
     assert!(report_of(KEYS, &read(CAPTURE)).findings.is_empty());
     let report = Talk::open().later().later().finds_nothing();
-    assert!(report.unchecked.is_empty(), "{:?}", report.unchecked);
+    // Of the client's first datagram.
+    let unchecked: Vec<_> = report.unchecked.into_iter().collect();
+    assert_eq!(unchecked, [(("payload-size", Need::PeerParameters), 1)]);
 }
 
 #[test]
@@ -73,11 +76,11 @@ fn amplification() {
         talk.send(Client, Initial, &hello);
         for number in 0..datagrams {
             let payload = if number == 0 { crypto(0, &talk.made.server_hello()) } else { PING.to_vec() };
-            talk.send(Server, Initial, &padded(&payload, 1160));
+            talk.send(Server, Initial, &padded(&payload, 1170));
         }
         talk.made.time += 1_000_000_000;
         talk.made.first_dcid = None;
-        let more = padded(&ack(0), 1160);
+        let more = padded(&ack(0), 1170);
         talk.send(Client, Initial, &more);
         talk
     };
@@ -166,7 +169,8 @@ fn packet_numbers() {
     talk.sealed(Client, 0, U32(0), 0, PING).finds("number-reuse", "RFC 9000, section 12.3", index);
     // The same packet again.
     let mut talk = Talk::open();
-    talk.all.push(talk.all.last().unwrap().clone());
+    let last = talk.all.last().unwrap().clone();
+    talk.all.push(last);
     talk.finds_nothing();
 
     // Number 0 is acknowledged, so that 129 numbers need two bytes, and 128 numbers one.
@@ -179,12 +183,15 @@ fn packet_numbers() {
     };
     with(129).finds("number-length", "RFC 9000, section 17.1", index);
     with(128).finds_nothing();
+    // An ACK of number 1 comes too late in the file, by less than the order of the records may be wrong.
+    let mut talk = Talk::open();
+    talk.short(Client, PING).sealed(Client, 129, U8(129), 0, PING).short(Server, &ack(1)).short(Server, &ack_of(129));
+    talk.made.time += 1_000_000_000;
+    talk.short(Server, PING).finds_nothing();
     // The acknowledgment of a packet that isn't in the capture is in one that isn't either.
     let mut talk = with(129);
-    let server = talk.next() - 1;
-    talk.made.numbers[1][2] += 1;
-    talk.short(Server, PING).short(Client, &ack(5));
-    talk.all.remove(server);
+    talk.all.pop();
+    talk.sealed(Client, 130, U32(130), 0, &ack(3));
     talk.is_silent("number-length", Need::PeerPackets);
 }
 
@@ -193,11 +200,11 @@ fn packet_numbers() {
 fn closing() {
     let mut talk = Talk::open();
     talk.short(Client, CLOSE);
-    let (index, record) = (talk.next(), talk.next() as u64);
+    let index = talk.next();
     talk.short(Client, CLOSE).finds_nothing();
     talk.short(Client, PING).short(Client, PING);
     let finding = talk.finds("after-close", "RFC 9000, section 10.2.1", index + 1);
-    assert_eq!((finding.count, finding.last_record, record), (2, index as u64 + 3, index as u64));
+    assert_eq!((finding.count, finding.last_record), (2, index as u64 + 3));
 
     // Packets that the network reordered: the one without a close was sent before.
     let mut talk = Talk::open();
@@ -208,10 +215,10 @@ fn closing() {
 
     let mut talk = Talk::open();
     talk.short(Server, CLOSE);
-    let closing = ack(2);
-    talk.short(Client, PING).short(Client, &[&closing[..], CLOSE].concat()).finds_nothing();
     let index = talk.next();
-    talk.short(Client, &closing).finds("after-drain", "RFC 9000, section 10.2.2", index);
+    talk.short(Client, &ack(2)).finds("after-drain", "RFC 9000, section 10.2.2", index);
+    // It may be sent before the close came, or have a close itself.
+    Talk::open().short(Server, CLOSE).short(Client, PING).short(Client, &[&ack(2)[..], CLOSE].concat()).finds_nothing();
 }
 
 // Sections 12.4 and 19.
@@ -249,8 +256,8 @@ fn frames_of_extensions() {
     let mut talk = Talk::new();
     talk.parameters[1].min_ack_delay = Some(VarInt::from_u32(1));
     talk.handshake().short(Client, &[0x1f]).finds_nothing();
-    let mut talk = Talk::open();
-    talk.short(Client, &[0x1f]).finds("unknown-frame", "RFC 9000, section 12.4", talk.next() - 1);
+    let index = Talk::open().next();
+    Talk::open().short(Client, &[0x1f]).finds("unknown-frame", "RFC 9000, section 12.4", index);
 }
 
 // Section 12.4, table 3; sections 19.7 and 19.20.
@@ -308,7 +315,7 @@ fn datagram_size() {
     talk.parameters[1].max_datagram_frame_size = None;
     talk.handshake();
     with(&mut talk, 1);
-    talk.finds("datagram-size", "RFC 9221, section 3", index);
+    talk.finds("datagram-size", "RFC 9221, section 3", index - 1);
 }
 
 // Sections 8.2 and 19.18.
@@ -374,9 +381,7 @@ fn final_size() {
 #[test]
 fn limits() {
     let index = Talk::open().next();
-    let data = |id: u8, len: u16| {
-        [&[0x0a, id][..], &(0x4000 | len).to_be_bytes(), &vec![0; len.into()]].concat()
-    };
+    let data = |id: u8, len: u16| [&[0x0a, id][..], &(0x4000 | len).to_be_bytes(), &vec![0; len.into()]].concat();
     let one = |payload: &[u8]| {
         let mut talk = Talk::open();
         talk.and_more(Client, payload);
@@ -458,11 +463,17 @@ fn parameters() {
         talk
     };
     with(&|talk| talk.parameters[0].initial_src_cid = id(b"x")).finds("initial-source-id", "RFC 9000, section 7.3", 0);
-    with(&|talk| talk.parameters[1].original_dst_cid = id(b"x"))
-        .finds("original-destination-id", "RFC 9000, section 7.3", 1);
+    with(&|talk| talk.parameters[1].original_dst_cid = id(b"x")).finds(
+        "original-destination-id",
+        "RFC 9000, section 7.3",
+        1,
+    );
     with(&|talk| talk.parameters[1].retry_src_cid = id(b"x")).finds("retry-source-id", "RFC 9000, section 7.3", 1);
-    with(&|talk| talk.parameters[0].ack_delay_exponent = VarInt::from_u32(21))
-        .finds("parameter", "RFC 9000, section 18.2", 0);
+    with(&|talk| talk.parameters[0].ack_delay_exponent = VarInt::from_u32(21)).finds(
+        "parameter",
+        "RFC 9000, section 18.2",
+        0,
+    );
     with(&|talk| talk.parameters[0].ack_delay_exponent = VarInt::from_u32(20)).finds_nothing();
 }
 

@@ -17,8 +17,7 @@ pub(super) static RULES: &[Rule] = &[
     Rule::must(
         "initial-size",
         "14.1",
-        "A datagram with a client's Initial packet, or with a server's that elicits an acknowledgment, has at least 1200 \
-         bytes.",
+        "A datagram with an Initial packet of a client, or an ack-eliciting one of a server, has at least 1200 bytes.",
         Check::Done(initial_size),
     ),
     Rule::must(
@@ -27,10 +26,7 @@ pub(super) static RULES: &[Rule] = &[
         "A server sends at most three times as many bytes as it received until the client's address is validated.",
         Check::Datagram(amplification),
     )
-    .with(
-        History::Whole,
-        &[Need::Begin, Need::PeerPackets, Need::NoEarlyData, Need::NoStrays, Need::Order, Need::End],
-    ),
+    .with(History::Whole, &[Need::Begin, Need::PeerPackets, Need::NoEarlyData, Need::NoStrays, Need::Order, Need::End]),
     Rule::must(
         "payload-size",
         "18.2",
@@ -64,7 +60,10 @@ fn amplification(about: &About<'_>) -> Checked {
         return Ok(None);
     }
     let seen = format!("{server} bytes sent for {client} received");
-    Broken::new(seen, format!("at most {} bytes", client.saturating_mul(3))).at(0).if_still(Claim::Bytes(server)).found()
+    Broken::new(seen, format!("at most {} bytes", client.saturating_mul(3)))
+        .at(0)
+        .if_still(Claim::Bytes(server))
+        .found()
 }
 
 fn payload_size(about: &About<'_>) -> Checked {
@@ -81,7 +80,8 @@ fn payload_size(about: &About<'_>) -> Checked {
 fn coalesced_ids(about: &About<'_>, offset: usize) -> Checked {
     let rest = about.datagram.bytes.get(offset..).unwrap_or_default();
     let Some((first, behind)) = rest.split_first() else { return Ok(None) };
-    let is_known = |id: &[u8]| about.peer().ids().any(|(_, one, _)| **one == *id) || *id == **about.connection.first_dcid();
+    let is_known =
+        |id: &[u8]| about.peer().ids().any(|(_, one, _)| **one == *id) || *id == **about.connection.first_dcid();
     let is_packet = if first & LONG_HEADER_FORM != 0 {
         let version = behind.first_chunk().map(|version| u32::from_be_bytes(*version));
         let has_version = version.is_some_and(|version| VERSIONS.contains(&version));
@@ -92,5 +92,7 @@ fn coalesced_ids(about: &About<'_>, offset: usize) -> Checked {
     if !is_packet {
         return Ok(None);
     }
-    Broken::new("a packet with another Destination Connection ID", "that of the datagram's first packet").at(offset).found()
+    Broken::new("a packet with another Destination Connection ID", "that of the datagram's first packet")
+        .at(offset)
+        .found()
 }

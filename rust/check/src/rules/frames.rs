@@ -24,12 +24,7 @@ pub(super) static RULES: &[Rule] = &[
         Check::Invalid(unknown_frame),
     )
     .with(History::Before, &[Need::PeerParameters, Need::NoExtension]),
-    Rule::must(
-        "long-frame-type",
-        "12.4",
-        "A frame's type is in its shortest encoding.",
-        Check::Invalid(long_type),
-    ),
+    Rule::must("long-frame-type", "12.4", "A frame's type is in its shortest encoding.", Check::Invalid(long_type)),
     Rule::must(
         "frame-fields",
         "19",
@@ -42,12 +37,7 @@ pub(super) static RULES: &[Rule] = &[
         "A packet carries only frames that table 3 permits for its type.",
         Check::Frame(in_packet),
     ),
-    Rule::must(
-        "frame-sender",
-        "19",
-        "Only servers send NEW_TOKEN and HANDSHAKE_DONE.",
-        Check::Frame(frame_sender),
-    ),
+    Rule::must("frame-sender", "19", "Only servers send NEW_TOKEN and HANDSHAKE_DONE.", Check::Frame(frame_sender)),
     Rule::must(
         "ack-unsent",
         "13.1",
@@ -58,7 +48,7 @@ pub(super) static RULES: &[Rule] = &[
     Rule::must(
         "datagram-size",
         "3",
-        "A DATAGRAM has at most as many bytes as the receiver's max_datagram_frame_size says, and needs that parameter.",
+        "A DATAGRAM needs the receiver's max_datagram_frame_size, and has at most so many bytes.",
         Check::Frame(datagram_size),
     )
     .of(9221)
@@ -204,7 +194,10 @@ fn path_response(about: &About<'_>, _: &Opened<'_>, held: &Held<'_>) -> Checked 
         return Ok(None);
     }
     let seen = format!("a PATH_RESPONSE with the data {data:016x}");
-    Broken::new(seen, "the data of a PATH_CHALLENGE").in_payload(held.range.start).if_still(Claim::Answer(*data)).found()
+    Broken::new(seen, "the data of a PATH_CHALLENGE")
+        .in_payload(held.range.start)
+        .if_still(Claim::Answer(*data))
+        .found()
 }
 
 fn path_size(about: &About<'_>, opened: &Opened<'_>, held: &Held<'_>) -> Checked {

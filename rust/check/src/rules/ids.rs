@@ -79,14 +79,18 @@ fn id_changed(about: &About<'_>, _: &Opened<'_>, held: &Held<'_>) -> Checked {
         return Ok(None);
     }
     let what = if *id == new.id { "another reset token" } else { "another id" };
-    Broken::new(format!("{what} for the sequence number {}", new.sequence), format!("the same as before, {}", id_text(id)))
-        .in_payload(held.range.start)
-        .found()
+    Broken::new(
+        format!("{what} for the sequence number {}", new.sequence),
+        format!("the same as before, {}", id_text(id)),
+    )
+    .in_payload(held.range.start)
+    .found()
 }
 
 fn id_twice(about: &About<'_>, _: &Opened<'_>, held: &Held<'_>) -> Checked {
     let Some(new) = new_id(held) else { return Ok(None) };
-    let Some((other, ..)) = about.end().ids().find(|(sequence, id, _)| *sequence != new.sequence && **id == new.id) else {
+    let Some((other, ..)) = about.end().ids().find(|(sequence, id, _)| *sequence != new.sequence && **id == new.id)
+    else {
         return Ok(None);
     };
     let seen = format!("{} with the sequence number {}", id_text(&new.id), new.sequence);

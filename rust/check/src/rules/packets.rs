@@ -47,13 +47,8 @@ pub(super) static RULES: &[Rule] = &[
     )
     .of(9001)
     .with(History::Before, &[Need::Begin, Need::Order, Need::Time]),
-    Rule::must(
-        "number-reuse",
-        "12.3",
-        "A packet number is used once in its number space.",
-        Check::Again(number_reuse),
-    )
-    .with(History::Before, &[]),
+    Rule::must("number-reuse", "12.3", "A packet number is used once in its number space.", Check::Again(number_reuse))
+        .with(History::Before, &[]),
     Rule::must(
         "number-length",
         "17.1",
@@ -163,7 +158,9 @@ fn discarded_keys(about: &About<'_>, opened: &Opened<'_>) -> Checked {
     if about.datagram.time < time.saturating_add(SECOND) {
         return Err(Need::Time);
     }
-    Broken::new(format!("an Initial packet after the Handshake packet of record {record}"), "none").at(begin(opened)).found()
+    Broken::new(format!("an Initial packet after the Handshake packet of record {record}"), "none")
+        .at(begin(opened))
+        .found()
 }
 
 fn number_reuse(_: &About<'_>, opened: &Opened<'_>, before: &Sent) -> Checked {

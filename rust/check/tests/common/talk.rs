@@ -24,7 +24,8 @@ pub struct Talk {
 }
 
 impl Talk {
-    /// Before its first packet. Each side permits 1,000 bytes on all streams, 500 on each, and four streams of each type.
+    /// Before its first packet. Each side permits 1,000 bytes on all streams, 500 on each, and four streams of each
+    /// type.
     pub fn new() -> Talk {
         let made = Made::new(1);
         let id = |bytes: &[u8]| Some(ConnectionId::new(bytes));
@@ -40,8 +41,11 @@ impl Talk {
             ..TransportParameters::default()
         };
         let client = TransportParameters { initial_src_cid: id(&made.ids[0]), ..limits };
-        let server =
-            TransportParameters { initial_src_cid: id(&made.ids[1]), original_dst_cid: id(&made.original_id), ..limits };
+        let server = TransportParameters {
+            initial_src_cid: id(&made.ids[1]),
+            original_dst_cid: id(&made.original_id),
+            ..limits
+        };
         Talk { made, all: Vec::new(), parameters: [client, server] }
     }
 

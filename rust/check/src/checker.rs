@@ -221,6 +221,13 @@ impl Checker {
         is_new
     }
 
+    // Notes a datagram that someone else may have sent, or sent again: it counts as received, not as sent.
+    fn begin_unsure(&mut self, connection: &Connection, sender: Side, datagram: &Datagram<'_>) {
+        if sender == Side::Client {
+            self.begin_datagram(connection, sender, datagram);
+        }
+    }
+
     fn packet(&mut self, connection: &Connection, datagram: &Datagram<'_>, opened: &Opened<'_>) {
         let (what, place) = ((connection, opened.sender(), datagram), Place::of(opened));
         self.current = Current::default();
@@ -294,7 +301,7 @@ impl Sink for Checker {
                 self.frame(connection, datagram, opened, &held);
             }
             Event::Again(opened, _) => {
-                self.begin_datagram(connection, opened.sender(), datagram);
+                self.begin_unsure(connection, opened.sender(), datagram);
                 self.event(connection, datagram, opened, event);
             }
             Event::Parameters { opened, list, .. } => {
@@ -317,7 +324,7 @@ impl Sink for Checker {
         why: Unopened,
     ) {
         let Some((connection, sender)) = owner else { return self.facts.add_stray(datagram) };
-        self.begin_datagram(connection, sender, datagram);
+        self.begin_unsure(connection, sender, datagram);
         let kind = packet.header().kind();
         let history = self.history(connection);
         match kind {
@@ -339,7 +346,7 @@ impl Sink for Checker {
 
     fn rest(&mut self, owner: Option<(&Connection, Side)>, datagram: &Datagram<'_>, _: u64, offset: usize, why: Rest) {
         let Some((connection, sender)) = owner else { return self.facts.add_stray(datagram) };
-        self.begin_datagram(connection, sender, datagram);
+        self.begin_unsure(connection, sender, datagram);
         // Only a packet of it that was opened shows whose a datagram is.
         if why != Rest::OtherId || self.opened != Some((datagram.record, connection.number())) {
             return;

@@ -87,6 +87,11 @@ fn amplification() {
     assert!(sent(4).all[1].bytes.len() >= 1200);
     sent(4).finds("amplification", "RFC 9000, section 8.1", 4);
     sent(3).finds_nothing();
+    // A datagram is in the file twice.
+    let mut twice = sent(3);
+    let third = twice.all[3].clone();
+    twice.all.insert(3, third);
+    twice.finds_nothing();
     // The client's second packet is in the file too late, by less than the order of the records may be wrong.
     let mut late = sent(4);
     let last = late.all.len() - 1;

@@ -80,8 +80,8 @@ fn payload_size(about: &About<'_>) -> Checked {
 fn coalesced_ids(about: &About<'_>, offset: usize) -> Checked {
     let rest = about.datagram.bytes.get(offset..).unwrap_or_default();
     let Some((first, behind)) = rest.split_first() else { return Ok(None) };
-    let is_known =
-        |id: &[u8]| about.peer().ids().any(|(_, one, _)| **one == *id) || *id == **about.connection.first_dcid();
+    let first_id = Some(about.connection.first_dcid()).filter(|_| about.sender == Side::Client);
+    let is_known = |id: &[u8]| about.peer().ids().map(|(_, one, _)| one).chain(first_id).any(|one| **one == *id);
     let is_packet = if first & LONG_HEADER_FORM != 0 {
         let version = behind.first_chunk().map(|version| u32::from_be_bytes(*version));
         let has_version = version.is_some_and(|version| VERSIONS.contains(&version));

@@ -24,9 +24,11 @@ _quic_wire_words() {
                 capture)
                     echo '--json --color --keylog --qlog --connection --side --number --frame --rejected --lost --help'
                     ;;
+                check) echo '--json --color --keylog --only --should --rules --help' ;;
                 *)
                     echo '--base64 --json --color --rfc --quinn --strict --cid-len --versions --grease --side --largest'
-                    echo '--keylog --qlog --connection --number --frame --rejected --lost --help --version'
+                    echo '--keylog --qlog --connection --number --frame --rejected --lost --only --should --rules'
+                    echo '--help --version'
                     ;;
             esac
             ;;
@@ -43,7 +45,7 @@ _quic_wire() {
     fi
     for word in "${COMP_WORDS[@]:1:COMP_CWORD-1}"; do
         case $word in
-            frames | canon | datagram | params | number | ranges | capture) mode=$word && break ;;
+            frames | canon | datagram | params | number | ranges | capture | check) mode=$word && break ;;
         esac
     done
     case $before,$current in
@@ -55,13 +57,13 @@ _quic_wire() {
             compopt -o filenames 2>/dev/null
             mapfile -t COMPREPLY < <(compgen -f -- "$current")
             ;;
-        --connection,* | --number,*) ;;
+        --connection,* | --number,* | --only,*) ;;
         --side,* | --color,* | --cid-len,* | --versions,* | --frame,* | *,-*)
             mapfile -t COMPREPLY < <(compgen -W "$(_quic_wire_words "$mode" "$before")" -- "$current")
             ;;
         *)
             if [ -z "$mode" ]; then
-                mapfile -t COMPREPLY < <(compgen -W 'frames canon datagram params number ranges capture' -- "$current")
+                mapfile -t COMPREPLY < <(compgen -W 'frames canon datagram params number ranges capture check' -- "$current")
             else
                 compopt -o filenames 2>/dev/null
                 mapfile -t COMPREPLY < <(compgen -f -- "$current")

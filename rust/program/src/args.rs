@@ -1,11 +1,13 @@
 //! The program's arguments.
 mod capture;
+mod check;
 
 use crate::colour::When;
-use crate::help::{CAPTURE, HELP};
+use crate::help::{CAPTURE, CHECK, HELP};
 use crate::input::Plain;
 pub use capture::{Captures, Filter};
 use capture::{connection, frames, numbers};
+pub use check::Checks;
 use quic_wire::datagram::HeaderChecks;
 use quic_wire::frame::Rules;
 use quic_wire::packet::DEFAULT_SUPPORTED_VERSIONS;
@@ -16,6 +18,7 @@ use std::ffi::{OsStr, OsString};
 pub enum Call {
     Show(Args),
     Capture(Captures),
+    Check(Checks),
     Print(String),
 }
 
@@ -76,7 +79,7 @@ impl Datagrams {
     }
 }
 
-const MODES: [&str; 7] = ["frames", "canon", "datagram", "params", "number", "ranges", "capture"];
+const MODES: [&str; 8] = ["frames", "canon", "datagram", "params", "number", "ranges", "capture", "check"];
 // Those that read lines.
 const LINES: &[&str] = &["frames", "canon", "datagram", "params", "number", "ranges"];
 // Those that read by rules.
@@ -93,7 +96,7 @@ const fn known(name: &'static str, value: Option<&'static str>, modes: &'static 
     Known { name, value, modes }
 }
 
-const OPTIONS: [Known; 20] = [
+const OPTIONS: [Known; 23] = [
     known("--help", None, &[]),
     known("--version", None, &[]),
     known("--json", None, &[]),
@@ -107,13 +110,16 @@ const OPTIONS: [Known; 20] = [
     known("--grease", None, &["datagram"]),
     known("--side", Some("client or server"), &["params", "capture"]),
     known("--largest", Some("the largest packet number that was received"), &["number"]),
-    known("--keylog", Some("a key log file"), &["capture"]),
+    known("--keylog", Some("a key log file"), &["capture", "check"]),
     known("--qlog", Some("a folder"), &["capture"]),
     known("--connection", Some("the number of a connection"), &["capture"]),
     known("--number", Some("a packet number, or a range of them"), &["capture"]),
     known("--frame", Some("the name of a frame"), &["capture"]),
     known("--rejected", None, &["capture"]),
     known("--lost", None, &["capture"]),
+    known("--rules", None, &["check"]),
+    known("--only", Some("the name of a rule"), &["check"]),
+    known("--should", None, &["check"]),
 ];
 
 const WHEN: [(&str, When); 3] = [("always", When::Always), ("never", When::Never), ("auto", When::Auto)];
@@ -136,6 +142,9 @@ struct Options {
     keylogs: Vec<OsString>,
     qlog: Option<OsString>,
     filter: Filter,
+    rules: bool,
+    only: Vec<String>,
+    should: bool,
     // Those that not all modes accept.
     of_modes: Vec<&'static Known>,
 }
@@ -148,8 +157,12 @@ pub fn parse(words: impl Iterator<Item = OsString>) -> Result<Call, String> {
         let text = word.to_str().unwrap_or_default();
         match text {
             "--help" | "-h" if !only_files => {
-                let is_capture = mode.is_some_and(|mode: OsString| mode == "capture");
-                return Ok(Call::Print(if is_capture { CAPTURE } else { HELP }.into()));
+                let text = match mode.as_ref().and_then(|mode: &OsString| mode.to_str()) {
+                    Some("capture") => CAPTURE,
+                    Some("check") => CHECK,
+                    _ => HELP,
+                };
+                return Ok(Call::Print(text.into()));
             }
             "--version" | "-V" if !only_files => {
                 return Ok(Call::Print(concat!("quic-wire ", env!("CARGO_PKG_VERSION"), "\n").into()));
@@ -166,6 +179,9 @@ pub fn parse(words: impl Iterator<Item = OsString>) -> Result<Call, String> {
     let mode = mode.ok_or_else(|| format!("missing MODE: {}", MODES.join(", ")))?;
     if mode == "capture" {
         return options.capture(files).map(Call::Capture);
+    }
+    if mode == "check" {
+        return options.check(files).map(Call::Check);
     }
     let (json, colours, base64) = (options.json, options.colours, options.base64);
     let mode = options.mode(&mode)?;
@@ -221,6 +237,9 @@ impl Options {
             "--frame" => self.filter.frames.extend(frames(value)?),
             "--rejected" => self.filter.rejected = true,
             "--lost" => self.filter.lost = true,
+            "--rules" => self.rules = true,
+            "--only" => self.only.push(value.into()),
+            "--should" => self.should = true,
             _ => self.largest = Some(largest(value)?),
         }
         Ok(())
@@ -303,7 +322,7 @@ fn choice<T: Copy>(option: &Known, word: &str, all: &[(&str, T)]) -> Result<T, S
 }
 
 // A suggestion, as the end of a sentence: a word that begins so, or the nearest one.
-fn nearest<'a>(word: &str, words: impl IntoIterator<Item = &'a str> + Clone) -> String {
+pub fn nearest<'a>(word: &str, words: impl IntoIterator<Item = &'a str> + Clone) -> String {
     let mut all = words.clone().into_iter();
     let longer = all.find(|other| word.trim_matches('-').len() > 1 && other.starts_with(word));
     let near = words.into_iter().map(|other| (changes(word, other), other)).min();

@@ -1,6 +1,6 @@
 //! What `--help` prints.
 
-pub const USAGE: &str = "usage: quic-wire frames|canon|datagram|params|number|ranges|capture [OPTION..] [FILE..]";
+pub const USAGE: &str = "usage: quic-wire frames|canon|datagram|params|number|ranges|capture|check [OPTION..] [FILE..]";
 
 pub const HELP: &str = "\
 Decode QUIC v1 and v2 frames, packets and transport parameters, and print every field.
@@ -17,6 +17,7 @@ MODE says what a line is:
 or what a FILE is:
   capture     a capture file, pcap or pcapng: print its QUIC packets, and the frames of those that there are keys for
               (`quic-wire capture --help` has its options)
+  check       the same: print which of its packets break a rule of RFC 9000 (`quic-wire check --help`)
 
 Output:
   1: 0..2 PADDING count=1    line 1, bytes 0 and 1: the frame and its fields
@@ -102,4 +103,35 @@ A packet is shown if it fits all options, and one of those that are repeated.
 
 Exit status: 0 all files were read, 2 usage error, 3 reading or writing failed, or a file is cut off. If a file can't be
 read, the others are still read.
+";
+
+pub const CHECK: &str = "\
+Check the QUIC v1 and v2 connections of captures, and print which packets break which rule of RFC 9000.
+
+usage: quic-wire check [OPTION..] [FILE..]
+
+FILE is a capture, as for quic-wire capture. Without FILE, and for -, read standard input. Most rules need packets that
+only a key log opens.
+
+Output:
+  c.pcap:17: connection 0 client 1-RTT 50, byte 21 of the datagram, byte 0 of the payload, 2 times up to record 19
+      MUST frame-sender: HANDSHAKE_DONE from a client; expected: one from a server (RFC 9000, section 19.20)
+                             record 17 of the file, the connection, the sender, the packet with its number, and where
+                             in it; then the rule, what was seen, and what was expected. What a side of a connection
+                             breaks more than once is printed once
+  c.pcap: path-size not checked 3 times: ..
+                             how often a rule was silent, and why: a capture doesn't show everything
+The last line of a file says what was read of it.
+
+options, of which --keylog and --only may be repeated:
+  --keylog FILE        read secrets from a key log, such as the file that SSLKEYLOGFILE names
+  --only RULE          check only this rule
+  --should             also check rules that are no MUST
+  --rules              print the rules, those of --only or all, and what each needs; read no FILE
+  --json               print a JSON object per line, without colours
+  --color WHEN         always, never or auto: on a terminal, unless NO_COLOR is set or TERM is dumb; default auto
+  -h, --help; -V, --version
+
+Exit status: 0 nothing is found, or only what is no MUST; 1 a MUST is broken, 2 usage error, 3 reading or writing failed,
+or a file is cut off. If a file can't be read, the others are still read.
 ";

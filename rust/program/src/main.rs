@@ -3,6 +3,8 @@ mod args;
 mod canon;
 #[cfg(feature = "capture")]
 mod capture;
+#[cfg(feature = "capture")]
+mod check;
 mod closed;
 mod colour;
 mod datagram;
@@ -21,7 +23,7 @@ mod params;
 mod plain;
 mod ranges;
 
-use args::{Args, Call, Captures, Mode};
+use args::{Args, Call, Captures, Checks, Mode};
 use datagram::Ids;
 use input::{Piece, Pieces};
 use output::{Look, Output};
@@ -48,6 +50,7 @@ fn main() -> ExitCode {
         }
         Ok(Call::Show(args)) => show(&args),
         Ok(Call::Capture(args)) => show_captures(&args),
+        Ok(Call::Check(args)) => check_captures(&args),
         Ok(Call::Print(text)) => status(io::stdout().write_all(text.as_bytes()), true),
         Err(what) => {
             say(format_args!("{what}\n{}\n--help says more", help::USAGE));
@@ -66,9 +69,24 @@ fn show_captures(args: &Captures) -> ExitCode {
     capture::run(args)
 }
 
+#[cfg(feature = "capture")]
+fn check_captures(args: &Checks) -> ExitCode {
+    check::run(args)
+}
+
 #[cfg(not(feature = "capture"))]
 fn show_captures(_: &Captures) -> ExitCode {
-    say("the mode capture isn't in this program, which was built without its feature of this name");
+    without("capture")
+}
+
+#[cfg(not(feature = "capture"))]
+fn check_captures(_: &Checks) -> ExitCode {
+    without("check")
+}
+
+#[cfg(not(feature = "capture"))]
+fn without(mode: &str) -> ExitCode {
+    say(format_args!("the mode {mode} isn't in this program, which was built without its feature capture"));
     ExitCode::from(WRONG_CALL)
 }
 

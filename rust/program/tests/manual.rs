@@ -8,13 +8,13 @@ const BASH: &str = include_str!("../completions/quic-wire.bash");
 const ZSH: &str = include_str!("../completions/_quic-wire");
 const FISH: &str = include_str!("../completions/quic-wire.fish");
 
-// That of the program and that of the mode `capture`.
+// That of the program, and those of the modes `capture` and `check`.
 fn help() -> String {
     let help = |arguments: &[&str]| {
         let output = Command::new(env!("CARGO_BIN_EXE_quic-wire")).args(arguments).output().unwrap();
         String::from_utf8(output.stdout).unwrap()
     };
-    help(&["--help"]) + &help(&["capture", "--help"])
+    help(&["--help"]) + &help(&["capture", "--help"]) + &help(&["check", "--help"])
 }
 
 // The names after a mark, as `json` is after `--` in `--json`.
@@ -47,8 +47,8 @@ fn the_same_options_are_named_everywhere() {
 fn the_same_values_are_named_everywhere() {
     let help = help();
     let words = [
-        "frames", "canon", "datagram", "params", "number", "ranges", "capture", "client", "server", "always", "never",
-        "auto", "6b3343cf",
+        "frames", "canon", "datagram", "params", "number", "ranges", "capture", "check", "client", "server", "always",
+        "never", "auto", "6b3343cf",
     ];
     for word in words {
         for (name, text) in [("help", &help[..]), ("manual", MANUAL), ("bash", BASH), ("zsh", ZSH), ("fish", FISH)] {

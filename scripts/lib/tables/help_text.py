@@ -13,7 +13,11 @@ Made by scripts/tables from {SOURCE} and scripts/lib/tables/help_text.py: change
 # Where Python's program differs: what quic-wire says, and what it says instead.
 OTHERWISE = [
     ("usage: quic-wire MODE", "usage: python -m quic_wire MODE"),
-    ("              (`quic-wire capture --help` has its options)\n", ""),
+    (
+        "              (`quic-wire capture --help` has its options)\n"
+        "  check       the same: print which of its packets break a rule of RFC 9000 (`quic-wire check --help`)\n",
+        "",
+    ),
     (
         "The manual page, INPUT, has the rule. A datagram may begin with its Ethernet, IP and UDP headers,\nas captures",
         "The manual page of quic-wire, INPUT, has the rule. A datagram may begin with its Ethernet, IP and\nUDP headers,"

@@ -1,4 +1,5 @@
 //! What is found in a capture, packet by packet, and the sums of it.
+use super::reading::Taker;
 use super::words::{self, Said};
 use crate::args::Filter;
 use crate::fault;
@@ -156,27 +157,6 @@ impl<'a> Report<'a> {
         Report { filter, forms, begun: None, parts: Vec::new(), tallies: HashMap::new() }
     }
 
-    /// Begins a capture.
-    pub fn begin(&mut self, file: &OsStr) {
-        self.begun = None;
-        self.forms.iter_mut().for_each(|form| form.begin(file));
-    }
-
-    pub fn datagram(&mut self, datagram: &Datagram<'_>, follower: &mut Follower) {
-        self.begun.get_or_insert(datagram.time);
-        follower.take(datagram, self);
-    }
-
-    /// Ends a capture: sums up the connections that weren't forgotten, then all.
-    pub fn end(&mut self, follower: &mut Follower, capture: &Capture) {
-        follower.finish(self);
-        follower.connections().for_each(|connection| self.sum(connection, None));
-        self.tallies.clear();
-        let (counts, skipped_lines) = (follower.counts(), follower.keylog.skipped());
-        let whole = Whole { begun: self.begun, capture, counts, skipped_lines };
-        self.forms.iter_mut().for_each(|form| form.end(&whole));
-    }
-
     fn place<'p>(&self, owner: Option<(&'p Connection, Side)>, datagram: &'p Datagram<'p>, index: u64) -> Place<'p> {
         let begun = self.begun.unwrap_or(datagram.time);
         Place { datagram, index, owner, time: words::after(begun, datagram.time) }
@@ -233,6 +213,28 @@ impl<'a> Report<'a> {
 struct Marks {
     rejected: bool,
     lost: bool,
+}
+
+impl Taker for Report<'_> {
+    fn begin(&mut self, file: &OsStr) {
+        self.begun = None;
+        self.forms.iter_mut().for_each(|form| form.begin(file));
+    }
+
+    fn datagram(&mut self, datagram: &Datagram<'_>, follower: &mut Follower) {
+        self.begun.get_or_insert(datagram.time);
+        follower.take(datagram, self);
+    }
+
+    // Sums up the connections that weren't forgotten, then all.
+    fn end(&mut self, follower: &mut Follower, capture: &Capture) {
+        follower.finish(self);
+        follower.connections().for_each(|connection| self.sum(connection, None));
+        self.tallies.clear();
+        let (counts, skipped_lines) = (follower.counts(), follower.keylog.skipped());
+        let whole = Whole { begun: self.begun, capture, counts, skipped_lines };
+        self.forms.iter_mut().for_each(|form| form.end(&whole));
+    }
 }
 
 impl Filter {

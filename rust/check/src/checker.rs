@@ -1,0 +1,374 @@
+//! Applies the rules to what is found in a capture.
+
+use crate::about::{About, Current, Faulty, Held, type_of};
+use crate::claim::{Claim, GRACE, Pending};
+use crate::finding::{Finding, Groups, Report};
+use crate::history::History;
+use crate::rule::{Broken, Check, Checked, Need, Rule};
+use crate::rules;
+use quic_wire::Side;
+use quic_wire::datagram::{HeaderKind, PacketRef};
+use quic_wire::frame::Frame;
+use quic_wire::ids::SpaceId;
+use quic_wire::packet::LONG_HEADER_FORM;
+use quic_wire_capture::capture::Datagram;
+use quic_wire_capture::connection::Connection;
+use quic_wire_capture::follow::Follower;
+use quic_wire_capture::opened::Opened;
+use quic_wire_capture::sink::{Ended, Event, Rest, Sink, Unopened};
+use std::collections::{HashMap, HashSet};
+use std::net::SocketAddr;
+
+/// How many things of a kind are remembered: so many of all connections together, but at least some.
+const MOST_REMEMBERED: usize = 1 << 20;
+const LEAST_REMEMBERED: usize = 64;
+
+/// How many paths are remembered with datagrams that belong to no connection. With more, all paths count as such.
+const MOST_STRAYS: usize = 1 << 12;
+
+/// What checks the connections of a capture.
+pub struct Checker {
+    rules: Vec<&'static Rule>,
+    histories: HashMap<usize, History>,
+    groups: Groups,
+    facts: Facts,
+    current: Current,
+    datagram: Option<Key>,
+    /// The record of the last packet that was opened, and its connection.
+    opened: Option<(u64, usize)>,
+}
+
+// A datagram, or a segment of one: its record, and where its bytes are in memory.
+type Key = (u64, usize, usize);
+
+/// What is known of the capture as a whole.
+#[derive(Default)]
+struct Facts {
+    last_time: u64,
+    is_disordered: bool,
+    strays: HashSet<(SocketAddr, SocketAddr)>,
+}
+
+/// The packet at which something is found.
+#[derive(Clone, Copy)]
+struct Place {
+    kind: HeaderKind,
+    number: Option<u64>,
+    begin: usize,
+    /// Where the payload begins in the datagram.
+    payload: usize,
+}
+
+impl Default for Checker {
+    /// With all rules.
+    fn default() -> Checker {
+        Checker::new(rules::all())
+    }
+}
+
+impl Facts {
+    fn take(&mut self, datagram: &Datagram<'_>) {
+        self.is_disordered |= datagram.time.saturating_add(GRACE) < self.last_time;
+        self.last_time = self.last_time.max(datagram.time);
+    }
+
+    fn add_stray(&mut self, datagram: &Datagram<'_>) {
+        if self.strays.len() < MOST_STRAYS {
+            self.strays.insert((datagram.from, datagram.to));
+        }
+    }
+
+    // Whether datagrams in either direction belong to no connection.
+    fn has_stray(&self, datagram: &Datagram<'_>) -> bool {
+        let (from, to) = (datagram.from, datagram.to);
+        self.strays.len() >= MOST_STRAYS || [(from, to), (to, from)].iter().any(|path| self.strays.contains(path))
+    }
+
+    // What a rule lacks when it finds something.
+    fn lacking(&self, rule: &Rule, about: &About<'_>) -> Option<Need> {
+        rule.needs.iter().copied().find(|need| match need {
+            Need::Begin => about.connection.began_before(),
+            Need::NoEarlyData => about.history.has_early,
+            Need::NoStrays => self.has_stray(about.datagram),
+            Need::Order => self.is_disordered,
+            _ => false,
+        })
+    }
+
+    // What it lacks when that is decided.
+    fn lacking_at_end(&self, pending: &Pending, connection: &Connection, history: &History) -> Option<Need> {
+        let Pending { finding, claim, due, is_proven } = pending;
+        let (sender, spaces) = (finding.sender, claim.spaces());
+        let is_closed = connection.end(sender).closed().or(connection.end(!sender).closed()).is_some();
+        finding.rule.needs.iter().copied().find(|need| match need {
+            Need::PeerPackets => !history.is_whole(!sender, spaces),
+            Need::OwnPackets => !history.is_whole(sender, spaces),
+            Need::NoEarlyData => history.has_early,
+            Need::Order => self.is_disordered,
+            Need::Proof => !is_proven,
+            Need::End => due.is_some_and(|due| due > connection.times().1) && !is_closed,
+            _ => false,
+        })
+    }
+}
+
+impl Place {
+    fn of(opened: &Opened<'_>) -> Place {
+        let begin = opened.packet().place().range().start;
+        Place { kind: opened.kind(), number: Some(opened.number()), begin, payload: opened.payload_offset() }
+    }
+
+    fn finding(self, rule: &'static Rule, about: &About<'_>, broken: Broken) -> Finding {
+        let Broken { seen, expected, section, at, in_payload, claim: _ } = broken;
+        let in_datagram = in_payload.map(|offset| self.payload + offset);
+        Finding {
+            rule,
+            section: section.unwrap_or(rule.section),
+            record: about.datagram.record,
+            time: about.datagram.time,
+            connection: about.connection.number(),
+            sender: about.sender,
+            packet: self.kind,
+            number: self.number,
+            offset: at.or(in_datagram).unwrap_or(self.begin),
+            payload_offset: in_payload,
+            seen,
+            expected,
+            count: 1,
+            last_record: about.datagram.record,
+        }
+    }
+}
+
+impl Checker {
+    /// With some rules.
+    pub fn new(rules: impl IntoIterator<Item = &'static Rule>) -> Checker {
+        Checker {
+            rules: rules.into_iter().collect(),
+            histories: HashMap::new(),
+            groups: Groups::default(),
+            facts: Facts::default(),
+            current: Current::default(),
+            datagram: None,
+            opened: None,
+        }
+    }
+
+    /// Takes the next datagram of the capture.
+    pub fn take(&mut self, datagram: &Datagram<'_>, follower: &mut Follower) {
+        self.facts.take(datagram);
+        follower.take(datagram, self);
+    }
+
+    /// Ends the capture, and returns what was found in it.
+    pub fn finish(mut self, follower: &mut Follower) -> Report {
+        follower.finish(&mut self);
+        follower.connections().for_each(|connection| self.decide(connection));
+        self.groups.take()
+    }
+
+    // Decides what waits for a connection's end.
+    fn decide(&mut self, connection: &Connection) {
+        let Some(mut history) = self.histories.remove(&connection.number()) else { return };
+        let waiting = std::mem::take(&mut history.waiting);
+        for pending in waiting.end(connection, &history) {
+            match self.facts.lacking_at_end(&pending, connection, &history) {
+                Some(need) => self.groups.silent(pending.finding.rule, need),
+                None => self.groups.add(pending.finding),
+            }
+        }
+    }
+
+    // Applies the rules of a kind.
+    fn judge(
+        &mut self,
+        (connection, sender, datagram): (&Connection, Side, &Datagram<'_>),
+        place: Place,
+        check: impl Fn(&Check, &About<'_>) -> Option<Checked>,
+    ) {
+        let Checker { rules, histories, groups, facts, current, .. } = self;
+        let history = histories.entry(connection.number()).or_default();
+        let mut claims: Vec<(Finding, Claim)> = Vec::new();
+        let about = About { connection, datagram, sender, history, current: *current };
+        for rule in rules.iter().copied() {
+            match check(&rule.check, &about) {
+                None | Some(Ok(None)) => {}
+                Some(Err(need)) => groups.silent(rule, need),
+                Some(Ok(Some(broken))) => match (facts.lacking(rule, &about), broken.claim) {
+                    (Some(need), _) => groups.silent(rule, need),
+                    (None, Some(claim)) => claims.push((place.finding(rule, &about, broken), claim)),
+                    (None, None) => groups.add(place.finding(rule, &about, broken)),
+                },
+            }
+        }
+        for (finding, claim) in claims {
+            if let Some(left) = history.waiting.add(finding, claim) {
+                let need = if matches!(left.claim, Claim::Unsent { .. }) { Need::Proof } else { Need::Room };
+                groups.silent(left.finding.rule, need);
+            }
+        }
+    }
+
+    // Notes a datagram of a side. Returns whether it is a new one.
+    fn begin_datagram(&mut self, connection: &Connection, sender: Side, datagram: &Datagram<'_>) -> bool {
+        let key = (datagram.record, datagram.bytes.as_ptr().addr(), datagram.bytes.len());
+        let is_new = self.datagram.replace(key) != Some(key);
+        if is_new {
+            let history = self.history(connection);
+            history.try_due(connection, datagram.time);
+            history.take_datagram(datagram, sender);
+        }
+        is_new
+    }
+
+    // Notes a datagram that someone else may have sent, or sent again: it counts as received, not as sent.
+    fn begin_unsure(&mut self, connection: &Connection, sender: Side, datagram: &Datagram<'_>) {
+        if sender == Side::Client {
+            self.begin_datagram(connection, sender, datagram);
+        }
+    }
+
+    fn packet(&mut self, connection: &Connection, datagram: &Datagram<'_>, opened: &Opened<'_>) {
+        let (what, place) = ((connection, opened.sender(), datagram), Place::of(opened));
+        self.current = Current::default();
+        self.opened = Some((datagram.record, connection.number()));
+        if self.begin_datagram(connection, opened.sender(), datagram) {
+            self.judge(what, place, |rule, about| match rule {
+                Check::Datagram(check) => Some(check(about)),
+                _ => None,
+            });
+        }
+        let most = (MOST_REMEMBERED / self.histories.len().max(1)).max(LEAST_REMEMBERED);
+        self.judge(what, place, |rule, about| match rule {
+            Check::Packet(check) => Some(check(about, opened)),
+            _ => None,
+        });
+        self.history(connection).take_packet(datagram, opened, most);
+    }
+
+    fn history(&mut self, connection: &Connection) -> &mut History {
+        self.histories.entry(connection.number()).or_default()
+    }
+
+    fn frame(&mut self, connection: &Connection, datagram: &Datagram<'_>, opened: &Opened<'_>, held: &Held<'_>) {
+        // Most frames of most captures.
+        if matches!(held.frame, Frame::Padding) && held.permitted.is_ok() {
+            return;
+        }
+        self.judge((connection, opened.sender(), datagram), Place::of(opened), |rule, about| match rule {
+            Check::Frame(check) => Some(check(about, opened, held)),
+            _ => None,
+        });
+        self.current.elicits |= held.frame.is_ack_eliciting();
+        self.current.has_close |= matches!(held.frame, Frame::Close(_));
+        if let Frame::Ack(ack) = held.frame {
+            let closed = connection.end(!opened.sender()).closed().filter(|one| one.sent.space == opened.space());
+            let number = closed.map(|closed| closed.sent.number);
+            self.current.acknowledges_close |=
+                number.is_some_and(|number| ack.iter().any(|range| range.contains(&number)));
+        }
+        if held.permitted.is_ok() {
+            self.history(connection).take_frame(connection, opened, held.frame);
+        }
+    }
+
+    // A packet that was opened, but not its frames one by one.
+    fn event(&mut self, connection: &Connection, datagram: &Datagram<'_>, opened: &Opened<'_>, event: &Event<'_>) {
+        self.judge((connection, opened.sender(), datagram), Place::of(opened), |rule, about| match (rule, event) {
+            (Check::Done(check), Event::Done(opened)) => Some(check(about, opened)),
+            (Check::Again(check), Event::Again(opened, Some(before))) => Some(check(about, opened, before)),
+            (Check::Empty(check), Event::Empty(opened)) => Some(check(about, opened)),
+            (Check::Invalid(check), Event::Invalid { opened, error, offset, fault }) => {
+                let ty = opened.payload().get(*offset..).and_then(type_of);
+                Some(check(about, opened, &Faulty { error, offset: *offset, fault: fault.as_ref(), ty }))
+            }
+            (Check::Parameters(check), Event::Parameters { read: Ok(read), .. }) => Some(check(about, read)),
+            (Check::Refusal(check), Event::Parameters { list, read: Err(refusal), .. }) => {
+                Some(check(about, list, refusal))
+            }
+            _ => None,
+        });
+    }
+}
+
+impl Sink for Checker {
+    fn opened(&mut self, connection: &Connection, datagram: &Datagram<'_>, _: u64, event: &Event<'_>) {
+        match event {
+            Event::Packet(opened) => self.packet(connection, datagram, opened),
+            Event::Frame { opened, frame, range, permitted } => {
+                let ty = opened.payload().get(range.clone()).and_then(type_of).unwrap_or_default();
+                let held = Held { frame, range: range.clone(), permitted: *permitted, ty };
+                self.frame(connection, datagram, opened, &held);
+            }
+            Event::Again(opened, _) => {
+                self.begin_unsure(connection, opened.sender(), datagram);
+                self.event(connection, datagram, opened, event);
+            }
+            Event::Parameters { opened, list, .. } => {
+                self.event(connection, datagram, opened, event);
+                self.history(connection).take_parameters(opened.sender(), list);
+            }
+            Event::Invalid { opened, .. } | Event::Empty(opened) | Event::Done(opened) => {
+                self.event(connection, datagram, opened, event);
+            }
+            Event::Acknowledged { .. } | Event::Lost(_) | Event::NewId(..) => {}
+        }
+    }
+
+    fn unopened(
+        &mut self,
+        owner: Option<(&Connection, Side)>,
+        datagram: &Datagram<'_>,
+        _: u64,
+        packet: &PacketRef<'_>,
+        why: Unopened,
+    ) {
+        let Some((connection, sender)) = owner else { return self.facts.add_stray(datagram) };
+        self.begin_unsure(connection, sender, datagram);
+        let kind = packet.header().kind();
+        let history = self.history(connection);
+        match kind {
+            HeaderKind::Initial => history.take_unopened(sender, SpaceId::Initial),
+            HeaderKind::Handshake => history.take_unopened(sender, SpaceId::Handshake),
+            HeaderKind::Short if why != Unopened::StatelessReset => history.take_unopened(sender, SpaceId::Data),
+            HeaderKind::ZeroRtt => history.has_early = true,
+            _ => {}
+        }
+        if why == Unopened::Retry {
+            let begin = packet.place().range().start;
+            let place = Place { kind, number: None, begin, payload: begin };
+            self.judge((connection, sender, datagram), place, |rule, about| match rule {
+                Check::Retry(check) => Some(check(about, packet)),
+                _ => None,
+            });
+        }
+    }
+
+    fn rest(&mut self, owner: Option<(&Connection, Side)>, datagram: &Datagram<'_>, _: u64, offset: usize, why: Rest) {
+        let Some((connection, sender)) = owner else { return self.facts.add_stray(datagram) };
+        self.begin_unsure(connection, sender, datagram);
+        // Only a packet of it that was opened shows whose a datagram is.
+        if why != Rest::OtherId || self.opened != Some((datagram.record, connection.number())) {
+            return;
+        }
+        let place = Place { kind: kind_at(datagram.bytes, offset), number: None, begin: offset, payload: offset };
+        self.judge((connection, sender, datagram), place, |rule, about| match rule {
+            Check::Rest(check) => Some(check(about, offset)),
+            _ => None,
+        });
+    }
+
+    fn ended(&mut self, connection: &Connection, _: Ended) {
+        self.decide(connection);
+    }
+}
+
+// The kind of the header that seems to be at an offset.
+fn kind_at(datagram: &[u8], offset: usize) -> HeaderKind {
+    match datagram.get(offset..) {
+        Some([first, a, b, c, d, ..]) if first & LONG_HEADER_FORM != 0 => {
+            HeaderKind::of_long(*first, u32::from_be_bytes([*a, *b, *c, *d]))
+        }
+        _ => HeaderKind::Short,
+    }
+}

@@ -1,0 +1,210 @@
+//! What is decided later: a claim that something is broken, which a packet that comes late may show to be wrong.
+
+use crate::finding::Finding;
+use crate::history::History;
+use quic_wire::ids::SpaceId;
+use quic_wire::transport_parameters::TransportParameters;
+use quic_wire::{ConnectionId, Dir, Side, StreamId};
+use quic_wire_capture::connection::Connection;
+use std::collections::VecDeque;
+
+/// How far apart two records may be whose order is wrong, in nanoseconds: a capture takes what comes and what goes from
+/// two queues.
+pub(crate) const GRACE: u64 = 10_000_000;
+
+// How many claims of a connection wait.
+const MOST_WAITING: usize = 256;
+const MOST_UNSENT: usize = 64;
+
+const DATA: &[SpaceId] = &[SpaceId::Data];
+
+/// What a side did, by what is known of its peer so far.
+#[derive(Clone, Copy, Debug)]
+pub(crate) enum Claim {
+    /// It acknowledged a number that wasn't sent, with its packet of the number `by`.
+    Unsent { space: SpaceId, number: u64, by: u64 },
+    /// It sent so many bytes on all streams.
+    Data(u64),
+    /// It sent data of a stream up to an offset.
+    StreamData { id: StreamId, until: u64 },
+    /// It used a stream of its own that isn't permitted.
+    Streams(StreamId),
+    /// Its packet's number isn't within so many of the largest that is acknowledged.
+    Number { space: SpaceId, number: u64, most: u64 },
+    /// It has more ids than its peer permits.
+    Ids,
+    /// It named a stream that its peer hasn't used.
+    Unused(StreamId),
+    /// It answered a challenge that its peer didn't send.
+    Answer(u64),
+    /// It retired an id that its peer didn't issue.
+    Retired(u64),
+    /// The server sent so many bytes.
+    Bytes(u64),
+    /// It sent a long header to an id that its peer didn't choose.
+    Destination(ConnectionId),
+}
+
+impl Claim {
+    /// The spaces in which the packets of both sides must be known.
+    pub(crate) fn spaces(&self) -> &[SpaceId] {
+        match self {
+            Claim::Unsent { space, .. } | Claim::Number { space, .. } => std::slice::from_ref(space),
+            Claim::Bytes(_) | Claim::Destination(_) => &[SpaceId::Initial, SpaceId::Handshake],
+            _ => DATA,
+        }
+    }
+
+    // Whether it is about a limit of that time, and not of the whole connection.
+    fn is_timed(&self) -> bool {
+        !matches!(
+            self,
+            Claim::Unsent { .. } | Claim::Unused(_) | Claim::Answer(_) | Claim::Retired(_) | Claim::Destination(_)
+        )
+    }
+
+    // Whether it is so by what is known now.
+    fn holds(&self, connection: &Connection, history: &History, sender: Side) -> bool {
+        let peer = history.half(!sender);
+        let limits = connection.end(!sender).parameters();
+        match *self {
+            Claim::Unsent { space, number, .. } => {
+                connection.end(!sender).largest(space).is_none_or(|largest| largest < number)
+            }
+            Claim::Data(total) => limits.is_some_and(|limits| total > data_limit(limits, history, sender)),
+            Claim::StreamData { id, until } => {
+                limits.is_some_and(|limits| until > stream_limit(limits, history, sender, id))
+            }
+            Claim::Streams(id) => limits.is_some_and(|limits| id.index() >= count_limit(limits, history, sender, id)),
+            // An ACK refutes it.
+            Claim::Number { .. } => true,
+            Claim::Ids => limits.is_some_and(|limits| {
+                active_ids(connection, history, sender, None) > limits.active_connection_id_limit.into_inner()
+            }),
+            Claim::Unused(id) => peer.used[crate::history::type_of(id)].is_none_or(|used| used < id.index()),
+            Claim::Answer(data) => !peer.challenges.contains(&data),
+            Claim::Retired(sequence) => last_id(connection, !sender).is_none_or(|last| last < sequence),
+            Claim::Bytes(bytes) => bytes > peer.bytes.saturating_mul(3),
+            Claim::Destination(id) => !peer.sources.contains(&id),
+        }
+    }
+}
+
+/// How many bytes a side may send on all streams (RFC 9000, section 4.1).
+pub(crate) fn data_limit(limits: &TransportParameters, history: &History, sender: Side) -> u64 {
+    limits.initial_max_data.into_inner().max(history.half(sender).max_data)
+}
+
+/// Up to where a side may send data of a stream (RFC 9000, section 4.1).
+pub(crate) fn stream_limit(limits: &TransportParameters, history: &History, sender: Side, id: StreamId) -> u64 {
+    let first = match (id.dir(), id.initiator() == sender) {
+        (Dir::Uni, _) => limits.initial_max_stream_data_uni,
+        (Dir::Bi, true) => limits.initial_max_stream_data_bidi_remote,
+        (Dir::Bi, false) => limits.initial_max_stream_data_bidi_local,
+    };
+    let given = history.half(sender).streams.get(&u64::from(id)).map_or(0, |stream| stream.limit);
+    first.into_inner().max(given)
+}
+
+/// How many streams of a stream's type a side may open (RFC 9000, section 4.6).
+pub(crate) fn count_limit(limits: &TransportParameters, history: &History, sender: Side, id: StreamId) -> u64 {
+    let is_uni = id.dir() == Dir::Uni;
+    let first = if is_uni { limits.initial_max_streams_uni } else { limits.initial_max_streams_bidi };
+    first.into_inner().max(history.half(sender).max_streams[usize::from(is_uni)])
+}
+
+/// How far a number is from the largest of its sender that is acknowledged (RFC 9000, section 17.1).
+pub(crate) fn distance(connection: &Connection, sender: Side, space: SpaceId, number: u64) -> u64 {
+    let acknowledged = connection.end(sender).acknowledged(space);
+    acknowledged.map_or(number.saturating_add(1), |acknowledged| number.saturating_sub(acknowledged))
+}
+
+/// How many ids of a side are active, with a further one (RFC 9000, section 5.1.1).
+pub(crate) fn active_ids(connection: &Connection, history: &History, sender: Side, new: Option<(u64, u64)>) -> u64 {
+    let own = history.half(sender);
+    let prior = own.prior.max(new.map_or(0, |(_, prior)| prior));
+    let is_active = |sequence: u64| sequence >= prior && !own.retired.contains(&sequence);
+    let known = connection.end(sender).ids().map(|(sequence, ..)| sequence);
+    let others = known.filter(|sequence| new.is_none_or(|(new, _)| new != *sequence));
+    others.chain(new.map(|(sequence, _)| sequence)).filter(|sequence| is_active(*sequence)).count() as u64
+}
+
+/// The greatest sequence number of a side's ids.
+pub(crate) fn last_id(connection: &Connection, side: Side) -> Option<u64> {
+    connection.end(side).ids().map(|(sequence, ..)| sequence).last()
+}
+
+/// A claim that waits, with what is found if it holds.
+pub(crate) struct Pending {
+    pub(crate) finding: Finding,
+    pub(crate) claim: Claim,
+    /// When it is tried, until it was.
+    pub(crate) due: Option<u64>,
+    /// Whether a later packet shows it, if it needs that.
+    pub(crate) is_proven: bool,
+}
+
+/// The claims of a connection that wait.
+#[derive(Default)]
+pub(crate) struct Waiting {
+    claims: Vec<Pending>,
+    unsent: VecDeque<Pending>,
+}
+
+impl Waiting {
+    /// Adds a claim. Returns one for which there is no room.
+    pub(crate) fn add(&mut self, finding: Finding, claim: Claim) -> Option<Pending> {
+        let due = claim.is_timed().then(|| finding.time.saturating_add(GRACE));
+        let is_unsent = matches!(claim, Claim::Unsent { .. });
+        let pending = Pending { finding, claim, due, is_proven: !is_unsent };
+        if is_unsent {
+            self.unsent.push_back(pending);
+            // Those that were shown stay.
+            let oldest = self.unsent.iter().position(|one| !one.is_proven).filter(|_| self.unsent.len() > MOST_UNSENT);
+            return oldest.and_then(|oldest| self.unsent.remove(oldest));
+        }
+        if self.claims.len() >= MOST_WAITING {
+            return Some(pending);
+        }
+        self.claims.push(pending);
+        None
+    }
+
+    /// Takes a packet that acknowledges others: what its sender had sent by then has smaller numbers. An ACK that isn't
+    /// of a packet itself may have come before that was sent.
+    pub(crate) fn take_ack(&mut self, sender: Side, in_space: SpaceId, sent: u64, acknowledged: u64) {
+        self.claims.retain(|one| {
+            let Claim::Number { space, number, most } = one.claim else { return true };
+            let is_before = one.due.is_some() && one.finding.sender != sender && space == in_space;
+            !is_before || acknowledged >= number || number - acknowledged > most
+        });
+        for one in &mut self.unsent {
+            if let Claim::Unsent { space, number, by } = one.claim {
+                let is_after = one.finding.sender != sender && space == in_space && acknowledged >= by;
+                one.is_proven |= is_after && sent < number;
+            }
+        }
+    }
+
+    /// Removes the claims whose time has come and which don't hold.
+    pub(crate) fn try_due(&mut self, connection: &Connection, history: &History, now: u64) {
+        self.claims.retain_mut(|one| {
+            let is_due = one.due.is_some_and(|due| due <= now);
+            one.due = one.due.filter(|_| !is_due);
+            !is_due || one.claim.holds(connection, history, one.finding.sender)
+        });
+    }
+
+    /// The claims that hold at the end.
+    pub(crate) fn end(self, connection: &Connection, history: &History) -> impl Iterator<Item = Pending> {
+        let all = self.claims.into_iter().chain(self.unsent);
+        all.filter(|one| {
+            let was_tried = one.due.is_none() && one.claim.is_timed();
+            was_tried || one.claim.holds(connection, history, one.finding.sender)
+        })
+    }
+
+    pub(crate) fn is_empty(&self) -> bool {
+        self.claims.is_empty()
+    }
+}

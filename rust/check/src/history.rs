@@ -1,0 +1,278 @@
+//! What is remembered of a connection beside what `quic_wire_capture` knows of it.
+
+use crate::claim::Waiting;
+use quic_wire::frame::{Ack, Frame};
+use quic_wire::ids::SpaceId;
+use quic_wire::range_set::RangeSet;
+use quic_wire::transport_parameters::{entries, known};
+use quic_wire::{ConnectionId, Dir, Side, StreamId};
+use quic_wire_capture::capture::Datagram;
+use quic_wire_capture::connection::Connection;
+use quic_wire_capture::opened::Opened;
+use std::collections::{BTreeSet, HashMap, HashSet};
+use std::net::SocketAddr;
+
+// Parameters of other documents that permit no frame: version_information (RFC 9368), and those with which Chromium's
+// stack sends a time, its options and its versions.
+const HARMLESS: [u64; 4] = [0x11, 0x3127, 0x3128, 0x4752];
+
+// How many source ids of a side are remembered.
+const MOST_SOURCES: usize = 8;
+
+/// What a side sent on a stream.
+#[derive(Clone, Copy, Debug, Default)]
+pub(crate) struct Stream {
+    /// Up to where, by the greatest offset.
+    pub(crate) end: u64,
+    /// Its final size.
+    pub(crate) size: Option<u64>,
+    /// Up to where its peer allowed it with MAX_STREAM_DATA.
+    pub(crate) limit: u64,
+}
+
+/// What is known of a side, as the sender of packets.
+#[derive(Default)]
+pub(crate) struct Half {
+    /// The numbers of its packets in each space.
+    seen: [RangeSet; 3],
+    /// Those that its peer acknowledged.
+    acknowledged: [RangeSet; 3],
+    /// How many packets of each space weren't opened.
+    unopened: [u64; 3],
+    /// The source ids of its packets.
+    pub(crate) sources: Vec<ConnectionId>,
+    pub(crate) streams: HashMap<u64, Stream>,
+    /// The greatest index of each type of streams that it used, by the two low bits of their ids.
+    pub(crate) used: [Option<u64>; 4],
+    /// How many bytes it sent on all streams.
+    pub(crate) total: u64,
+    /// What its peer allowed with MAX_DATA and MAX_STREAMS.
+    pub(crate) max_data: u64,
+    pub(crate) max_streams: [u64; 2],
+    /// The sequence numbers of its ids that its peer retired.
+    pub(crate) retired: BTreeSet<u64>,
+    /// Up to which its ids have to be retired.
+    pub(crate) prior: u64,
+    pub(crate) challenges: HashSet<u64>,
+    /// Whether it offers an extension that isn't known here.
+    pub(crate) has_extension: bool,
+    /// The bytes of its datagrams.
+    pub(crate) bytes: u64,
+    /// When its first Handshake packet was captured, and in which record.
+    pub(crate) handshake: Option<(u64, u64)>,
+    /// From where all of its Handshake packets came.
+    address: Option<SocketAddr>,
+    has_addresses: bool,
+}
+
+impl Half {
+    /// From where its Handshake packets came, if that is one address.
+    pub(crate) fn address(&self) -> Option<SocketAddr> {
+        self.address.filter(|_| !self.has_addresses)
+    }
+
+    pub(crate) fn has_unopened(&self, space: SpaceId) -> bool {
+        self.unopened[space as usize] > 0
+    }
+
+    // Whether all of its packets that its peer may have received are known.
+    fn is_whole(&self, space: SpaceId) -> bool {
+        let (seen, acknowledged) = (&self.seen[space as usize], &self.acknowledged[space as usize]);
+        if self.has_unopened(space) {
+            return false;
+        }
+        let mut lost = acknowledged.clone();
+        lost.subtract(seen);
+        let mut missing = RangeSet::new();
+        missing.insert(0..seen.max().map_or(0, |largest| largest + 1));
+        missing.subtract(seen);
+        lost.is_empty() && (missing.is_empty() || missing.max() < acknowledged.max())
+    }
+
+    fn stream(&mut self, id: StreamId) -> &mut Stream {
+        self.streams.entry(id.into()).or_default()
+    }
+
+    fn take_data(&mut self, id: StreamId, until: u64, is_final: bool) {
+        let stream = self.stream(id);
+        if is_final {
+            stream.size = stream.size.or(Some(until));
+        }
+        let more = until.saturating_sub(stream.end);
+        stream.end = stream.end.max(until);
+        self.total = self.total.saturating_add(more);
+    }
+
+    fn size(&self) -> usize {
+        let runs = self.seen.iter().chain(&self.acknowledged).map(RangeSet::len);
+        runs.chain([self.streams.len(), self.retired.len(), self.challenges.len()]).max().unwrap_or(0)
+    }
+}
+
+/// What is remembered of a connection.
+#[derive(Default)]
+pub(crate) struct History {
+    halves: [Half; 2],
+    /// Whether there are 0-RTT packets.
+    pub(crate) has_early: bool,
+    /// Whether an Initial packet of the client has a token.
+    pub(crate) has_token: bool,
+    /// Whether the server knows the client's address.
+    pub(crate) is_validated: bool,
+    /// Whether the handshake is confirmed, as the server has said.
+    pub(crate) is_confirmed: bool,
+    /// Whether more would have to be remembered than is.
+    pub(crate) is_full: bool,
+    pub(crate) waiting: Waiting,
+}
+
+/// The two low bits of a stream's id.
+pub(crate) fn type_of(id: StreamId) -> usize {
+    (u64::from(id) & 3) as usize
+}
+
+/// The stream that a frame names.
+pub(crate) fn stream_of(frame: &Frame<'_>) -> Option<StreamId> {
+    match frame {
+        Frame::Stream(stream) => Some(stream.id),
+        Frame::ResetStream(reset) => Some(reset.id),
+        Frame::StopSending(stop) => Some(stop.id),
+        Frame::StreamDataBlocked { id, .. } | Frame::MaxStreamData { id, .. } => Some(*id),
+        _ => None,
+    }
+}
+
+/// The stream that a frame has data of, where they end, and whether they end for good.
+pub(crate) fn data_of(frame: &Frame<'_>) -> Option<(StreamId, u64, bool)> {
+    match frame {
+        Frame::Stream(stream) => Some((stream.id, stream.offset.saturating_add(stream.bytes.len() as u64), stream.fin)),
+        Frame::ResetStream(reset) => Some((reset.id, reset.final_offset.into_inner(), true)),
+        _ => None,
+    }
+}
+
+impl History {
+    pub(crate) fn half(&self, side: Side) -> &Half {
+        &self.halves[side as usize]
+    }
+
+    /// Whether all packets of a side are known that its peer may have received.
+    pub(crate) fn is_whole(&self, side: Side, spaces: &[SpaceId]) -> bool {
+        !self.is_full && spaces.iter().all(|space| self.half(side).is_whole(*space))
+    }
+
+    /// Takes a datagram of a side.
+    pub(crate) fn take_datagram(&mut self, datagram: &Datagram<'_>, sender: Side) {
+        let bytes = &mut self.halves[sender as usize].bytes;
+        *bytes = bytes.saturating_add((datagram.bytes.len() + datagram.missing) as u64);
+    }
+
+    /// Notes a packet that isn't opened.
+    pub(crate) fn take_unopened(&mut self, sender: Side, space: SpaceId) {
+        self.halves[sender as usize].unopened[space as usize] += 1;
+    }
+
+    /// Takes the header of an opened packet whose number is new. Of each kind only so many things are remembered.
+    pub(crate) fn take_packet(&mut self, datagram: &Datagram<'_>, opened: &Opened<'_>, most: usize) {
+        use quic_wire::datagram::HeaderKind::{Handshake, Initial, ZeroRtt};
+        let (sender, packet) = (opened.sender(), opened.packet());
+        let server_id = self.halves[Side::Server as usize].sources.first().copied();
+        let half = &mut self.halves[sender as usize];
+        self.is_full |= half.size() >= most;
+        if !self.is_full {
+            half.seen[opened.space() as usize].insert_one(opened.number());
+        }
+        if packet.header().is_short() {
+            return;
+        }
+        let source = ConnectionId::try_from(packet.src_cid()).unwrap_or_default();
+        if !half.sources.contains(&source) && half.sources.len() < MOST_SOURCES {
+            half.sources.push(source);
+        }
+        if opened.kind() == Handshake {
+            half.handshake.get_or_insert((datagram.time, datagram.record));
+            half.has_addresses |= half.address.is_some_and(|address| address != datagram.from);
+            half.address = Some(datagram.from);
+        }
+        self.has_early |= opened.kind() == ZeroRtt;
+        if sender == Side::Client {
+            // RFC 9000, section 8.1: an id of eight bytes or more that the server chose shows the address, too.
+            let knows = server_id.is_some_and(|id| id.len() >= 8 && id[..] == *packet.dst_cid());
+            let has_token = opened.kind() == Initial && !packet.token().is_empty();
+            self.has_token |= has_token;
+            self.is_validated |= opened.kind() == Handshake || has_token || knows;
+        }
+    }
+
+    /// Takes a frame that its sender may send in this packet.
+    pub(crate) fn take_frame(&mut self, connection: &Connection, opened: &Opened<'_>, frame: &Frame<'_>) {
+        let sender = opened.sender();
+        if let Frame::Ack(ack) = frame {
+            return self.take_ack(connection, opened, ack);
+        }
+        if self.is_full {
+            return;
+        }
+        let [client, server] = &mut self.halves;
+        let (own, peer) = if sender == Side::Client { (client, server) } else { (server, client) };
+        if let Some(id) = stream_of(frame) {
+            let used = &mut own.used[type_of(id)];
+            *used = (*used).max(Some(id.index()));
+        }
+        if let Some((id, until, is_final)) = data_of(frame) {
+            own.take_data(id, until, is_final);
+        }
+        match frame {
+            Frame::MaxData(limit) => peer.max_data = peer.max_data.max(limit.into_inner()),
+            Frame::MaxStreamData { id, offset } => {
+                let stream = peer.stream(*id);
+                stream.limit = stream.limit.max(*offset);
+            }
+            Frame::MaxStreams { dir, count } => {
+                let most = &mut peer.max_streams[usize::from(*dir == Dir::Uni)];
+                *most = (*most).max(*count);
+            }
+            Frame::NewConnectionId(new) => own.prior = own.prior.max(new.retire_prior_to),
+            Frame::RetireConnectionId { sequence } => {
+                peer.retired.insert(*sequence);
+            }
+            Frame::PathChallenge(data) => {
+                own.challenges.insert(*data);
+            }
+            Frame::HandshakeDone => self.is_confirmed = true,
+            _ => {}
+        }
+    }
+
+    fn take_ack(&mut self, connection: &Connection, opened: &Opened<'_>, ack: &Ack<'_>) {
+        let (sender, space) = (opened.sender(), opened.space());
+        if !self.is_full {
+            let acknowledged = &mut self.halves[!sender as usize].acknowledged[space as usize];
+            for range in ack {
+                acknowledged.insert(*range.start()..range.end().saturating_add(1));
+            }
+        }
+        self.is_confirmed |= sender == Side::Server && space == SpaceId::Handshake;
+        // A packet that was never sent shows nothing.
+        if connection.end(!sender).largest(space).is_some_and(|largest| ack.largest() <= largest) {
+            self.waiting.take_ack(sender, space, opened.number(), ack.largest());
+        }
+    }
+
+    /// Takes the transport parameters of a side.
+    pub(crate) fn take_parameters(&mut self, sender: Side, list: &[u8]) {
+        let is_unknown = |id: u64| known(id).is_none() && !HARMLESS.contains(&id);
+        let has_extension = entries(list).flatten().any(|entry| is_unknown(entry.id) && !entry.is_reserved());
+        self.halves[sender as usize].has_extension |= has_extension;
+    }
+
+    /// Tries the claims whose time has come.
+    pub(crate) fn try_due(&mut self, connection: &Connection, now: u64) {
+        if self.waiting.is_empty() {
+            return;
+        }
+        let mut waiting = std::mem::take(&mut self.waiting);
+        waiting.try_due(connection, self, now);
+        self.waiting = waiting;
+    }
+}

@@ -1,0 +1,136 @@
+//! Connection ids that are issued and retired.
+
+use crate::about::{About, Held, id_text};
+use crate::claim::{Claim, active_ids, last_id};
+use crate::rule::{Broken, Check, Checked, History, Need, Rule};
+use quic_wire::frame::{Frame, NewConnectionId};
+use quic_wire_capture::opened::Opened;
+
+pub(super) static RULES: &[Rule] = &[
+    Rule::must(
+        "id-without-bytes",
+        "19.15",
+        "A side whose first id is empty issues no further ones.",
+        Check::Frame(id_without_bytes),
+    )
+    .with(History::Before, &[Need::Begin]),
+    Rule::must(
+        "id-changed",
+        "19.15",
+        "An id and its reset token don't change for a sequence number.",
+        Check::Frame(id_changed),
+    )
+    .with(History::Before, &[Need::Begin]),
+    Rule::must("id-twice", "19.15", "An id has one sequence number.", Check::Frame(id_twice))
+        .with(History::Before, &[Need::Begin]),
+    Rule::must(
+        "id-count",
+        "5.1.1",
+        "A side has at most as many active ids as its peer's active_connection_id_limit says.",
+        Check::Frame(id_count),
+    )
+    .with(
+        History::Whole,
+        &[Need::Begin, Need::PeerParameters, Need::PeerPackets, Need::OwnPackets, Need::Order, Need::End],
+    ),
+    Rule::must(
+        "retire-unknown",
+        "19.16",
+        "RETIRE_CONNECTION_ID names a sequence number that the peer issued.",
+        Check::Frame(retire_unknown),
+    )
+    .with(History::Whole, &[Need::Begin, Need::PeerPackets, Need::OwnPackets]),
+    Rule::must(
+        "retire-own",
+        "19.16",
+        "RETIRE_CONNECTION_ID names another id than that to which its packet goes.",
+        Check::Frame(retire_own),
+    )
+    .with(History::Before, &[Need::Begin]),
+];
+
+fn new_id<'a>(held: &Held<'a>) -> Option<&'a NewConnectionId> {
+    match held.frame {
+        Frame::NewConnectionId(new) if held.permitted.is_ok() => Some(new),
+        _ => None,
+    }
+}
+
+fn retired(held: &Held<'_>) -> Option<u64> {
+    match held.frame {
+        Frame::RetireConnectionId { sequence } if held.permitted.is_ok() => Some(*sequence),
+        _ => None,
+    }
+}
+
+fn id_without_bytes(about: &About<'_>, _: &Opened<'_>, held: &Held<'_>) -> Checked {
+    if new_id(held).is_none() || about.end().first_scid().is_none_or(|id| !id.is_empty()) {
+        return Ok(None);
+    }
+    Broken::new("NEW_CONNECTION_ID from a side whose first id is empty", "none").in_payload(held.range.start).found()
+}
+
+fn id_changed(about: &About<'_>, _: &Opened<'_>, held: &Held<'_>) -> Checked {
+    let Some(new) = new_id(held).filter(|new| new.sequence > 0) else { return Ok(None) };
+    let Some((_, id, token)) = about.end().ids().find(|(sequence, ..)| *sequence == new.sequence) else {
+        return Ok(None);
+    };
+    if *id == new.id && token.is_none_or(|token| *token == new.reset_token) {
+        return Ok(None);
+    }
+    let what = if *id == new.id { "another reset token" } else { "another id" };
+    Broken::new(
+        format!("{what} for the sequence number {}", new.sequence),
+        format!("the same as before, {}", id_text(id)),
+    )
+    .in_payload(held.range.start)
+    .found()
+}
+
+fn id_twice(about: &About<'_>, _: &Opened<'_>, held: &Held<'_>) -> Checked {
+    let Some(new) = new_id(held) else { return Ok(None) };
+    let Some((other, ..)) = about.end().ids().find(|(sequence, id, _)| *sequence != new.sequence && **id == new.id)
+    else {
+        return Ok(None);
+    };
+    let seen = format!("{} with the sequence number {}", id_text(&new.id), new.sequence);
+    Broken::new(seen, format!("the sequence number {other}")).in_payload(held.range.start).found()
+}
+
+fn id_count(about: &About<'_>, _: &Opened<'_>, held: &Held<'_>) -> Checked {
+    let Some(new) = new_id(held) else { return Ok(None) };
+    let most = about.limits()?.active_connection_id_limit.into_inner();
+    let added = Some((new.sequence, new.retire_prior_to));
+    let active = active_ids(about.connection, about.history, about.sender, added);
+    if active <= most {
+        return Ok(None);
+    }
+    Broken::new(format!("{active} active ids"), format!("at most {most}, the peer's limit"))
+        .in_payload(held.range.start)
+        .if_still(Claim::Ids)
+        .found()
+}
+
+fn retire_unknown(about: &About<'_>, _: &Opened<'_>, held: &Held<'_>) -> Checked {
+    let Some(sequence) = retired(held) else { return Ok(None) };
+    let last = last_id(about.connection, !about.sender);
+    if last.is_some_and(|last| sequence <= last) {
+        return Ok(None);
+    }
+    let most = last.map_or("none: the peer issued none".into(), |last| format!("at most {last}"));
+    Broken::new(format!("the sequence number {sequence}"), most)
+        .in_payload(held.range.start)
+        .if_still(Claim::Retired(sequence))
+        .found()
+}
+
+fn retire_own(about: &About<'_>, opened: &Opened<'_>, held: &Held<'_>) -> Checked {
+    let Some(sequence) = retired(held) else { return Ok(None) };
+    let is_own = |id: &[u8]| !id.is_empty() && *id == *opened.packet().dst_cid();
+    if !about.peer().ids().any(|(one, id, _)| one == sequence && is_own(id)) {
+        return Ok(None);
+    }
+    Broken::new(format!("the sequence number {sequence}, of the id to which this packet goes"), "that of another id")
+        .in_payload(held.range.start)
+        .found()
+}

@@ -1,0 +1,149 @@
+//! Streams: their directions, their states and their limits.
+
+use super::frames::section_of;
+use crate::about::{About, Held, name_of};
+use crate::claim::{Claim, count_limit, data_limit, stream_limit};
+use crate::history::{data_of, stream_of, type_of};
+use crate::rule::{Broken, Check, Checked, History, Need, Rule};
+use quic_wire::permitted::Forbidden;
+use quic_wire_capture::opened::Opened;
+
+const LIMIT: &[Need] = &[
+    Need::Begin,
+    Need::PeerParameters,
+    Need::PeerPackets,
+    Need::OwnPackets,
+    Need::NoEarlyData,
+    Need::Order,
+    Need::End,
+];
+
+pub(super) static RULES: &[Rule] = &[
+    Rule::must(
+        "stream-direction",
+        "2.1",
+        "On a unidirectional stream only the side that opened it sends data, and only the other receives them.",
+        Check::Frame(direction),
+    ),
+    Rule::must(
+        "unopened-stream",
+        "19.8",
+        "A side names no stream that its peer would have to open first.",
+        Check::Frame(unopened_stream),
+    )
+    .with(History::Whole, &[Need::Begin, Need::PeerPackets, Need::OwnPackets, Need::NoEarlyData]),
+    Rule::must(
+        "final-size",
+        "4.5",
+        "The final size of a stream doesn't change, and no data are beyond it.",
+        Check::Frame(final_size),
+    )
+    .with(History::Before, &[Need::NoEarlyData]),
+    Rule::must(
+        "stream-count",
+        "4.6",
+        "A side opens at most as many streams as its peer permits.",
+        Check::Frame(stream_count),
+    )
+    .with(History::Whole, LIMIT),
+    Rule::must(
+        "stream-data-limit",
+        "4.1",
+        "A side sends at most as many bytes on a stream as its peer permits.",
+        Check::Frame(stream_data_limit),
+    )
+    .with(History::Whole, LIMIT),
+    Rule::must(
+        "data-limit",
+        "4.1",
+        "A side sends at most as many bytes on all streams as its peer permits.",
+        Check::Frame(all_data_limit),
+    )
+    .with(History::Whole, LIMIT),
+];
+
+fn direction(_: &About<'_>, _: &Opened<'_>, held: &Held<'_>) -> Checked {
+    let Some(id) = stream_of(held.frame).filter(|_| held.permitted == Err(Forbidden::Stream)) else {
+        return Ok(None);
+    };
+    let seen = format!("{} for stream {}", name_of(held.ty), u64::from(id));
+    Broken::new(seen, "a stream of the other direction")
+        .by_section(section_of(held.ty))
+        .in_payload(held.range.start)
+        .found()
+}
+
+fn unopened_stream(about: &About<'_>, _: &Opened<'_>, held: &Held<'_>) -> Checked {
+    let Some(id) = stream_of(held.frame).filter(|id| held.permitted.is_ok() && id.initiator() != about.sender) else {
+        return Ok(None);
+    };
+    if about.peer_half().used[type_of(id)].is_some_and(|used| used >= id.index()) {
+        return Ok(None);
+    }
+    let seen = format!("{} for stream {}, which the peer hasn't opened", name_of(held.ty), u64::from(id));
+    Broken::new(seen, "a stream that is open")
+        .by_section(section_of(held.ty))
+        .in_payload(held.range.start)
+        .if_still(Claim::Unused(id))
+        .found()
+}
+
+fn final_size(about: &About<'_>, _: &Opened<'_>, held: &Held<'_>) -> Checked {
+    let Some((id, until, is_final)) = data_of(held.frame).filter(|_| held.permitted.is_ok()) else { return Ok(None) };
+    let (id, at) = (u64::from(id), held.range.start);
+    let Some(stream) = about.own_half().streams.get(&id) else { return Ok(None) };
+    match stream.size {
+        Some(size) if until > size || is_final && until != size => {
+            let seen = format!("data of stream {id} up to {until}, after its final size");
+            Broken::new(seen, format!("at most {size}, its final size")).in_payload(at).found()
+        }
+        _ if is_final && until < stream.end => {
+            let seen = format!("a final size of {until} for stream {id}");
+            Broken::new(seen, format!("at least {}, which was sent", stream.end)).in_payload(at).found()
+        }
+        _ => Ok(None),
+    }
+}
+
+fn stream_count(about: &About<'_>, _: &Opened<'_>, held: &Held<'_>) -> Checked {
+    let Some(id) = stream_of(held.frame).filter(|id| held.permitted.is_ok() && id.initiator() == about.sender) else {
+        return Ok(None);
+    };
+    let most = count_limit(about.limits()?, about.history, about.sender, id);
+    if id.index() < most {
+        return Ok(None);
+    }
+    let seen = format!("stream {}, number {} of its type", u64::from(id), id.index() + 1);
+    Broken::new(seen, format!("at most {most} streams"))
+        .in_payload(held.range.start)
+        .if_still(Claim::Streams(id))
+        .found()
+}
+
+fn stream_data_limit(about: &About<'_>, _: &Opened<'_>, held: &Held<'_>) -> Checked {
+    let Some((id, until, _)) = data_of(held.frame).filter(|_| held.permitted.is_ok()) else { return Ok(None) };
+    let most = stream_limit(about.limits()?, about.history, about.sender, id);
+    let end = about.own_half().streams.get(&u64::from(id)).map_or(0, |stream| stream.end);
+    if until <= most.max(end) {
+        return Ok(None);
+    }
+    let seen = format!("data of stream {} up to {until}", u64::from(id));
+    Broken::new(seen, format!("at most {most}, its limit"))
+        .in_payload(held.range.start)
+        .if_still(Claim::StreamData { id, until })
+        .found()
+}
+
+fn all_data_limit(about: &About<'_>, _: &Opened<'_>, held: &Held<'_>) -> Checked {
+    let Some((id, until, _)) = data_of(held.frame).filter(|_| held.permitted.is_ok()) else { return Ok(None) };
+    let most = data_limit(about.limits()?, about.history, about.sender);
+    let end = about.own_half().streams.get(&u64::from(id)).map_or(0, |stream| stream.end);
+    let total = about.own_half().total.saturating_add(until.saturating_sub(end));
+    if total <= most || until <= end {
+        return Ok(None);
+    }
+    Broken::new(format!("{total} bytes on all streams"), format!("at most {most}, their limit"))
+        .in_payload(held.range.start)
+        .if_still(Claim::Data(total))
+        .found()
+}

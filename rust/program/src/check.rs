@@ -1,0 +1,141 @@
+//! The mode `check`: which packets of captures break which rules of RFC 9000.
+mod json;
+mod text;
+
+use crate::args::{Checks, nearest};
+use crate::capture::keys::KeyLogs;
+use crate::capture::reading::{Taker, read};
+use crate::capture::screen::{Failure, Screen};
+use crate::{FAILED, REFUSED, WRONG_CALL, say, status};
+use json::Json;
+use quic_wire_capture::capture::{Capture, Datagram};
+use quic_wire_capture::follow::{Counts, Follower};
+use quic_wire_check::checker::Checker;
+use quic_wire_check::finding::Report;
+use quic_wire_check::rule::{Level, Rule};
+use quic_wire_check::rules;
+use std::ffi::OsStr;
+use std::process::ExitCode;
+use text::Text;
+
+/// What is found in a capture.
+struct Whole<'a> {
+    /// When it begins, in nanoseconds since 1970.
+    begun: u64,
+    report: &'a Report,
+    capture: &'a Capture,
+    counts: &'a Counts,
+    /// How many rules were applied.
+    rules: usize,
+}
+
+/// How what is found is written.
+trait Form {
+    /// The table of rules.
+    fn rule(&mut self, rule: &'static Rule);
+    fn capture(&mut self, name: &OsStr, whole: &Whole<'_>);
+}
+
+struct Check<'a> {
+    rules: Vec<&'static Rule>,
+    form: Box<dyn Form + 'a>,
+    name: &'a OsStr,
+    begun: Option<u64>,
+    checker: Checker,
+    is_broken: bool,
+}
+
+impl Whole<'_> {
+    // How many rules are broken that bind so much, each once for a side of a connection.
+    fn broken(&self, level: Level) -> u64 {
+        self.report.findings.iter().filter(|finding| finding.rule.level == level).count() as u64
+    }
+}
+
+/// Checks captures.
+pub fn run(args: &Checks) -> ExitCode {
+    let rules = match chosen(args) {
+        Ok(rules) => rules,
+        Err(what) => {
+            say(what);
+            return ExitCode::from(WRONG_CALL);
+        }
+    };
+    let screen = Screen::default();
+    let has_names = args.files.len() > 1;
+    let mut form: Box<dyn Form + '_> = match args.json {
+        true => Box::new(Json::new(&screen, has_names)),
+        false => Box::new(Text::new(&screen, args.colours.is_on())),
+    };
+    if args.rules {
+        rules.iter().for_each(|rule| form.rule(rule));
+        drop(form);
+        return ended(screen, ExitCode::SUCCESS);
+    }
+    let (mut logs, mut are_read) = KeyLogs::open(&args.keylogs);
+    let mut check =
+        Check { rules, form, name: OsStr::new(""), begun: None, checker: Checker::new([]), is_broken: false };
+    for file in &args.files {
+        check.name = file;
+        if let Err(what) = read(file, &mut logs, &mut check, &screen) {
+            are_read = false;
+            screen.say(format_args!("{}: {what}", file.to_string_lossy()));
+        }
+        if screen.has_failed() {
+            break;
+        }
+    }
+    let is_broken = check.is_broken;
+    drop(check);
+    let status = if !are_read {
+        FAILED
+    } else if is_broken {
+        REFUSED
+    } else {
+        0
+    };
+    ended(screen, ExitCode::from(status))
+}
+
+// The rules that are applied: those with the names that are given or else, unless they are wanted, only each MUST.
+fn chosen(args: &Checks) -> Result<Vec<&'static Rule>, String> {
+    let find = |name: &String| {
+        let nearest = || nearest(name, rules::all().map(|rule| rule.name).collect::<Vec<_>>());
+        rules::find(name).ok_or_else(|| format!("--only: unknown rule {name:?}{}; --rules lists them", nearest()))
+    };
+    if !args.only.is_empty() {
+        return args.only.iter().map(find).collect();
+    }
+    Ok(rules::all().filter(|rule| args.should || args.rules || rule.level == Level::Must).collect())
+}
+
+fn ended(screen: Screen, code: ExitCode) -> ExitCode {
+    match screen.finish() {
+        Ok(()) => code,
+        Err(Failure::Output(error)) => status(Err(error), true),
+        Err(Failure::File(what)) => {
+            say(what);
+            ExitCode::from(FAILED)
+        }
+    }
+}
+
+impl Taker for Check<'_> {
+    fn begin(&mut self, _: &OsStr) {
+        self.begun = None;
+        self.checker = Checker::new(self.rules.iter().copied());
+    }
+
+    fn datagram(&mut self, datagram: &Datagram<'_>, follower: &mut Follower) {
+        self.begun.get_or_insert(datagram.time);
+        self.checker.take(datagram, follower);
+    }
+
+    fn end(&mut self, follower: &mut Follower, capture: &Capture) {
+        let report = std::mem::take(&mut self.checker).finish(follower);
+        let (begun, counts, rules) = (self.begun.unwrap_or_default(), follower.counts(), self.rules.len());
+        let whole = Whole { begun, report: &report, capture, counts, rules };
+        self.is_broken |= whole.broken(Level::Must) > 0;
+        self.form.capture(self.name, &whole);
+    }
+}

@@ -1,0 +1,89 @@
+//! Lines for people.
+use super::{Form, Whole};
+use crate::capture::screen::Screen;
+use crate::capture::words;
+use crate::colour::{Painted, Part as Tone};
+use quic_wire_check::finding::Finding;
+use quic_wire_check::rule::{Level, Rule};
+use std::ffi::OsStr;
+use std::fmt::Display;
+
+/// Writes a line for each finding, for each rule that was silent, and for each capture.
+pub struct Text<'s> {
+    screen: &'s Screen,
+    has_colours: bool,
+}
+
+impl<'s> Text<'s> {
+    pub fn new(screen: &'s Screen, has_colours: bool) -> Self {
+        Text { screen, has_colours }
+    }
+
+    fn paint<T: Display>(&self, tone: Tone, text: T) -> Painted<T> {
+        tone.paint(self.has_colours, text)
+    }
+
+    // A finding in two lines: where it is, and what.
+    fn finding(&self, name: &str, finding: &Finding) -> String {
+        let source = self.paint(Tone::Source, format!("{name}:{}:", finding.record));
+        let (sender, kind) = (words::side_name(finding.sender), words::kind_name(finding.packet));
+        let number = finding.number.map_or(String::new(), |number| format!(" {number}"));
+        let kind = self.paint(Tone::Kind, format!("{kind}{number}"));
+        let inner = finding.payload_offset.map_or(String::new(), |at| format!(", byte {at} of the payload"));
+        let place = self.paint(Tone::Place, format!("byte {} of the datagram{inner}", finding.offset));
+        let rule = self.paint(Tone::Error, format!("{} {}", finding.rule.level, finding.rule.name));
+        let (seen, expected, section) = (&finding.seen, &finding.expected, finding.section);
+        let again = match finding.count {
+            1 => String::new(),
+            count => format!(", {count} times up to record {}", finding.last_record),
+        };
+        let connection = finding.connection;
+        format!("{source} connection {connection} {sender} {kind}, {place}{again}\n")
+            + &format!("    {rule}: {seen}; expected: {expected} ({section})\n")
+    }
+}
+
+// A number of things.
+fn count(number: u64, one: &str) -> String {
+    if number == 1 { format!("1 {one}") } else { format!("{number} {one}s") }
+}
+
+impl Form for Text<'_> {
+    fn rule(&mut self, rule: &'static Rule) {
+        let name = self.paint(Tone::Kind, rule.name);
+        let mut lines = format!("{name} {} ({})\n    {}\n", rule.level, rule.section, rule.says);
+        if !rule.needs.is_empty() {
+            let reasons: Vec<_> = rule.needs.iter().map(|need| need.reason()).collect();
+            lines.push_str(&format!("    silent if {}\n", reasons.join("; or if ")));
+        }
+        self.screen.write(&lines);
+    }
+
+    fn capture(&mut self, name: &OsStr, whole: &Whole<'_>) {
+        let Whole { report, capture, counts, rules, .. } = whole;
+        let name = name.to_string_lossy();
+        let mut lines: String = report.findings.iter().map(|finding| self.finding(&name, finding)).collect();
+        let source = self.paint(Tone::Source, format!("{name}:"));
+        for ((rule, need), number) in &report.unchecked {
+            let times = count(*number, "time");
+            lines.push_str(&format!("{source} {rule} not checked {times}: {}\n", need.reason()));
+        }
+        if report.further > 0 {
+            lines.push_str(&format!("{source} {} not kept\n", count(report.further, "further finding")));
+        }
+        let unopened: u64 = counts.unopened.values().sum();
+        let broken = match (whole.broken(Level::Must), whole.broken(Level::Should)) {
+            (0, 0) => "nothing found".into(),
+            (must, 0) => format!("{must} MUST broken"),
+            (must, should) => format!("{must} MUST and {should} SHOULD broken"),
+        };
+        lines.push_str(&format!(
+            "{source} {}, {}, {} opened, {unopened} not opened, {}: {broken}\n",
+            count(capture.records(), "record"),
+            count(counts.connections as u64, "connection"),
+            count(counts.opened, "packet"),
+            count(*rules as u64, "rule"),
+        ));
+        self.screen.write(&lines);
+    }
+}

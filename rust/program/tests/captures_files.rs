@@ -136,7 +136,7 @@ fn wrong_calls() {
         assert_eq!(lines.len(), 0);
     }
     let (_, said, status) = run(&["frames", "--keylog", "x"], b"");
-    let what = "quic-wire: --keylog is an option of capture, not of frames";
+    let what = "quic-wire: --keylog is an option of capture, check, not of frames";
     assert_eq!((said.lines().next(), status), (Some(what), 2));
     let (help, _, status) = run(&["capture", "--help"], b"");
     assert!(help.contains("usage: quic-wire capture [OPTION..] [FILE..]") && status == 0);

@@ -57,6 +57,8 @@ named! {
         { fn encode<B: BufMut>(&self, last: bool, out: &mut B) -> Written } => { self.proved_encode(last, out) }
         { fn encode_into(&self, last: bool, dest: &mut [u8]) -> Result<usize, usize> } =>
             { self.proved_encode_into(last, dest) }
+        { fn encode_body_into(&self, last: bool, dest: &mut [u8]) -> Result<usize, usize> } =>
+            { self.proved_encode_body_into(last, dest) }
         { fn encoded_len(&self, last: bool) -> u128 } => { self.proved_encoded_len(last) }
     }
     OfStreamMeta for StreamMeta {

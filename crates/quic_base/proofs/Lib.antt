@@ -9,3 +9,4 @@ mod IdMemory
 mod Ends
 pub mod PublicLaws
 pub mod Encoders
+pub mod Storing

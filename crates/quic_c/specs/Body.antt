@@ -21,9 +21,9 @@ pub record ShowsBody (rules : Rules) (type : ℕ) (body : List ℕ) (before : Li
   pub ends : stop + length rest ≡ length body
   pub shows : ShowsFront stop type frame before words after
 
--- What a call for the body of a frame of this type returns and leaves: where it ends, with its words; that the number is
--- no type, and nothing changes; or the reason why the body isn't given, with the type, and no entry changes. That is the
--- reason why no frame is given from a payload of the type and these bytes.
+-- What a call for the body of a frame of this type returns and leaves: where it ends, with its words; that the number
+-- is no type, and nothing changes; or the reason why the body isn't given, with the type, and no entry changes. That is
+-- the reason why no frame is given from a payload of the type and these bytes.
 pub record AnswersBody (rules : Rules) (type : ℕ) (body : List ℕ) (before : CFrame) (room : List CGap) (result : ℤ)
     (after : CFrame) (gaps : List CGap) : Type 0 where
   pub returns : (result ≡ failed failure.Number) ⊎ ReportsNone rules (with_type type body) result after

@@ -30,11 +30,11 @@ fn read_by(body: &[u8], ty: FrameType, rules: Rules, out: &mut CFrame, gaps: &mu
 
 /// Reads the body of a frame of type `ty`, whose caller has read the type, as an extension's frame has an ACK's body
 /// behind fields of its own (RFC 9000, sections 12.4 and 19). It reads by the rules of these flags what
-/// `quic_wire_frame_read_` reads from the type and these bytes, except that it reads one frame of PADDING, whose body is
-/// empty. It returns where the body ends, with the frame's words, whose places count from the body's front. The ranges of
-/// an ACK below the first are filled into `gaps` as that call fills them. It returns `Number` exactly if `ty` is 2^62 or
-/// more, and `out` doesn't change then; the reason, with the type in `out`, if the bytes don't begin with a valid body of
-/// this type, the type is unknown, or the frame breaks a rule. `gaps` changes only for an ACK.
+/// `quic_wire_frame_read_` reads from the type and these bytes, except that it reads one frame of PADDING, whose body
+/// is empty. It returns where the body ends, with the frame's words, whose places count from the body's front. The
+/// ranges of an ACK below the first are filled into `gaps` as that call fills them. It returns `Number` exactly if `ty`
+/// is 2^62 or more, and `out` doesn't change then; the reason, with the type in `out`, if the bytes don't begin with a
+/// valid body of this type, the type is unknown, or the frame breaks a rule. `gaps` changes only for an ACK.
 #[unsafe(no_mangle)]
 pub extern "C" fn quic_wire_frame_body_read_(
     body: &[u8],

@@ -64,8 +64,8 @@ fn take_kind<K: Kind>(payload: &[u8], begin: usize, out: &mut CFrame) -> Option<
     take_here::<K>(payload, begin, out)
 }
 
-// The frame at an offset, by its first byte: where it ends, with its words, or None, where the calls for all frames have
-// to read it. STREAM and CRYPTO, which most packets have, are read with no call.
+// The frame at an offset, by its first byte: where it ends, with its words, or None, where the calls for all frames
+// have to read it. STREAM and CRYPTO, which most packets have, are read with no call.
 #[inline(always)]
 pub(crate) fn take_by_kind(
     first: u8,

@@ -1,5 +1,5 @@
-//! Functions exported to C that read frames, and the ranges of ACKs. What a caller keeps between calls are structs of plain
-//! words, and the bytes are given again with each call. Every function is safe with any argument values.
+//! Functions exported to C that read frames, and the ranges of ACKs. What a caller keeps between calls are structs of
+//! plain words, and the bytes are given again with each call. Every function is safe with any argument values.
 #![tactic(auto)]
 
 mod acks;

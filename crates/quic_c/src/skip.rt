@@ -7,10 +7,10 @@ ghost use Rattle.quic_results.specs.Results.{failed};
 use quic_c_words::words::CFrameIter;
 use quic_results::results::Failure;
 
-/// Passes over a frame that the caller read, of a type that the library doesn't know: reading goes on at `end`, an offset
-/// in the payload, as it does behind a frame of type `ty`, also after an error. It returns 1; or, and then nothing
-/// changes, `Place` exactly if `end` isn't behind the last frame that was read, or is outside the payload; else `Number`
-/// exactly if `ty` is 2^62 or more.
+/// Passes over a frame that the caller read, of a type that the library doesn't know: reading goes on at `end`, an
+/// offset in the payload, as it does behind a frame of type `ty`, also after an error. It returns 1; or, and then
+/// nothing changes, `Place` exactly if `end` isn't behind the last frame that was read, or is outside the payload; else
+/// `Number` exactly if `ty` is 2^62 or more.
 #[unsafe(no_mangle)]
 pub extern "C" fn quic_wire_frames_skip_(
     frames: &mut CFrameIter,

@@ -1,93 +1,32 @@
 -- Version negotiation packets: one has its ids in one way, and is reported as a header of its kind; and their bytes.
-use Rattle.std.proofs.Common.{◌≡◌, ℕ, ◌+◌, ◌-◌, ◌*◌, ◌%◌, ◌<◌, ◌≤◌, List, [], ◌∷◌, ◌++◌, length, take, drop, refl, sym, ap, ◌∙◌, arith}
-use Rattle.std.specs.Prelude.{bit_or, bit_xor, get_or, slice_index, slice_range, Ok}
-use Rattle.std.specs.Int.{w32, from_be_bytes}
+use Rattle.std.proofs.Common.{◌≡◌, ℕ, ◌+◌, ◌-◌, ◌*◌, ◌%◌, ◌<◌, ◌≤◌, List, [], ◌∷◌, ◌++◌, length, take, drop, refl, sym, ap, subst, ◌∙◌, arith}
+use Rattle.std.specs.Prelude.{bit_or, bit_xor, slice_index, slice_range, Ok}
 use Rattle.std.proofs.lemmas.Bool.Decides.{nat_tests}
-use Rattle.std.proofs.lemmas.Grind.{flat_map-append}
-use Rattle.std.proofs.lemmas.List.{append-nil, append_assoc, drop-drop, length-append, length-take, take-append-drop, take_all, take_more}
+use Rattle.std.proofs.lemmas.List.{append_assoc, drop-drop, length-append}
 use Rattle.std.proofs.lemmas.Nat.{le_or_l}
 use Rattle.quic_base.specs.ConnectionId.{long_id}
-use Rattle.quic_base.specs.Number.{num, AreBytes, bytes_of}
+use Rattle.quic_base.specs.Number.{bytes_of}
 use Rattle.quic_base.proofs.PublicLaws as law
 use Rattle.quic_header_encode.specs.Kinds.{long_front}
 use Rattle.quic_header_encode.specs.declared.long_type.HeaderKind.TheVariants as kind
-use Rattle.quic_header_encode.proofs.Stores.{stays}
 use Rattle.quic_header_decode.specs.declared.places.HeaderPlaces.{HeaderPlaces}
 use Rattle.quic_header_decode.specs.declared.protected.ProtectedHeader.TheVariants as protected
 use Rattle.quic_header_decode.specs.Grammar.{HeaderAt}
-use Rattle.quic_header_decode.specs.Places.{any_fixed}
+use Rattle.quic_header_decode.specs.Places.{any_fixed, AnyVersion}
 use Rattle.quic_header_decode.specs.Reading.{DecodeOptions}
 use Rattle.quic_header_decode.proofs.Made.{negotiation_header, LongStart}
 use Rattle.quic_header_decode.proofs.Steps.{drop_front, take_front}
 use Rattle.quic_c_headers.specs.declared.words.CHeader.{CHeader}
-use Rattle.quic_c_headers.specs.Reading.{negotiation_bytes, negotiation_words, version_bytes, IsNegotiation}
+use Rattle.quic_c_headers.specs.Reading.{negotiation_bytes, negotiation_words, IsNegotiation}
+use Rattle.quic_versions.specs.Versions.{version_bytes}
 use Rattle.quic_c_headers.specs.Reading.{Reported}
 
 -- ---- what is read
 
-parts_of_cons : (x y : ℕ) (xs ys : List ℕ) → x ∷ xs ≡ y ∷ ys → (x ≡ y) × (xs ≡ ys)
-parts_of_cons x y xs ys e = (cc, cc)
-
--- bytes begin with one id after its length
-pub one_id : (a b r s : List ℕ) → long_id a ++ r ≡ long_id b ++ s → (a ≡ b) × (r ≡ s)
-one_id a b r s e =
-    let parts = parts_of_cons (length a) (length b) (a ++ r) (b ++ s) e in
-    (law.same_front a b r s parts.0 parts.1, law.same_back a b r s parts.0 parts.1)
-
-word_is : (b : List ℕ) → length b ≡ 4 → from_be_bytes w32 b ≡ num b
-word_is (x ∷ y ∷ z ∷ w ∷ []) h = omega arith
-word_is b h = absurd (omega arith)
-
--- what a first byte and four more mean for a version negotiation
-pub record Front (first : ℕ) (version behind dst src rest : List ℕ) : Type 0 where
-  pub long : 128 ≤ first
-  pub zero : from_be_bytes w32 version ≡ 0
-  pub ids : behind ≡ long_id dst ++ (long_id src ++ rest)
-
-pub front_of : (first : ℕ) (packet text version behind dst src rest : List ℕ) → packet ≡ first ∷ text
-    → version ≡ take 4 text → behind ≡ drop 4 text
-    → IsNegotiation packet dst src rest → Front first version behind dst src rest
-front_of first packet text version behind dst src rest is front back (f, number, whole, long, word) =
-    let ids : List ℕ = long_id dst ++ (long_id src ++ rest) in
-    let parts = parts_of_cons first f text (number ++ ids) (sym is ∙ whole) in
-    let word_front : version ≡ number = front ∙ ap (take 4) parts.1 ∙ take_front number ids 4 word.width in
-    let same : first ≡ f = parts.0 in
-    record {
-      long = (let above : 128 ≤ f = grind (arith, nat_tests) in omega (arith, above, same));
-      zero = ap (from_be_bytes w32) word_front ∙ word_is number word.width ∙ word.value;
-      ids = back ∙ ap (drop 4) parts.1 ∙ drop_front number ids 4 word.width;
-    }
-
--- and such bytes begin one
-pub of_front : (first : ℕ) (packet text version behind dst left src rest : List ℕ) → packet ≡ first ∷ text
-    → version ≡ take 4 text → behind ≡ drop 4 text
-    → length behind + 4 ≡ length text → 128 ≤ first → AreBytes version → from_be_bytes w32 version ≡ 0
-    → behind ≡ long_id dst ++ left → left ≡ long_id src ++ rest
+-- a header of any version, whose version is 0
+pub of_zero : (version : ℕ) (packet dst src rest : List ℕ) → version ≡ 0 → AnyVersion packet version dst src rest
     → IsNegotiation packet dst src rest
-of_front first packet text version behind dst left src rest is front back size long bytes zero one two =
-    let width : length version ≡ 4 = omega (arith, ap length front, length-take 4 text, size) in
-    let ids : behind ≡ long_id dst ++ (long_id src ++ rest) = one ∙ ap (λ (xs : List ℕ). long_id dst ++ xs) two in
-    let whole : text ≡ version ++ (long_id dst ++ (long_id src ++ rest)) =
-    sym (take-append-drop 4 text) ∙ ap (λ (xs : List ℕ). xs ++ drop 4 text) (sym front)
-    ∙ ap (λ (xs : List ℕ). version ++ xs) (sym back ∙ ids) in (
-      first,
-      version,
-      is ∙ ap (λ (xs : List ℕ). first ∷ xs) whole,
-      grind (arith, nat_tests),
-      record { bytes = bytes; width = width; value = sym (word_is version width) ∙ zero },
-    )
-
--- the ids are those that are read, and no others
-pub same_ids : (packet dst src rest d s r : List ℕ) → IsNegotiation packet dst src rest → IsNegotiation packet d s r
-    → (dst ≡ d) × (src ≡ s) × (rest ≡ r)
-same_ids packet dst src rest d s r (f, number, whole, long, word) (g, other, all, high, is) =
-    let ids : List ℕ = long_id dst ++ (long_id src ++ rest) in
-    let others : List ℕ = long_id d ++ (long_id s ++ r) in
-    let parts = parts_of_cons f g (number ++ ids) (other ++ others) (sym whole ∙ all) in
-    let behind = law.number_unique 4 0 0 number other ids others parts.1 word is in
-    let one = one_id dst d (long_id src ++ rest) (long_id s ++ r) behind.2 in
-    let two = one_id src s rest r one.1 in
-    (one.0, two.0, two.1)
+of_zero version packet dst src rest zero is = subst (λ (v : ℕ). AnyVersion packet v dst src rest) zero is
 
 pub same_words : (packet dst src d s : List ℕ) → dst ≡ d → src ≡ s
     → negotiation_words packet dst src ≡ negotiation_words packet d s
@@ -185,44 +124,10 @@ reported flags id_len versions packet dst src rest old (first, number, whole, lo
 
 -- ---- what is written
 
--- that many versions were written
-pub record StoredOn (versions : List ℕ) (at : ℕ) (old : List ℕ) (i end : ℕ) (new : List ℕ) : Type 0 where
-  pub count : end ≡ at + 4 * i
-  pub front : take end new ≡ take at old ++ version_bytes (take i versions)
-  pub back : drop end new ≡ drop end old
-  pub len : length new ≡ length old
-
-version_more : (versions : List ℕ) (i : ℕ) → i < length versions
-    → version_bytes (take (i + 1) versions) ≡ version_bytes (take i versions) ++ bytes_of 4 (get_or versions i 0)
-version_more versions i lt =
-    let v : ℕ = get_or versions i 0 in
-    ap version_bytes (take_more versions i 0 lt) ∙ flat_map-append (bytes_of 4) (take i versions) (v ∷ [])
-    ∙ ap (λ (xs : List ℕ). version_bytes (take i versions) ++ xs) (append-nil (bytes_of 4 v))
-
-pub stored_more : (versions : List ℕ) (at i end stop : ℕ) (old one new : List ℕ) → i < length versions
-    → StoredOn versions at old i end one
-    → stop ≡ end + 4 → take stop new ≡ take end one ++ bytes_of 4 (get_or versions i 0) → drop stop new ≡ drop stop one
-    → length new ≡ length one
-    → StoredOn versions at old (i + 1) stop new
-stored_more versions at i end stop old one new lt inv after front back same = record {
-  count = (let so_far = inv.count in omega (arith, so_far, after));
-  front = front ∙ ap (λ (xs : List ℕ). xs ++ bytes_of 4 (get_or versions i 0)) inv.front
-      ∙ append_assoc (take at old) (version_bytes (take i versions)) (bytes_of 4 (get_or versions i 0))
-      ∙ ap (λ (xs : List ℕ). take at old ++ xs) (sym (version_more versions i lt));
-  back = back ∙ stays end stop one old inv.back (omega (arith, after));
-  len = same ∙ inv.len;
-}
-
 pub versions_long : (versions : List ℕ) → length (version_bytes versions) ≡ 4 * length versions
 versions_long [] = refl
 versions_long (v ∷ versions) =
     omega (arith, length-append (bytes_of 4 v) (version_bytes versions), law.length-bytes_of 4 v, versions_long versions)
-
-pub stored_all : (versions : List ℕ) (at i end : ℕ) (old new : List ℕ) → length versions ≤ i
-    → StoredOn versions at old i end new
-    → take end new ≡ take at old ++ version_bytes versions
-stored_all versions at i end old new le inv =
-    inv.front ∙ ap (λ (xs : List ℕ). take at old ++ version_bytes xs) (take_all i versions le)
 
 -- ---- all of the packet
 

@@ -9,14 +9,14 @@ use Rattle.quic_header_decode.specs.declared.places.ReadError.TheVariants as err
 use Rattle.quic_header_decode.specs.Places.{any_fixed, ends_at, seen_in, IsSeen, ReadAnswer, AnyVersion}
 use Rattle.quic_c_headers.specs.Headers.{word_of}
 use Rattle.quic_c_headers.specs.declared.words.CHeader.{CHeader}
-use Rattle.std.specs.List.{flat_map}
-use Rattle.quic_base.specs.Number.{bytes_of, has_bit, num}
+use Rattle.quic_base.specs.Number.{has_bit, num}
 use Rattle.quic_header_encode.specs.declared.header.Header.TheVariants as header
 use Rattle.quic_header_encode.specs.Writing.{header_bytes}
 use Rattle.std.specs.Option.{option_map_or}
 use Rattle.quic_results.specs.declared.results.Failure.{Failure}
 use Rattle.quic_results.specs.declared.results.Failure.TheVariants as failure
 use Rattle.quic_results.specs.Results.{returned}
+use Rattle.quic_versions.specs.Versions.{version_bytes}
 
 -- ---- what the flags mean: 0x10, the fixed bit may be clear (RFC 9287); 0x20, it is ignored in packets of versions
 -- other than those given, and in version negotiations (section 17.2.1); 0x40, a Retry must be complete
@@ -131,10 +131,6 @@ IsNegotiation bytes dst src rest = AnyVersion bytes 0 dst src rest
 abbrev pub negotiation_words : List ℕ → List ℕ → List ℕ → CHeader
 negotiation_words packet dst src =
     ids_words packet 5 0 (length dst) (length src) (7 + length dst + length src)
-
--- versions, in four bytes each
-abbrev pub version_bytes : List ℕ → List ℕ
-version_bytes = flat_map (bytes_of 4)
 
 -- a packet: its header and the versions; of the first byte's seven low bits only the fixed bit is set, except that the
 -- flags invert them

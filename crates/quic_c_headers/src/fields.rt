@@ -110,10 +110,10 @@ fn store(
 
 /// Stores where the fields of the packet's header are, as far as `fields` reaches, and returns 1; how many they are and
 /// where the last one ends, in `out`. Those of a version negotiation and of a Retry go on to the end of the packet. No
-/// packet has more than eight. If `quic_wire_header_read_` returns an error for these arguments, that is returned, and the
-/// fields before the one at fault are stored: of a packet that is cut off those before its Length; of a Retry without a
-/// token those before that, or those before its tag. With `Length` and `PacketFixedBit` no field is stored, and `out` is
-/// zeros.
+/// packet has more than eight. If `quic_wire_header_read_` returns an error for these arguments, that is returned, and
+/// the fields before the one at fault are stored: of a packet that is cut off those before its Length; of a Retry
+/// without a token those before that, or those before its tag. With `Length` and `PacketFixedBit` no field is stored,
+/// and `out` is zeros.
 #[unsafe(no_mangle)]
 pub extern "C" fn quic_wire_packet_fields_(
     packet: &[u8],

@@ -13,9 +13,9 @@ ghost use Rattle.quic_header_decode.specs.declared.places.HeaderPlaces.{HeaderPl
 ghost use Rattle.quic_header_decode.specs.declared.protected.ProtectedHeader.{ProtectedHeader};
 ghost use Rattle.quic_header_encode.specs.Kinds.{row};
 
-/// With the flags a packet is rejected for its fixed bit exactly if that is clear and the packet has a short header, or a
-/// long one of one of the versions (RFC 9000, sections 17.2 and 17.3); and a Retry exactly if it doesn't have a token and
-/// a tag of 16 bytes after its header (section 17.2.5).
+/// With the flags a packet is rejected for its fixed bit exactly if that is clear and the packet has a short header, or
+/// a long one of one of the versions (RFC 9000, sections 17.2 and 17.3); and a Retry exactly if it doesn't have a token
+/// and a tag of 16 bytes after its header (section 17.2.5).
 pub fn rfc_flags()
     ensures fixed { (versions packet : List ℕ) → (LacksFixedBit 0x3ef versions packet
         ↔ ((packet ≢ []) × (has_bit 0x40 (slice_index packet 0) ≡ false) × IsOfVersion versions packet)) }

@@ -1,45 +1,17 @@
 //! Version negotiation packets, whose ids may have up to 255 bytes (RFC 8999, section 6; RFC 9000, section 17.2.1).
 ghost use Rattle.std.specs.Prelude.{◌≡◌, ◌+◌, ◌*◌, ◌^◌, ◌<◌, ◌≤◌, ◌⊎◌, ◌↔◌, ◌++◌, ℕ, List, length, take, drop, pos, Ok, IfSome, MatchOption};
-ghost use Rattle.quic_base.specs.ConnectionId.{long_id};
-ghost use Rattle.quic_c_headers.specs.Reading.{negotiation_bytes, negotiation_words, version_bytes, IsNegotiation};
+ghost use Rattle.quic_c_headers.specs.Reading.{negotiation_bytes, negotiation_words, IsNegotiation};
+ghost use Rattle.quic_versions.specs.Versions.{version_bytes};
 ghost use Rattle.quic_c_headers.specs.Reading.{Reported};
 ghost use Rattle.quic_results.specs.Results.{failed};
 
 use crate::words::CHeader;
 use crate::write::first_word;
-use quic_base::coding::{are_bytes, store_array};
+use quic_base::coding::store_array;
 use quic_header_encode::long_type::HeaderKind;
+use quic_negotiation::ids::{ids_of, store_id};
 use quic_results::results::Failure;
-
-// The id at the front of the bytes, after its length, and what follows it.
-#[inline(always)]
-fn split_id(bytes: &[u8]) -> Option<(&[u8], &[u8])>
-    ensures read { MatchOption result ((id rest : List ℕ) → bytes.now ≡ long_id id ++ rest → ⊥)
-        (λ parts. bytes.now ≡ long_id parts.0.now ++ parts.1.now) }
-    ensures few { IfSome result (λ parts. length parts.0.now ≤ 255) }
-{
-    let (len, rest) = bytes.split_first()?;
-    rest.split_at_checked(usize::from(*len))
-}
-
-// The ids of the version negotiation at the front of the bytes.
-#[inline(always)]
-fn ids_of(packet: &[u8]) -> Option<(&[u8], &[u8])>
-    ensures read { MatchOption result ((dst src rest : List ℕ) → IsNegotiation packet.now dst src rest → ⊥)
-        (λ ids. (rest : List ℕ) × IsNegotiation packet.now ids.0.now ids.1.now rest) }
-    ensures dst_few { IfSome result (λ ids. length ids.0.now ≤ 255) }
-    ensures src_few { IfSome result (λ ids. length ids.1.now ≤ 255) }
-{
-    let (first, behind) = packet.split_first()?;
-    let (version, behind) = behind.split_first_chunk::<4>()?;
-    are_bytes(version);
-    if *first < 0x80 || u32::from_be_bytes(*version) != 0 {
-        return None;
-    }
-    let (dst, behind) = split_id(behind)?;
-    let (src, _versions) = split_id(behind)?;
-    Some((dst, src))
-}
+use quic_versions::store::store_versions;
 
 /// Reads the header of the version negotiation at the front of a packet. Its ids have up to 255 bytes (RFC 8999,
 /// section 6). The versions are the bytes after the header, up to the packet's end. It returns the packet's length,
@@ -66,9 +38,12 @@ pub extern "C" fn quic_wire_negotiation_read_(packet: &[u8], head: &mut CHeader)
     if packet.len() > u32::MAX as usize {
         return i64::from(Failure::Length.number());
     }
-    let Some((dst, src)) = ids_of(packet) else {
+    let Some((version, dst, src)) = ids_of(packet) else {
         return i64::from(Failure::Kind.number());
     };
+    if version != 0 {
+        return i64::from(Failure::Kind.number());
+    }
     *head = CHeader {
         kind: 5,
         first: packet[0],
@@ -84,39 +59,6 @@ pub extern "C" fn quic_wire_negotiation_read_(packet: &[u8], head: &mut CHeader)
     packet.len() as i64
 }
 
-// Stores an id after its length, and returns the offset at which it ends.
-#[inline(always)]
-fn store_id(dest: &mut [u8], at: usize, id: &[u8]) -> usize
-    requires few { length id.now ≤ 255 }
-    requires room { at + (1 + length id.now) ≤ length dest.old }
-    ensures end { result ≡ at + (1 + length id.now) }
-    ensures front { take result dest.new ≡ take at dest.old ++ long_id id.now }
-    ensures back { drop result dest.new ≡ drop result dest.old }
-    ensures len { length dest.new ≡ length dest.old }
-{
-    let at = store_array(dest, at, [id.len() as u8]);
-    let end = at + id.len();
-    dest[at..end].copy_from_slice(id);
-    end
-}
-
-// Stores versions from `at` on, and returns the offset at which they end.
-#[inline(always)]
-#[tactic(auto, unfolding(quic_base::specs::Number::bytes_of))]
-fn store_versions(dest: &mut [u8], at: usize, versions: &[u32]) -> usize
-    requires { at + 4 * length versions.now ≤ length dest.old }
-    ensures end { result ≡ at + 4 * length versions.now }
-    ensures front { take result dest.new ≡ take at dest.old ++ version_bytes versions.now }
-    ensures back { drop result dest.new ≡ drop result dest.old }
-    ensures len { length dest.new ≡ length dest.old }
-{
-    let mut at = at;
-    for version in versions {
-        at = store_array(dest, at, version.to_be_bytes());
-    }
-    at
-}
-
 // Stores the packet at the front, and returns how many bytes it has.
 #[inline(always)]
 fn store_packet(flags: u8, dst: &[u8], src: &[u8], versions: &[u32], dest: &mut [u8]) -> usize
@@ -130,7 +72,7 @@ fn store_packet(flags: u8, dst: &[u8], src: &[u8], versions: &[u32], dest: &mut 
     let at = store_array(dest, at, [0; 4]);
     let at = store_id(dest, at, dst);
     let at = store_id(dest, at, src);
-    store_versions(dest, at, versions)
+    store_versions(versions, dest, at)
 }
 
 /// Writes a version negotiation at the front of `dest` (RFC 9000, section 17.2.1): the first byte 0xc0, in which

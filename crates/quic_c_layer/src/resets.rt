@@ -6,9 +6,9 @@ use quic_base::ids::{RESET_TOKEN_SIZE, ResetToken};
 use quic_resets::reset::{is_reset, store};
 
 /// Writes a stateless reset at the front of `dest`: as many bytes as are unpredictable, of which the first one's two
-/// highest bits become 0 and 1, and the token of 16 bytes. It returns how many bytes it has; the bytes after those don't
-/// change. It returns 0 exactly when the token hasn't 16 bytes, the reset has fewer than 21, or `dest` has less room;
-/// nothing changes then.
+/// highest bits become 0 and 1, and the token of 16 bytes. It returns how many bytes it has; the bytes after those
+/// don't change. It returns 0 exactly when the token hasn't 16 bytes, the reset has fewer than 21, or `dest` has less
+/// room; nothing changes then.
 #[unsafe(no_mangle)]
 pub extern "C" fn quic_wire_reset_write_(
     unpredictable: &[u8],

@@ -70,8 +70,8 @@ fn constant_of(version: u32, which: u32) -> Option<&'static [u8]>
 }
 
 /// Copies one of the constants of a version to the front of `dest`, and returns how many bytes it has; the bytes after
-/// those don't change. `which` is 0 for the salt of Initial packets, 1 and 2 for the key and the nonce of a Retry's tag,
-/// 3 to 6 for the labels of a packet's key, its iv, the key of header protection and the next secret. It returns 0
+/// those don't change. `which` is 0 for the salt of Initial packets, 1 and 2 for the key and the nonce of a Retry's
+/// tag, 3 to 6 for the labels of a packet's key, its iv, the key of header protection and the next secret. It returns 0
 /// exactly when `version` isn't 1 or 2, there is no such constant, or `dest` has less room; nothing changes then (RFC
 /// 9001, sections 5.1, 5.2, 5.8 and 6.1; RFC 9369, section 3.3).
 #[unsafe(no_mangle)]

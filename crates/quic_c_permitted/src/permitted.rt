@@ -46,12 +46,12 @@ fn answered(outcome: Result<(), Forbidden>) -> i32
     }
 }
 
-/// Whether a packet of a type from one side may carry a frame of the type `ty`, asked before the frame's fields are read
-/// (RFC 9000, section 12.4, table 3, and section 19). `packet` is 0 for Initial, 1 for 0-RTT, 2 for Handshake, 4 for
-/// 1-RTT; `sender` is 0 for the client, 1 for the server. With 0x008 in `flags` the types of the ACK frequency extension
-/// are unknown. It returns 0; `FrameType` exactly if the type is unknown; else `FramePacket` if such packets may not
-/// carry it; else `FrameSender` if that side may not send it, or no such packet. `Kind` exactly if `packet` or `sender` is
-/// none of these.
+/// Whether a packet of a type from one side may carry a frame of the type `ty`, asked before the frame's fields are
+/// read (RFC 9000, section 12.4, table 3, and section 19). `packet` is 0 for Initial, 1 for 0-RTT, 2 for Handshake, 4
+/// for 1-RTT; `sender` is 0 for the client, 1 for the server. With 0x008 in `flags` the types of the ACK frequency
+/// extension are unknown. It returns 0; `FrameType` exactly if the type is unknown; else `FramePacket` if such packets
+/// may not carry it; else `FrameSender` if that side may not send it, or no such packet. `Kind` exactly if `packet` or
+/// `sender` is none of these.
 #[unsafe(no_mangle)]
 pub extern "C" fn quic_wire_type_permitted_(ty: u64, packet: u32, sender: u32, flags: u32) -> i32
     ensures answers { AnswersType ty packet sender flags result }

@@ -186,7 +186,8 @@ fn of_ack_frequency(f: &AckFrequency) -> Parts
     without_data(0xaf, [sequence, threshold, delay, reordering, 0])
 }
 
-/// The words of a frame that depend on it alone. One match finds them all: one for each of them costs more instructions in the calls that read frames.
+/// The words of a frame that depend on it alone. One match finds them all: one for each of them costs more instructions
+/// in the calls that read frames.
 #[inline(always)]
 pub fn parts_of(frame: &Frame<'_>) -> Parts
     ensures { result ≡ record {

@@ -38,8 +38,8 @@ fn has_header(words: &CFrame, last: bool) -> bool
     }
 }
 
-// Writes at most five numbers in their shortest encodings at the front, where there is room for five of the longest, and
-// returns how many bytes they have.
+// Writes at most five numbers in their shortest encodings at the front, where there is room for five of the longest,
+// and returns how many bytes they have.
 #[inline(always)]
 pub(crate) fn put_in_place(dest: &mut [u8], numbers: &[u64]) -> usize
     requires few { length numbers.now ≤ 5 }

@@ -320,7 +320,8 @@ fn described<'a>(words: &CFrame, data: &'a [u8], last: bool) -> Option<Frame<'a>
     Some(frame)
 }
 
-// Writes a frame of any kind. It is a separate function, so that no registers are saved for one that is written quickly.
+// Writes a frame of any kind. It is a separate function, so that no registers are saved for one that is written
+// quickly.
 #[inline(never)]
 fn write_any(frame: &CFrame, data: &[u8], flags: u32, out: &mut [u8], written: &mut usize) -> i32
     ensures returns { (result ≡ pos 0) ⊎ (result ≡ failed Failure.NoRoom) ⊎ (result ≡ failed Failure.Argument)

@@ -29,8 +29,8 @@ fn put_path(ty: u64, n: u64, out: &mut [u8]) -> usize
 }
 
 // Writes the frame of a kind with these first three numbers at the front, where there is room for any, and returns how
-// many bytes it has. It returns `None` for numbers that can't be written or that the kind lacks, for a frame that breaks
-// a rule, and for kinds that have data or four numbers, or of which a rule depends on the flags.
+// many bytes it has. It returns `None` for numbers that can't be written or that the kind lacks, for a frame that
+// breaks a rule, and for kinds that have data or four numbers, or of which a rule depends on the flags.
 #[inline(always)]
 fn put_kind(kind: u16, a: u64, b: u64, c: u64, out: &mut [u8]) -> Option<usize>
     requires room { 40 ≤ length out.old }

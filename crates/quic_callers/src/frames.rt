@@ -32,8 +32,8 @@ pub fn written_and_read<'a>(frame: &Frame<'_>, out: &'a mut Vec<u8>) -> Result<F
     }
 }
 
-/// How many bytes the body of a frame has, which `Frame::encode_body_into` stores, `last` or not. The caller must ensure
-/// that the frame can be written.
+/// How many bytes the body of a frame has, which `Frame::encode_body_into` stores, `last` or not. The caller must
+/// ensure that the frame can be written.
 pub fn body_len(frame: &Frame<'_>, last: bool) -> u128
     requires { CanStand last frame.now }
     ensures { result ≡ length (shortest_body last (meaning_of frame.now)) }

@@ -55,7 +55,8 @@ pub fn written_is_least()
     least_encoding();
 }
 
-/// The shortest payload with the meaning of one that has no error under some rules has none either, and the same frames.
+/// The shortest payload with the meaning of one that has no error under some rules has none either, and the same
+/// frames.
 pub fn least_by_rules()
     ensures { (rules : Rules) (frames : List TypedFrame) (payload least : List ℕ)
         → IsCheckedOf rules payload (record { frames = frames; error = None }) → IsLeast least payload

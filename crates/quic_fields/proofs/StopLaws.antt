@@ -1,4 +1,5 @@
--- What reading the front finds inside the field at fault is what the grammar says of that field; in a frame it is nothing.
+-- What reading the front finds inside the field at fault is what the grammar says of that field; in a frame it is
+-- nothing.
 use Rattle.std.proofs.Common.{◌≡◌, ℕ, suc, ◌+◌, ◌-◌, ◌≤◌, true, List, [], ◌∷◌, ◌++◌, length, take, drop, Bool, Ok, Err, refl, sym, ap, subst, ◌∙◌, append_assoc, append-nil, inl, inr, arith}
 use Rattle.std.specs.List.{list_any}
 use Rattle.std.proofs.Math.Seq.{drop-append-add}

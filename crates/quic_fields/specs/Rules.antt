@@ -38,8 +38,8 @@ ForbidsType rules bytes reason = (t : ℕ)
 
 -- ---- the field of a rule
 
--- The index of the last field in a row that has a number: a number, or bytes with their length; if the row ends in bytes
--- without a length, that of the field in front of them.
+-- The index of the last field in a row that has a number: a number, or bytes with their length; if the row ends in
+-- bytes without a length, that of the field in front of them.
 abbrev pub broken_at : List Field → ℕ
 broken_at [] = 1
 broken_at (field ∷ []) = 1
@@ -85,9 +85,9 @@ pub record HasSpansBy (rules : Rules) (payload : List ℕ) (old new : List Span)
   pub allowed : AllowsType rules payload
   pub kept : Keeps rules plain.found
 
--- No frame that the rules allow begins the payload, for this reason. The spans of the fields before the one at fault are
--- in the room, as far as it reaches; this is how many they are, and so the index of the field at fault; and that field
--- begins at this offset.
+-- No frame that the rules allow begins the payload, for this reason. The spans of the fields before the one at fault
+-- are in the room, as far as it reaches; this is how many they are, and so the index of the field at fault; and that
+-- field begins at this offset.
 pub record LacksSpansBy (rules : Rules) (payload : List ℕ) (old new : List Span) (count end : ℕ) (reason : Refusal)
     : Type 0 where
   pub spans : List Span
@@ -96,8 +96,8 @@ pub record LacksSpansBy (rules : Rules) (payload : List ℕ) (old new : List Spa
   pub all : count ≡ length spans
   pub stop : AreInRow 0 spans end
 
--- So much of the field with this index, which begins at this offset and is at fault, comes before what is at fault in it:
--- nothing if the type is rejected or a rule is broken, and nothing without a fault.
+-- So much of the field with this index, which begins at this offset and is at fault, comes before what is at fault in
+-- it: nothing if the type is rejected or a rule is broken, and nothing without a fault.
 abbrev pub StopsBy : Option Refusal → List ℕ → ℕ → ℕ → ℕ × ℕ → Type 0
 StopsBy None bytes index start at = at ≡ (0, 0)
 StopsBy (Some (Broken breach)) bytes index start at = at ≡ (0, 0)

@@ -52,8 +52,8 @@ pub record IsFrameAt (strict : Bool) (found : TypedFrame) (spans : List Span) (b
   pub all : spans ≡ span 0 0 (Number found.type ∷ []) (length type_bytes) ∷ others
   pub fields : AreFieldsAt 1 (length type_bytes) row.fields [] others found.frame.values field_bytes
 
--- No frame begins here, for this reason: the type can't be read, or no frame has it; or the field with this index in the
--- type's row can't be read, and these are the spans of those before it.
+-- No frame begins here, for this reason: the type can't be read, or no frame has it; or the field with this index in
+-- the type's row can't be read, and these are the spans of those before it.
 abbrev pub IsNoFrameAt : List ℕ → List Span → ℕ → Fault → Type 0
 IsNoFrameAt bytes spans at reason =
     ((spans ≡ []) × (at ≡ 0) × NoNumber bytes × (reason ≡ UnexpectedEnd))

@@ -98,7 +98,8 @@ pub record HasSpans (payload : List ℕ) (old new : List Span) (count end : ℕ)
   pub stop : end ≡ length front
 
 -- No frame begins the payload, for this reason. The spans of the fields before the one at fault are in the room, as far
--- as it reaches; this is how many they are, and so the index of the field at fault; and that field begins at this offset.
+-- as it reaches; this is how many they are, and so the index of the field at fault; and that field begins at this
+-- offset.
 pub record LacksSpans (payload : List ℕ) (old new : List Span) (count end : ℕ) (reason : Fault) : Type 0 where
   pub spans : List Span
   pub no_frame : IsNoFrameAt payload spans count reason

@@ -50,9 +50,9 @@ fn walk_frame(payload: &[u8], room: &mut [Span]) -> Walked
     walk(kinds, 1, end, Seen::Nothing, rest, room)
 }
 
-/// Stores where the fields of the frame at the front are, as far as `room` reaches: its type, and then the fields of the
-/// type's row (RFC 9000, section 19). No frame has more than seven. If a field can't be read, or no frame has the type,
-/// the fields before it are stored, and the result says which field is at fault, where it begins, and why.
+/// Stores where the fields of the frame at the front are, as far as `room` reaches: its type, and then the fields of
+/// the type's row (RFC 9000, section 19). No frame has more than seven. If a field can't be read, or no frame has the
+/// type, the fields before it are stored, and the result says which field is at fault, where it begins, and why.
 pub fn frame_spans(payload: &[u8], room: &mut [Span]) -> Walked
     ensures ok { result.fault ≡ None → HasSpans payload.now room.old room.new result.count result.end }
     ensures err { IfSome result.fault

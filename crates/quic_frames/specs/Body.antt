@@ -10,8 +10,8 @@ use Rattle.quic_frames.specs.Walk.{Finds, LacksFrame, first_of, rest_of}
 abbrev pub with_type : ℕ → List ℕ → List ℕ
 with_type type body = shortest_varint type ++ body
 
--- The bytes begin with the body of this frame: behind the type, they are a payload that begins with it. The rest is what
--- that payload has behind the frame.
+-- The bytes begin with the body of this frame: behind the type, they are a payload that begins with it. The rest is
+-- what that payload has behind the frame.
 pub record ReadsBody (strict : Bool) (type : ℕ) (body : List ℕ) (frame : Frame) (rest : List ℕ) : Type 0 where
   pub next : IterState
   pub finds : Finds (first_of strict (with_type type body)) frame next

@@ -64,8 +64,8 @@ abbrev pub is_unknown_by : Rules → Option ℕ → Bool
 is_unknown_by rules (Some t) = rules.no_ack_frequency && is_of_ack_frequency t
 is_unknown_by rules None = false
 
--- Why no frame is read, under rules: a type that isn't negotiated is unknown, whatever its fields are. Whether a type is
--- in its shortest encoding is checked before.
+-- Why no frame is read, under rules: a type that isn't negotiated is unknown, whatever its fields are. Whether a type
+-- is in its shortest encoding is checked before.
 abbrev pub fault_by : Rules → Option ℕ → Fault → Fault
 fault_by rules type LongType = LongType
 fault_by rules type reason = if is_unknown_by rules type then InvalidFrameId else reason

@@ -151,8 +151,8 @@ impl Frame<'_> {
         }
     }
 
-    // The numbers that make up the frame, its type first, in front of zeros, and how many there are. Frames of the other
-    // kinds hold bytes, or are frequent and have writers of their own.
+    // The numbers that make up the frame, its type first, in front of zeros, and how many there are. Frames of the
+    // other kinds hold bytes, or are frequent and have writers of their own.
     #[tactic(auto, unfolding(quic_frame_fields::specs::Shortest::shortest_frame))]
     fn numbers(&self) -> ([u64; 5], usize)
         requires { IsWrittenAsNumbers self.now }

@@ -2,7 +2,7 @@
 use Rattle.std.proofs.Common.{◌≡◌, ℕ, ◌+◌, ◌-◌, ◌<◌, ◌≤◌, ◌^◌, List, [], ◌∷◌, ◌++◌, length, take, drop, sym, ap, ◌∙◌, arith}
 use Rattle.std.proofs.Math.Seq.{take-append-add, take-append_seam}
 use Rattle.std.proofs.lemmas.Bool.Decides.{nat_tests}
-use Rattle.std.proofs.lemmas.List.{append-nil, append_assoc, length-append, length-take-le, drop-drop, take-append-drop, take-append-le, take-take}
+use Rattle.std.proofs.lemmas.List.{append-nil, append_assoc, length-append, length-take-le, take-append-drop, take-append-le, take-take}
 use Rattle.std.specs.Int.{byte_at}
 use Rattle.quic_base.specs.Number.{bytes_of}
 use Rattle.quic_base.specs.Varint.{encoding_in, shortest_varint, size}
@@ -16,13 +16,6 @@ short_small n h = grind (arith, nat_tests)
 pub size_small : (n : ℕ) → n < 64 → size n ≡ 1
 unfolding size
 size_small n h = grind (arith, nat_tests)
-
--- what is after an offset stays, if it stays after an earlier one
-pub stays : (a b : ℕ) (new old : List ℕ) → drop a new ≡ drop a old → a ≤ b → drop b new ≡ drop b old
-stays a b new old e le =
-    let at : a + (b - a) ≡ b = omega arith in
-    ap (λ (i : ℕ). drop i new) (sym at) ∙ sym (drop-drop (b - a) a new) ∙ ap (drop (b - a)) e
-    ∙ drop-drop (b - a) a old ∙ ap (λ (i : ℕ). drop i old) at
 
 -- what was written over bytes, if nothing after it changed
 pub stored_over : (at end : ℕ) (old new bytes : List ℕ) → take end new ≡ take at old ++ bytes

@@ -7,9 +7,9 @@ ghost use Rattle.quic_crypto.specs.PacketNumbers.{IsInRange};
 ghost use Rattle.quic_header_encode.specs.Kinds.{first_in, long_front, version_in};
 ghost use Rattle.quic_header_encode.specs.Writing.{end_bytes, fields_by, stored_bytes, stored_len, token_by, with_len, HasStoreRoom, HasLow, IsExact, IsStorable, IsLong, IsShortToken, TakesLen};
 
-use crate::fields::{store_bytes, store_ends, store_id, store_number};
+use crate::fields::{store_ends, store_id, store_number};
 use crate::long_type::HeaderKind;
-use quic_base::coding::store_array;
+use quic_base::coding::{store_array, store_bytes};
 use quic_base::ids::ConnectionId;
 use quic_base::varint::{IN_EIGHT, IN_FOUR, IN_TWO, store_var, var_size};
 use quic_crypto::packet_number::PacketNumber;

@@ -14,9 +14,10 @@ use Rattle.quic_header_fields.specs.Spans.{IsHeaderAt}
 abbrev pub bytes_span : ℕ → ℕ → ℕ → ℕ → Span
 bytes_span index start n number = record { field = index; start = start; end = start + n; number = number }
 
--- The spans of what follows a header, from an offset on. In a version negotiation these are the versions that the server
--- supports, four bytes each: one span, whose number is how many they are; none if the bytes aren't whole versions. In a
--- Retry they are a token and a tag of 16 bytes; none if there are fewer. No other packet has such fields.
+-- The spans of what follows a header, from an offset on. In a version negotiation these are the versions that the
+-- server supports, four bytes each: one span, whose number is how many they are; none if the bytes aren't whole
+-- versions. In a Retry they are a token and a tag of 16 bytes; none if there are fewer. No other packet has such
+-- fields.
 abbrev pub AreAfter : ProtectedHeader → ℕ → ℕ → List ℕ → List Span → Type 0
 AreAfter (protected.VersionNegotiate random dst src) index start rest spans =
     ((n : ℕ) × (length rest ≡ n * 4) × (spans ≡ bytes_span index start (length rest) n ∷ []))
@@ -37,8 +38,8 @@ after_at kind.Retry index start n =
     else bytes_span index start (n - 16) (n - 16) ∷ bytes_span (index + 1) (start + (n - 16)) 16 16 ∷ []
 after_at _ index start n = []
 
--- The packet at the front has a header with these spans, and then fields with others. They are in the room, as far as it
--- reaches; this is how many they are, and where the last one ends.
+-- The packet at the front has a header with these spans, and then fields with others. They are in the room, as far as
+-- it reaches; this is how many they are, and where the last one ends.
 pub record HasFields (options : DecodeOptions) (bytes : List ℕ) (old new : List Span) (count end : ℕ) : Type 0 where
   pub header : ProtectedHeader
   pub spans : List Span

@@ -15,8 +15,8 @@ but_last [] = []
 but_last (x ∷ []) = []
 but_last (x ∷ y ∷ xs) = x ∷ but_last (y ∷ xs)
 
--- The spans are in the room, as far as it reaches; this is how many they are, and so the index of the field at fault; and
--- that field begins at this offset.
+-- The spans are in the room, as far as it reaches; this is how many they are, and so the index of the field at fault;
+-- and that field begins at this offset.
 pub record AreStored (spans old new : List Span) (count end : ℕ) : Type 0 where
   pub room : new ≡ stored 0 spans old
   pub all : count ≡ length spans

@@ -41,8 +41,8 @@ is_known options version = (version == 0) || list_any (λ known. known == versio
 abbrev pub IsAnyId : List HeaderValue → List ℕ → Type 0
 IsAnyId values bytes = (id : List ℕ) × (values ≡ Bytes id ∷ []) × (bytes ≡ long_id id)
 
--- After fields with the values in before, and in front of rest, the bytes are a field of this kind, with these values: as
--- RFC 9000 says if the version is known, and else with ids of any length.
+-- After fields with the values in before, and in front of rest, the bytes are a field of this kind, with these values:
+-- as RFC 9000 says if the version is known, and else with ids of any length.
 abbrev pub IsFieldIn : Bool → DecodeOptions → HeaderField → List HeaderValue → List HeaderValue → List ℕ → List ℕ
     → Type 0
 IsFieldIn true options field before values bytes rest = IsHeaderField options field before values bytes rest
@@ -93,8 +93,8 @@ IsHeaderAt options datagram_len bytes h spans rest =
     × AreFieldsAt true options 1 1 (header_row_of first (num (take 4 text))) [] others values text rest
     × IsHeader datagram_len first values h
 
--- The bytes begin with no header, and this is the error: there is no first byte; or the field with this index in the row
--- is not there, and these are the spans of those before it.
+-- The bytes begin with no header, and this is the error: there is no first byte; or the field with this index in the
+-- row is not there, and these are the spans of those before it.
 abbrev pub IsNoHeaderAt : DecodeOptions → List ℕ → List Span → ℕ → Refusal → Type 0
 IsNoHeaderAt options [] spans at e = (spans ≡ []) × (at ≡ 0) × (e ≡ Invalid (codes "unexpected end of packet"))
 IsNoHeaderAt options (first ∷ text) spans at e =

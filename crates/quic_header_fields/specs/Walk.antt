@@ -85,8 +85,8 @@ header_walk options (first ∷ text) =
     let w = walk_at (is_known options version) options 1 1 (header_row_of first version) [] text in
     (first_span first ∷ w.0, w.1)
 
--- The header at the front has these spans. They are in the room, as far as it reaches, and this is how many they are and
--- where the header ends.
+-- The header at the front has these spans. They are in the room, as far as it reaches, and this is how many they are
+-- and where the header ends.
 pub record HasHeader (options : DecodeOptions) (bytes : List ℕ) (old new : List Span) (count end : ℕ) : Type 0 where
   pub header : ProtectedHeader
   pub spans : List Span
@@ -96,9 +96,9 @@ pub record HasHeader (options : DecodeOptions) (bytes : List ℕ) (old new : Lis
   pub all : count ≡ length spans
   pub stop : end + length rest ≡ length bytes
 
--- No header begins the bytes, and this is the error. The spans of the fields before the one at fault are in the room, as
--- far as it reaches; this is how many they are, and so the index of the field at fault; and that field begins at this
--- offset.
+-- No header begins the bytes, and this is the error. The spans of the fields before the one at fault are in the room,
+-- as far as it reaches; this is how many they are, and so the index of the field at fault; and that field begins at
+-- this offset.
 pub record LacksHeader (options : DecodeOptions) (bytes : List ℕ) (old new : List Span) (count end : ℕ) (e : Refusal)
     : Type 0 where
   pub spans : List Span

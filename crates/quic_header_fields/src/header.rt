@@ -95,14 +95,14 @@ pub(crate) fn walk_header(
     )
 }
 
-/// Stores where the fields of the header at the front are, as far as `room` reaches: its first byte, and then the fields
-/// of its row (RFC 9000, sections 17.2 and 17.3). No header has more than eight. Index 1 is the version, 2 and 3 are the
-/// ids, each with its length byte, 4 has no bytes and stands for a version that is known, then come the token's length,
-/// the token and the length, as far as the type has them; of a short header 1 is the id. If a field can't be read, the
-/// fields before it are stored, and the result says which field is at fault, where it begins, and why: the error is that
-/// of `read_header`. Ids of short headers have `id_len` bytes; the caller must ensure that this is at most 20. For
-/// versions other than `versions` only the ids are read, which have up to 255 bytes (RFC 8999, section 5.1). The fixed
-/// bit isn't checked. It doesn't allocate.
+/// Stores where the fields of the header at the front are, as far as `room` reaches: its first byte, and then the
+/// fields of its row (RFC 9000, sections 17.2 and 17.3). No header has more than eight. Index 1 is the version, 2 and 3
+/// are the ids, each with its length byte, 4 has no bytes and stands for a version that is known, then come the token's
+/// length, the token and the length, as far as the type has them; of a short header 1 is the id. If a field can't be
+/// read, the fields before it are stored, and the result says which field is at fault, where it begins, and why: the
+/// error is that of `read_header`. Ids of short headers have `id_len` bytes; the caller must ensure that this is at
+/// most 20. For versions other than `versions` only the ids are read, which have up to 255 bytes (RFC 8999, section
+/// 5.1). The fixed bit isn't checked. It doesn't allocate.
 pub fn header_spans(bytes: &[u8], id_len: usize, versions: &[u32], room: &mut [Span]) -> Walked
     requires { id_len ≤ MAX_CID_SIZE }
     ensures ok { result.fault ≡ None

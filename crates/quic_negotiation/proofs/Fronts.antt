@@ -1,9 +1,8 @@
 -- The ids of a long header of any version.
-use Rattle.std.proofs.Common.{◌≡◌, ℕ, ◌+◌, ◌<◌, ◌≤◌, List, [], ◌∷◌, ◌++◌, length, take, drop, refl, sym, ap, ◌∙◌, arith}
-use Rattle.std.specs.Prelude.{◌≢◌}
+use Rattle.std.proofs.Common.{◌≡◌, ℕ, ◌+◌, ◌≤◌, List, [], ◌∷◌, ◌++◌, length, take, drop, sym, ap, ◌∙◌, arith}
 use Rattle.std.specs.Int.{w32, from_be_bytes}
 use Rattle.std.proofs.lemmas.Bool.Decides.{nat_tests}
-use Rattle.std.proofs.lemmas.List.{drop_at, length-append, length-take, take-append-drop, take_at}
+use Rattle.std.proofs.lemmas.List.{drop_at, length-take, take-append-drop, take_at}
 use Rattle.quic_base.specs.ConnectionId.{long_id}
 use Rattle.quic_base.specs.Number.{num, AreBytes}
 use Rattle.quic_base.proofs.PublicLaws as law
@@ -61,15 +60,15 @@ of_front first packet text number behind dst left src rest is front back size lo
       record { bytes = bytes; width = width; value = sym (word_is number width) },
     )
 
--- the ids are those that are read, and no others
+-- the version and the ids are those that are read, and no others
 pub same_ids : (version v : ℕ) (packet dst src rest d s r : List ℕ) → AnyVersion packet version dst src rest
     → AnyVersion packet v d s r
-    → (dst ≡ d) × (src ≡ s)
+    → (version ≡ v) × (dst ≡ d) × (src ≡ s)
 same_ids version v packet dst src rest d s r (f, number, whole, long, word) (g, other, all, high, is) =
     let ids : List ℕ = long_id dst ++ (long_id src ++ rest) in
     let others : List ℕ = long_id d ++ (long_id s ++ r) in
     let parts = parts_of_cons f g (number ++ ids) (other ++ others) (sym whole ∙ all) in
-    let behind : ids ≡ others = law.same_back number other ids others (word.width ∙ sym is.width) parts.1 in
-    let one = one_id dst d (long_id src ++ rest) (long_id s ++ r) behind in
+    let behind = law.number_unique 4 version v number other ids others parts.1 word is in
+    let one = one_id dst d (long_id src ++ rest) (long_id s ++ r) behind.2 in
     let two = one_id src s rest r one.1 in
-    (one.0, two.0)
+    (behind.0, one.0, two.0)

@@ -1,2 +1,2 @@
-mod Fronts
+pub mod Fronts
 mod Made

@@ -1,19 +1,12 @@
 -- What is written is a Version Negotiation packet.
-use Rattle.std.proofs.Common.{◌≡◌, Bool, true, false, ℕ, ◌+◌, ◌-◌, ◌%◌, ◌<◌, ◌≤◌, List, [], ◌∷◌, ◌++◌, length, take, drop, refl, sym, ap, ◌∙◌, arith}
+use Rattle.std.proofs.Common.{◌≡◌, Bool, true, false, ℕ, ◌+◌, ◌%◌, List, [], ◌∷◌, ◌++◌, length, ap, ◌∙◌, arith}
 use Rattle.std.specs.Prelude.{◌==◌, ◌≢◌, slice_index}
 use Rattle.std.proofs.lemmas.Bool.Decides.{nat_tests}
-use Rattle.std.proofs.lemmas.List.{append_assoc, drop-drop}
+use Rattle.std.proofs.lemmas.List.{append_assoc}
 use Rattle.quic_base.specs.ConnectionId.{long_id}
 use Rattle.quic_base.specs.Number.{bytes_of}
 use Rattle.quic_base.proofs.PublicLaws as law
 use Rattle.quic_header_decode.specs.Places.{AnyVersion}
-
--- what is stored in front leaves what is behind
-pub stays : (k n : ℕ) (xs ys : List ℕ) → drop k xs ≡ drop k ys → k ≤ n → drop n xs ≡ drop n ys
-stays k n xs ys same le =
-    let sum : k + (n - k) ≡ n = omega (arith, le) in
-    ap (λ (i : ℕ). drop i xs) (sym sum) ∙ sym (drop-drop (n - k) k xs) ∙ ap (drop (n - k)) same ∙ drop-drop (n - k) k ys
-    ∙ ap (λ (i : ℕ). drop i ys) sum
 
 -- a list that isn't found empty
 pub some_items : (xs : List ℕ) (empty : Bool) → empty ≡ (length xs == 0) → empty ≡ false → xs ≢ []

@@ -30,9 +30,9 @@ pub fn one_list_of_spans_in_a_value()
         → IsValueAt any_width found spans bytes → AreInRow 0 spans (length bytes) × AreNumbered 0 spans }
 {}
 
-/// Bytes have at most one field at fault, and a value of the parameter has none: `value_spans` finds it in all bytes that
-/// are no value. The error is that of the parameter's definition; or the bytes encode a value that a client doesn't
-/// accept, which is `IllegalValue`.
+/// Bytes have at most one field at fault, and a value of the parameter has none: `value_spans` finds it in all bytes
+/// that are no value. The error is that of the parameter's definition; or the bytes encode a value that a client
+/// doesn't accept, which is `IllegalValue`.
 pub fn one_field_at_fault_in_a_value()
     ensures none { (any_width : Bool) (found : Option TransportParameterId) (spans others : List Span) (bytes : List ℕ)
         (at start : ℕ) (s : Stop) → IsValueAt any_width found spans bytes

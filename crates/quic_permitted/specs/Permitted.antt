@@ -45,9 +45,10 @@ by_servers packets = record { packets = packets; only_servers = true; part = par
 abbrev pub on_a_stream : Packets → Part → Permission
 on_a_stream packets part = record { packets = packets; only_servers = false; part = part }
 
--- One row for each frame. Those of RFC 9000 are as table 3 has them, which permits RETIRE_CONNECTION_ID in 0-RTT packets;
--- section 12.5 says that a server may reject that. DATAGRAM is RFC 9221's (section 5). The draft of the ACK frequency
--- extension doesn't say in which packets its frames may be: here, as in quinn-proto, in 0-RTT and 1-RTT packets.
+-- One row for each frame. Those of RFC 9000 are as table 3 has them, which permits RETIRE_CONNECTION_ID in 0-RTT
+-- packets; section 12.5 says that a server may reject that. DATAGRAM is RFC 9221's (section 5). The draft of the ACK
+-- frequency extension doesn't say in which packets its frames may be: here, as in quinn-proto, in 0-RTT and 1-RTT
+-- packets.
 abbrev pub permission_of : Name → Permission
 permission_of Padding = in_packets IH01
 permission_of Ping = in_packets IH01
@@ -93,8 +94,8 @@ MaySend sender permission = (permission.only_servers ≡ false) ⊎ (sender ≡ 
 abbrev pub IsFrom : Side → PacketType → Type 0
 IsFrom sender packet = (packet ≡ ZeroRtt → ⊥) ⊎ (sender ≡ Client)
 
--- On a bidirectional stream both sides send and receive data; on a unidirectional one the side that opened it sends, and
--- the other side receives (section 2.1).
+-- On a bidirectional stream both sides send and receive data; on a unidirectional one the side that opened it sends,
+-- and the other side receives (section 2.1).
 abbrev pub MayBeSentOn : ℕ → Side → Part → Type 0
 MayBeSentOn stream _ part.None = ⊤
 MayBeSentOn stream sender part.SendsData = (dir_of stream ≡ Bi) ⊎ (initiator_of stream ≡ sender)

@@ -1,5 +1,5 @@
-//! Which packets may carry a frame, and which side may send it: by its type, before its fields are read, and by the whole
-//! frame.
+//! Which packets may carry a frame, and which side may send it: by its type, before its fields are read, and by the
+//! whole frame.
 ghost use Rattle.std.specs.Prelude.{◌≡◌, ◌↔◌, Some, IsTrue};
 ghost use Rattle.quic_frames.specs.Meaning.{meaning_of};
 ghost use Rattle.quic_permitted.specs.Permitted.{FrameAnswer, IsFrom, MayBeSentOn, MayCarry, MaySend, StreamAnswer, StreamAnswerBy, TypeAnswer, TypeAnswerBy, by_servers, code_of, in_packets, on_a_stream, permission_by, stream_by};

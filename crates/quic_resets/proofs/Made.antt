@@ -1,15 +1,8 @@
 -- What is made of bytes and a token is a stateless reset.
-use Rattle.std.proofs.Common.{◌≡◌, ℕ, ◌+◌, ◌-◌, ◌%◌, ◌≤◌, List, [], ◌∷◌, ◌++◌, length, drop, sym, ap, ◌∙◌, arith}
-use Rattle.std.proofs.lemmas.List.{drop-drop, drop_at, length-append}
+use Rattle.std.proofs.Common.{◌≡◌, ℕ, ◌+◌, ◌-◌, ◌%◌, ◌≤◌, List, [], ◌∷◌, ◌++◌, length, drop, ap, ◌∙◌, arith}
+use Rattle.std.proofs.lemmas.List.{drop_at, length-append}
 use Rattle.std.specs.Prelude.{slice_index}
 use Rattle.quic_resets.specs.Resets.{IsReset, IsShortHeader}
-
--- what is stored in front leaves what is behind
-pub stays : (k n : ℕ) (xs ys : List ℕ) → drop k xs ≡ drop k ys → k ≤ n → drop n xs ≡ drop n ys
-stays k n xs ys same le =
-    let sum : k + (n - k) ≡ n = omega (arith, le) in
-    ap (λ (i : ℕ). drop i xs) (sym sum) ∙ sym (drop-drop (n - k) k xs) ∙ ap (drop (n - k)) same ∙ drop-drop (n - k) k ys
-    ∙ ap (λ (i : ℕ). drop i ys) sum
 
 pub made : (first : ℕ) (rest token datagram : List ℕ) → length token ≡ 16 → 4 ≤ length rest
     → datagram ≡ (0x40 + first % 0x40) ∷ (rest ++ token) → IsReset token datagram

@@ -1,8 +1,8 @@
 -- Stateless resets (RFC 9000, section 10.3).
 use Rattle.std.specs.Prelude.{◌≡◌, ℕ, ◌+◌, ◌-◌, ◌%◌, ◌<◌, ◌≤◌, List, [], ◌∷◌, ◌++◌, length, drop, slice_index}
 
--- A datagram is a stateless reset with this token: it has 21 bytes at least, which is the least of a packet with a short
--- header, and the token is its end.
+-- A datagram is a stateless reset with this token: it has 21 bytes at least, which is the least of a packet with a
+-- short header, and the token is its end.
 pub record IsReset (token datagram : List ℕ) : Type 0 where
   pub long : 21 ≤ length datagram
   pub ends : drop (length datagram - 16) datagram ≡ token

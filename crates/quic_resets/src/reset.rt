@@ -2,25 +2,11 @@
 ghost use Rattle.std.specs.Prelude.{◌≡◌, ◌+◌, ◌-◌, ◌<◌, ◌≤◌, ◌⊎◌, ◌↔◌, ◌++◌, IfSome, IsNone, IsTrue, length, take, drop};
 ghost use Rattle.quic_resets.specs.Resets.{reset_bytes, IsReset, IsShortHeader};
 
-use quic_base::coding::store_array;
+use quic_base::coding::{store_array, store_bytes};
 use quic_base::ids::{RESET_TOKEN_SIZE, ResetToken};
 
 /// How many bytes a stateless reset has at least.
 pub const MIN_LEN: usize = 21;
-
-// Stores bytes over those from `at` on, and returns the offset at which they end.
-#[inline(always)]
-fn store_bytes(dest: &mut [u8], at: usize, bytes: &[u8]) -> usize
-    requires { at + length bytes.now ≤ length dest.old }
-    ensures end { result ≡ at + length bytes.now }
-    ensures front { take result dest.new ≡ take at dest.old ++ bytes.now }
-    ensures back { drop result dest.new ≡ drop result dest.old }
-    ensures len { length dest.new ≡ length dest.old }
-{
-    let end = at + bytes.len();
-    dest[at..end].copy_from_slice(bytes);
-    end
-}
 
 /// Stores a stateless reset at the front of `dest`, and returns how many bytes it has: as many as `unpredictable`, and
 /// the token's 16. The two highest bits of the first byte are 0 and 1, as in a packet with a short header; all other

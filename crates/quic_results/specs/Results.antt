@@ -53,9 +53,9 @@ frame_failure reason = if pointwise nat_eq reason (codes "unexpected end") then 
 
 -- the code of the CONNECTION_CLOSE that a failure leads to (RFC 9000, section 20.1): an INTERNAL_ERROR for the caller's
 -- arguments; a PROTOCOL_VIOLATION for an empty payload, a type in a longer encoding, and a frame in the wrong packet or
--- from the wrong side (sections 12.4, 19.7 and 19.20); a STREAM_STATE_ERROR for a frame on a stream on which that side may
--- not send it (sections 19.4 to 19.13); a FRAME_ENCODING_ERROR for other frames; a TRANSPORT_PARAMETER_ERROR (section
--- 7.4); and NO_ERROR for packets, which are dropped (section 5.2)
+-- from the wrong side (sections 12.4, 19.7 and 19.20); a STREAM_STATE_ERROR for a frame on a stream on which that side
+-- may not send it (sections 19.4 to 19.13); a FRAME_ENCODING_ERROR for other frames; a TRANSPORT_PARAMETER_ERROR
+-- (section 7.4); and NO_ERROR for packets, which are dropped (section 5.2)
 abbrev pub code_of : Failure → ℕ
 code_of failure.Argument = 0x01
 code_of failure.Place = 0x01

@@ -101,8 +101,8 @@ impl Failure {
 
 /// The code with which an endpoint closes the connection after the failure with this number (RFC 9000, section 20.1):
 /// `FRAME_ENCODING_ERROR`, `PROTOCOL_VIOLATION`, `STREAM_STATE_ERROR` or `TRANSPORT_PARAMETER_ERROR` if its peer broke
-/// a rule; `INTERNAL_ERROR` if the caller passed impossible arguments; and `NO_ERROR`, 0, if nothing is closed, because a
-/// packet that can't be read is dropped, and other numbers aren't failures.
+/// a rule; `INTERNAL_ERROR` if the caller passed impossible arguments; and `NO_ERROR`, 0, if nothing is closed, because
+/// a packet that can't be read is dropped, and other numbers aren't failures.
 pub fn close_code(number: i32) -> u32
     ensures failure { (f : Failure) → number ≡ failed f → result ≡ code_of f }
     ensures success { (count : ℕ) → number ≡ pos count → result ≡ 0x00 }

@@ -78,8 +78,8 @@ pub fn entry_len(list: &[u8]) -> Option<usize>
     }
 }
 
-/// Whether a header begins the bytes: exactly when none of its fields is at fault. The caller must ensure that `id_len` is
-/// at most 20.
+/// Whether a header begins the bytes: exactly when none of its fields is at fault. The caller must ensure that `id_len`
+/// is at most 20.
 pub fn has_header(bytes: &[u8], id_len: usize, versions: &[u32]) -> bool
     requires { id_len ≤ MAX_CID_SIZE }
     ensures { IsTrue result ↔ ((h : ProtectedHeader) × (rest : List ℕ)
@@ -117,8 +117,8 @@ pub fn header_by_kind(
 }
 
 /// Stores the fields of a packet, as far as `room` reaches, and returns how many they are: a header's, and of a version
-/// negotiation or a Retry those that follow it. They are all bytes that follow, up to the packet's end, or none. `None` if
-/// no header begins the bytes. The caller must ensure that `id_len` is at most 20.
+/// negotiation or a Retry those that follow it. They are all bytes that follow, up to the packet's end, or none. `None`
+/// if no header begins the bytes. The caller must ensure that `id_len` is at most 20.
 pub fn packet_in_fields(
     bytes: &[u8],
     id_len: usize,

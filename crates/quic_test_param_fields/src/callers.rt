@@ -16,8 +16,8 @@ use quic_param_fields::laws as of_values;
 use quic_param_fields::value::value_spans;
 use quic_params::transport_parameters::Error;
 
-/// How many fields the value of a parameter has: they are all of its bytes, one after another. `None` if the bytes are no
-/// value of the parameter.
+/// How many fields the value of a parameter has: they are all of its bytes, one after another. `None` if the bytes are
+/// no value of the parameter.
 pub fn value_in_fields(id: u64, value: &[u8], room: &mut [Span]) -> Option<usize>
     ensures { IfSome result (λ n. (spans : List Span) × (room.new ≡ stored 0 spans room.old) × (n ≡ length spans)
         × AreInRow 0 spans (length value.now) × AreNumbered 0 spans) }

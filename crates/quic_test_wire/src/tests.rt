@@ -53,7 +53,8 @@ fn payloads_are_read_by_rules(rt: HostRuntime) -> Result<(), Fail> {
     checks.verdict()
 }
 
-// A payload, whether the ACK frequency extension was negotiated, how many frames RFC 9000 allows, and why no more follow.
+// A payload, whether the ACK frequency extension was negotiated, how many frames RFC 9000 allows, and why no more
+// follow.
 type RfcRow = (&'static [u8], bool, usize, Option<(u8, &'static str)>);
 
 const BY_RFC: &[RfcRow] = &[
@@ -195,8 +196,8 @@ fn parameters_are_read_back(rt: HostRuntime) -> Result<(), Fail> {
     checks.verdict()
 }
 
-// A type of frames, the packets that carry it, as RFC 9000, section 12.4, table 3, or RFC 9221, section 4, has them, and
-// whether only servers send it (sections 19.7 and 19.20). A type with `?` is unknown.
+// A type of frames, the packets that carry it, as RFC 9000, section 12.4, table 3, or RFC 9221, section 4, has them,
+// and whether only servers send it (sections 19.7 and 19.20). A type with `?` is unknown.
 type TypeRow = (u64, &'static [u8], bool);
 
 const TYPES: &[TypeRow] = &[
@@ -271,8 +272,8 @@ fn permits_first(payload: &[u8], sender: Side) -> Option<Result<(), Forbidden>> 
     Some(permits(&frame, PacketType::OneRtt, sender, Rules::RFC))
 }
 
-// STREAM and STOP_SENDING on stream 2, which is unidirectional and the client's (section 2.1): the client sends the data,
-// and the server may ask it to stop.
+// STREAM and STOP_SENDING on stream 2, which is unidirectional and the client's (section 2.1): the client sends the
+// data, and the server may ask it to stop.
 #[test]
 fn frames_are_permitted_on_a_stream(rt: HostRuntime) -> Result<(), Fail> {
     let mut checks = Checks::new(rt.alloc());

@@ -1,2 +1,1 @@
 mod Nonces
-mod Stores

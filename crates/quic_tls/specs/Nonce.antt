@@ -1,5 +1,5 @@
 -- The nonce of a packet (RFC 9001, section 5.3).
-use Rattle.std.specs.Prelude.{ℕ, List, [], ◌∷◌, ◌++◌, bit_xor}
+use Rattle.std.specs.Prelude.{ℕ, List, [], ◌∷◌, bit_xor}
 use Rattle.quic_base.specs.Number.{bytes_of}
 
 -- two lists of bytes, joined byte by byte by exclusive or

@@ -2,29 +2,15 @@
 ghost use Rattle.std.specs.Prelude.{◌≡◌, ◌+◌, ◌-◌, ◌<◌, ◌≤◌, ◌⊎◌, ◌++◌, IfSome, IsNone, length, take, drop};
 ghost use Rattle.quic_tls.specs.Retry.{pseudo_packet};
 
-use quic_base::coding::store_array;
+use quic_base::coding::{store_array, store_bytes};
 
 /// How many bytes the tag has, with which a Retry ends.
 pub const TAG_LEN: usize = 16;
 
-// Stores bytes over those from `at` on, and returns the offset at which they end.
-#[inline(always)]
-fn store(dest: &mut [u8], at: usize, bytes: &[u8]) -> usize
-    requires { at + length bytes.now ≤ length dest.old }
-    ensures end { result ≡ at + length bytes.now }
-    ensures front { take result dest.new ≡ take at dest.old ++ bytes.now }
-    ensures back { drop result dest.new ≡ drop result dest.old }
-    ensures len { length dest.new ≡ length dest.old }
-{
-    let end = at + bytes.len();
-    dest[at..end].copy_from_slice(bytes);
-    end
-}
-
 /// Stores the pseudo-packet of a Retry at the front of `dest`: what its tag protects. `original` is the id to which the
 /// client sent its first Initial packet; `retry` is the packet, whole and with its tag. Returns how many bytes the
-/// pseudo-packet has. `None` exactly if `original` has more than 20 bytes, `retry` has fewer than 16, or `dest` has less
-/// room than is needed; `dest` doesn't change then (RFC 9001, section 5.8).
+/// pseudo-packet has. `None` exactly if `original` has more than 20 bytes, `retry` has fewer than 16, or `dest` has
+/// less room than is needed; `dest` doesn't change then (RFC 9001, section 5.8).
 pub fn store_pseudo_packet(original: &[u8], retry: &[u8], dest: &mut [u8]) -> Option<usize>
     ensures len { IfSome result (λ n. n ≡ length (pseudo_packet original.now retry.now)) }
     ensures front { IfSome result (λ n. take n dest.new ≡ pseudo_packet original.now retry.now) }
@@ -42,6 +28,6 @@ pub fn store_pseudo_packet(original: &[u8], retry: &[u8], dest: &mut [u8]) -> Op
         return None;
     }
     let at = store_array(dest, 0, [original.len() as u8]);
-    let at = store(dest, at, original);
-    Some(store(dest, at, &retry[..kept]))
+    let at = store_bytes(dest, at, original);
+    Some(store_bytes(dest, at, &retry[..kept]))
 }

@@ -1,19 +1,13 @@
 -- Versions that are stored one after another, and what they are read as.
-use Rattle.std.proofs.Common.{◌≡◌, ℕ, ◌+◌, ◌-◌, ◌*◌, ◌<◌, ◌≤◌, ◌^◌, List, [], ◌∷◌, ◌++◌, length, take, drop, get_or, refl, sym, ap, subst, ◌∙◌, suc, inl, inr, arith}
+use Rattle.std.proofs.Common.{◌≡◌, ℕ, ◌+◌, ◌*◌, ◌<◌, ◌^◌, List, [], ◌∷◌, ◌++◌, length, take, drop, get_or, refl, sym, ap, subst, ◌∙◌, suc, inl, inr, arith}
 use Rattle.std.specs.Prelude.{Contains, slice_index}
 use Rattle.std.proofs.Math.Nat.{eq-zero-or-pos}
 use Rattle.std.proofs.lemmas.Grind.{flat_map-append}
-use Rattle.std.proofs.lemmas.List.{append-nil, append_assoc, drop-drop, length-append, take_more}
+use Rattle.std.proofs.lemmas.List.{append-nil, append_assoc, length-append, take_more}
 use Rattle.quic_base.specs.Number.{bytes_of}
 use Rattle.quic_base.proofs.PublicLaws as law
+use Rattle.quic_base.proofs.Storing.{stays}
 use Rattle.quic_versions.specs.Versions.{AreVersions, version_bytes}
-
--- what is stored in front leaves what is behind
-pub stays : (k n : ℕ) (xs ys : List ℕ) → drop k xs ≡ drop k ys → k ≤ n → drop n xs ≡ drop n ys
-stays k n xs ys same le =
-    let sum : k + (n - k) ≡ n = omega (arith, le) in
-    ap (λ (i : ℕ). drop i xs) (sym sum) ∙ sym (drop-drop (n - k) k xs) ∙ ap (drop (n - k)) same ∙ drop-drop (n - k) k ys
-    ∙ ap (λ (i : ℕ). drop i ys) sum
 
 -- that many versions were written
 pub record StoredOn (versions : List ℕ) (at : ℕ) (old : List ℕ) (i end : ℕ) (new : List ℕ) : Type 0 where

@@ -1,6 +1,6 @@
 -- What RFC 9000 allows by the bytes alone: payloads and lists of transport parameters. What it allows as the first
--- packet of a datagram is in quic_header_decode's specs/Rfc.antt, which packets may carry a frame in quic_permitted. The
--- types of RFC 9221, DATAGRAM, are known here: whether support was offered the connection checks (section 3 there).
+-- packet of a datagram is in quic_header_decode's specs/Rfc.antt, which packets may carry a frame in quic_permitted.
+-- The types of RFC 9221, DATAGRAM, are known here: whether support was offered the connection checks (section 3 there).
 use Rattle.std.specs.Prelude.{◌≡◌, ◌≢◌, ⊤, ℕ, ◌+◌, ◌<◌, ◌≤◌, ◌^◌, ◌⊎◌, List, [], ◌∷◌, ◌++◌, All, length, map, IsTrue, Bool, true, false, not, Option, None, Some, codes}
 use Rattle.quic_base.specs.declared.ids.Side.{Side}
 use Rattle.quic_frame_fields.specs.Field.{Value, Number, Bytes, NoNumber, StopsWithin}
@@ -151,8 +151,8 @@ StopsAdding before remaining error =
     × ((IsGiven id before × (error ≡ refused.Malformed))
     ⊎ (¬ (IsGiven id before) × IsNoValue (in_any_width (row_of_parameter id).kind) entry.bytes error)))
 
--- The list is rejected with this error: of its first entry that isn't allowed, or, if all are, of the record, which this
--- side may not receive.
+-- The list is rejected with this error: of its first entry that isn't allowed, or, if all are, of the record, which
+-- this side may not receive.
 abbrev pub IsRfcListError : Side → List ℕ → Error → Type 0
 IsRfcListError side list error =
     ((entries : List Entry) × (given : List Given) × (front back : List ℕ) × (list ≡ front ++ back)

@@ -87,8 +87,8 @@ pub fn read_payload<'a>(
     Ok((frames, None))
 }
 
-/// Reads a payload with `Iter::with_rules`: its frames, and the error after them if there is one. With `Rules::RFC` there
-/// is none exactly if RFC 9000 allows the payload (`rfc::rfc_payloads`).
+/// Reads a payload with `Iter::with_rules`: its frames, and the error after them if there is one. With `Rules::RFC`
+/// there is none exactly if RFC 9000 allows the payload (`rfc::rfc_payloads`).
 pub fn read_checked<'a>(
     alloc: Global,
     payload: &'a [u8],
@@ -127,8 +127,8 @@ fn rules_of(negotiated: bool) -> Rules
     }
 }
 
-/// Reads a payload by RFC 9000's rules, with the ACK frequency extension or without it: its frames, all of which the RFC
-/// allows, and after them the error of the first thing that it doesn't allow, if there is one.
+/// Reads a payload by RFC 9000's rules, with the ACK frequency extension or without it: its frames, all of which the
+/// RFC allows, and after them the error of the first thing that it doesn't allow, if there is one.
 pub fn read_rfc<'a>(
     alloc: Global,
     payload: &'a [u8],
@@ -174,8 +174,8 @@ pub fn read_parameters(side: Side, list: &[u8]) -> Result<TransportParameters, E
     TransportParameters::read(side, &mut rest)
 }
 
-/// Reads a list of transport parameters with `TransportParameters::read_with`. With `ReadOptions::RFC` there is no error
-/// exactly if RFC 9000 allows the list (`rfc::rfc_lists`). It doesn't allocate.
+/// Reads a list of transport parameters with `TransportParameters::read_with`. With `ReadOptions::RFC` there is no
+/// error exactly if RFC 9000 allows the list (`rfc::rfc_lists`). It doesn't allocate.
 pub fn read_parameters_with(
     side: Side,
     options: ReadOptions,

@@ -60,8 +60,8 @@ pub fn rfc_frames_again()
     quic_canon::laws::written_is_least();
 }
 
-/// In RFC 9000's way of reading, every list of transport parameters has one record or one error; it has a record exactly
-/// if it is allowed, for the side that reads it.
+/// In RFC 9000's way of reading, every list of transport parameters has one record or one error; it has a record
+/// exactly if it is allowed, for the side that reads it.
 pub fn rfc_lists()
     ensures one { (side : Side) (list : List ℕ) → AreBytes list → ExactlyOne (IsReadAnswer ReadOptions.RFC side list) }
     ensures allowed { (side : Side) (list : List ℕ) (params : TransportParameters)
@@ -78,8 +78,9 @@ pub fn rfc_lists()
 }
 
 /// A datagram begins with exactly one packet that is allowed, or with none for exactly one reason. Each packet that is
-/// cut from it with the fixed bit checked, and isn't a Retry that lacks its token or its tag, is allowed; an allowed one
-/// that isn't a version negotiation is cut so; and an allowed version negotiation is cut with the fixed bit unchecked.
+/// cut from it with the fixed bit checked, and isn't a Retry that lacks its token or its tag, is allowed; an allowed
+/// one that isn't a version negotiation is cut so; and an allowed version negotiation is cut with the fixed bit
+/// unchecked.
 pub fn rfc_packets()
     ensures one { (options : DecodeOptions) (datagram : List ℕ) → AreBytes datagram → TakesWithin options
         → ExactlyOne (RfcPacketAnswer options datagram) }

@@ -10,6 +10,7 @@ ghost use Rattle.quic_frame_fields.specs.Shortest.{shortest_frame, stream_header
 use super::ack_encode::header_of;
 use super::write::{HEADER_ROOM, count_and_len, store_numbers};
 use super::{Ack, EcnCounts, FrameType, Stream};
+use quic_base::coding::store_bytes;
 use quic_base::varint::{split_var_by_word, store_var};
 
 /// Stores at most five numbers, each below 2^62, in their shortest encodings at the front of the slice, and returns how
@@ -105,20 +106,6 @@ fn three(dest: &mut [u8], front: &[u8], middle: &[u8], end: &[u8]) -> Result<usi
     let at = store_bytes(dest, 0, front);
     let at = store_bytes(dest, at, middle);
     Ok(store_bytes(dest, at, end))
-}
-
-// Stores bytes over those from `at` on, and returns the offset at which they end.
-#[inline(always)]
-fn store_bytes(dest: &mut [u8], at: usize, bytes: &[u8]) -> usize
-    requires { at + length bytes.now ≤ length dest.old }
-    ensures end { result ≡ at + length bytes.now }
-    ensures front { take result dest.new ≡ take at dest.old ++ bytes.now }
-    ensures back { drop result dest.new ≡ drop result dest.old }
-    ensures len { length dest.new ≡ length dest.old }
-{
-    let end = at + bytes.len();
-    dest[at..end].copy_from_slice(bytes);
-    end
 }
 
 /// Stores a STREAM with its data, in the same way. The data's length is written if it is given. The caller must ensure

@@ -114,8 +114,8 @@ impl<'a> Iterator for Checked<'a> {
     }
 }
 
-/// Reads a whole payload by rules, and returns the error of its reading, if it has one. The empty payload has none, though
-/// `Iter::with_rules` rejects it. It doesn't allocate.
+/// Reads a whole payload by rules, and returns the error of its reading, if it has one. The empty payload has none,
+/// though `Iter::with_rules` rejects it. It doesn't allocate.
 pub fn first_error(payload: &[u8], rules: Rules) -> Option<InvalidFrame>
     ensures { ReturnsOne (IsCheckedOf rules payload.now) (λ checked. reported_of result ≡ checked.error) }
 {

@@ -164,8 +164,8 @@ impl RangeSet {
     }
 
     /// Inserts a range, and returns the nonempty parts of it that were in the set before. The set is the union from
-    /// this call on, however many parts are read. Returns `NoRoom` only if an allocation fails, which needs such a part,
-    /// or a union with more runs than the set. The set is unchanged then.
+    /// this call on, however many parts are read. Returns `NoRoom` only if an allocation fails, which needs such a
+    /// part, or a union with more runs than the set. The set is unchanged then.
     pub fn replace(&mut self, x: Range<u64>) -> Result<Replace<'_>, NoRoom>
         ensures* union { sem 𝓛 (Ends self.entry
             (λ after. OnOk result (IsRunsOf (in_union self.old x) after)

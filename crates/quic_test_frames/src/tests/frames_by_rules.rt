@@ -204,8 +204,8 @@ fn types_of_the_extension_without_fields(rt: HostRuntime) -> Result<(), Fail> {
 // PING, NEW_TOKEN with an empty token, PING, and a type that is cut off.
 const FOUR: &[u8] = b"\x01\x07\x00\x01\x40";
 
-// What is read first from an offset on, where PING was the last frame: no iterator, nothing, PING, or an error's type and
-// reason.
+// What is read first from an offset on, where PING was the last frame: no iterator, nothing, PING, or an error's type
+// and reason.
 #[derive(Debug)]
 enum First {
     NoIterator,

@@ -402,7 +402,8 @@ fn refused_nothing_where_runs_grow_no_more(rt: HostRuntime) -> Result<(), Fail> 
     on_a_set(rt.alloc(), change_runs)
 }
 
-// Ranges that touch a run of that set, or two, and meet none: `replace` has nothing to return, and no more runs are left.
+// Ranges that touch a run of that set, or two, and meet none: `replace` has nothing to return, and no more runs are
+// left.
 const TOUCHING: &[(u64, u64)] = &[(5, 7), (19, 20), (35, 40), (395, END)];
 
 fn replace_what_touches(checks: &mut Checks, set: &mut RangeSet) -> Result<(), NoRoom> {

@@ -123,6 +123,21 @@ pub(crate) fn store_array<const N: usize>(bytes: &mut [u8], at: usize, array: [u
     at + N
 }
 
+/// Stores bytes over those from `at` on, and returns the offset at which they end. The caller must ensure that the
+/// slice has that many bytes there. Other bytes don't change.
+#[inline(always)]
+pub(crate) fn store_bytes(dest: &mut [u8], at: usize, bytes: &[u8]) -> usize { #![doc = "# Contract\n```text"]
+    //! requires { at + length bytes.now ≤ length dest.old }
+    //! ensures end { result ≡ at + length bytes.now }
+    //! ensures front { take result dest.new ≡ take at dest.old ++ bytes.now }
+    //! ensures back { drop result dest.new ≡ drop result dest.old }
+    //! ensures len { length dest.new ≡ length dest.old }
+    //! ```
+    let end = at + bytes.len();
+    dest[at..end].copy_from_slice(bytes);
+    end
+}
+
 /// A byte is encoded as itself.
 impl Codec for u8 {
     // ghost encoded = { IsNumber 1 };

@@ -176,9 +176,9 @@ pub fn canonical(payload: &[u8], out: &mut Vec<u8>) -> Result<(), CanonError> { 
     Ok(())
 }
 
-/// Appends what `canonical` does, if the payload has no error under the rules (`Iter::with_rules`); what is appended then
-/// has none either (`laws::least_by_rules`). The payload is read twice. An error is reported as that iterator does, and
-/// `out` doesn't change.
+/// Appends what `canonical` does, if the payload has no error under the rules (`Iter::with_rules`); what is appended
+/// then has none either (`laws::least_by_rules`). The payload is read twice. An error is reported as that iterator
+/// does, and `out` doesn't change.
 pub fn canonical_with(payload: &[u8], rules: Rules, out: &mut Vec<u8>) -> Result<(), CanonError> { #![doc = "# Contract\n```text"]
     //! ensures ok { OnOk result (AppendsLeast out.old.items out.new.items payload.now) }
     //! ensures accepted { OnOk result (IsAccepted rules payload.now) }

@@ -56,7 +56,8 @@ pub fn written_is_least() { #![doc = "# Contract\n```text"]
     least_encoding();
 }
 
-/// The shortest payload with the meaning of one that has no error under some rules has none either, and the same frames.
+/// The shortest payload with the meaning of one that has no error under some rules has none either, and the same
+/// frames.
 pub fn least_by_rules() { #![doc = "# Contract\n```text"]
     //! ensures { (rules : Rules) (frames : List TypedFrame) (payload least : List ℕ)
     //!     → IsCheckedOf rules payload (record { frames = frames; error = None }) → IsLeast least payload

@@ -56,9 +56,9 @@ pub fn one_list_of_spans_in_an_entry() { #![doc = "# Contract\n```text"]
     //!     → IsEntryAt number value spans bytes → IsEntryAt other second others bytes → spans ≡ others }
     #![doc = "```"] }
 
-/// Where reading stops inside a field that can't be read is where the grammar says: at a length or at the bytes after it,
-/// or at a count, a first range, a gap or a length of an ACK's ranges (RFC 9000, section 19.3.1). At the front of bytes
-/// that begin with no frame that field is the one at fault; in a frame reading stops nowhere.
+/// Where reading stops inside a field that can't be read is where the grammar says: at a length or at the bytes after
+/// it, or at a count, a first range, a gap or a length of an ACK's ranges (RFC 9000, section 19.3.1). At the front of
+/// bytes that begin with no frame that field is the one at fault; in a frame reading stops nowhere.
 pub fn where_reading_stops() { #![doc = "# Contract\n```text"]
     //! ensures field { (field : Field) (before : List Value) (bytes : List ℕ) (reason : Fault) → AreBytes bytes
     //!     → Stops field before bytes reason → StopsInside field before bytes reason (inside field before bytes) }

@@ -29,20 +29,6 @@ pub(crate) fn store_ends<const N: usize>(out: &mut [u8], at: usize, bytes: &[u8]
     store_array(out, at + (bytes.len() - N), last)
 }
 
-// Stores bytes from `at` on, and returns the offset at which they end.
-#[inline(always)]
-pub(crate) fn store_bytes(out: &mut [u8], at: usize, bytes: &[u8]) -> usize
-    // requires { at + length bytes.now ≤ length out.old }
-    // ensures end { result ≡ at + length bytes.now }
-    // ensures front { take result out.new ≡ take at out.old ++ bytes.now }
-    // ensures back { drop result out.new ≡ drop result out.old }
-    // ensures len { length out.new ≡ length out.old }
-{
-    let end = at + bytes.len();
-    out[at..end].copy_from_slice(bytes);
-    end
-}
-
 // Stores an id of at most 20 bytes from `at` on, and returns the offset at which it ends. Ids of 8 bytes, the usual
 // length, are written by one store.
 #[inline(always)]

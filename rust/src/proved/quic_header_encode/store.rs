@@ -8,9 +8,9 @@
 // ghost use Rattle.quic_header_encode.specs.Kinds.{first_in, long_front, version_in};
 // ghost use Rattle.quic_header_encode.specs.Writing.{end_bytes, fields_by, stored_bytes, stored_len, token_by, with_len, HasStoreRoom, HasLow, IsExact, IsStorable, IsLong, IsShortToken, TakesLen};
 use crate::kit::prelude::*;
-use crate::proved::quic_header_encode::fields::{store_bytes, store_ends, store_id, store_number};
+use crate::proved::quic_header_encode::fields::{store_ends, store_id, store_number};
 use crate::proved::quic_header_encode::long_type::HeaderKind;
-use crate::proved::quic_base::coding::store_array;
+use crate::proved::quic_base::coding::{store_array, store_bytes};
 use crate::proved::quic_base::ids::ConnectionId;
 use crate::proved::quic_base::varint::{IN_EIGHT, IN_FOUR, IN_TWO, store_var, var_size};
 use crate::proved::quic_crypto::packet_number::PacketNumber;

@@ -6,25 +6,9 @@
 // ghost use Rattle.quic_negotiation.specs.Answers.{IsAnswer};
 // ghost use Rattle.quic_versions.specs.Versions.{version_bytes};
 
-use crate::proved::quic_negotiation::ids::ids_of;
+use crate::proved::quic_negotiation::ids::{ids_of, store_id};
 use crate::proved::quic_base::coding::store_array;
 use crate::proved::quic_versions::store::{has_zero, store_versions};
-
-// Stores an id after its length, and returns the offset at which it ends.
-#[inline(always)]
-fn store_id(dest: &mut [u8], at: usize, id: &[u8]) -> usize
-    // requires few { length id.now ≤ 255 }
-    // requires room { at + (1 + length id.now) ≤ length dest.old }
-    // ensures end { result ≡ at + (1 + length id.now) }
-    // ensures front { take result dest.new ≡ take at dest.old ++ long_id id.now }
-    // ensures back { drop result dest.new ≡ drop result dest.old }
-    // ensures len { length dest.new ≡ length dest.old }
-{
-    let at = store_array(dest, at, [id.len() as u8]);
-    let end = at + id.len();
-    dest[at..end].copy_from_slice(id);
-    end
-}
 
 // Stores the packet at the front, and returns how many bytes it has.
 #[inline(always)]
@@ -62,9 +46,9 @@ pub fn answer(first: u8, received: &[u8], versions: &[u32], dest: &mut [u8]) -> 
     //!     ⊎ (length dest.old < 7 + length dst + length src + 4 * length versions.now) }
     //! ensures same { IsNone result → dest.new ≡ dest.old }
     //! ```
-    let (dst, src) = ids_of(received)?;
+    let (version, dst, src) = ids_of(received)?;
     let needed = 7 + dst.len() + src.len() + 4 * versions.len();
-    if versions.is_empty() || has_zero(versions) || dest.len() < needed {
+    if version == 0 || versions.is_empty() || has_zero(versions) || dest.len() < needed {
         return None;
     }
     Some(store_packet(first, src, dst, versions, dest))

@@ -4,4 +4,4 @@
 // #![tactic(auto)]
 
 pub mod answer;
-mod ids;
+pub mod ids;

@@ -42,9 +42,9 @@ pub fn split(versions: &[u8]) -> Option<(u32, &[u8])> { #![doc = "# Contract\n``
     word(versions)
 }
 
-/// The chosen version, and the bytes of those that are available, which `split` reads one by one. `None` exactly if this
-/// isn't the parameter's value: it has no version, or its length isn't a multiple of four, or a version is 0. The peer
-/// then breaks RFC 9368, section 4, and the connection is closed with TRANSPORT_PARAMETER_ERROR.
+/// The chosen version, and the bytes of those that are available, which `split` reads one by one. `None` exactly if
+/// this isn't the parameter's value: it has no version, or its length isn't a multiple of four, or a version is 0. The
+/// peer then breaks RFC 9368, section 4, and the connection is closed with TRANSPORT_PARAMETER_ERROR.
 pub fn read(value: &[u8]) -> Option<(u32, &[u8])> { #![doc = "# Contract\n```text"]
     //! ensures some { IfSome result (λ x. (available : List ℕ) × IsInformation x.0 available value.now
     //!     × AreVersions available x.1.now) }

@@ -61,9 +61,9 @@ pub fn sets() { #![doc = "# Contract\n```text"]
     crate::proved::quic_frames::laws::set_acknowledged();
 }
 
-/// A written part and an expected number determine one packet number. It is the one that was written, if the part has as
-/// many bytes as the distance to an acknowledged number asks for, and the expected number is not before that one and at
-/// most one above the written one.
+/// A written part and an expected number determine one packet number. It is the one that was written, if the part has
+/// as many bytes as the distance to an acknowledged number asks for, and the expected number is not before that one and
+/// at most one above the written one.
 pub fn numbers() { #![doc = "# Contract\n```text"]
     //! ensures one { (number : PacketNumber) (expected : ℕ) → IsInRange number → expected < 2 ^ 62
     //!     → ExactlyOne (Expands (low_part number) (window_of number) expected) }

@@ -1,6 +1,6 @@
 -- What is written are the bytes of the packet.
 use Rattle.std.proofs.Common.{◌≡◌, ◌≤◌, ◌∷◌, [], ◌∙◌, ℕ, List, length, take, drop, refl, ap, arith}
-use Rattle.quic_header_encode.proofs.Stores.{stays}
+use Rattle.quic_base.proofs.Storing.{stays}
 use Rattle.quic_c_headers.specs.Reading.{negotiation_bytes}
 use Rattle.quic_c_headers.proofs.Negotiated.{bytes_stored}
 use Rattle.quic_c_headers.proofs.Writing.{written}

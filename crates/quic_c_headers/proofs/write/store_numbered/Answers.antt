@@ -1,5 +1,5 @@
 use Rattle.std.proofs.Common.{◌≡◌, ◌∙◌, length, take, ap, arith, rules}
-use Rattle.quic_header_encode.proofs.Stores.{stays}
+use Rattle.quic_base.proofs.Storing.{stays}
 use Rattle.quic_c_headers.proofs.Writing.{fields_length, fields_stored, numbered_described, typed}
 use Rattle.quic_c_headers.proofs.write.store_numbered.Goals as goal
 

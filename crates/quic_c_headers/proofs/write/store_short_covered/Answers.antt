@@ -2,7 +2,7 @@
 use Rattle.std.proofs.Common.{◌≡◌, ◌+◌, ◌-◌, ◌≤◌, ◌∷◌, ◌++◌, ◌∙◌, ℕ, List, [], length, ap, arith, rules}
 use Rattle.std.specs.Prelude.{drop, take}
 use Rattle.quic_base.specs.Number.{bytes_of}
-use Rattle.quic_header_encode.proofs.Stores.{stays}
+use Rattle.quic_base.proofs.Storing.{stays}
 use Rattle.quic_c_headers.proofs.Writing.{short_stored}
 use Rattle.quic_c_headers.proofs.Covered.{covered}
 use Rattle.quic_c_headers.proofs.write.store_short_covered.Goals as goal

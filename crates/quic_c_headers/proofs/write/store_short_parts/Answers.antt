@@ -1,6 +1,6 @@
 -- A short header is stored part after part.
 use Rattle.std.proofs.Common.{◌≡◌, ◌+◌, ◌∙◌, ℕ, List, length, take, arith, rules}
-use Rattle.quic_header_encode.proofs.Stores.{stays}
+use Rattle.quic_base.proofs.Storing.{stays}
 use Rattle.quic_c_headers.proofs.Writing.{short_fields, short_stored}
 use Rattle.quic_c_headers.proofs.write.store_short_parts.Goals as goal
 

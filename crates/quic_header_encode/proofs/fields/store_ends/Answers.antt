@@ -1,6 +1,7 @@
 -- The two ends cover the bytes.
 use Rattle.std.proofs.Common.{◌≡◌, ℕ, ◌+◌, ◌-◌, List, ◌++◌, length, take, refl, sym, ap, ◌∙◌, arith}
-use Rattle.quic_header_encode.proofs.Stores.{both_ends, stays}
+use Rattle.quic_header_encode.proofs.Stores.{both_ends}
+use Rattle.quic_base.proofs.Storing.{stays}
 use Rattle.quic_header_encode.proofs.fields.store_ends.Goals as goal
 
 pub returns-clause-front : goal.returns-clause-front

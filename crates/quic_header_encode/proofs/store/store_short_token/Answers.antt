@@ -1,6 +1,7 @@
 -- A token after its length, which is a byte.
 use Rattle.std.proofs.Common.{◌∙◌, length, refl, arith}
-use Rattle.quic_header_encode.proofs.Stores.{token_stored, no_token_stored, stays}
+use Rattle.quic_header_encode.proofs.Stores.{token_stored, no_token_stored}
+use Rattle.quic_base.proofs.Storing.{stays}
 use Rattle.quic_header_encode.proofs.store.store_short_token.Goals as goal
 
 pub returns-then-token-eq0-clause-front : goal.returns-then-token-eq0-clause-front

@@ -1,6 +1,7 @@
 -- The parts are written one after another.
-use Rattle.std.proofs.Common.{ℕ, List, ◌∙◌, ◌+◌, ◌%◌, take, arith}
-use Rattle.quic_negotiation.proofs.Made.{stays, whole}
+use Rattle.std.proofs.Common.{ℕ, ◌∙◌, ◌+◌, ◌%◌, take, arith}
+use Rattle.quic_negotiation.proofs.Made.{whole}
+use Rattle.quic_base.proofs.Storing.{stays}
 use Rattle.quic_versions.specs.Versions.{version_bytes}
 use Rattle.quic_negotiation.proofs.answer.store_packet.Goals as goal
 

@@ -1,7 +1,8 @@
 -- The first byte, the others, the token.
 use Rattle.std.proofs.Common.{◌≡◌, ◌∙◌, ◌++◌, ◌≤◌, ℕ, List, length, take, ap, sym, arith}
 use Rattle.quic_resets.specs.Resets.{reset_bytes}
-use Rattle.quic_resets.proofs.Made.{made, short, stays, whole}
+use Rattle.quic_resets.proofs.Made.{made, short, whole}
+use Rattle.quic_base.proofs.Storing.{stays}
 use Rattle.quic_resets.proofs.reset.store.Goals as goal
 
 pub returns-clause-front : goal.returns-clause-front

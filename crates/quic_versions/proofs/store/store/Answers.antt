@@ -4,7 +4,8 @@ use Rattle.std.specs.Prelude.{Contains, slice_index}
 use Rattle.quic_base.specs.Number.{bytes_of}
 use Rattle.quic_base.proofs.PublicLaws.{is_number_4}
 use Rattle.quic_versions.specs.Versions.{version_bytes}
-use Rattle.quic_versions.proofs.Stored.{are_stored, in_front, in_rest, stays}
+use Rattle.quic_versions.proofs.Stored.{are_stored, in_front, in_rest}
+use Rattle.quic_base.proofs.Storing.{stays}
 use Rattle.quic_versions.proofs.store.store.Goals.{then-chosen-eq0-via-then-chosen-eq0, then-chosen-eq0-via-else-chosen-eq0+then-has_zero, then-chosen-eq0-via-else-chosen-eq0+else-has_zero+then-dest-available}
 use Rattle.quic_versions.proofs.store.store.Goals as goal
 

@@ -68,10 +68,10 @@ impl Frame<'_> {
     }
 
     /// Stores the body of the frame at the front of the slice, and returns how many bytes it has: the bytes that
-    /// `encode_into` stores behind the type, which is `written_type`. All else is as `encode_into` says. The bytes after
-    /// them don't change. It is an error exactly when the slice is shorter: nothing changes then, and the error is how
-    /// many bytes are needed. The caller must ensure that the frame is in range, and that data has fewer than 2^62
-    /// bytes if its length is written. It doesn't allocate.
+    /// `encode_into` stores behind the type, which is `written_type`. All else is as `encode_into` says. The bytes
+    /// after them don't change. It is an error exactly when the slice is shorter: nothing changes then, and the error
+    /// is how many bytes are needed. The caller must ensure that the frame is in range, and that data has fewer than
+    /// 2^62 bytes if its length is written. It doesn't allocate.
     // #[tactic(auto, unfolding(quic_frame_fields::specs::Bodies::shortest_body))]
     pub(crate) fn proved_encode_body_into(&self, last: bool, dest: &mut [u8]) -> Result<usize, usize> { #![doc = "# Contract\n```text"]
         //! requires { CanStand last self.now }

@@ -1,7 +1,7 @@
 use Rattle.std.proofs.Common.{IsTrue, ◌∙◌, replicate, ◌++◌, arith, rules}
 use Rattle.quic_crypto.specs.PacketNumbers.{number_bytes}
 use Rattle.quic_header_encode.specs.Kinds.{row}
-use Rattle.quic_header_encode.proofs.Stores.{stays}
+use Rattle.quic_base.proofs.Storing.{stays}
 use Rattle.quic_header_encode.proofs.Sizes.{field_length, zeros_length}
 use Rattle.quic_header_encode.proofs.store.HeaderRef.store_end.Goals as goal
 

@@ -1,5 +1,5 @@
 use Rattle.std.proofs.Common.{◌∙◌, ◌+◌, arith, length}
-use Rattle.quic_header_encode.proofs.Stores.{stays}
+use Rattle.quic_base.proofs.Storing.{stays}
 use Rattle.quic_header_encode.proofs.Sizes.{long_room, long_sized}
 use Rattle.quic_header_encode.proofs.store.HeaderRef.store_long.Goals as goal
 

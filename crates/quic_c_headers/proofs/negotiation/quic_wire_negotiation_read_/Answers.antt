@@ -5,6 +5,9 @@ use Rattle.quic_c_headers.specs.Reading.{IsNegotiation}
 use Rattle.quic_c_headers.proofs.Negotiated.{of_zero, same_words, reported}
 use Rattle.quic_c_headers.proofs.negotiation.quic_wire_negotiation_read_.Goals as goal
 
+pub returns-in_default-clause-none : goal.returns-in_default-clause-none
+returns-in_default-clause-none c = λ _ dst src rest is. c.in_default.ensures.read 0 dst src rest is
+
 pub returns-then-version-ne0-clause-none : goal.returns-then-version-ne0-clause-none
 returns-then-version-ne0-clause-none c = λ _ dst src rest is.
     let packet = c.args.packet.now in

@@ -42,6 +42,20 @@ static size_t write_ack(const set *came, uint8_t *dest, size_t room) {
   return n;
 }
 
+/* Numbers that are acknowledged are no longer in flight, so those in flight are
+ * newly acknowledged. */
+static void acknowledge(set *in_flight, const quic_wire_range *range) {
+  set newly;
+  check(quic_wire_set_within(in_flight->runs, in_flight->count, range->start,
+                             range->end, newly.runs, ROOM,
+                             &newly.count) == QUIC_WIRE_OK,
+        "no room");
+  print_set("acknowledged", &newly);
+  check(quic_wire_set_remove(in_flight->runs, ROOM, &in_flight->count,
+                             range->start, range->end) >= 0,
+        "no room");
+}
+
 static void read_ack(set *in_flight, const uint8_t *bytes, size_t len) {
   quic_wire_frame frame;
   quic_wire_range_iter ranges;
@@ -55,9 +69,7 @@ static void read_ack(set *in_flight, const uint8_t *bytes, size_t len) {
   printf("delay %" PRIu64 ", ce %" PRIu64 "\n", frame.ack.delay, frame.ack.ce);
   while (quic_wire_ack_ranges_next(&ranges, bytes, len, &range) ==
          QUIC_WIRE_ITEM)
-    check(quic_wire_set_remove(in_flight->runs, ROOM, &in_flight->count,
-                               range.start, range.end) >= 0,
-          "no room");
+    acknowledge(in_flight, &range);
   print_set("in flight", in_flight);
   for (lost = 0; lost + THRESHOLD <= frame.ack.largest; lost++)
     if (quic_wire_set_contains(in_flight->runs, in_flight->count, lost) == 1)

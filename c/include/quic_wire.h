@@ -1875,6 +1875,27 @@ quic_wire_set_contains(const quic_wire_range *runs, size_t count,
                        uint64_t number);
 
 /**
+ * Stores the numbers that the set of the |count| runs has from |start| to below
+ * |end|, as runs, at the front of |dest|: of the packet numbers in flight,
+ * those that a range of an ACK acknowledges newly, before they are removed
+ * (RFC 9002, appendix A.7).
+ *
+ * Returns:
+ *  - 0, and in |*stored| how many runs were stored; entries after them don't
+ *    change
+ *  - QUIC_WIRE_ERR_NOBUF if |room| is less, and in |*stored| how many there are
+ *  - QUIC_WIRE_ERR_RANGES if the |count| entries aren't a set
+ *  - QUIC_WIRE_ERR_ARGUMENT for NULL; |dest| may be NULL if |room| is 0
+ *
+ * |*dest| changes only with 0, and |*stored| only with 0 and
+ * QUIC_WIRE_ERR_NOBUF.
+ */
+QUIC_WIRE_CHECKED QUIC_WIRE_API int
+quic_wire_set_within(const quic_wire_range *runs, size_t count, uint64_t start,
+                     uint64_t end, quic_wire_range *dest, size_t room,
+                     size_t *stored);
+
+/**
  * Writes an ACK of the set of the |count| runs in its shortest form at the
  * front of |dest| (RFC 9000, section 19.3).  |delay| is the ACK Delay field,
  * already scaled by ack_delay_exponent.  |counts| has the ECT(0), ECT(1) and

@@ -136,6 +136,8 @@ int32_t quic_wire_set_remove_(quic_wire_range *, size_t, size_t *, uint64_t,
                               uint64_t);
 int32_t quic_wire_set_contains_(const quic_wire_range *, size_t, size_t,
                                 uint64_t);
+int32_t quic_wire_set_within_(const quic_wire_range *, size_t, size_t, uint64_t,
+                              uint64_t, quic_wire_range *, size_t, size_t *);
 int32_t quic_wire_ack_gaps_write_(const quic_wire_frame *,
                                   const quic_wire_gap *, size_t, uint8_t *,
                                   size_t, size_t *);
@@ -1137,6 +1139,18 @@ QUIC_WIRE_API int quic_wire_set_contains(const quic_wire_range *runs,
   return quic_wire_set_contains_(
       runs ? runs : (const quic_wire_range *)quic_wire_nothing_(), count, count,
       number);
+}
+
+QUIC_WIRE_API int quic_wire_set_within(const quic_wire_range *runs,
+                                       size_t count, uint64_t start,
+                                       uint64_t end, quic_wire_range *dest,
+                                       size_t room, size_t *stored) {
+  if ((!runs && count) || (!dest && room) || !stored)
+    return QUIC_WIRE_ERR_ARGUMENT;
+  return quic_wire_set_within_(
+      runs ? runs : (const quic_wire_range *)quic_wire_nothing_(), count, count,
+      start, end, dest ? dest : (quic_wire_range *)quic_wire_nothing_(), room,
+      stored);
 }
 
 QUIC_WIRE_API int quic_wire_ack_write(uint64_t delay,

@@ -15,8 +15,16 @@ void sets_nulls(void) {
   WANT(quic_wire_set_remove(NULL, 0, &n, 0, 1) == 0 && n == 0);
   WANT(quic_wire_set_contains(NULL, 1, 0) == INVALID);
   WANT(quic_wire_set_contains(NULL, 0, 0) == 0);
+  WANT(quic_wire_set_within(NULL, 1, 0, 9, &range, 1, &n) == INVALID);
+  WANT(quic_wire_set_within(&range, 1, 0, 9, NULL, 1, &n) == INVALID);
+  WANT(quic_wire_set_within(&range, 1, 0, 9, &range, 1, NULL) == INVALID);
+  n = 5;
+  WANT(quic_wire_set_within(NULL, 0, 0, 9, NULL, 0, &n) == 0 && n == 0);
   range.start = 7;
   range.end = 9;
+  WANT(quic_wire_set_within(&range, 1, 0, 9, NULL, 0, &n) ==
+           QUIC_WIRE_ERR_NOBUF &&
+       n == 1);
   WANT(quic_wire_ack_write(0, NULL, 1, NULL, out, 8, &n) == INVALID);
   WANT(quic_wire_ack_write(0, NULL, 0, NULL, out, 8, &n) ==
        QUIC_WIRE_ERR_RANGES);
@@ -120,6 +128,30 @@ static void ack_of_set(const quic_wire_range *runs, size_t n) {
   free(dest);
 }
 
+/* The part of a set in a range, beside the bits that are in both. */
+static void part_of_set(const quic_wire_range *runs, size_t count,
+                        uint64_t bits, uint64_t base) {
+  const unsigned a = (unsigned)(any() % 65), b = (unsigned)(any() % 65);
+  const uint64_t below_b = b == 64 ? UINT64_MAX : (1ull << b) - 1;
+  const uint64_t below_a = a == 64 ? UINT64_MAX : (1ull << a) - 1;
+  quic_wire_range wanted[32], part[40], before[40];
+  const unsigned needed = runs_of_bits(bits & below_b & ~below_a, base, wanted);
+  size_t room = any() % 40, stored = 99;
+  int answer;
+  memset(part, 0xee, sizeof part);
+  memcpy(before, part, sizeof part);
+  answer = quic_wire_set_within(runs, count, base + a, base + b, part, room,
+                                &stored);
+  WANT(stored == needed);
+  if (room < needed)
+    WANT(answer == QUIC_WIRE_ERR_NOBUF && !memcmp(part, before, sizeof part));
+  else {
+    WANT(answer == 0 && !memcmp(part, wanted, needed * sizeof *part));
+    WANT(!memcmp(part + needed, before + needed,
+                 sizeof part - needed * sizeof *part));
+  }
+}
+
 void sets(void) {
   static const uint64_t bases[] = {
       0, 0, 1000, (1ull << 62) - 64, (1ull << 62) - 40, UINT64_MAX - 64};
@@ -155,6 +187,7 @@ void sets(void) {
       WANT(!memcmp(runs, old, size));
     WANT(quic_wire_set_contains(runs, count, base + bit) ==
          (int)(bits >> bit & 1));
+    part_of_set(runs, count, bits, base);
     ack_of_set(runs, count);
   }
   free(runs);
@@ -182,6 +215,8 @@ void set_rubbish(void) {
   same = count;
   if (count <= room) {
     answer = quic_wire_set_contains(runs, count, start);
+    WANT((answer == QUIC_WIRE_ERR_RANGES) == !valid);
+    answer = quic_wire_set_within(runs, count, start, end, NULL, 0, &written);
     WANT((answer == QUIC_WIRE_ERR_RANGES) == !valid);
     if (!valid)
       WANT(quic_wire_ack_write(0, runs, count, NULL, dest, 8, &written) ==

@@ -2,3 +2,4 @@ mod Placing
 mod Planning
 mod Making
 mod Writing
+mod RangeParts

@@ -32,7 +32,7 @@ impl Substitute {
 
     // How many runs there are.
     #[inline(always)]
-    fn len(&self) -> usize
+    pub(crate) fn len(&self) -> usize
         ensures count { result ≡ length (words_of self.now) }
         ensures most { result ≤ 2 }
     {
@@ -45,7 +45,7 @@ impl Substitute {
 
     // Writes them over the runs from `at` on.
     #[inline(always)]
-    fn write(self, runs: &mut [CRange], at: usize)
+    pub(crate) fn write(self, runs: &mut [CRange], at: usize)
         requires { at + length (words_of self) ≤ length runs.old }
         ensures { runs.new ≡ take at runs.old ++ (words_of self ++ drop (at + length (words_of self)) runs.old) }
     {

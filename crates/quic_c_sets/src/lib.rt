@@ -6,6 +6,7 @@ mod acks;
 mod change;
 mod places;
 mod sets;
+mod within;
 mod words;
 
 pub use words::CRange;

@@ -1,4 +1,3 @@
-mod Placing
-mod Planning
-mod Making
+mod Checking
+mod Changing
 mod Writing

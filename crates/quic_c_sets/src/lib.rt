@@ -3,9 +3,7 @@
 #![tactic(auto)]
 
 mod acks;
-mod change;
-mod places;
+mod checks;
 mod sets;
-mod words;
 
-pub use words::CRange;
+pub use quic_runs::words::CRange;

@@ -1,14 +1,28 @@
 -- What the calls return.
 use Rattle.std.proofs.Common.{◌≡◌, ℕ, ◌+◌, Bool, List, length, sym, subst}
+use Rattle.std.specs.declared.ops.Range.{Range}
+use Rattle.quic_ranges.specs.Runs.{IsMaximalRuns, IsRunsOf}
 use Rattle.quic_ranges.specs.Splices.{BecomesRunsOf}
 use Rattle.quic_runs.specs.declared.words.CRange.{CRange}
 use Rattle.quic_runs.specs.declared.change.Splice.{Splice}
 use Rattle.quic_runs.specs.Changes.{Plans, after_change}
-use Rattle.quic_runs.specs.Entries.{runs_of}
+use Rattle.quic_runs.specs.Entries.{range_of, runs_of}
 use Rattle.quic_runs.proofs.Making.{one_more}
 use Rattle.quic_c_runs.specs.declared.words.CRuns.{CRuns}
 use Rattle.quic_c_runs.specs.Sets.{BecomesAt, LacksEntry, entries_at, runs_at}
 use Rattle.quic_c_runs.specs.Moves.{MadeAt}
+
+-- the entries of a call are those that the set names; what is said of them if they are a set, by a union or a difference
+module _ (op : List (Range ℕ) → Range ℕ → ℕ → Bool) (found words : List CRange) (x : CRange) (is : found ≡ words) where
+  pub planned : (change : Splice) → (IsMaximalRuns (runs_of found) → Plans (op (runs_of found) (range_of x)) found change)
+      → IsMaximalRuns (runs_of words) → Plans (op (runs_of words) (range_of x)) words change
+  planned change plan =
+      subst (λ (l : List CRange). IsMaximalRuns (runs_of l) → Plans (op (runs_of l) (range_of x)) l change) is plan
+
+  pub unchanged : (IsMaximalRuns (runs_of found) → IsRunsOf (op (runs_of found) (range_of x)) (runs_of found))
+      → IsMaximalRuns (runs_of words) → IsRunsOf (op (runs_of words) (range_of x)) (runs_of words)
+  unchanged same =
+      subst (λ (l : List CRange). IsMaximalRuns (runs_of l) → IsRunsOf (op (runs_of l) (range_of x)) (runs_of l)) is same
 
 pub becomes_at : (test : ℕ → Bool) (old new : List CRange) (before after : CRuns) (change : Splice)
     → Plans test (entries_at old before) change → MadeAt old before change new after

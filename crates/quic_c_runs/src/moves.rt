@@ -77,10 +77,7 @@ pub(crate) fn make_at(runs: &mut [CRange], set: &mut CRuns, change: Splice) -> b
     ensures same { result ≡ false → runs.new ≡ runs.old }
     ensures named { result ≡ false → set.new ≡ set.old }
 {
-    if change.from == 0
-        && change.to < set.count
-        && change.by.len() <= set.first + change.to
-    {
+    if change.from == 0 && change.to < set.count && change.by.len() <= set.first + change.to {
         make_at_front(runs, set, change);
         return true;
     }

@@ -126,6 +126,7 @@
  *   Reading and writing transport parameters
  *   Versions, nonces, Retry and resets
  *   Sets of packet numbers, and ACKs of them
+ *   Sets of packet numbers of which no call checks every run
  *   Where each field is
  *   Texts
  */
@@ -513,6 +514,12 @@ typedef struct quic_wire_range {
   uint64_t start, end;
 } QUIC_WIRE_ALIGNED quic_wire_range;
 
+/** Which entries of an array are the runs of a set of packet numbers: |count|
+ * of them, from the entry |first| on.  With 0 in both it is empty. */
+typedef struct quic_wire_runs {
+  quic_wire_size first, count;
+} QUIC_WIRE_ALIGNED quic_wire_runs;
+
 /** A range of an ACK below another one, as it is encoded (RFC 9000, section
  * 19.3.1): how many packet numbers are between the two, and how many it has,
  * both minus one. */
@@ -777,8 +784,8 @@ QUIC_WIRE_ASSERT(sizeof(quic_wire_param) == 24);
 QUIC_WIRE_ASSERT(offsetof(quic_wire_param, valuelen) == 16);
 QUIC_WIRE_ASSERT(sizeof(quic_wire_refusal) == 16);
 QUIC_WIRE_ASSERT(offsetof(quic_wire_refusal, offset) == 8);
-QUIC_WIRE_ASSERT(sizeof(quic_wire_range) == 16);
-QUIC_WIRE_ASSERT(offsetof(quic_wire_range, end) == 8);
+QUIC_WIRE_ASSERT(sizeof(quic_wire_runs) == 16);
+QUIC_WIRE_ASSERT(offsetof(quic_wire_runs, count) == 8);
 QUIC_WIRE_ASSERT(sizeof(quic_wire_frame_iter) == 24);
 QUIC_WIRE_ASSERT(offsetof(quic_wire_frame_iter, ended) == 16);
 QUIC_WIRE_ASSERT(offsetof(quic_wire_frame_iter, flags) == 20);
@@ -786,6 +793,8 @@ QUIC_WIRE_ASSERT(sizeof(quic_wire_frame) == 80);
 QUIC_WIRE_ASSERT(offsetof(quic_wire_frame, flags) == 4);
 QUIC_WIRE_ASSERT(offsetof(quic_wire_frame, begin) == 8);
 QUIC_WIRE_ASSERT(offsetof(quic_wire_frame, numbers) == 40);
+QUIC_WIRE_ASSERT(sizeof(quic_wire_range) == 16);
+QUIC_WIRE_ASSERT(offsetof(quic_wire_range, end) == 8);
 QUIC_WIRE_ASSERT(sizeof(quic_wire_gap) == 16);
 QUIC_WIRE_ASSERT(offsetof(quic_wire_gap, len) == 8);
 QUIC_WIRE_ASSERT(sizeof(quic_wire_range_iter) == 24);
@@ -1917,6 +1926,54 @@ QUIC_WIRE_CHECKED QUIC_WIRE_API int
 quic_wire_ack_write(uint64_t delay, const quic_wire_range *runs, size_t count,
                     const uint64_t *counts, uint8_t *dest, size_t destlen,
                     size_t *written);
+
+/* ---- Sets of packet numbers of which no call checks every run, so that one of
+ * many runs costs a receiver about as much as one of few.  A set is some
+ * entries of an array of |room| entries, anywhere in it: sorted runs, none
+ * empty, none touching the next.  With other entries a call still changes none
+ * but those of the array, but its result means nothing.  quic_wire_ack_write,
+ * which does check them, writes an ACK of runs + set.first and set.count. */
+
+/**
+ * Inserts the numbers from |start| to below |end|; an empty or reversed range
+ * inserts nothing.
+ *
+ * Returns:
+ *  - QUIC_WIRE_CHANGED, and in |*set| which entries the set then has
+ *  - 0 if all of the numbers were in it
+ *  - QUIC_WIRE_ERR_NOBUF if the set would need one more entry than there are
+ *  - QUIC_WIRE_ERR_RANGES if |*set| has entries that aren't in the array
+ *  - QUIC_WIRE_ERR_ARGUMENT for NULL
+ *
+ * Nothing changes except with QUIC_WIRE_CHANGED, and then no entries but those
+ * that the set has.
+ *
+ * From the first number of the last run on, the cost doesn't depend on how many
+ * runs there are.  But if no entry is left behind the set, a new run moves all
+ * others to the array's front: in an array of twice as many entries as the set
+ * has, that is at most one moved for each that is added.  Below, there is a
+ * binary search, and the runs above are moved if more or fewer runs are then
+ * below them, except at the front of the set if an entry is left before it.
+ */
+QUIC_WIRE_CHECKED QUIC_WIRE_API int
+quic_wire_runs_insert(quic_wire_range *runs, size_t room, quic_wire_runs *set,
+                      uint64_t start, uint64_t end);
+
+/** Removes the numbers from |start| to below |end|.  Returns what
+ * quic_wire_runs_insert does: 0 if none of them was in the set, and
+ * QUIC_WIRE_ERR_NOBUF if a run would be split in two and no entry is left.  It
+ * takes two binary searches.  Removed first runs or last runs move no other. */
+QUIC_WIRE_CHECKED QUIC_WIRE_API int
+quic_wire_runs_remove(quic_wire_range *runs, size_t room, quic_wire_runs *set,
+                      uint64_t start, uint64_t end);
+
+/** Whether |number| is in the set: 1 if it is, 0 if it isn't,
+ * QUIC_WIRE_ERR_RANGES if |*set| has entries that aren't in the array, and
+ * QUIC_WIRE_ERR_ARGUMENT for NULL.  Below the first number of the last run
+ * there is a binary search. */
+QUIC_WIRE_CHECKED QUIC_WIRE_API int
+quic_wire_runs_contains(const quic_wire_range *runs, size_t room,
+                        const quic_wire_runs *set, uint64_t number);
 
 /* ---- Where each field is.  These calls store the fields of what is at the
  * front of the bytes, in their order, as many as |fields| has room for:

@@ -127,6 +127,12 @@ int32_t quic_wire_frame_permitted_(uint64_t, uint64_t, uint32_t, uint32_t,
 uint32_t quic_wire_frame_rules_(uint32_t);
 uint32_t quic_wire_reset_token_equal_(const uint8_t *, size_t, const uint8_t *,
                                       size_t);
+int32_t quic_wire_runs_insert_(quic_wire_range *, size_t, quic_wire_runs *,
+                               uint64_t, uint64_t);
+int32_t quic_wire_runs_remove_(quic_wire_range *, size_t, quic_wire_runs *,
+                               uint64_t, uint64_t);
+int32_t quic_wire_runs_contains_(const quic_wire_range *, size_t,
+                                 const quic_wire_runs *, uint64_t);
 int32_t quic_wire_ack_write_(uint64_t, const quic_wire_range *, size_t, size_t,
                              const uint64_t *, size_t, uint8_t *, size_t,
                              size_t *);
@@ -828,6 +834,46 @@ QUIC_WIRE_API int quic_wire_set_remove(quic_wire_range *runs, size_t room,
     runs = (quic_wire_range *)quic_wire_nothing_();
   }
   return quic_wire_set_remove_(runs, room, count, start, end);
+}
+
+QUIC_WIRE_API int quic_wire_runs_insert(quic_wire_range *runs, size_t room,
+                                        quic_wire_runs *set, uint64_t start,
+                                        uint64_t end) {
+  if (!set)
+    return QUIC_WIRE_ERR_ARGUMENT;
+  if (!runs) {
+    if (room)
+      return QUIC_WIRE_ERR_ARGUMENT;
+    runs = (quic_wire_range *)quic_wire_nothing_();
+  }
+  return quic_wire_runs_insert_(runs, room, set, start, end);
+}
+
+QUIC_WIRE_API int quic_wire_runs_remove(quic_wire_range *runs, size_t room,
+                                        quic_wire_runs *set, uint64_t start,
+                                        uint64_t end) {
+  if (!set)
+    return QUIC_WIRE_ERR_ARGUMENT;
+  if (!runs) {
+    if (room)
+      return QUIC_WIRE_ERR_ARGUMENT;
+    runs = (quic_wire_range *)quic_wire_nothing_();
+  }
+  return quic_wire_runs_remove_(runs, room, set, start, end);
+}
+
+QUIC_WIRE_API int quic_wire_runs_contains(const quic_wire_range *runs,
+                                          size_t room,
+                                          const quic_wire_runs *set,
+                                          uint64_t number) {
+  if (!set)
+    return QUIC_WIRE_ERR_ARGUMENT;
+  if (!runs) {
+    if (room)
+      return QUIC_WIRE_ERR_ARGUMENT;
+    runs = (const quic_wire_range *)quic_wire_nothing_();
+  }
+  return quic_wire_runs_contains_(runs, room, set, number);
 }
 
 QUIC_WIRE_API int quic_wire_frame_fields(const uint8_t *payload,

@@ -165,6 +165,8 @@ extern void params_any(const uint8_t *list, size_t len);
 extern void sets_nulls(void);
 extern void sets(void);
 extern void set_rubbish(void);
+extern void runs_any(void);
+extern void runs_rubbish(void);
 
 /* fields.c: where fields are. */
 extern void fields_nulls(void);

@@ -115,9 +115,12 @@ static void rubbish(int rounds) {
     place_any(bytes, len);
     params_any(bytes, len);
     set_rubbish();
+    runs_rubbish();
     fields_any(bytes, len);
-    if (i % 8 == 0)
+    if (i % 8 == 0) {
       sets();
+      runs_any();
+    }
     for (k = 0; k < 2; k++)
       fields += params_written((uint32_t)k);
     free(bytes);

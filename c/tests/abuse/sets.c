@@ -1,9 +1,11 @@
 /* Sets of packet numbers, compared with 64 bits for the numbers from |base| on,
- * and ACKs of them. */
+ * and ACKs of them; sets whose runs begin anywhere in an array, compared with
+ * those. */
 #include "abuse.h"
 
 void sets_nulls(void) {
   quic_wire_range range;
+  quic_wire_runs set = {0, 0};
   uint8_t out[8];
   size_t n = 0;
   WANT(quic_wire_set_insert(NULL, 1, &n, 0, 1) == INVALID);
@@ -20,6 +22,17 @@ void sets_nulls(void) {
   WANT(quic_wire_set_within(&range, 1, 0, 9, &range, 1, NULL) == INVALID);
   n = 5;
   WANT(quic_wire_set_within(NULL, 0, 0, 9, NULL, 0, &n) == 0 && n == 0);
+  WANT(quic_wire_runs_insert(NULL, 1, &set, 0, 1) == INVALID);
+  WANT(quic_wire_runs_insert(&range, 1, NULL, 0, 1) == INVALID);
+  WANT(quic_wire_runs_insert(NULL, 0, &set, 0, 1) == QUIC_WIRE_ERR_NOBUF);
+  WANT(quic_wire_runs_insert(NULL, 0, &set, 1, 1) == 0);
+  WANT(quic_wire_runs_remove(NULL, 1, &set, 0, 1) == INVALID);
+  WANT(quic_wire_runs_remove(&range, 1, NULL, 0, 1) == INVALID);
+  WANT(quic_wire_runs_remove(NULL, 0, &set, 0, 1) == 0);
+  WANT(quic_wire_runs_contains(NULL, 1, &set, 0) == INVALID);
+  WANT(quic_wire_runs_contains(&range, 1, NULL, 0) == INVALID);
+  WANT(quic_wire_runs_contains(NULL, 0, &set, 0) == 0);
+  WANT(set.first == 0 && set.count == 0);
   range.start = 7;
   range.end = 9;
   WANT(quic_wire_set_within(&range, 1, 0, 9, NULL, 0, &n) ==
@@ -228,6 +241,104 @@ void set_rubbish(void) {
   WANT((answer == QUIC_WIRE_ERR_RANGES) == !valid);
   if (answer != QUIC_WIRE_CHANGED)
     WANT(count == same && !memcmp(runs, old, size));
+  free(runs);
+  free(old);
+}
+
+/* What a set names is in the array, and no other entries changed; none did
+ * unless |answer| says so. */
+static void changes_only(const quic_wire_range *runs,
+                         const quic_wire_range *old, size_t room,
+                         const quic_wire_runs *set, const quic_wire_runs *was,
+                         int answer) {
+  size_t first = (size_t)set->first, end = first + (size_t)set->count;
+  if (answer == QUIC_WIRE_CHANGED) {
+    WANT(set->first <= room && set->count <= room - set->first);
+    WANT(!memcmp(runs, old, first * sizeof *runs));
+    WANT(!memcmp(runs + end, old + end, (room - end) * sizeof *runs));
+  } else {
+    WANT(set->first == was->first && set->count == was->count);
+    WANT(!memcmp(runs, old, room * sizeof *runs));
+  }
+}
+
+/* Changes as a receiver makes them: numbers above all others are inserted, and
+ * the least are removed.  Others are anywhere. */
+static int next_change(const quic_wire_range *runs, size_t count,
+                       uint64_t *start, uint64_t *end) {
+  unsigned which = (unsigned)(any() % 6);
+  if (which < 2 && count) {
+    *start = runs[count - 1].end + any() % 3;
+    *end = *start + any() % 3;
+    return 1;
+  }
+  if (which == 2 && count) {
+    *start = any() % (runs[0].start + 1);
+    *end = runs[0].start + any() % 6;
+    return 0;
+  }
+  *start += any() % 64;
+  *end += any() % 64;
+  return which != 3;
+}
+
+/* Calls that don't look at every run do what those that do would. */
+void runs_any(void) {
+  static const uint64_t bases[] = {0, 1000, UINT64_MAX - 1000};
+  uint64_t base = bases[any() % 3];
+  size_t room = any() % 12, size = room * sizeof(quic_wire_range), count = 0, k;
+  quic_wire_range *runs = (quic_wire_range *)block(size);
+  quic_wire_range *old = (quic_wire_range *)block(size);
+  quic_wire_range *checked = (quic_wire_range *)block(size);
+  quic_wire_runs set = {0, 0}, was;
+  int turn;
+  set.first = any() % (room + 1);
+  for (k = 0; k < room; k++)
+    runs[k].start = runs[k].end = any();
+  for (turn = 0; turn < 40; turn++) {
+    uint64_t start = base, end = base, number = base + any() % 64;
+    int insert = next_change(checked, count, &start, &end), wanted, answer;
+    memcpy(old, runs, size);
+    was = set;
+    wanted = (insert ? quic_wire_set_insert
+                     : quic_wire_set_remove)(checked, room, &count, start, end);
+    answer = (insert ? quic_wire_runs_insert
+                     : quic_wire_runs_remove)(runs, room, &set, start, end);
+    WANT(answer == wanted && set.count == count);
+    changes_only(runs, old, room, &set, &was, answer);
+    WANT(!memcmp(runs + set.first, checked, count * sizeof *runs));
+    WANT(quic_wire_runs_contains(runs, room, &set, number) ==
+         quic_wire_set_contains(checked, count, number));
+  }
+  free(runs);
+  free(old);
+  free(checked);
+}
+
+/* Entries with any field values, and a set that names any of them, or others.
+ */
+void runs_rubbish(void) {
+  size_t room = any() % 6, size = room * sizeof(quic_wire_range), k;
+  quic_wire_range *runs = (quic_wire_range *)block(size);
+  quic_wire_range *old = (quic_wire_range *)block(size);
+  quic_wire_runs set, was;
+  uint64_t start = edge(), end = edge();
+  int within, answer;
+  set.first = any() % 5 ? any() % (room + 1) : place();
+  set.count = any() % 5 ? any() % (room + 1) : place();
+  within = set.first <= room && set.count <= room - set.first;
+  for (k = 0; k < room; k++) {
+    runs[k].start = any() % 2 ? any() % 9 : edge();
+    runs[k].end = any() % 2 ? any() % 9 : edge();
+  }
+  memcpy(old, runs, size);
+  was = set;
+  answer = quic_wire_runs_contains(runs, room, &set, start);
+  WANT(within ? answer == 0 || answer == 1 : answer == QUIC_WIRE_ERR_RANGES);
+  answer = (any() % 2 ? quic_wire_runs_insert
+                      : quic_wire_runs_remove)(runs, room, &set, start, end);
+  WANT((answer == QUIC_WIRE_ERR_RANGES) == !within);
+  changes_only(runs, old, room, &set, &was, answer);
   free(runs);
   free(old);
 }

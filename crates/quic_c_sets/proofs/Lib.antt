@@ -1,5 +1,4 @@
-mod Placing
-mod Planning
-mod Making
+mod Checking
+mod Changing
 mod Writing
 mod RangeParts

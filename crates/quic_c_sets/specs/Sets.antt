@@ -1,24 +1,10 @@
 -- Sets of packet numbers, as the entries of a caller's array describe them.
-use Rattle.std.specs.Prelude.{◌≡◌, ℕ, ◌+◌, ◌≤◌, Bool, List, length, take, drop, map}
+use Rattle.std.specs.Prelude.{◌≡◌, ℕ, ◌+◌, ◌≤◌, Bool, List, length, drop}
 use Rattle.std.specs.declared.ops.Range.{Range}
 use Rattle.quic_ranges.specs.Runs.{IsMaximalRuns, IsRunsOf}
 use Rattle.quic_ranges.specs.Splices.{BecomesRunsOf}
-use Rattle.quic_c_sets.specs.declared.words.CRange.{CRange}
-
--- the range from a number to below another
-abbrev pub span : ℕ → ℕ → Range ℕ
-span start end = record { start = start; end = end }
-
--- the range that an entry describes
-abbrev pub range_of : CRange → Range ℕ
-range_of words = record { start = words.start; end = words.end }
-
-abbrev pub runs_of : List CRange → List (Range ℕ)
-runs_of words = map range_of words
-
--- the ranges that the first entries of an array describe
-abbrev pub first_runs : ℕ → List CRange → List (Range ℕ)
-first_runs count words = runs_of (take count words)
+use Rattle.quic_runs.specs.declared.words.CRange.{CRange}
+use Rattle.quic_runs.specs.Entries.{first_runs}
 
 -- The first count entries of an array are the maximal runs of a set.
 pub record IsSet (words : List CRange) (count : ℕ) : Type 0 where

@@ -3,10 +3,8 @@
 #![tactic(auto)]
 
 mod acks;
-mod change;
-mod places;
+mod checks;
 mod sets;
 mod within;
-mod words;
 
-pub use words::CRange;
+pub use quic_runs::words::CRange;

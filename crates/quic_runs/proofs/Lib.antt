@@ -1,0 +1,3 @@
+pub mod Placing
+mod Planning
+pub mod Making

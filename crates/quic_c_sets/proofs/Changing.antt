@@ -1,5 +1,5 @@
 -- What the calls return.
-use Rattle.std.proofs.Common.{◌≡◌, ℕ, Bool, List, take}
+use Rattle.std.proofs.Common.{ℕ, Bool, List, take}
 use Rattle.quic_runs.specs.declared.words.CRange.{CRange}
 use Rattle.quic_runs.specs.declared.change.Splice.{Splice}
 use Rattle.quic_runs.specs.Changes.{Made, SetNeedsMore, Plans}

@@ -3,11 +3,11 @@ use Rattle.std.proofs.Common.{◌≡◌, ℕ, ◌+◌, Bool, List, length, sym, 
 use Rattle.std.specs.declared.ops.Range.{Range}
 use Rattle.quic_ranges.specs.Runs.{IsMaximalRuns, IsRunsOf}
 use Rattle.quic_ranges.specs.Splices.{BecomesRunsOf}
-use Rattle.quic_runs.specs.declared.words.CRange.{CRange}
-use Rattle.quic_runs.specs.declared.change.Splice.{Splice}
-use Rattle.quic_runs.specs.Changes.{Plans, after_change}
-use Rattle.quic_runs.specs.Entries.{range_of, runs_of}
-use Rattle.quic_runs.proofs.Making.{one_more}
+use Rattle.quic_c_entries.specs.declared.words.CRange.{CRange}
+use Rattle.quic_c_entries.specs.declared.change.Splice.{Splice}
+use Rattle.quic_c_entries.specs.Changes.{Plans, after_change}
+use Rattle.quic_c_entries.specs.Entries.{range_of, runs_of}
+use Rattle.quic_c_entries.proofs.Making.{one_more}
 use Rattle.quic_c_runs.specs.declared.words.CRuns.{CRuns}
 use Rattle.quic_c_runs.specs.Sets.{BecomesAt, LacksEntry, entries_at, runs_at}
 use Rattle.quic_c_runs.specs.Moves.{MadeAt}

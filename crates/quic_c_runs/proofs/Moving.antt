@@ -5,9 +5,9 @@ use Rattle.std.proofs.Math.Seq.{paste, take-append-add, drop-append-add}
 use Rattle.std.proofs.lemmas.List.{append-nil, length-append, length-take, length-take-le, length-drop, take_at, drop_at, take_all, drop_all, drop-take, drop-drop}
 use Rattle.std.proofs.lemmas.List.Edits.{take-paste, drop-paste}
 use borrow.Rule.Slice.PartMut.{put_mid, post_of, mid_of}
-use Rattle.quic_runs.specs.declared.words.CRange.{CRange}
-use Rattle.quic_runs.specs.declared.change.Splice.{Splice}
-use Rattle.quic_runs.specs.Changes.{FitsRoom, Made, after_change, words_of}
+use Rattle.quic_c_entries.specs.declared.words.CRange.{CRange}
+use Rattle.quic_c_entries.specs.declared.change.Splice.{Splice}
+use Rattle.quic_c_entries.specs.Changes.{FitsRoom, Made, after_change, words_of}
 use Rattle.quic_c_runs.specs.declared.words.CRuns.{CRuns}
 use Rattle.quic_c_runs.specs.Sets.{ChangesOnly, entries_at}
 use Rattle.quic_c_runs.specs.Moves.{MadeAt}

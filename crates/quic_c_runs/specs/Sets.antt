@@ -3,8 +3,8 @@ use Rattle.std.specs.Prelude.{◌≡◌, ℕ, ◌+◌, ◌≤◌, Bool, List, le
 use Rattle.std.specs.declared.ops.Range.{Range}
 use Rattle.quic_ranges.specs.Runs.{IsMaximalRuns, IsRunsOf}
 use Rattle.quic_ranges.specs.Splices.{BecomesRunsOf}
-use Rattle.quic_runs.specs.declared.words.CRange.{CRange}
-use Rattle.quic_runs.specs.Entries.{runs_of}
+use Rattle.quic_c_entries.specs.declared.words.CRange.{CRange}
+use Rattle.quic_c_entries.specs.Entries.{runs_of}
 use Rattle.quic_c_runs.specs.declared.words.CRuns.{CRuns}
 
 -- the entries that a set names

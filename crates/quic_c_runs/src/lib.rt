@@ -8,5 +8,5 @@ mod moves;
 mod runs;
 mod words;
 
-pub use quic_runs::words::CRange;
+pub use quic_c_entries::words::CRange;
 pub use words::CRuns;

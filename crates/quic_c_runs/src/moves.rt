@@ -2,13 +2,13 @@
 //! entries behind them are moved. All are moved to the array's front only if no entry is left behind the set.
 ghost use Rattle.std.specs.Prelude.{◌≡◌, ◌≤◌, ◌<◌, ◌+◌, length, true, false, take, drop};
 ghost use Rattle.std.specs.List.{copy_within};
-ghost use Rattle.quic_runs.specs.Changes.{FitsRoom, after_change, words_of};
+ghost use Rattle.quic_c_entries.specs.Changes.{FitsRoom, after_change, words_of};
 ghost use Rattle.quic_c_runs.specs.Moves.{MadeAt};
 ghost use Rattle.quic_c_runs.specs.Sets.{entries_at};
 
 use crate::words::CRuns;
-use quic_runs::change::{Splice, make};
-use quic_runs::words::CRange;
+use quic_c_entries::change::{Splice, make};
+use quic_c_entries::words::CRange;
 
 // Makes a change that begins with the first run and ends before the last. The entries behind the change stay where they
 // are: what replaces the first runs is written in front of them.

@@ -3,15 +3,15 @@
 ghost use Rattle.std.specs.Prelude.{◌≡◌, ◌<◌, ◌≤◌, ◌+◌, ◌⊎◌, ◌↔◌, pos, length, true, false, IsTrue};
 ghost use Rattle.quic_ranges.specs.Runs.{IsRunsOf, in_union, in_difference, member};
 ghost use Rattle.quic_results.specs.Results.{failed};
-ghost use Rattle.quic_runs.specs.Entries.{span};
+ghost use Rattle.quic_c_entries.specs.Entries.{span};
 ghost use Rattle.quic_c_runs.specs.Sets.{BecomesAt, ChangesOnly, IsSetAt, LacksEntry, entries_at, runs_at};
 
 use crate::moves::make_at;
 use crate::words::CRuns;
+use quic_c_entries::change::{insertion, removal};
+use quic_c_entries::places::contains;
+use quic_c_entries::words::CRange;
 use quic_results::results::Failure;
-use quic_runs::change::{insertion, removal};
-use quic_runs::places::contains;
-use quic_runs::words::CRange;
 
 // Whether the entries that a set names are in an array of `room` entries.
 #[inline(always)]

@@ -1,9 +1,9 @@
 -- What the calls return.
 use Rattle.std.proofs.Common.{ℕ, Bool, List, take}
-use Rattle.quic_runs.specs.declared.words.CRange.{CRange}
-use Rattle.quic_runs.specs.declared.change.Splice.{Splice}
-use Rattle.quic_runs.specs.Changes.{Made, SetNeedsMore, Plans}
-use Rattle.quic_runs.proofs.Making.{one_more}
+use Rattle.quic_c_entries.specs.declared.words.CRange.{CRange}
+use Rattle.quic_c_entries.specs.declared.change.Splice.{Splice}
+use Rattle.quic_c_entries.specs.Changes.{Made, SetNeedsMore, Plans}
+use Rattle.quic_c_entries.proofs.Making.{one_more}
 use Rattle.quic_c_sets.specs.Sets.{IsSet, Becomes, LacksRoom}
 
 pub becomes : (test : ℕ → Bool) (old new : List CRange) (before after : ℕ) (change : Splice) → IsSet old before

@@ -3,9 +3,9 @@ use Rattle.std.proofs.Common.{◌≡◌, ℕ, suc, ◌+◌, ◌<◌, ◌≤◌, 
 use Rattle.std.proofs.Math.Seq.{drop-cons}
 use Rattle.std.proofs.lemmas.List.{drop_all}
 use Rattle.quic_ranges.specs.Runs.{RunsFrom, IsMaximalRuns}
-use Rattle.quic_runs.specs.declared.words.CRange.{CRange}
-use Rattle.quic_runs.specs.Entries.{range_of, runs_of}
-use Rattle.quic_runs.proofs.Placing.{nowhere}
+use Rattle.quic_c_entries.specs.declared.words.CRange.{CRange}
+use Rattle.quic_c_entries.specs.Entries.{range_of, runs_of}
+use Rattle.quic_c_entries.proofs.Placing.{nowhere}
 
 -- the entries are maximal runs exactly when those from an index on are, after a run with this end
 pub record LooksOn (words : List CRange) (end at : ℕ) : Type 0 where

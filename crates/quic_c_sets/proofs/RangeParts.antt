@@ -6,11 +6,11 @@ use Rattle.std.proofs.lemmas.Bool.Decides.{nat_tests}
 use Rattle.std.proofs.Math.Seq.{take-append_seam, drop-append_seam}
 use Rattle.std.proofs.lemmas.List.{append-nil, drop-drop, length-append, length-drop, length-take, map-append, map_more, take-append-drop}
 use Rattle.quic_ranges.specs.Intersections.{as_runs, intersections}
-use Rattle.quic_runs.specs.declared.words.CRange.{CRange}
-use Rattle.quic_runs.specs.declared.change.Substitute.{Substitute}
-use Rattle.quic_runs.specs.Changes.{words_of}
-use Rattle.quic_runs.specs.Entries.{range_of, runs_of}
-use Rattle.quic_runs.proofs.Placing.{many, nowhere}
+use Rattle.quic_c_entries.specs.declared.words.CRange.{CRange}
+use Rattle.quic_c_entries.specs.declared.change.Substitute.{Substitute}
+use Rattle.quic_c_entries.specs.Changes.{words_of}
+use Rattle.quic_c_entries.specs.Entries.{range_of, runs_of}
+use Rattle.quic_c_entries.proofs.Placing.{many, nowhere}
 
 -- the part of one run
 abbrev pub part : CRange → Range ℕ → List (Range ℕ)

@@ -14,9 +14,9 @@ use Rattle.quic_frame_fields.specs.Shortest.{shortest_below, shortest_frame}
 use Rattle.quic_frame_fields.proofs.AckParts.{SetParts, run_numbers, set_parts}
 use Rattle.quic_frame_fields.proofs.Putting.{stores_more}
 use Rattle.quic_frame_fields.proofs.Sets.{has_below, ranges_in-last}
-use Rattle.quic_runs.specs.declared.words.CRange.{CRange}
-use Rattle.quic_runs.specs.Entries.{first_runs, range_of, runs_of}
-use Rattle.quic_runs.proofs.Placing.{many, nowhere}
+use Rattle.quic_c_entries.specs.declared.words.CRange.{CRange}
+use Rattle.quic_c_entries.specs.Entries.{first_runs, range_of, runs_of}
+use Rattle.quic_c_entries.proofs.Placing.{many, nowhere}
 use Rattle.quic_c_sets.specs.Acks.{DescribesSetAck, counts_in}
 use Rattle.quic_c_sets.specs.Sets.{IsSet}
 

@@ -7,14 +7,14 @@ ghost use Rattle.quic_frame_fields.specs.Sets.{ack_of, ack_type, ranges_in};
 ghost use Rattle.quic_frame_fields.specs.Shortest.{shortest_below, shortest_frame};
 ghost use Rattle.quic_c_sets.specs.Acks.{DescribesSetAck, IsReason, IsRefusal, counts_in};
 ghost use Rattle.quic_results.specs.Results.{failed};
-ghost use Rattle.quic_runs.specs.Entries.{first_runs, range_of, runs_of};
+ghost use Rattle.quic_c_entries.specs.Entries.{first_runs, range_of, runs_of};
 
 use crate::checks::is_set;
 use quic_base::varint::var_size;
+use quic_c_entries::words::CRange;
 use quic_frame_fields::frame::write::numbers_len;
 use quic_frame_fields::frame::write_into::numbers_at;
 use quic_results::results::Failure;
-use quic_runs::words::CRange;
 
 // Whether each number has an encoding.
 fn are_numeric(numbers: &[u64]) -> bool

@@ -1,10 +1,10 @@
 //! Whether entries are the runs of a set.
 ghost use Rattle.std.specs.Prelude.{◌↔◌, IsTrue};
 ghost use Rattle.quic_ranges.specs.Runs.{IsMaximalRuns};
-ghost use Rattle.quic_runs.specs.Entries.{runs_of};
+ghost use Rattle.quic_c_entries.specs.Entries.{runs_of};
 ghost use Rattle.quic_c_sets.specs.Sets.{IsSet};
 
-use quic_runs::words::CRange;
+use quic_c_entries::words::CRange;
 
 // Whether the entries are maximal runs.
 fn are_runs(runs: &[CRange]) -> bool

@@ -7,4 +7,4 @@ mod checks;
 mod sets;
 mod within;
 
-pub use quic_runs::words::CRange;
+pub use quic_c_entries::words::CRange;

@@ -1,15 +1,15 @@
 //! Sets of packet numbers, each the first runs of an array.
 ghost use Rattle.std.specs.Prelude.{◌≡◌, ◌⊎◌, ◌↔◌, pos, true, false};
 ghost use Rattle.quic_ranges.specs.Runs.{in_union, in_difference, member};
-ghost use Rattle.quic_runs.specs.Entries.{first_runs, span};
+ghost use Rattle.quic_c_entries.specs.Entries.{first_runs, span};
 ghost use Rattle.quic_c_sets.specs.Sets.{Becomes, IsSet, LacksRoom, Stays};
 ghost use Rattle.quic_results.specs.Results.{failed};
 
 use crate::checks::is_set;
+use quic_c_entries::change::{insertion, make, removal};
+use quic_c_entries::places::contains;
+use quic_c_entries::words::CRange;
 use quic_results::results::Failure;
-use quic_runs::change::{insertion, make, removal};
-use quic_runs::places::contains;
-use quic_runs::words::CRange;
 
 /// Inserts the numbers from `start` to below `end` into the set in the first `count` entries: sorted runs, none empty,
 /// none touching another. An empty or reversed range inserts nothing. It returns 1 if the set changed, with its number

@@ -3,15 +3,15 @@ ghost use Rattle.std.specs.Prelude.{◌≡◌, ◌<◌, ◌≤◌, ◌⊎◌, �
 ghost use Rattle.std.specs.declared.ops.Range.{Range};
 ghost use Rattle.quic_ranges.specs.Intersections.{as_runs, intersections};
 ghost use Rattle.quic_ranges.specs.Runs.{IsRunsOf, in_intersection};
-ghost use Rattle.quic_runs.specs.Changes.{words_of};
-ghost use Rattle.quic_runs.specs.Entries.{first_runs, range_of, runs_of, span};
+ghost use Rattle.quic_c_entries.specs.Changes.{words_of};
+ghost use Rattle.quic_c_entries.specs.Entries.{first_runs, range_of, runs_of, span};
 ghost use Rattle.quic_c_sets.specs.Sets.{IsSet, Stores};
 ghost use Rattle.quic_results.specs.Results.{failed};
 
 use crate::checks::is_set;
+use quic_c_entries::change::Substitute;
+use quic_c_entries::words::CRange;
 use quic_results::results::Failure;
-use quic_runs::change::Substitute;
-use quic_runs::words::CRange;
 
 // The part of a run that is in a range, if it has one there.
 #[inline(always)]

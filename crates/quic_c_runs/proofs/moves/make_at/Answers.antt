@@ -1,6 +1,6 @@
 use Rattle.std.proofs.Common.{◌≡◌, ◌+◌, ◌∙◌, List, length, refl, subst, sym}
-use Rattle.quic_runs.specs.declared.words.CRange.{CRange}
-use Rattle.quic_runs.specs.Changes.{after_change}
+use Rattle.quic_c_entries.specs.declared.words.CRange.{CRange}
+use Rattle.quic_c_entries.specs.Changes.{after_change}
 use Rattle.quic_c_runs.specs.declared.words.CRuns.{CRuns}
 use Rattle.quic_c_runs.specs.Sets.{entries_at}
 use Rattle.quic_c_runs.specs.Moves.{MadeAt}

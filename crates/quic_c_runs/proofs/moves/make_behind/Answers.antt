@@ -1,6 +1,6 @@
 use Rattle.std.proofs.Common.{List, refl, subst, arith}
-use Rattle.quic_runs.specs.declared.words.CRange.{CRange}
-use Rattle.quic_runs.specs.Changes.{Made}
+use Rattle.quic_c_entries.specs.declared.words.CRange.{CRange}
+use Rattle.quic_c_entries.specs.Changes.{Made}
 use Rattle.quic_c_runs.proofs.Moving.{made_behind, part_is, part_put}
 use Rattle.quic_c_runs.proofs.moves.make_behind.Goals as goal
 

@@ -1,6 +1,6 @@
 use Rattle.std.proofs.Common.{refl}
 use Rattle.quic_ranges.specs.Runs.{in_union}
-use Rattle.quic_runs.specs.Entries.{span}
+use Rattle.quic_c_entries.specs.Entries.{span}
 use Rattle.quic_c_runs.specs.Sets.{entries_at, runs_at}
 use Rattle.quic_c_runs.proofs.Changing.{lacks_entry, planned}
 use Rattle.quic_c_runs.proofs.runs.quic_wire_runs_insert_.Goals as goal

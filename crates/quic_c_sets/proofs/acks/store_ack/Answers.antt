@@ -4,8 +4,8 @@ use Rattle.quic_frame_fields.specs.Numbers.{shortest_varints}
 use Rattle.quic_frame_fields.specs.Sets.{ranges_in}
 use Rattle.quic_frame_fields.specs.Shortest.{shortest_below}
 use Rattle.quic_frame_fields.proofs.Putting.{stores_more, puts_stores, puts_refused}
-use Rattle.quic_runs.specs.Entries.{runs_of}
-use Rattle.quic_runs.proofs.Placing.{nowhere}
+use Rattle.quic_c_entries.specs.Entries.{runs_of}
+use Rattle.quic_c_entries.proofs.Placing.{nowhere}
 use Rattle.quic_c_sets.proofs.Writing.{ack_parts_of, last_small, last_some, whole_ack}
 use Rattle.quic_c_sets.proofs.acks.store_ack.Goals as goal
 

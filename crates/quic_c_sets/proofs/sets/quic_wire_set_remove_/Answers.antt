@@ -1,6 +1,6 @@
 use Rattle.std.proofs.Common.{refl}
 use Rattle.quic_ranges.specs.Runs.{in_difference}
-use Rattle.quic_runs.specs.Entries.{first_runs, span}
+use Rattle.quic_c_entries.specs.Entries.{first_runs, span}
 use Rattle.quic_c_sets.proofs.Changing.{lacks_room}
 use Rattle.quic_c_sets.proofs.sets.quic_wire_set_remove_.Goals as goal
 

@@ -1,5 +1,5 @@
 use Rattle.std.proofs.Common.{arith}
-use Rattle.quic_runs.specs.Entries.{range_of}
+use Rattle.quic_c_entries.specs.Entries.{range_of}
 use Rattle.quic_c_sets.proofs.RangeParts.{counted_few, counted_more}
 use Rattle.quic_c_sets.proofs.within.count_parts.Goals as goal
 

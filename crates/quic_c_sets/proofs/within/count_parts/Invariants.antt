@@ -1,6 +1,6 @@
 use Rattle.std.proofs.Common.{◌≡◌, length, take}
 use Rattle.quic_ranges.specs.Intersections.{intersections}
-use Rattle.quic_runs.specs.Entries.{range_of, runs_of}
+use Rattle.quic_c_entries.specs.Entries.{range_of, runs_of}
 use Rattle.quic_c_sets.proofs.within.count_parts.Given as goal
 
 abbrev pub invariant-loop-run : goal.invariant-loop-run

@@ -2,7 +2,7 @@
 use Rattle.std.proofs.Common.{refl, arith}
 use Rattle.quic_ranges.specs.Intersections.{intersections}
 use Rattle.quic_ranges.proofs.RunsLemmas.{IsRunsOf-intersections}
-use Rattle.quic_runs.specs.Entries.{first_runs, span}
+use Rattle.quic_c_entries.specs.Entries.{first_runs, span}
 use Rattle.quic_c_sets.proofs.within.quic_wire_set_within_.Goals as goal
 
 pub returns-then-dest-needed-clause-room : goal.returns-then-dest-needed-clause-room

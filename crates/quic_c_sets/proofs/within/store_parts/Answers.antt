@@ -1,4 +1,4 @@
-use Rattle.quic_runs.specs.Entries.{range_of}
+use Rattle.quic_c_entries.specs.Entries.{range_of}
 use Rattle.quic_c_sets.proofs.RangeParts.{room_for, stored_more}
 use Rattle.quic_c_sets.proofs.within.store_parts.Goals as goal
 

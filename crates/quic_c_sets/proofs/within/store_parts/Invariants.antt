@@ -1,4 +1,4 @@
-use Rattle.quic_runs.specs.Entries.{range_of}
+use Rattle.quic_c_entries.specs.Entries.{range_of}
 use Rattle.quic_c_sets.proofs.RangeParts.{StoredOn}
 use Rattle.quic_c_sets.proofs.within.store_parts.Given as goal
 

@@ -10,13 +10,13 @@ use Rattle.quic_ranges.specs.Splices.{BecomesRunsOf}
 use Rattle.quic_ranges.proofs.RunsLemmas.{range, inserted, removed, IsRunsOf-inserted, IsRunsOf-removed}
 use Rattle.quic_ranges.proofs.PlacesLemmas.{IsRunsOf-inside, covered, ends_below-length, ends_below-starts_upto, hull-at, hull-none, inserted-places, run-at, starts_upto-above, starts_upto-length}
 use Rattle.quic_ranges.proofs.RemovalLemmas.{ends_below-at, member-at, removed-places, rest, rest-at, starts_upto-at}
-use Rattle.quic_runs.specs.declared.words.CRange.{CRange}
-use Rattle.quic_runs.specs.declared.change.Splice.{Splice}
-use Rattle.quic_runs.specs.declared.change.Substitute.{Substitute}
-use Rattle.quic_runs.specs.declared.change.Substitute.TheVariants.{Nothing, One, Two}
-use Rattle.quic_runs.specs.Entries.{range_of, runs_of}
-use Rattle.quic_runs.specs.Changes.{FitsRoom, Plans, after_change, words_of}
-use Rattle.quic_runs.proofs.Placing.{many, nowhere, run_at}
+use Rattle.quic_c_entries.specs.declared.words.CRange.{CRange}
+use Rattle.quic_c_entries.specs.declared.change.Splice.{Splice}
+use Rattle.quic_c_entries.specs.declared.change.Substitute.{Substitute}
+use Rattle.quic_c_entries.specs.declared.change.Substitute.TheVariants.{Nothing, One, Two}
+use Rattle.quic_c_entries.specs.Entries.{range_of, runs_of}
+use Rattle.quic_c_entries.specs.Changes.{FitsRoom, Plans, after_change, words_of}
+use Rattle.quic_c_entries.proofs.Placing.{many, nowhere, run_at}
 
 -- the ranges after a change
 after_ranges : (words : List CRange) (s : Splice)

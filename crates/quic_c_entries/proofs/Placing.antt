@@ -8,8 +8,8 @@ use Rattle.quic_ranges.specs.Runs.{IsMaximalRuns, member}
 use Rattle.quic_ranges.specs.Places.{ends_below, starts_upto}
 use Rattle.quic_ranges.proofs.PlacesLemmas.{ends_below-all, ends_below-others, ends_partition, starts_partition, starts_upto-above, starts_upto-length}
 use Rattle.quic_ranges.proofs.RemovalLemmas.{member-place}
-use Rattle.quic_runs.specs.declared.words.CRange.{CRange}
-use Rattle.quic_runs.specs.Entries.{range_of, runs_of}
+use Rattle.quic_c_entries.specs.declared.words.CRange.{CRange}
+use Rattle.quic_c_entries.specs.Entries.{range_of, runs_of}
 
 -- what is past the end
 abbrev pub nowhere : CRange

@@ -1,8 +1,8 @@
 use Rattle.std.proofs.Common.{arith, refl}
 use Rattle.quic_ranges.proofs.RemovalLemmas.{IsRunsOf-apart}
-use Rattle.quic_runs.specs.Entries.{range_of, runs_of}
-use Rattle.quic_runs.proofs.Planning.{most, plan_removal}
-use Rattle.quic_runs.proofs.change.removal.Goals as goal
+use Rattle.quic_c_entries.specs.Entries.{range_of, runs_of}
+use Rattle.quic_c_entries.proofs.Planning.{most, plan_removal}
+use Rattle.quic_c_entries.proofs.change.removal.Goals as goal
 
 pub returns-clause-some : goal.returns-clause-some
 returns-clause-some c h =

@@ -1,7 +1,7 @@
 use Rattle.std.proofs.Common.{arith}
-use Rattle.quic_runs.proofs.Planning.{plan_plain, plan_touching, plan_inside}
-use Rattle.quic_runs.proofs.change.insertion.Goals as goal
-use Rattle.quic_runs.proofs.change.insertion.Goals.{else-first-x-via-then-first-x+else-x-first, else-first-x-via-else-first-x}
+use Rattle.quic_c_entries.proofs.Planning.{plan_plain, plan_touching, plan_inside}
+use Rattle.quic_c_entries.proofs.change.insertion.Goals as goal
+use Rattle.quic_c_entries.proofs.change.insertion.Goals.{else-first-x-via-then-first-x+else-x-first, else-first-x-via-else-first-x}
 
 pub returns-then-from-to-clause-some : goal.returns-then-from-to-clause-some
 returns-then-from-to-clause-some c h =

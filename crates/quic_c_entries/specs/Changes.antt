@@ -1,11 +1,11 @@
 -- A planned change of the runs of a set, which are the first entries of an array.
 use Rattle.std.specs.Prelude.{◌≡◌, ℕ, ◌+◌, ◌-◌, ◌≤◌, Bool, List, [], ◌∷◌, ◌++◌, length, take, drop}
 use Rattle.quic_ranges.specs.Splices.{BecomesRunsOf}
-use Rattle.quic_runs.specs.declared.words.CRange.{CRange}
-use Rattle.quic_runs.specs.declared.change.Splice.{Splice}
-use Rattle.quic_runs.specs.declared.change.Substitute.{Substitute}
-use Rattle.quic_runs.specs.declared.change.Substitute.TheVariants.{Nothing, One, Two}
-use Rattle.quic_runs.specs.Entries.{runs_of}
+use Rattle.quic_c_entries.specs.declared.words.CRange.{CRange}
+use Rattle.quic_c_entries.specs.declared.change.Splice.{Splice}
+use Rattle.quic_c_entries.specs.declared.change.Substitute.{Substitute}
+use Rattle.quic_c_entries.specs.declared.change.Substitute.TheVariants.{Nothing, One, Two}
+use Rattle.quic_c_entries.specs.Entries.{runs_of}
 
 -- the runs that replace others
 abbrev pub words_of : Substitute → List CRange

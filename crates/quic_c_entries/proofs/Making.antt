@@ -7,11 +7,11 @@ use Rattle.std.proofs.lemmas.List.Edits.{paste_none, take-paste, drop-paste}
 use Rattle.std.specs.declared.ops.Range.{Range}
 use Rattle.quic_ranges.specs.Runs.{IsRunsOf}
 use Rattle.quic_ranges.proofs.RunsLemmas.{IsRunsOf-unique}
-use Rattle.quic_runs.specs.declared.words.CRange.{CRange}
-use Rattle.quic_runs.specs.declared.change.Splice.{Splice}
-use Rattle.quic_runs.specs.Entries.{runs_of}
-use Rattle.quic_runs.specs.Changes.{FitsRoom, Made, Plans, after_change, words_of}
-use Rattle.quic_runs.proofs.Placing.{many}
+use Rattle.quic_c_entries.specs.declared.words.CRange.{CRange}
+use Rattle.quic_c_entries.specs.declared.change.Splice.{Splice}
+use Rattle.quic_c_entries.specs.Entries.{runs_of}
+use Rattle.quic_c_entries.specs.Changes.{FitsRoom, Made, Plans, after_change, words_of}
+use Rattle.quic_c_entries.proofs.Placing.{many}
 
 pub take_seam : (xs zs : List CRange) (n : ℕ) → n ≡ length xs → take n (xs ++ zs) ≡ xs
 take_seam xs zs n e = ap (λ (k : ℕ). take k (xs ++ zs)) e ∙ take-append_seam xs zs

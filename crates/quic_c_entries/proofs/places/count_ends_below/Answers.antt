@@ -1,9 +1,9 @@
 use Rattle.std.proofs.Common.{ltb, sym, ◌∙◌, rules, arith}
 use Rattle.std.proofs.lemmas.List.Sorted.{IsPartitionPoint-from_clause}
-use Rattle.quic_runs.specs.declared.words.CRange.{CRange}
-use Rattle.quic_runs.proofs.Placing.{ends_place, ends_ordered, all_end_below, others_end_below}
-use Rattle.quic_runs.proofs.places.count_ends_below.Goals as goal
-use Rattle.quic_runs.proofs.places.count_ends_below.Goals.{then-runs-len-2, else-runs-len-2}
+use Rattle.quic_c_entries.specs.declared.words.CRange.{CRange}
+use Rattle.quic_c_entries.proofs.Placing.{ends_place, ends_ordered, all_end_below, others_end_below}
+use Rattle.quic_c_entries.proofs.places.count_ends_below.Goals as goal
+use Rattle.quic_c_entries.proofs.places.count_ends_below.Goals.{then-runs-len-2, else-runs-len-2}
 
 pub returns-clause-count : goal.returns-clause-count
 returns-clause-count c h =

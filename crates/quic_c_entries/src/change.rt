@@ -2,8 +2,8 @@
 ghost use Rattle.std.specs.Prelude.{◌≡◌, ◌≤◌, ◌<◌, ◌+◌, ◌++◌, length, take, drop, true, false, IfSome, IfNone};
 ghost use Rattle.quic_ranges.specs.Intersections.{as_runs};
 ghost use Rattle.quic_ranges.specs.Runs.{IsMaximalRuns, IsRunsOf, in_union, in_difference};
-ghost use Rattle.quic_runs.specs.Entries.{range_of, runs_of};
-ghost use Rattle.quic_runs.specs.Changes.{FitsRoom, Made, SetNeedsMore, Plans, words_of};
+ghost use Rattle.quic_c_entries.specs.Entries.{range_of, runs_of};
+ghost use Rattle.quic_c_entries.specs.Changes.{FitsRoom, Made, SetNeedsMore, Plans, words_of};
 
 use crate::places::{count_ends_below, count_starts_upto};
 use crate::words::CRange;

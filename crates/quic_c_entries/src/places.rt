@@ -3,7 +3,7 @@
 ghost use Rattle.std.specs.Prelude.{◌≡◌, ◌≤◌, length};
 ghost use Rattle.quic_ranges.specs.Runs.{IsMaximalRuns, member};
 ghost use Rattle.quic_ranges.specs.Places.{ends_below, starts_upto};
-ghost use Rattle.quic_runs.specs.Entries.{runs_of};
+ghost use Rattle.quic_c_entries.specs.Entries.{runs_of};
 
 use crate::words::CRange;
 

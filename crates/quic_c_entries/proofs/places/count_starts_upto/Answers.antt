@@ -1,8 +1,8 @@
 use Rattle.std.proofs.Common.{leb, sym, rules, arith}
 use Rattle.std.proofs.lemmas.List.Sorted.{IsPartitionPoint-from_clause}
-use Rattle.quic_runs.specs.declared.words.CRange.{CRange}
-use Rattle.quic_runs.proofs.Placing.{starts_place, starts_ordered, all_start_upto}
-use Rattle.quic_runs.proofs.places.count_starts_upto.Goals as goal
+use Rattle.quic_c_entries.specs.declared.words.CRange.{CRange}
+use Rattle.quic_c_entries.proofs.Placing.{starts_place, starts_ordered, all_start_upto}
+use Rattle.quic_c_entries.proofs.places.count_starts_upto.Goals as goal
 
 pub returns-clause-count : goal.returns-clause-count
 returns-clause-count c h =

@@ -1,7 +1,7 @@
 use Rattle.std.proofs.Common.{◌≤◌, ◌+◌, length, refl, subst}
 use Rattle.quic_ranges.proofs.SpliceLemmas.{set-one, set-two}
-use Rattle.quic_runs.specs.Changes.{words_of}
-use Rattle.quic_runs.proofs.change.Substitute.write.Goals as goal
+use Rattle.quic_c_entries.specs.Changes.{words_of}
+use Rattle.quic_c_entries.proofs.change.Substitute.write.Goals as goal
 
 pub returns-in-One : goal.returns-in-One
 returns-in-One c =

@@ -1,8 +1,8 @@
 use Rattle.std.proofs.Common.{◌≡◌, ◌+◌, ◌∙◌, refl, arith}
 use Rattle.std.specs.List.{copy_within}
-use Rattle.quic_runs.proofs.Making.{made, moved_none, moved_same}
-use Rattle.quic_runs.proofs.change.make.Goals as goal
-use Rattle.quic_runs.proofs.change.make.Goals.{then-change-len+then-behind-change, else-change-len, else-change-len-via-then-change-len+else-behind-change, else-change-len-via-else-change-len}
+use Rattle.quic_c_entries.proofs.Making.{made, moved_none, moved_same}
+use Rattle.quic_c_entries.proofs.change.make.Goals as goal
+use Rattle.quic_c_entries.proofs.change.make.Goals.{then-change-len+then-behind-change, else-change-len, else-change-len-via-then-change-len+else-behind-change, else-change-len-via-else-change-len}
 
 pub returns-clause-made : goal.returns-clause-made
 returns-clause-made c _ =

@@ -1,7 +1,7 @@
 -- The ranges that entries of a caller's array describe.
 use Rattle.std.specs.Prelude.{ℕ, List, take, map}
 use Rattle.std.specs.declared.ops.Range.{Range}
-use Rattle.quic_runs.specs.declared.words.CRange.{CRange}
+use Rattle.quic_c_entries.specs.declared.words.CRange.{CRange}
 
 -- the range from a number to below another
 abbrev pub span : ℕ → ℕ → Range ℕ

@@ -2,9 +2,9 @@ use Rattle.std.proofs.Common.{◌≡◌, ◌-◌, arith, sym, ◌∙◌, suc}
 use Rattle.std.proofs.lemmas.Bool.{le-ltb}
 use Rattle.quic_ranges.proofs.RemovalLemmas.{member-before}
 use Rattle.quic_ranges.specs.Places.{starts_upto}
-use Rattle.quic_runs.specs.Entries.{runs_of}
-use Rattle.quic_runs.proofs.Placing.{member_at}
-use Rattle.quic_runs.proofs.places.contains.Goals as goal
+use Rattle.quic_c_entries.specs.Entries.{runs_of}
+use Rattle.quic_c_entries.proofs.Placing.{member_at}
+use Rattle.quic_c_entries.proofs.places.contains.Goals as goal
 
 pub returns-then-after-gt0 : goal.returns-then-after-gt0
 returns-then-after-gt0 c h =

@@ -768,6 +768,8 @@ typedef struct quic_wire_fields {
 /* Made by scripts/tables: */
 QUIC_WIRE_ASSERT(sizeof(quic_wire_canon) == 16);
 QUIC_WIRE_ASSERT(offsetof(quic_wire_canon, last_type) == 8);
+QUIC_WIRE_ASSERT(sizeof(quic_wire_range) == 16);
+QUIC_WIRE_ASSERT(offsetof(quic_wire_range, end) == 8);
 QUIC_WIRE_ASSERT(sizeof(quic_wire_header) == 32);
 QUIC_WIRE_ASSERT(offsetof(quic_wire_header, version) == 4);
 QUIC_WIRE_ASSERT(offsetof(quic_wire_header, len) == 24);
@@ -793,8 +795,6 @@ QUIC_WIRE_ASSERT(sizeof(quic_wire_frame) == 80);
 QUIC_WIRE_ASSERT(offsetof(quic_wire_frame, flags) == 4);
 QUIC_WIRE_ASSERT(offsetof(quic_wire_frame, begin) == 8);
 QUIC_WIRE_ASSERT(offsetof(quic_wire_frame, numbers) == 40);
-QUIC_WIRE_ASSERT(sizeof(quic_wire_range) == 16);
-QUIC_WIRE_ASSERT(offsetof(quic_wire_range, end) == 8);
 QUIC_WIRE_ASSERT(sizeof(quic_wire_gap) == 16);
 QUIC_WIRE_ASSERT(offsetof(quic_wire_gap, len) == 8);
 QUIC_WIRE_ASSERT(sizeof(quic_wire_range_iter) == 24);

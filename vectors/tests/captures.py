@@ -24,6 +24,7 @@ TYPES = {"Initial": "0", "0-RTT": "1", "Handshake": "2", "Retry": "3"}
 # Of tshark 4.0.17.
 UNREAD = {
     "broken/coalesced-ids.new-id.pcapng": "it ends a datagram at a packet to another id",
+    "broken/empty-payload.none.pcapng": "it can't open a payload of 0 bytes",
     "broken/destination-id.elsewhere.pcapng": "it knows no connection of the id",
     "broken/frame-fields.lawful-retire-prior-to.pcapng": "it takes the client's ids to have 4 bytes, not 20",
 }

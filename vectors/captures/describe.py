@@ -19,6 +19,7 @@ from segments import cut
 
 KNOWN = (1, 0x6B3343CF)
 UNKNOWN = "tshark reads it as version 1's; only its version and ids have a meaning (RFC 8999, section 5.1)"
+LATE = "tshark takes this second Retry, which clients discard (RFC 9000, section 17.2.5.2); it read the rest without it"
 CUT = "tshark reads the record as one datagram; the kernel cuts it every {} bytes, and tshark read it cut"
 
 
@@ -39,20 +40,40 @@ def amended(packets):
     return packets, why
 
 
+def late_retries(capture, keys):
+    """The records with a Retry after the first one of a capture."""
+    kinds = ((record, [one["type"] for one in packets]) for record, packets in dissect.datagrams(capture, keys))
+    return [record for record, kinds in kinds if kinds == ["Retry"]][1:]
+
+
+def readable(capture, keys, segment, path):
+    """A capture that tshark can read, and for each of its records the number of the record that it is of, and why it
+    is there instead, if it is."""
+    if segment:
+        why = CUT.format(segment)
+        return path, [(record, why if is_cut else None) for record, is_cut in cut(capture, segment, path)]
+    late = late_retries(capture, keys)
+    if not late:
+        return capture, None
+    subprocess.run(["editcap", capture, path, *map(str, late)], check=True)
+    count = len(dissect.run("tshark", "-r", capture, "-T", "fields", "-e", "frame.number").split())
+    return path, [(record, None) for record in range(1, count + 1) if record not in late]
+
+
 def rows_of(capture, keys, segment):
     """A row for each datagram. A record of several has several."""
+    rows = []
     with tempfile.TemporaryDirectory() as folder:
-        numbers, path = None, Path(folder) / "capture.pcap"
-        if segment:
-            numbers = cut(capture, segment, path)
-        else:
-            path = capture
+        path, numbers = readable(capture, keys, segment, Path(folder) / "capture.pcap")
         for record, packets in dissect.datagrams(path, keys):
             packets, why = amended(packets)
-            if numbers:
-                record, is_cut = numbers[record - 1]
-                why = CUT.format(segment) if is_cut else why
-            yield {"record": record, "packets": packets} | ({"differs": why} if why else {})
+            record, instead = numbers[record - 1] if numbers else (record, None)
+            why = instead or why
+            rows.append({"record": record, "packets": packets} | ({"differs": why} if why else {}))
+    there = {row["record"] for row in rows}
+    left_out = [one for one in dissect.datagrams(capture, keys) if one[0] not in there]
+    rows += [{"record": record, "packets": packets, "differs": LATE} for record, packets in left_out]
+    return sorted(rows, key=lambda row: row["record"])
 
 
 def description(capture, keys, scene):

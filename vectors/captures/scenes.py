@@ -213,7 +213,7 @@ def served(says, name, client, also=""):
     return Scene(says, server_of(name), [client], files={file: text}, patience=3)
 
 
-CURL = ["curl", "--http3-only", "--insecure", "--silent", "--show-error", f"https://localhost:{PORT}/small"]
+CURL = ["curl", "--ipv4", "--http3-only", "--insecure", "--silent", "--show-error", f"https://localhost:{PORT}/small"]
 S_CLIENT = ["openssl", "s_client", "-quic", "-alpn", "h3", "-keylogfile", "keys", "-connect", f"localhost:{PORT}"]
 
 AGAIN = "{0} & while [ ! -e again ]; do sleep 0.1; done; kill -KILL $!; exec {0}"

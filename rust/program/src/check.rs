@@ -3,10 +3,11 @@ mod json;
 mod text;
 
 use crate::args::{Checks, nearest};
+use crate::capture::ended;
 use crate::capture::keys::KeyLogs;
-use crate::capture::reading::{Taker, read};
-use crate::capture::screen::{Failure, Screen};
-use crate::{FAILED, REFUSED, WRONG_CALL, say, status};
+use crate::capture::reading::{Taker, read, read_each};
+use crate::capture::screen::{Queue, Screen};
+use crate::{FAILED, REFUSED, WRONG_CALL, say};
 use json::Json;
 use quic_wire_capture::capture::{Capture, Datagram};
 use quic_wire_capture::follow::{Counts, Follower};
@@ -16,6 +17,7 @@ use quic_wire_check::rule::{Level, Rule};
 use quic_wire_check::rules;
 use std::ffi::OsStr;
 use std::process::ExitCode;
+use std::sync::Arc;
 use text::Text;
 
 /// What is found in a capture.
@@ -37,12 +39,18 @@ trait Form {
 }
 
 struct Check<'a> {
-    rules: Vec<&'static Rule>,
+    rules: &'a [&'static Rule],
     form: Box<dyn Form + 'a>,
     name: &'a OsStr,
     begun: Option<u64>,
     checker: Checker,
     is_broken: bool,
+}
+
+impl<'a> Check<'a> {
+    fn new(rules: &'a [&'static Rule], form: Box<dyn Form + 'a>, name: &'a OsStr) -> Self {
+        Check { rules, form, name, begun: None, checker: Checker::new([]), is_broken: false }
+    }
 }
 
 impl Whole<'_> {
@@ -61,40 +69,40 @@ pub fn run(args: &Checks) -> ExitCode {
             return ExitCode::from(WRONG_CALL);
         }
     };
-    let screen = Screen::default();
-    let has_names = args.files.len() > 1;
-    let mut form: Box<dyn Form + '_> = match args.json {
-        true => Box::new(Json::new(&screen, has_names)),
-        false => Box::new(Text::new(&screen, args.colours.is_on())),
-    };
+    let queue = Arc::new(Queue::default());
     if args.rules {
+        let screen = Screen::new(&queue, 0);
+        let mut form = form(args, &screen);
         rules.iter().for_each(|rule| form.rule(rule));
         drop(form);
-        return ended(screen, ExitCode::SUCCESS);
+        drop(screen);
+        return ended(&queue, ExitCode::SUCCESS);
     }
-    let (mut logs, mut are_read) = KeyLogs::open(&args.keylogs);
-    let mut check =
-        Check { rules, form, name: OsStr::new(""), begun: None, checker: Checker::new([]), is_broken: false };
-    for file in &args.files {
-        check.name = file;
-        if let Err(what) = read(file, &mut logs, &mut check, &screen) {
-            are_read = false;
+    let (logs, are_opened) = KeyLogs::open(&args.keylogs);
+    let results = read_each(&args.files, &queue, |file, _, screen| {
+        let mut check = Check::new(&rules, form(args, screen), file);
+        let read = read(file, &logs, &mut check, screen);
+        if let Err(what) = &read {
             screen.say(format_args!("{}: {what}", file.to_string_lossy()));
         }
-        if screen.has_failed() {
-            break;
-        }
-    }
-    let is_broken = check.is_broken;
-    drop(check);
-    let status = if !are_read {
-        FAILED
-    } else if is_broken {
-        REFUSED
-    } else {
-        0
+        (read.is_ok(), check.is_broken)
+    });
+    let are_read = are_opened && results.iter().all(|(is_read, _)| *is_read);
+    let is_broken = results.iter().any(|(_, is_broken)| *is_broken);
+    let code = match (are_read, is_broken) {
+        (false, _) => FAILED,
+        (true, true) => REFUSED,
+        (true, false) => 0,
     };
-    ended(screen, ExitCode::from(status))
+    ended(&queue, ExitCode::from(code))
+}
+
+// How what is found is written.
+fn form<'s>(args: &Checks, screen: &'s Screen) -> Box<dyn Form + 's> {
+    match args.json {
+        true => Box::new(Json::new(screen, args.files.len() > 1)),
+        false => Box::new(Text::new(screen, args.colours.is_on())),
+    }
 }
 
 // The rules that are applied: those with the names that are given or else, unless they are wanted, only each MUST.
@@ -107,17 +115,6 @@ fn chosen(args: &Checks) -> Result<Vec<&'static Rule>, String> {
         return args.only.iter().map(find).collect();
     }
     Ok(rules::all().filter(|rule| args.should || args.rules || rule.level == Level::Must).collect())
-}
-
-fn ended(screen: Screen, code: ExitCode) -> ExitCode {
-    match screen.finish() {
-        Ok(()) => code,
-        Err(Failure::Output(error)) => status(Err(error), true),
-        Err(Failure::File(what)) => {
-            say(what);
-            ExitCode::from(FAILED)
-        }
-    }
 }
 
 impl Taker for Check<'_> {

@@ -4,10 +4,11 @@ mod sarif;
 mod text;
 
 use crate::args::{Checks, Place, nearest};
+use crate::capture::ended;
 use crate::capture::keys::KeyLogs;
-use crate::capture::reading::{Taker, read};
-use crate::capture::screen::{Failure, Screen};
-use crate::{FAILED, REFUSED, WRONG_CALL, say, status};
+use crate::capture::reading::{Taker, read, read_each};
+use crate::capture::screen::{Queue, Screen};
+use crate::{FAILED, REFUSED, WRONG_CALL, say};
 use json::Json;
 use quic_wire_capture::capture::{Capture, Datagram};
 use quic_wire_capture::follow::{Counts, Follower};
@@ -16,9 +17,10 @@ use quic_wire_check::finding::{Finding, Report};
 use quic_wire_check::rule::{Level, Rule};
 use quic_wire_check::rules;
 use quic_wire_check::vantage::Vantage;
-use sarif::Sarif;
+use sarif::{Log, Sarif};
 use std::ffi::OsStr;
 use std::process::ExitCode;
+use std::sync::Arc;
 use text::Text;
 
 /// What is found in a capture.
@@ -39,12 +41,10 @@ trait Form {
     /// The table of rules.
     fn rule(&mut self, rule: &'static Rule);
     fn capture(&mut self, name: &OsStr, whole: &Whole<'_>);
-    /// The end of all captures, and whether all of them could be read.
-    fn end(&mut self, _are_read: bool) {}
 }
 
 struct Check<'a> {
-    rules: Vec<&'static Rule>,
+    rules: &'a [&'static Rule],
     allowed: &'a [(String, String)],
     vantage: Option<Vantage>,
     form: Box<dyn Form + 'a>,
@@ -82,44 +82,46 @@ pub fn run(args: &Checks) -> ExitCode {
             return ExitCode::from(WRONG_CALL);
         }
     };
-    let screen = Screen::default();
-    let mut form = form(args, &rules, &screen);
+    let (queue, log) = (Arc::new(Queue::default()), Log::new(&rules));
     if args.rules {
+        let screen = Screen::new(&queue, 0);
+        let mut form = form(args, 0, &log, &screen);
         rules.iter().for_each(|rule| form.rule(rule));
-        form.end(true);
         drop(form);
-        return ended(screen, ExitCode::SUCCESS);
+        if args.sarif {
+            screen.write(&log.text(true));
+        }
+        drop(screen);
+        return ended(&queue, ExitCode::SUCCESS);
     }
-    let (mut logs, mut are_read) = KeyLogs::open(&args.keylogs);
-    let (allowed, vantage, name) = (&args.allowed[..], args.at.map(vantage), OsStr::new(""));
-    let (begun, checker, is_broken) = (None, Checker::new([]), false);
-    let mut check = Check { rules, allowed, vantage, form, name, begun, checker, is_broken };
-    for file in &args.files {
-        check.name = file;
-        if let Err(what) = read(file, &mut logs, &mut check, &screen) {
-            are_read = false;
+    let (logs, are_opened) = KeyLogs::open(&args.keylogs);
+    let results = read_each(&args.files, &queue, |file, place, screen| {
+        let (form, allowed, vantage) = (form(args, place, &log, screen), &args.allowed[..], args.at.map(vantage));
+        let (begun, checker, is_broken) = (None, Checker::new([]), false);
+        let mut check = Check { rules: &rules, allowed, vantage, form, name: file, begun, checker, is_broken };
+        let read = read(file, &logs, &mut check, screen);
+        if let Err(what) = &read {
             screen.say(format_args!("{}: {what}", file.to_string_lossy()));
         }
-        if screen.has_failed() {
-            break;
-        }
+        (read.is_ok(), check.is_broken)
+    });
+    let are_read = are_opened && results.iter().all(|(is_read, _)| *is_read);
+    let is_broken = results.iter().any(|(_, is_broken)| *is_broken);
+    if args.sarif {
+        Screen::new(&queue, args.files.len()).write(&log.text(are_read));
     }
-    check.form.end(are_read);
-    let is_broken = check.is_broken;
-    drop(check);
-    let status = if !are_read {
-        FAILED
-    } else if is_broken {
-        REFUSED
-    } else {
-        0
+    let code = match (are_read, is_broken) {
+        (false, _) => FAILED,
+        (true, true) => REFUSED,
+        (true, false) => 0,
     };
-    ended(screen, ExitCode::from(status))
+    ended(&queue, ExitCode::from(code))
 }
 
-fn form<'s>(args: &Checks, rules: &[&'static Rule], screen: &'s Screen) -> Box<dyn Form + 's> {
+// How what is found in the capture at a place is written.
+fn form<'s>(args: &Checks, place: usize, log: &'s Log<'_>, screen: &'s Screen) -> Box<dyn Form + 's> {
     if args.sarif {
-        return Box::new(Sarif::new(screen, rules));
+        return Box::new(Sarif::new(log, place));
     }
     match args.json {
         true => Box::new(Json::new(screen, args.files.len() > 1)),
@@ -146,17 +148,6 @@ fn chosen(args: &Checks) -> Result<Vec<&'static Rule>, String> {
         return args.only.iter().map(|name| find("--only", name)).collect();
     }
     Ok(rules::all().filter(|rule| args.should || args.rules || rule.level == Level::Must).collect())
-}
-
-fn ended(screen: Screen, code: ExitCode) -> ExitCode {
-    match screen.finish() {
-        Ok(()) => code,
-        Err(Failure::Output(error)) => status(Err(error), true),
-        Err(Failure::File(what)) => {
-            say(what);
-            ExitCode::from(FAILED)
-        }
-    }
 }
 
 impl Taker for Check<'_> {

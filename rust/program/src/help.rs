@@ -83,7 +83,8 @@ Output:
   no packet: ..              what bytes after the packets of a datagram are
 A connection has a summary when it is forgotten, 10 seconds or more after its end, or at the end of the file: what was
 opened of each side, what wasn't and why, and how it ended. The last lines of a file have the same of the whole file.
-With more than one FILE, each line of a packet or summary begins with its name.
+With more than one FILE, each line of a packet or summary begins with its name. Files on the disk are read at once, on
+all processors, and shown in their order.
 
 options, of which --keylog, --connection, --number and --frame may be repeated:
   --keylog FILE        read secrets from a key log, such as the file that SSLKEYLOGFILE names. If a capture comes from
@@ -121,7 +122,8 @@ Output:
                              breaks more than once is printed once
   c.pcap: path-size not checked 3 times: ..
                              how often a rule was silent, and why: a capture doesn't show everything
-The last line of a file says what was read of it, and where its connections were captured.
+The last line of a file says what was read of it, and where its connections were captured. Files on the disk are read at
+once, and shown in their order.
 
 options, of which --keylog, --only and --allow may be repeated:
   --keylog FILE        read secrets from a key log, such as the file that SSLKEYLOGFILE names

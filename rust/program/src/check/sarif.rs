@@ -1,24 +1,36 @@
 //! One object of SARIF 2.1.0, by which CI systems annotate what they check.
 use super::{Form, Whole};
 use crate::capture::object::Object;
-use crate::capture::screen::Screen;
 use crate::capture::words;
 use quic_wire_check::finding::Finding;
 use quic_wire_check::rule::{Level, Rule, Section};
+use std::collections::BTreeMap;
 use std::ffi::OsStr;
 use std::fmt::Write;
 use std::path::{Component, Path};
+use std::sync::{Mutex, PoisonError};
 
 const SCHEMA: &str = "https://json.schemastore.org/sarif-2.1.0.json";
 
-/// Writes one object at the end: the rules, what was found in all captures, and how often a rule was silent.
-pub struct Sarif<'s> {
-    screen: &'s Screen,
-    rules: Vec<&'static Rule>,
-    /// The captures, the results and the notifications, as JSON with commas between them.
-    captures: List,
+/// What all captures have together.
+pub struct Log<'a> {
+    rules: &'a [&'static Rule],
+    /// By their places among the files.
+    captures: Mutex<BTreeMap<usize, Found>>,
+}
+
+/// What a capture has: where it is, what was found in it, and how often a rule was silent.
+#[derive(Default)]
+struct Found {
+    uri: String,
     results: List,
     silent: List,
+}
+
+/// What is found in a capture goes into a log.
+pub struct Sarif<'l> {
+    log: &'l Log<'l>,
+    place: usize,
 }
 
 /// A list of objects.
@@ -38,27 +50,51 @@ impl List {
         fill(&mut object);
         object.end();
     }
-
-    fn put(&self, object: &mut Object<'_>, name: &str) {
-        object.plain(name, format_args!("[{}]", self.text));
-    }
 }
 
-impl<'s> Sarif<'s> {
-    pub fn new(screen: &'s Screen, rules: &[&'static Rule]) -> Self {
-        let (captures, results, silent) = (List::default(), List::default(), List::default());
-        Sarif { screen, rules: rules.to_vec(), captures, results, silent }
+// The objects of several lists as one.
+fn put<'a>(object: &mut Object<'_>, name: &str, lists: impl Iterator<Item = &'a List>) {
+    let texts: Vec<_> = lists.filter(|list| list.len > 0).map(|list| &list.text[..]).collect();
+    object.plain(name, format_args!("[{}]", texts.join(",")));
+}
+
+impl<'a> Log<'a> {
+    pub fn new(rules: &'a [&'static Rule]) -> Self {
+        Log { rules, captures: Mutex::default() }
     }
 
-    fn result(&mut self, file: &File<'_>, finding: &Finding, allowed: Option<&str>) {
+    /// The object, and whether all captures could be read.
+    pub fn text(&self, are_read: bool) -> String {
+        let captures = self.captures.lock().unwrap_or_else(PoisonError::into_inner);
+        let mut text = String::new();
+        let mut object = Object::new(&mut text);
+        object.word("$schema", SCHEMA);
+        object.word("version", "2.1.0");
+        object.list("runs", [self], |object, log| {
+            object.inner("tool", |object| object.inner("driver", |object| log.driver(object)));
+            object.list("invocations", [&captures], |object, captures| {
+                object.flag("executionSuccessful", are_read);
+                put(object, "toolExecutionNotifications", captures.values().map(|found| &found.silent));
+            });
+            object.list("artifacts", captures.values(), |object, found| {
+                object.inner("location", |object| object.word("uri", &found.uri));
+            });
+            put(object, "results", captures.values().map(|found| &found.results));
+        });
+        object.end();
+        text.push('\n');
+        text
+    }
+
+    fn result(&self, results: &mut List, uri: &str, finding: &Finding, allowed: Option<&str>) {
         let index = self.rules.iter().position(|rule| rule.name == finding.rule.name);
-        self.results.add(|object| {
+        results.add(|object| {
             object.word("ruleId", finding.rule.name);
             index.into_iter().for_each(|index| object.number("ruleIndex", index as u64));
             object.word("level", level(finding.rule.level));
             let Finding { seen, expected, section, .. } = finding;
             message(object, "message", &format!("{seen}; expected: {expected} ({section})"));
-            object.list("locations", [finding], |object, finding| location(object, file, finding));
+            object.list("locations", [finding], |object, finding| location(object, uri, finding));
             object.inner("partialFingerprints", |object| object.word("finding/v1", &fingerprint(finding)));
             object.number("occurrenceCount", finding.count);
             if let Some(reason) = allowed {
@@ -74,7 +110,7 @@ impl<'s> Sarif<'s> {
     fn driver(&self, object: &mut Object<'_>) {
         object.word("name", "quic-wire check");
         object.word("version", env!("CARGO_PKG_VERSION"));
-        object.list("rules", &self.rules, |object, rule| {
+        object.list("rules", self.rules, |object, rule| {
             object.word("id", rule.name);
             message(object, "shortDescription", rule.says);
             message(object, "help", &rule.section.to_string());
@@ -84,26 +120,15 @@ impl<'s> Sarif<'s> {
     }
 }
 
-/// A capture's file.
-struct File<'a> {
-    uri: &'a str,
-    index: u64,
-}
-
-impl File<'_> {
-    fn put(&self, object: &mut Object<'_>) {
-        object.inner("artifactLocation", |object| {
-            object.word("uri", self.uri);
-            object.number("index", self.index);
-        });
-    }
-}
-
 fn level(level: Level) -> &'static str {
     match level {
         Level::Must => "error",
         Level::Should => "warning",
     }
+}
+
+fn artifact(object: &mut Object<'_>, uri: &str) {
+    object.inner("artifactLocation", |object| object.word("uri", uri));
 }
 
 fn message(object: &mut Object<'_>, name: &str, text: &str) {
@@ -116,9 +141,9 @@ fn link(section: Section) -> String {
 }
 
 // Viewers of SARIF show lines. Programs print a capture as a line for each record, so the record's number is a line's.
-fn location(object: &mut Object<'_>, file: &File<'_>, finding: &Finding) {
+fn location(object: &mut Object<'_>, uri: &str, finding: &Finding) {
     object.inner("physicalLocation", |object| {
-        file.put(object);
+        artifact(object, uri);
         object.inner("region", |object| object.number("startLine", finding.record));
     });
     object.list("logicalLocations", [finding], |object, finding| {
@@ -162,48 +187,32 @@ fn uri(name: &OsStr) -> String {
     uri
 }
 
+impl<'l> Sarif<'l> {
+    pub fn new(log: &'l Log<'l>, place: usize) -> Self {
+        Sarif { log, place }
+    }
+}
+
 impl Form for Sarif<'_> {
     // The table is a part of the object.
     fn rule(&mut self, _: &'static Rule) {}
 
     fn capture(&mut self, name: &OsStr, whole: &Whole<'_>) {
-        let (uri, index) = (uri(name), self.captures.len as u64);
-        self.captures.add(|object| {
-            object.inner("location", |object| object.word("uri", &uri));
-        });
-        let file = File { uri: &uri, index };
+        let mut found = Found { uri: uri(name), ..Found::default() };
         for finding in &whole.report.findings {
-            self.result(&file, finding, whole.reason(finding));
+            self.log.result(&mut found.results, &found.uri, finding, whole.reason(finding));
         }
         for ((rule, need), count) in &whole.report.unchecked {
-            self.silent.add(|object| {
+            found.silent.add(|object| {
                 object.inner("associatedRule", |object| object.word("id", rule));
                 object.word("level", "note");
                 message(object, "message", &format!("not checked {count} times: {}", need.reason()));
-                object.list("locations", [&file], |object, file| {
-                    object.inner("physicalLocation", |object| file.put(object));
+                object.list("locations", [&found.uri], |object, uri| {
+                    object.inner("physicalLocation", |object| artifact(object, uri));
                 });
             });
         }
-    }
-
-    fn end(&mut self, are_read: bool) {
-        let mut text = String::new();
-        let mut object = Object::new(&mut text);
-        object.word("$schema", SCHEMA);
-        object.word("version", "2.1.0");
-        object.list("runs", [&*self], |object, sarif| {
-            object.inner("tool", |object| object.inner("driver", |object| sarif.driver(object)));
-            object.list("invocations", [sarif], |object, sarif| {
-                object.flag("executionSuccessful", are_read);
-                sarif.silent.put(object, "toolExecutionNotifications");
-            });
-            sarif.captures.put(object, "artifacts");
-            sarif.results.put(object, "results");
-        });
-        object.end();
-        text.push('\n');
-        self.screen.write(&text);
+        self.log.captures.lock().unwrap_or_else(PoisonError::into_inner).insert(self.place, found);
     }
 }
 

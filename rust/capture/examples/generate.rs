@@ -10,11 +10,10 @@ mod files;
 mod made;
 
 use common::Kept;
-use files::{Order, interface, packet, secrets, section};
+use files::{Order, interface, ip_datagram, packet, secrets, section};
 use made::{Client, Made, Server, Short};
 use std::error::Error;
 use std::io::{self, BufWriter, Write};
-use std::net::SocketAddr;
 
 /// How long after a packet the next one is sent, in nanoseconds.
 const STEP: u64 = 100_000;
@@ -34,12 +33,7 @@ impl<W: Write> File<W> {
     // A datagram of IPv4.
     fn datagram(&mut self, kept: &Kept) -> io::Result<()> {
         self.time += STEP;
-        let (SocketAddr::V4(from), SocketAddr::V4(to)) = (kept.from, kept.to) else { return Ok(()) };
-        let len = kept.bytes.len() as u16;
-        let mut frame = [&[0x45, 0][..], &(len + 28).to_be_bytes(), &[0, 0, 0, 0, 64, 17, 0, 0]].concat();
-        frame.extend([from.ip().octets(), to.ip().octets()].concat());
-        frame.extend([from.port(), to.port(), len + 8, 0].iter().flat_map(|number| number.to_be_bytes()));
-        frame.extend_from_slice(&kept.bytes);
+        let frame = ip_datagram(kept.from, kept.to, &kept.bytes);
         self.block(&packet(Order::Little, 0, self.time / 1000, &frame))
     }
 

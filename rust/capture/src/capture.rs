@@ -21,6 +21,9 @@ pub struct Datagram<'a> {
     pub bytes: &'a [u8],
     /// How many of its bytes weren't captured.
     pub missing: usize,
+    /// Whether the capturing host sent it, and didn't receive it, if the file says so: pcapng may, and so do captures
+    /// of all interfaces of a Linux host.
+    pub outgoing: Option<bool>,
 }
 
 /// What a capture has.
@@ -81,9 +84,10 @@ impl Capture {
             match self.next_part()? {
                 None => return Ok(None),
                 Some(Part::Secrets(range)) => return Ok(Some(Item::Secrets(self.file.bytes(range)))),
-                Some(Part::Record { link, time, bytes }) => {
-                    if let Some(found) = self.datagram(link, time, bytes) {
-                        break found;
+                Some(Part::Record { link, time, bytes, outgoing }) => {
+                    let outgoing = outgoing.or_else(|| net::is_outgoing(link, self.file.bytes(bytes.clone())));
+                    if let Some((found, datagram)) = self.datagram(link, time, bytes) {
+                        break (found, Datagram { outgoing, ..datagram });
                     }
                 }
             }
@@ -151,7 +155,7 @@ impl Capture {
             return None;
         };
         let (from, to) = (SocketAddr::new(from, udp.from_port), SocketAddr::new(to, udp.to_port));
-        Some((place, Datagram { record, time, from, to, bytes: &[], missing: udp.missing }))
+        Some((place, Datagram { record, time, from, to, bytes: &[], missing: udp.missing, outgoing: None }))
     }
 }
 

@@ -60,8 +60,9 @@ impl std::error::Error for FileError {}
 
 /// A part of the file, as a range of the buffer.
 pub(crate) enum Part {
-    /// A frame of a link, of the type that pcap gives it, and when it was captured, in nanoseconds since 1970.
-    Record { link: u16, time: u64, bytes: Range<usize> },
+    /// A frame of a link, of the type that pcap gives it, and when it was captured, in nanoseconds since 1970; if that
+    /// is known, whether the capturing host sent it.
+    Record { link: u16, time: u64, bytes: Range<usize>, outgoing: Option<bool> },
     /// The text of a key log.
     Secrets(Range<usize>),
 }
@@ -229,7 +230,7 @@ impl File {
         let begin = self.at + PCAP_RECORD;
         self.at = begin + len;
         self.records += 1;
-        Ok(Some(Part::Record { link: interface.link, time: self.time, bytes: begin..self.at }))
+        Ok(Some(Part::Record { link: interface.link, time: self.time, bytes: begin..self.at, outgoing: None }))
     }
 
     // How many bytes a record has, by the number at an offset.
@@ -292,7 +293,8 @@ impl File {
                 let len = self.record_len(begin).map_or(block.end - begin - 4, |len| len.min(block.end - begin - 4));
                 let link = self.interface(0)?.link;
                 self.records += 1;
-                return Ok(Some(Part::Record { link, time: self.time, bytes: begin + 4..begin + 4 + len }));
+                let bytes = begin + 4..begin + 4 + len;
+                return Ok(Some(Part::Record { link, time: self.time, bytes, outgoing: None }));
             }
             SECRETS => {
                 self.within(block, 16)?;
@@ -322,7 +324,31 @@ impl File {
         let ticks = u64::from(self.u32(block.begin + 12)) << 32 | u64::from(self.u32(block.begin + 16));
         self.time = interface.time(ticks);
         self.records += 1;
-        Ok(Part::Record { link: interface.link, time: self.time, bytes: begin..begin + len })
+        let outgoing = self.outgoing(begin + len.next_multiple_of(4), block.end);
+        Ok(Part::Record { link: interface.link, time: self.time, bytes: begin..begin + len, outgoing })
+    }
+
+    // Whether the capturing host sent a packet, by the flags among the options of its block.
+    fn outgoing(&self, at: usize, end: usize) -> Option<bool> {
+        let (_, flags) = self.options(at, end).find(|(code, value)| (*code, value.len()) == (2, 4))?;
+        match self.u32(flags.start) & 3 {
+            1 => Some(false),
+            2 => Some(true),
+            _ => None,
+        }
+    }
+
+    // The options from an offset on: their codes, and where their values are.
+    fn options(&self, mut at: usize, end: usize) -> impl Iterator<Item = (u16, Range<usize>)> {
+        std::iter::from_fn(move || {
+            if at + 4 > end {
+                return None;
+            }
+            let (code, len) = (self.u16(at), usize::from(self.u16(at + 2)));
+            let value = at + 4..at + 4 + len;
+            at = value.start + len.next_multiple_of(4);
+            (code != 0 && value.end <= end).then_some((code, value))
+        })
     }
 
     fn interface(&self, number: u32) -> Result<Interface, FileError> {
@@ -333,20 +359,13 @@ impl File {
     fn add_interface(&mut self, block: &Block) -> Result<(), FileError> {
         self.within(block, 16)?;
         let mut interface = Interface::new(self.u16(block.begin + 8), 1000);
-        let mut at = block.begin + 16;
-        while at + 4 <= block.end {
-            let (code, len) = (self.u16(at), usize::from(self.u16(at + 2)));
-            let value = at + 4..at + 4 + len;
-            if code == 0 || value.end > block.end {
-                break;
-            }
-            match (code, len) {
+        for (code, value) in self.options(block.begin + 16, block.end) {
+            match (code, value.len()) {
                 (9, 1) => (interface.numerator, interface.denominator) = resolution(self.buffer[value.start]),
                 (14, 8) if self.is_big_endian => interface.offset = self.u32(value.start + 4).into(),
                 (14, 8) => interface.offset = self.u32(value.start).into(),
                 _ => {}
             }
-            at = value.start + len.next_multiple_of(4);
         }
         match &mut self.format {
             Format::Pcapng(interfaces) if interfaces.len() < MOST_INTERFACES => interfaces.push(interface),

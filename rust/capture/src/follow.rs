@@ -60,7 +60,7 @@ pub struct Counts {
 /// use quic_wire_capture::sink::Unopened;
 /// let mut follower = Follower::default();
 /// let (from, to) = ("10.0.0.1:4433".parse().unwrap(), "10.0.0.2:443".parse().unwrap());
-/// let datagram = Datagram { record: 1, time: 0, from, to, bytes: &[0x40; 40], missing: 0 };
+/// let datagram = Datagram { record: 1, time: 0, from, to, bytes: &[0x40; 40], missing: 0, outgoing: None };
 /// follower.take(&datagram, &mut ());
 /// assert_eq!(follower.counts().unopened[&Unopened::NoConnection], 1);
 /// ```

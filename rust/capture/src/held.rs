@@ -19,12 +19,13 @@ pub(crate) struct Held {
     to: SocketAddr,
     bytes: Vec<u8>,
     missing: usize,
+    outgoing: Option<bool>,
 }
 
 impl Held {
     pub(crate) fn datagram(&self) -> Datagram<'_> {
-        let Held { record, time, from, to, missing, .. } = *self;
-        Datagram { record, time, from, to, bytes: &self.bytes, missing }
+        let Held { record, time, from, to, missing, outgoing, .. } = *self;
+        Datagram { record, time, from, to, bytes: &self.bytes, missing, outgoing }
     }
 }
 
@@ -38,9 +39,10 @@ pub(crate) struct Waiting {
 impl Waiting {
     /// Adds a packet. Returns those that make room for it.
     pub(crate) fn push(&mut self, dcid: ConnectionId, datagram: &Datagram<'_>, offset: usize) -> Vec<Held> {
-        let Datagram { record, time, from, to, bytes, missing } = *datagram;
+        let Datagram { record, time, from, to, bytes, missing, outgoing } = *datagram;
         self.bytes += bytes.len();
-        self.packets.push_back(Held { dcid, offset, record, time, from, to, bytes: bytes.to_vec(), missing });
+        let bytes = bytes.to_vec();
+        self.packets.push_back(Held { dcid, offset, record, time, from, to, bytes, missing, outgoing });
         let mut given_up = Vec::new();
         while self.packets.len() > MOST_PACKETS || self.bytes > MOST_BYTES {
             given_up.extend(self.pop());

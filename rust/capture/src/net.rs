@@ -57,6 +57,20 @@ pub(crate) fn ip_packet(link: u16, frame: &[u8]) -> Option<IpPacket<'_>> {
     Some(IpPacket { at: begin + packet.at, ..packet })
 }
 
+/// Whether the capturing host sent a frame, and didn't receive it, as Linux says in captures of all interfaces.
+pub(crate) fn is_outgoing(link: u16, frame: &[u8]) -> Option<bool> {
+    let kind = match link {
+        113 => u16_at(frame, 0)?,
+        276 => u16::from(*frame.get(10)?),
+        _ => return None,
+    };
+    match kind {
+        0 => Some(false),
+        4 => Some(true),
+        _ => None,
+    }
+}
+
 // Where the IP packet begins in a frame.
 fn ip_offset(link: u16, frame: &[u8]) -> Option<usize> {
     // Where the type of what follows is, and where that begins.

@@ -145,6 +145,43 @@ fn links() {
     }
 }
 
+// Who sent each datagram of a file.
+fn directions(file: &[u8]) -> Vec<Option<bool>> {
+    let (mut capture, mut directions) = (Capture::default(), Vec::new());
+    capture.feed(file);
+    while let Ok(Some(Item::Datagram(datagram))) = capture.next() {
+        directions.push(datagram.outgoing);
+    }
+    directions
+}
+
+// LINKTYPE_LINUX_SLL and LINKTYPE_LINUX_SLL2: 0 is a packet to the host, 3 one to another host, 4 one that it sent.
+#[test]
+fn directions_of_cooked_captures() {
+    let first = |kind: u8| [&[0, kind, 0, 1, 0, 6][..], &[0; 8], &[8, 0], &frame(b"hi")].concat();
+    let second = |kind: u8| [&[8, 0, 0, 0, 0, 0, 0, 2, 0, 1, kind, 6][..], &[0; 8], &frame(b"hi")].concat();
+    for (link, frames) in [(113, [0, 4, 3].map(first)), (276, [0, 4, 3].map(second))] {
+        let frames: Vec<_> = frames.iter().map(|frame| &frame[..]).collect();
+        let file = pcap(Order::Little, 0xa1b2_c3d4, link, &frames);
+        assert_eq!(directions(&file), [Some(false), Some(true), None], "{link}");
+    }
+}
+
+// The option epb_flags of pcapng: its two low bits are 1 of a packet that came in, and 2 of one that went out.
+#[test]
+fn directions_of_pcapng() {
+    let order = Order::Big;
+    let packet = |options: &[u8]| {
+        let frame = frame(b"hi!!");
+        let len = (frame.len() as u32).to_be_bytes();
+        block(order, 6, &[&[0; 12][..], &len, &len, &frame, options].concat())
+    };
+    let flags = |flags: u8| [&[0, 1, 0, 2, b'h', b'i', 0, 0, 0, 2, 0, 4, 0, 0, 0][..], &[flags, 0, 0, 0, 0]].concat();
+    let packets = [packet(&flags(1)), packet(&flags(0x82)), packet(&flags(0)), packet(&[])];
+    let file = [section(order), interface(order, 101, &[]), packets.concat()].concat();
+    assert_eq!(directions(&file), [Some(false), Some(true), None, None]);
+}
+
 #[test]
 fn extension_headers() {
     let options = |next: u8| vec![next, 1, 0, 0, 0, 0, 0, 0, 0, 0, 0, 0, 0, 0, 0, 0];

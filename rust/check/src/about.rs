@@ -2,6 +2,7 @@
 
 use crate::history::{Half, History};
 use crate::rule::Need;
+use crate::vantage::Vantage;
 use quic_wire::fields::Fault;
 use quic_wire::frame::{Frame, FrameType, InvalidFrame};
 use quic_wire::permitted::Forbidden;
@@ -29,6 +30,7 @@ pub(crate) struct About<'a> {
     pub(crate) sender: Side,
     pub(crate) history: &'a History,
     pub(crate) current: Current,
+    pub(crate) vantage: Vantage,
 }
 
 /// A frame with its bytes in the payload.
@@ -65,6 +67,11 @@ impl<'a> About<'a> {
 
     pub(crate) fn peer_half(&self) -> &'a Half {
         self.history.half(!self.sender)
+    }
+
+    /// Whether the capture was taken where the packet was sent.
+    pub(crate) fn is_at_sender(&self) -> bool {
+        self.vantage == Vantage::of(self.sender)
     }
 
     /// The transport parameters of the packet's receiver.

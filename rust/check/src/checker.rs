@@ -6,6 +6,7 @@ use crate::finding::{Finding, Groups, Report};
 use crate::history::History;
 use crate::rule::{Broken, Check, Checked, Need, Rule};
 use crate::rules;
+use crate::vantage::Vantage;
 use quic_wire::Side;
 use quic_wire::datagram::{HeaderKind, PacketRef};
 use quic_wire::frame::Frame;
@@ -29,6 +30,8 @@ const MOST_STRAYS: usize = 1 << 12;
 /// What checks the connections of a capture.
 pub struct Checker {
     rules: Vec<&'static Rule>,
+    /// Where the capture was taken, if that was said.
+    vantage: Option<Vantage>,
     histories: HashMap<usize, History>,
     groups: Groups,
     facts: Facts,
@@ -145,6 +148,7 @@ impl Checker {
     pub fn new(rules: impl IntoIterator<Item = &'static Rule>) -> Checker {
         Checker {
             rules: rules.into_iter().collect(),
+            vantage: None,
             histories: HashMap::new(),
             groups: Groups::default(),
             facts: Facts::default(),
@@ -152,6 +156,12 @@ impl Checker {
             datagram: None,
             opened: None,
         }
+    }
+
+    /// The same for a capture that was taken there. Otherwise the records of each connection may say so: if they don't,
+    /// it was on the path.
+    pub fn at(self, vantage: Vantage) -> Checker {
+        Checker { vantage: Some(vantage), ..self }
     }
 
     /// Takes the next datagram of the capture.
@@ -170,6 +180,7 @@ impl Checker {
     // Decides what waits for a connection's end.
     fn decide(&mut self, connection: &Connection) {
         let Some(mut history) = self.histories.remove(&connection.number()) else { return };
+        self.groups.count(self.vantage.unwrap_or_else(|| history.vantage()));
         let waiting = std::mem::take(&mut history.waiting);
         for pending in waiting.end(connection, &history) {
             match self.facts.lacking_at_end(&pending, connection, &history) {
@@ -186,10 +197,11 @@ impl Checker {
         place: Place,
         check: impl Fn(&Check, &About<'_>) -> Option<Checked>,
     ) {
-        let Checker { rules, histories, groups, facts, current, .. } = self;
+        let Checker { rules, vantage, histories, groups, facts, current, .. } = self;
         let history = histories.entry(connection.number()).or_default();
         let mut claims: Vec<(Finding, Claim)> = Vec::new();
-        let about = About { connection, datagram, sender, history, current: *current };
+        let vantage = vantage.unwrap_or_else(|| history.vantage());
+        let about = About { connection, datagram, sender, history, current: *current, vantage };
         for rule in rules.iter().copied() {
             match check(&rule.check, &about) {
                 None | Some(Ok(None)) => {}
@@ -244,6 +256,11 @@ impl Checker {
             _ => None,
         });
         self.history(connection).take_packet(datagram, opened, most);
+        let vantage = self.vantage.unwrap_or_else(|| self.history(connection).vantage());
+        if vantage == Vantage::of(opened.sender()) && !self.facts.is_disordered {
+            let waiting = &mut self.history(connection).waiting;
+            waiting.take_sent(opened.sender(), opened.space(), opened.number(), datagram.time);
+        }
     }
 
     fn history(&mut self, connection: &Connection) -> &mut History {

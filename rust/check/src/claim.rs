@@ -186,6 +186,17 @@ impl Waiting {
         }
     }
 
+    /// Takes a packet at the host that sends it: what it had sent some time ago has smaller numbers.
+    pub(crate) fn take_sent(&mut self, sender: Side, in_space: SpaceId, sent: u64, now: u64) {
+        for one in &mut self.unsent {
+            if let Claim::Unsent { space, number, .. } = one.claim {
+                let was_before = one.finding.time.saturating_add(GRACE) <= now;
+                let is_of_peer = one.finding.sender != sender && space == in_space;
+                one.is_proven |= is_of_peer && was_before && sent < number;
+            }
+        }
+    }
+
     /// Removes the claims whose time has come and which don't hold.
     pub(crate) fn try_due(&mut self, connection: &Connection, history: &History, now: u64) {
         self.claims.retain_mut(|one| {

@@ -1,6 +1,7 @@
 //! What is found: the rules that are broken, and what couldn't be checked.
 
 use crate::rule::{Need, Rule, Section};
+use crate::vantage::Vantage;
 use quic_wire::Side;
 use quic_wire::datagram::HeaderKind;
 use std::collections::{BTreeMap, HashMap};
@@ -50,6 +51,8 @@ pub struct Report {
     pub unchecked: BTreeMap<(&'static str, Need), u64>,
     /// How many findings there were beyond [`MOST_GROUPS`] groups.
     pub further: u64,
+    /// How many connections were captured where, of those with an opened packet.
+    pub taken: BTreeMap<Vantage, u64>,
 }
 
 type Key = (&'static str, Section, usize, Side);
@@ -60,9 +63,15 @@ pub(crate) struct Groups {
     by_key: HashMap<Key, Finding>,
     unchecked: BTreeMap<(&'static str, Need), u64>,
     further: u64,
+    taken: BTreeMap<Vantage, u64>,
 }
 
 impl Groups {
+    /// Counts a connection.
+    pub(crate) fn count(&mut self, vantage: Vantage) {
+        *self.taken.entry(vantage).or_default() += 1;
+    }
+
     pub(crate) fn add(&mut self, finding: Finding) {
         let key = (finding.rule.name, finding.section, finding.connection, finding.sender);
         let is_full = self.by_key.len() >= MOST_GROUPS;
@@ -81,10 +90,10 @@ impl Groups {
 
     /// All of them, in the order of the records; nothing is left.
     pub(crate) fn take(&mut self) -> Report {
-        let Groups { by_key, unchecked, further } = std::mem::take(self);
+        let Groups { by_key, unchecked, further, taken } = std::mem::take(self);
         let mut findings: Vec<_> = by_key.into_values().collect();
         findings.sort_by_key(|one| (one.record, one.offset, one.payload_offset, one.rule.name, one.section));
-        Report { findings, unchecked, further }
+        Report { findings, unchecked, further, taken }
     }
 }
 

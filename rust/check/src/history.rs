@@ -1,6 +1,7 @@
 //! What is remembered of a connection beside what `quic_wire_capture` knows of it.
 
 use crate::claim::Waiting;
+use crate::vantage::Vantage;
 use quic_wire::frame::{Ack, Frame};
 use quic_wire::ids::SpaceId;
 use quic_wire::range_set::RangeSet;
@@ -58,6 +59,9 @@ pub(crate) struct Half {
     pub(crate) has_extension: bool,
     /// The bytes of its datagrams.
     pub(crate) bytes: u64,
+    /// Whether the capturing host sent any of them, and whether it received any.
+    is_sent: bool,
+    is_received: bool,
     /// When its first Handshake packet was captured, and in which record.
     pub(crate) handshake: Option<(u64, u64)>,
     /// From where all of its Handshake packets came.
@@ -163,8 +167,20 @@ impl History {
 
     /// Takes a datagram of a side.
     pub(crate) fn take_datagram(&mut self, datagram: &Datagram<'_>, sender: Side) {
-        let bytes = &mut self.halves[sender as usize].bytes;
-        *bytes = bytes.saturating_add((datagram.bytes.len() + datagram.missing) as u64);
+        let half = &mut self.halves[sender as usize];
+        half.bytes = half.bytes.saturating_add((datagram.bytes.len() + datagram.missing) as u64);
+        half.is_sent |= datagram.outgoing == Some(true);
+        half.is_received |= datagram.outgoing == Some(false);
+    }
+
+    /// Where the capture was taken, as far as its records say so: at a side if its host sent all that this side sent,
+    /// and received all else. A host that forwards packets does both with each.
+    pub(crate) fn vantage(&self) -> Vantage {
+        let is_at = |side: Side| {
+            let (own, peer) = (self.half(side), self.half(!side));
+            (own.is_sent, own.is_received, peer.is_sent, peer.is_received) == (true, false, false, true)
+        };
+        [Side::Client, Side::Server].into_iter().find(|side| is_at(*side)).map_or(Vantage::Path, Vantage::of)
     }
 
     /// Notes a packet that isn't opened.

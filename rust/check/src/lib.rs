@@ -30,3 +30,4 @@ pub mod finding;
 mod history;
 pub mod rule;
 pub mod rules;
+pub mod vantage;

@@ -91,7 +91,7 @@ pub enum Need {
     NoEarlyData,
     /// That records are in the order of their times.
     Order,
-    /// That a second or more has passed: the network may reorder packets.
+    /// That a second has passed, or 10 ms where the packet was sent: the network may reorder packets.
     Time,
     /// That the address was validated by a handshake.
     ValidAddress,
@@ -118,7 +118,7 @@ impl Need {
             Need::NoToken => "a token of an earlier connection may permit it",
             Need::NoEarlyData => "limits of an earlier connection apply to 0-RTT packets",
             Need::Order => "the capture's records aren't in the order of their times",
-            Need::Time => "the network may have reordered the packets",
+            Need::Time => "the packets may have been reordered",
             Need::ValidAddress => "the address may not be validated",
             Need::NoStrays => "datagrams between the same addresses belong to no connection",
             Need::OneRtt => "limits of an earlier connection apply to a 0-RTT packet",

@@ -75,7 +75,7 @@ fn amplification() {
         let hello = talk.client_hello();
         talk.send(Client, Initial, &hello);
         for number in 0..datagrams {
-            let payload = if number == 0 { crypto(0, &talk.made.server_hello()) } else { PING.to_vec() };
+            let payload = if number == 0 { crypto(0, &talk.server_hello()) } else { PING.to_vec() };
             talk.send(Server, Initial, &padded(&payload, 1170));
         }
         talk.made.time += 1_000_000_000;

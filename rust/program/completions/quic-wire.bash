@@ -5,6 +5,7 @@
 _quic_wire_words() {
     case $2 in
         --side) echo 'client server' ;;
+        --at) echo 'client server path' ;;
         --color) echo 'always never auto' ;;
         --cid-len) echo {0..20} ;;
         --versions) echo '1 6b3343cf 1,6b3343cf' ;;
@@ -24,11 +25,11 @@ _quic_wire_words() {
                 capture)
                     echo '--json --color --keylog --qlog --connection --side --number --frame --rejected --lost --help'
                     ;;
-                check) echo '--json --color --keylog --only --should --rules --help' ;;
+                check) echo '--json --sarif --color --keylog --at --only --allow --should --rules --help' ;;
                 *)
                     echo '--base64 --json --color --rfc --quinn --strict --cid-len --versions --grease --side --largest'
-                    echo '--keylog --qlog --connection --number --frame --rejected --lost --only --should --rules'
-                    echo '--help --version'
+                    echo '--keylog --qlog --connection --number --frame --rejected --lost --at --only --allow --should'
+                    echo '--rules --sarif --help --version'
                     ;;
             esac
             ;;
@@ -57,8 +58,8 @@ _quic_wire() {
             compopt -o filenames 2>/dev/null
             mapfile -t COMPREPLY < <(compgen -f -- "$current")
             ;;
-        --connection,* | --number,* | --only,*) ;;
-        --side,* | --color,* | --cid-len,* | --versions,* | --frame,* | *,-*)
+        --connection,* | --number,* | --only,* | --allow,*) ;;
+        --side,* | --at,* | --color,* | --cid-len,* | --versions,* | --frame,* | *,-*)
             mapfile -t COMPREPLY < <(compgen -W "$(_quic_wire_words "$mode" "$before")" -- "$current")
             ;;
         *)

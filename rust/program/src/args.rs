@@ -7,7 +7,8 @@ use crate::help::{CAPTURE, CHECK, HELP};
 use crate::input::Plain;
 pub use capture::{Captures, Filter};
 use capture::{connection, frames, numbers};
-pub use check::Checks;
+pub use check::{Checks, Place};
+use check::{PLACES, allowance};
 use quic_wire::datagram::HeaderChecks;
 use quic_wire::frame::Rules;
 use quic_wire::packet::DEFAULT_SUPPORTED_VERSIONS;
@@ -96,7 +97,7 @@ const fn known(name: &'static str, value: Option<&'static str>, modes: &'static 
     Known { name, value, modes }
 }
 
-const OPTIONS: [Known; 23] = [
+const OPTIONS: [Known; 26] = [
     known("--help", None, &[]),
     known("--version", None, &[]),
     known("--json", None, &[]),
@@ -120,6 +121,9 @@ const OPTIONS: [Known; 23] = [
     known("--rules", None, &["check"]),
     known("--only", Some("the name of a rule"), &["check"]),
     known("--should", None, &["check"]),
+    known("--at", Some("client, server or path"), &["check"]),
+    known("--allow", Some("a rule and why it may be broken, as RULE=REASON"), &["check"]),
+    known("--sarif", None, &["check"]),
 ];
 
 const WHEN: [(&str, When); 3] = [("always", When::Always), ("never", When::Never), ("auto", When::Auto)];
@@ -145,6 +149,9 @@ struct Options {
     rules: bool,
     only: Vec<String>,
     should: bool,
+    at: Option<Place>,
+    allowed: Vec<(String, String)>,
+    sarif: bool,
     // Those that not all modes accept.
     of_modes: Vec<&'static Known>,
 }
@@ -240,6 +247,9 @@ impl Options {
             "--rules" => self.rules = true,
             "--only" => self.only.push(value.into()),
             "--should" => self.should = true,
+            "--at" => self.at = Some(choice(option, value, &PLACES)?),
+            "--allow" => self.allowed.push(allowance(value)?),
+            "--sarif" => self.sarif = true,
             _ => self.largest = Some(largest(value)?),
         }
         Ok(())

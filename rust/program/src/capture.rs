@@ -15,30 +15,35 @@ use crate::{FAILED, say, status};
 use json::Json;
 use keys::KeyLogs;
 use qlog::Qlog;
-use reading::read;
+use reading::{read, read_each};
 use report::{Form, Report};
-use screen::Screen;
+use screen::{Queue, Screen};
+use std::ffi::OsStr;
 use std::process::ExitCode;
+use std::sync::Arc;
 use text::Text;
 
 /// Shows captures.
 pub fn run(args: &Captures) -> ExitCode {
-    let screen = Screen::default();
-    let (mut logs, mut are_read) = KeyLogs::open(&args.keylogs);
-    let mut report = Report::new(&args.filter, forms(args, &screen));
-    for file in &args.files {
-        if let Err(what) = read(file, &mut logs, &mut report, &screen) {
-            are_read = false;
+    let queue = Arc::new(Queue::default());
+    let (logs, are_opened) = KeyLogs::open(&args.keylogs);
+    let stems = qlog::stems(&args.files);
+    let are_read = read_each(&args.files, &queue, |file, place, screen| {
+        let mut report = Report::new(&args.filter, forms(args, screen, &stems[place]));
+        let read = read(file, &logs, &mut report, screen);
+        if let Err(what) = &read {
             screen.say(format_args!("{}: {what}", file.to_string_lossy()));
         }
-        if screen.has_failed() {
-            break;
-        }
-    }
-    drop(report);
-    match screen.finish() {
-        Ok(()) if are_read => ExitCode::SUCCESS,
-        Ok(()) => ExitCode::from(FAILED),
+        read.is_ok()
+    });
+    let are_read = are_opened && are_read.into_iter().all(|is_read| is_read);
+    ended(&queue, if are_read { ExitCode::SUCCESS } else { ExitCode::from(FAILED) })
+}
+
+/// The status after all files, unless not all could be written.
+pub fn ended(queue: &Queue, code: ExitCode) -> ExitCode {
+    match queue.finish() {
+        Ok(()) => code,
         Err(screen::Failure::Output(error)) => status(Err(error), true),
         Err(screen::Failure::File(what)) => {
             say(what);
@@ -48,14 +53,14 @@ pub fn run(args: &Captures) -> ExitCode {
 }
 
 // What is found goes to standard output and, if there is a folder for it, its packets go there.
-fn forms<'s>(args: &Captures, screen: &'s Screen) -> Vec<Box<dyn Form + 's>> {
+fn forms<'s>(args: &Captures, screen: &'s Screen, stem: &OsStr) -> Vec<Box<dyn Form + 's>> {
     let (has_packets, has_names) = (args.qlog.is_none(), args.files.len() > 1);
     let mut forms: Vec<Box<dyn Form>> = vec![match args.json {
         true => Box::new(Json::new(screen, has_packets, has_names)),
         false => Box::new(Text::new(screen, args.colours.is_on(), has_packets, has_names)),
     }];
     if let Some(folder) = &args.qlog {
-        forms.push(Box::new(Qlog::new(screen, folder)));
+        forms.push(Box::new(Qlog::new(screen, folder, stem)));
     }
     forms
 }

@@ -1,21 +1,26 @@
 //! The mode `check`: which packets of captures break which rules of RFC 9000.
 mod json;
+mod sarif;
 mod text;
 
-use crate::args::{Checks, nearest};
+use crate::args::{Checks, Place, nearest};
+use crate::capture::ended;
 use crate::capture::keys::KeyLogs;
-use crate::capture::reading::{Taker, read};
-use crate::capture::screen::{Failure, Screen};
-use crate::{FAILED, REFUSED, WRONG_CALL, say, status};
+use crate::capture::reading::{Taker, read, read_each};
+use crate::capture::screen::{Queue, Screen};
+use crate::{FAILED, REFUSED, WRONG_CALL, say};
 use json::Json;
 use quic_wire_capture::capture::{Capture, Datagram};
 use quic_wire_capture::follow::{Counts, Follower};
 use quic_wire_check::checker::Checker;
-use quic_wire_check::finding::Report;
+use quic_wire_check::finding::{Finding, Report};
 use quic_wire_check::rule::{Level, Rule};
 use quic_wire_check::rules;
+use quic_wire_check::vantage::Vantage;
+use sarif::{Log, Sarif};
 use std::ffi::OsStr;
 use std::process::ExitCode;
+use std::sync::Arc;
 use text::Text;
 
 /// What is found in a capture.
@@ -27,6 +32,8 @@ struct Whole<'a> {
     counts: &'a Counts,
     /// How many rules were applied.
     rules: usize,
+    /// The names of rules that may be broken, and why.
+    allowed: &'a [(String, String)],
 }
 
 /// How what is found is written.
@@ -37,7 +44,9 @@ trait Form {
 }
 
 struct Check<'a> {
-    rules: Vec<&'static Rule>,
+    rules: &'a [&'static Rule],
+    allowed: &'a [(String, String)],
+    vantage: Option<Vantage>,
     form: Box<dyn Form + 'a>,
     name: &'a OsStr,
     begun: Option<u64>,
@@ -46,9 +55,21 @@ struct Check<'a> {
 }
 
 impl Whole<'_> {
-    // How many rules are broken that bind so much, each once for a side of a connection.
+    // Why a rule may be broken.
+    fn reason(&self, finding: &Finding) -> Option<&str> {
+        let allowed = self.allowed.iter().find(|(rule, _)| rule == finding.rule.name);
+        allowed.map(|(_, reason)| &reason[..])
+    }
+
+    // How many rules are broken that bind so much, each once for a side of a connection, except those that may be.
     fn broken(&self, level: Level) -> u64 {
-        self.report.findings.iter().filter(|finding| finding.rule.level == level).count() as u64
+        let is_counted = |one: &&Finding| one.rule.level == level && self.reason(one).is_none();
+        self.report.findings.iter().filter(is_counted).count() as u64
+    }
+
+    // How many rules are broken that may be.
+    fn allowed(&self) -> u64 {
+        self.report.findings.iter().filter(|finding| self.reason(finding).is_some()).count() as u64
     }
 }
 
@@ -61,69 +82,82 @@ pub fn run(args: &Checks) -> ExitCode {
             return ExitCode::from(WRONG_CALL);
         }
     };
-    let screen = Screen::default();
-    let has_names = args.files.len() > 1;
-    let mut form: Box<dyn Form + '_> = match args.json {
-        true => Box::new(Json::new(&screen, has_names)),
-        false => Box::new(Text::new(&screen, args.colours.is_on())),
-    };
+    let (queue, log) = (Arc::new(Queue::default()), Log::new(&rules));
     if args.rules {
+        let screen = Screen::new(&queue, 0);
+        let mut form = form(args, 0, &log, &screen);
         rules.iter().for_each(|rule| form.rule(rule));
         drop(form);
-        return ended(screen, ExitCode::SUCCESS);
+        if args.sarif {
+            screen.write(&log.text(true));
+        }
+        drop(screen);
+        return ended(&queue, ExitCode::SUCCESS);
     }
-    let (mut logs, mut are_read) = KeyLogs::open(&args.keylogs);
-    let mut check =
-        Check { rules, form, name: OsStr::new(""), begun: None, checker: Checker::new([]), is_broken: false };
-    for file in &args.files {
-        check.name = file;
-        if let Err(what) = read(file, &mut logs, &mut check, &screen) {
-            are_read = false;
+    let (logs, are_opened) = KeyLogs::open(&args.keylogs);
+    let results = read_each(&args.files, &queue, |file, place, screen| {
+        let (form, allowed, vantage) = (form(args, place, &log, screen), &args.allowed[..], args.at.map(vantage));
+        let (begun, checker, is_broken) = (None, Checker::new([]), false);
+        let mut check = Check { rules: &rules, allowed, vantage, form, name: file, begun, checker, is_broken };
+        let read = read(file, &logs, &mut check, screen);
+        if let Err(what) = &read {
             screen.say(format_args!("{}: {what}", file.to_string_lossy()));
         }
-        if screen.has_failed() {
-            break;
-        }
+        (read.is_ok(), check.is_broken)
+    });
+    let are_read = are_opened && results.iter().all(|(is_read, _)| *is_read);
+    let is_broken = results.iter().any(|(_, is_broken)| *is_broken);
+    if args.sarif {
+        Screen::new(&queue, args.files.len()).write(&log.text(are_read));
     }
-    let is_broken = check.is_broken;
-    drop(check);
-    let status = if !are_read {
-        FAILED
-    } else if is_broken {
-        REFUSED
-    } else {
-        0
+    let code = match (are_read, is_broken) {
+        (false, _) => FAILED,
+        (true, true) => REFUSED,
+        (true, false) => 0,
     };
-    ended(screen, ExitCode::from(status))
+    ended(&queue, ExitCode::from(code))
+}
+
+// How what is found in the capture at a place is written.
+fn form<'s>(args: &Checks, place: usize, log: &'s Log<'_>, screen: &'s Screen) -> Box<dyn Form + 's> {
+    if args.sarif {
+        return Box::new(Sarif::new(log, place));
+    }
+    match args.json {
+        true => Box::new(Json::new(screen, args.files.len() > 1)),
+        false => Box::new(Text::new(screen, args.colours.is_on())),
+    }
+}
+
+fn vantage(place: Place) -> Vantage {
+    match place {
+        Place::Client => Vantage::Client,
+        Place::Server => Vantage::Server,
+        Place::Path => Vantage::Path,
+    }
 }
 
 // The rules that are applied: those with the names that are given or else, unless they are wanted, only each MUST.
 fn chosen(args: &Checks) -> Result<Vec<&'static Rule>, String> {
-    let find = |name: &String| {
+    let find = |option: &str, name: &str| {
         let nearest = || nearest(name, rules::all().map(|rule| rule.name).collect::<Vec<_>>());
-        rules::find(name).ok_or_else(|| format!("--only: unknown rule {name:?}{}; --rules lists them", nearest()))
+        rules::find(name).ok_or_else(|| format!("{option}: unknown rule {name:?}{}; --rules lists them", nearest()))
     };
+    args.allowed.iter().try_for_each(|(name, _)| find("--allow", name).map(|_| ()))?;
     if !args.only.is_empty() {
-        return args.only.iter().map(find).collect();
+        return args.only.iter().map(|name| find("--only", name)).collect();
     }
     Ok(rules::all().filter(|rule| args.should || args.rules || rule.level == Level::Must).collect())
-}
-
-fn ended(screen: Screen, code: ExitCode) -> ExitCode {
-    match screen.finish() {
-        Ok(()) => code,
-        Err(Failure::Output(error)) => status(Err(error), true),
-        Err(Failure::File(what)) => {
-            say(what);
-            ExitCode::from(FAILED)
-        }
-    }
 }
 
 impl Taker for Check<'_> {
     fn begin(&mut self, _: &OsStr) {
         self.begun = None;
-        self.checker = Checker::new(self.rules.iter().copied());
+        let checker = Checker::new(self.rules.iter().copied());
+        self.checker = match self.vantage {
+            Some(vantage) => checker.at(vantage),
+            None => checker,
+        };
     }
 
     fn datagram(&mut self, datagram: &Datagram<'_>, follower: &mut Follower) {
@@ -134,7 +168,7 @@ impl Taker for Check<'_> {
     fn end(&mut self, follower: &mut Follower, capture: &Capture) {
         let report = std::mem::take(&mut self.checker).finish(follower);
         let (begun, counts, rules) = (self.begun.unwrap_or_default(), follower.counts(), self.rules.len());
-        let whole = Whole { begun, report: &report, capture, counts, rules };
+        let whole = Whole { begun, report: &report, capture, counts, rules, allowed: self.allowed };
         self.is_broken |= whole.broken(Level::Must) > 0;
         self.form.capture(self.name, &whole);
     }

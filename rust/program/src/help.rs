@@ -83,7 +83,8 @@ Output:
   no packet: ..              what bytes after the packets of a datagram are
 A connection has a summary when it is forgotten, 10 seconds or more after its end, or at the end of the file: what was
 opened of each side, what wasn't and why, and how it ended. The last lines of a file have the same of the whole file.
-With more than one FILE, each line of a packet or summary begins with its name.
+With more than one FILE, each line of a packet or summary begins with its name. Files on the disk are read at once, on
+all processors, and shown in their order.
 
 options, of which --keylog, --connection, --number and --frame may be repeated:
   --keylog FILE        read secrets from a key log, such as the file that SSLKEYLOGFILE names. If a capture comes from
@@ -121,17 +122,23 @@ Output:
                              breaks more than once is printed once
   c.pcap: path-size not checked 3 times: ..
                              how often a rule was silent, and why: a capture doesn't show everything
-The last line of a file says what was read of it.
+The last line of a file says what was read of it, and where its connections were captured. Files on the disk are read at
+once, and shown in their order.
 
-options, of which --keylog and --only may be repeated:
+options, of which --keylog, --only and --allow may be repeated:
   --keylog FILE        read secrets from a key log, such as the file that SSLKEYLOGFILE names
+  --at WHERE           the captures were taken at the client, at the server, or on the path between them: WHERE is
+                       client, server or path. By default the records of each connection may say so; else it is path.
+                       At its sender's host, the order of packets shows more
   --only RULE          check only this rule
+  --allow RULE=REASON  print what breaks this rule with the reason, and don't count it
   --should             also check rules that are no MUST
   --rules              print the rules, those of --only or all, and what each needs; read no FILE
   --json               print a JSON object per line, without colours
+  --sarif              print one object of SARIF 2.1.0, for CI systems
   --color WHEN         always, never or auto: on a terminal, unless NO_COLOR is set or TERM is dumb; default auto
   -h, --help; -V, --version
 
-Exit status: 0 nothing is found, or only what is no MUST; 1 a MUST is broken, 2 usage error, 3 reading or writing failed,
-or a file is cut off. If a file can't be read, the others are still read.
+Exit status: 0 nothing is found, or only what is allowed or no MUST; 1 a MUST is broken, 2 usage error, 3 reading or
+writing failed, or a file is cut off. If a file can't be read, the others are still read.
 ";

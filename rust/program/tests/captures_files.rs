@@ -50,6 +50,33 @@ fn standard_input_and_several_files() {
     assert!(lines.last().unwrap().ends_with(" 1 datagram, 1 connection, 1 packet opened"), "{lines:#?}");
 }
 
+// Files on the disk are read at once, and files with standard input one after another: what is shown of each, and said
+// of those that can't be read, is the same and in the files' order.
+#[test]
+fn many_files_at_once() {
+    let folder = Folder::new("many");
+    let (small, all) = (fs::read(SMALL).unwrap(), common::datagrams());
+    let files: Vec<_> = (0..40)
+        .map(|n| match n % 10 {
+            9 => folder.write(&format!("{n}.text"), "this is text"),
+            _ => folder.write(&format!("{n}.pcap"), pcap(&all[..1 + n % all.len()])),
+        })
+        .collect();
+    let files: Vec<_> = files.iter().map(String::as_str).collect();
+    let texts = files.iter().filter(|file| file.ends_with("text"));
+    let said: String = texts.map(|file| format!("quic-wire: {file}: the file is neither pcap nor pcapng\n")).collect();
+    for options in [&["capture"][..], &["capture", "--json"], &["check", "--should"], &["check", "--json"]] {
+        let call = |first| run(&[options, &["--keylog", SMALL_KEYS, first], &files[..]].concat(), &small);
+        let (at_once, one_by_one) = (call(SMALL), call("-"));
+        let of_files = |text: &str| -> Vec<String> {
+            text.lines().filter(|line| line.contains(&folder.path(""))).map(String::from).collect()
+        };
+        assert_eq!(of_files(&at_once.0), of_files(&one_by_one.0), "{options:?}");
+        assert!(of_files(&at_once.0).len() >= 36, "{options:?}: {}", at_once.0);
+        assert_eq!((&at_once.1, &one_by_one.1, at_once.2), (&said, &said, 3), "{options:?}");
+    }
+}
+
 #[test]
 fn several_key_logs_and_secrets_in_the_file() {
     let folder = Folder::new("secrets");

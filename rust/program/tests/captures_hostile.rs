@@ -16,7 +16,9 @@ use captures::{Folder, SMALL, SMALL_KEYS, gzip, pcap, pcapng};
 use common::{Random, Sealer, datagrams, opened};
 use json::{Json, Schema};
 use program::run;
+use std::ffi::OsStr;
 use std::fs;
+use std::path::PathBuf;
 
 const SCHEMA: &str = include_str!("../../../docs/capture.schema.json");
 const FILES: usize = 20;
@@ -52,19 +54,35 @@ fn sealed(random: &mut Random) -> Vec<u8> {
     pcap(&all)
 }
 
+// The captures of vectors/captures, their key logs and descriptions.
+fn recorded() -> Vec<PathBuf> {
+    let all = fs::read_dir(concat!(env!("CARGO_MANIFEST_DIR"), "/../../vectors/captures")).unwrap();
+    let is_capture = |path: &PathBuf| path.extension().is_some_and(|end| end != "py");
+    let mut paths: Vec<_> = all.map(|file| file.unwrap().path()).filter(|path| is_capture(path)).collect();
+    paths.sort();
+    paths
+}
+
 #[test]
 fn changed_captures_and_key_logs() {
     let rounds = std::env::var("ROUNDS").ok().and_then(|text| text.parse().ok()).unwrap_or(100usize);
     let folder = Folder::new("hostile");
-    let (small, keys) = (fs::read(SMALL).unwrap(), fs::read(SMALL_KEYS).unwrap());
-    let bases = [pcapng(&datagrams(), &keys), gzip(&small), small];
+    let (small, mut keys) = (fs::read(SMALL).unwrap(), fs::read(SMALL_KEYS).unwrap());
+    let mut bases = vec![pcapng(&datagrams(), &keys), gzip(&small), small];
+    for path in recorded() {
+        match path.extension().and_then(OsStr::to_str) {
+            Some("keys") => keys.extend(fs::read(path).unwrap()),
+            Some("json") => {}
+            _ => bases.push(fs::read(path).unwrap()),
+        }
+    }
     let (mut random, mut schema) = (Random(11), Schema::read(SCHEMA));
     let mut read = 0;
     for round in 0..rounds.div_ceil(FILES) {
         let names: Vec<_> = (0..FILES).map(|n| format!("{n}.pcap")).collect();
         let files: Vec<_> = names
             .iter()
-            .map(|name| match bases.get(random.below(4)) {
+            .map(|name| match bases.get(random.below(bases.len() + 1)) {
                 None => folder.write(name, sealed(&mut random)),
                 Some(base) => folder.write(name, changed(&mut random, base)),
             })

@@ -21,8 +21,9 @@ use std::collections::BTreeSet;
 
 const SCHEMA: &str = include_str!("../../../docs/check.schema.json");
 
-// A connection whose client sends a short Initial packet (RFC 9000, section 14.1), and twice a HANDSHAKE_DONE (section
-// 19.20). Its server sends a PATH_CHALLENGE to an address that isn't validated.
+// A connection both of whose sides send a short Initial packet (RFC 9000, section 14.1), the client twice a
+// HANDSHAKE_DONE (section 19.20), and the server no original_destination_connection_id (section 7.3), and a
+// PATH_CHALLENGE to an address that isn't validated.
 fn broken() -> (Made, Vec<Kept>) {
     let mut made = Made::new(1);
     let mut all = made.handshake();
@@ -46,7 +47,8 @@ fn lines() {
     assert!(text.starts_with(&begin) && text.contains(", byte 1 of the payload, 2 times up to record 5\n"), "{text}");
     let rule =
         "    MUST frame-sender: HANDSHAKE_DONE from a client; expected: one from a server (RFC 9000, section 19.20)\n";
-    let end = format!("{file}: 6 records, 1 connection, 7 packets opened, 0 not opened, 1 rule: 1 MUST broken\n");
+    let end =
+        format!("{file}: 6 records, 1 connection on the path, 7 packets opened, 0 not opened, 1 rule: 1 MUST broken\n");
     assert!(text.contains(rule) && text.ends_with(&end), "{text}");
     assert_eq!((&said[..], status), ("", 1));
 }
@@ -71,9 +73,39 @@ fn statuses() {
     assert_eq!(status(&["--keylog", &keys, &file, "no such file"]), 3);
     assert_eq!(status(&["--keylog", "no such file", SMALL]), 3);
     assert_eq!(status(&["--qlog", "folder", SMALL]), 2);
+    assert_eq!(status(&["--at", "home", SMALL]), 2);
+    assert_eq!(status(&["--json", "--sarif", SMALL]), 2);
     let (_, said, status) = run(&["check", "--only", "frame-sendr", SMALL], b"");
     let wanted = "quic-wire: --only: unknown rule \"frame-sendr\"; did you mean frame-sender?; --rules lists them\n";
     assert_eq!((&said[..], status), (wanted, 2));
+}
+
+#[test]
+fn what_is_allowed_is_not_counted() {
+    let folder = Folder::new("check-allowed");
+    let (file, keys) = files(&folder);
+    let call = |allowed: &[&str]| run(&[&["check", "--keylog", &keys][..], allowed, &[&file]].concat(), b"");
+    let one = ["--allow", "frame-sender=issue 12"];
+    let (text, _, status) = call(&one);
+    assert!(text.contains(" (RFC 9000, section 19.20), allowed: issue 12\n"), "{text}");
+    assert!(text.ends_with(": 3 MUST broken, 1 allowed\n") && status == 1, "{text}");
+    let others = ["--allow=initial-size=a = b", "--allow", "original-destination-id=none is sent"];
+    let (text, _, status) = call(&[&one[..], &others].concat());
+    assert!(text.ends_with(": 4 allowed\n") && text.contains(", allowed: a = b\n") && status == 0, "{text}");
+
+    let wrong = |text: &str| call(&["--allow", text]);
+    let wanted = "quic-wire: --allow: expected RULE=REASON, not \"frame-sender\"\n";
+    assert!(wrong("frame-sender").1.starts_with(wanted), "{}", wrong("frame-sender").1);
+    let wanted = "quic-wire: --allow: unknown rule \"frame-sendr\"; did you mean frame-sender?; --rules lists them\n";
+    assert_eq!((&wrong("frame-sendr=why").1[..], wrong("frame-sendr=why").2), (wanted, 2));
+    assert_eq!((wrong("frame-sender=").2, wrong("=why").2), (2, 2));
+}
+
+#[test]
+fn where_it_was_captured() {
+    let end = |more: &[&str]| run(&[&["check", "--keylog", SMALL_KEYS][..], more, &[SMALL]].concat(), b"").0;
+    assert!(end(&[]).contains(": 13 records, 1 connection on the path, "), "{}", end(&[]));
+    assert!(end(&["--at", "server"]).contains(": 13 records, 1 connection at the server, "), "{}", end(&[]));
 }
 
 #[test]
@@ -98,7 +130,9 @@ fn all_objects_fit_the_schema_and_have_what_it_names() {
     let folder = Folder::new("check-schema");
     let (file, keys) = files(&folder);
     let mut schema = Schema::read(SCHEMA);
-    for call in [&["--rules"][..], &["--keylog", &keys, &file, SMALL], &["--should", "--keylog", SMALL_KEYS, SMALL]] {
+    let allowed = ["--allow", "frame-sender=why", "--keylog", &keys, &file];
+    let calls = [&["--rules"][..], &["--keylog", &keys, &file, SMALL], &["--should", "--keylog", SMALL_KEYS, SMALL]];
+    for call in calls.into_iter().chain([&allowed[..]]) {
         objects(call).iter().for_each(|object| schema.check(object));
     }
     let (all, seen) = (schema.members(), &schema.seen);
@@ -121,11 +155,82 @@ fn a_finding_says_where() {
     let text = |name: &str| finding.at(name).text();
     assert_eq!((text("kind"), text("rule"), text("section")), ("finding", "frame-sender", "19.20"));
     assert_eq!((text("sender"), text("type"), text("level")), ("client", "1-RTT", "MUST"));
-    let number = |name: &str| match finding.at(name) {
-        Json::Number(digits) => digits.parse::<u64>().unwrap(),
-        other => panic!("{other:?}"),
-    };
+    let number = |name: &str| number(finding, name);
     assert_eq!((number("record"), number("last_record"), number("count")), (4, 5, 2));
     // A short header of a byte, an id of 6 and a packet number of 1 byte, then PING.
     assert_eq!((number("offset_in_datagram"), number("offset_in_payload")), (9, 1));
+}
+
+fn sarif(arguments: &[&str]) -> Json {
+    let (text, said, _) = run(&[&["check", "--sarif"], arguments].concat(), b"");
+    assert_eq!((said.as_str(), text.lines().count()), ("", 1), "{arguments:?}");
+    Json::read(&text)
+}
+
+fn is_one_of(value: &Json, words: &[&str]) -> bool {
+    matches!(value, Json::Text(text) if words.contains(&&text[..]))
+}
+
+// That an object has what SARIF 2.1.0 requires of a log (its section 3.13 and those of what is in it).
+fn is_sarif(log: &Json) {
+    assert_eq!((log.at("version").text(), log.at("runs").items().len()), ("2.1.0", 1));
+    assert!(!log.at("runs.0.tool.driver.name").text().is_empty());
+    let rules: Vec<_> = log.at("runs.0.tool.driver.rules").items().iter().map(|rule| rule.at("id").text()).collect();
+    assert_eq!(rules.iter().collect::<BTreeSet<_>>().len(), rules.len(), "an id is there twice");
+    for rule in log.at("runs.0.tool.driver.rules").items() {
+        assert!(rule.at("shortDescription.text").text().ends_with('.'), "{rule:?}");
+        assert!(is_one_of(rule.at("defaultConfiguration.level"), &["error", "warning"]), "{rule:?}");
+    }
+    let artifacts = log.at("runs.0.artifacts").items();
+    for result in log.at("runs.0.results").items() {
+        assert!(!result.at("message.text").text().is_empty(), "{result:?}");
+        assert!(is_one_of(result.at("level"), &["error", "warning"]), "{result:?}");
+        let index = number(result, "ruleIndex") as usize;
+        assert_eq!(rules.get(index), Some(&result.at("ruleId").text()), "{result:?}");
+        let place = result.at("locations.0.physicalLocation");
+        let uri = place.at("artifactLocation.uri");
+        assert!(artifacts.iter().any(|artifact| artifact.at("location.uri") == uri), "{result:?}");
+        assert!(number(place, "region.startLine") > 0, "{result:?}");
+        for suppression in result.get("suppressions").map_or(&[][..], Json::items) {
+            assert!(is_one_of(suppression.at("kind"), &["inSource", "external"]), "{suppression:?}");
+        }
+    }
+    let [invocation] = log.at("runs.0.invocations").items() else { panic!("no invocation") };
+    assert!(matches!(invocation.at("executionSuccessful"), Json::Flag(_)));
+    for notification in invocation.at("toolExecutionNotifications").items() {
+        assert!(rules.contains(&notification.at("associatedRule.id").text()), "{notification:?}");
+        assert!(!notification.at("message.text").text().is_empty(), "{notification:?}");
+    }
+}
+
+fn number(object: &Json, path: &str) -> u64 {
+    match object.at(path) {
+        Json::Number(digits) => digits.parse().unwrap(),
+        other => panic!("{path}: {other:?}"),
+    }
+}
+
+#[test]
+fn an_object_of_sarif() {
+    let folder = Folder::new("check-sarif");
+    let (file, keys) = files(&folder);
+    let log = sarif(&["--should", "--allow", "frame-sender=issue 12", "--keylog", &keys, &file, SMALL]);
+    is_sarif(&log);
+    assert_eq!(log.at("runs.0.artifacts").items().len(), 2);
+    let [short, _, _, sender] = log.at("runs.0.results").items() else { panic!("{log:?}") };
+    assert_eq!((short.at("ruleId").text(), short.at("level").text()), ("initial-size", "error"));
+    assert_eq!((short.get("suppressions"), number(short, "locations.0.physicalLocation.region.startLine")), (None, 1));
+    assert_eq!((sender.at("ruleId").text(), number(sender, "occurrenceCount")), ("frame-sender", 2));
+    let suppression = sender.at("suppressions.0");
+    assert_eq!((suppression.at("kind").text(), suppression.at("justification").text()), ("external", "issue 12"));
+    let at = "locations.0.logicalLocations.0.fullyQualifiedName";
+    assert_eq!(sender.at(at).text(), "connection 0/client/1-RTT 0");
+    let silent = log.at("runs.0.invocations.0.toolExecutionNotifications").items();
+    assert!(silent.iter().any(|one| one.at("associatedRule.id").text() == "path-size"), "{silent:?}");
+
+    let table = sarif(&["--rules"]);
+    is_sarif(&table);
+    assert_eq!(table.at("runs.0.tool.driver.rules").items().len(), objects(&["--rules"]).len());
+    let text = run(&["check", "--sarif", SMALL, "no such file"], b"").0;
+    assert_eq!(Json::read(&text).at("runs.0.invocations.0.executionSuccessful"), &Json::Flag(false));
 }

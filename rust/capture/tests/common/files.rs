@@ -1,6 +1,8 @@
 //! Capture files, made of frames.
 #![allow(dead_code, reason = "each test uses a part")]
 
+use std::net::{IpAddr, SocketAddr};
+
 /// How numbers are written.
 #[derive(Clone, Copy, PartialEq, Eq)]
 pub enum Order {
@@ -90,5 +92,22 @@ pub fn ipv6(protocol: u8, payload: &[u8]) -> Vec<u8> {
         packet.extend([&[0; 15][..], &[last]].concat());
     }
     packet.extend_from_slice(payload);
+    packet
+}
+
+/// A whole datagram in IPv4, with the header's checksum and none of UDP. Addresses of IPv6 count as 0.
+pub fn ip_datagram(from: SocketAddr, to: SocketAddr, bytes: &[u8]) -> Vec<u8> {
+    let octets = |address: SocketAddr| match address.ip() {
+        IpAddr::V4(address) => address.octets(),
+        IpAddr::V6(_) => [0; 4],
+    };
+    let len = bytes.len() as u16 + 8;
+    let mut packet = [&[0x45, 0][..], &(len + 20).to_be_bytes(), &[0, 0, 0x40, 0, 64, 17, 0, 0]].concat();
+    packet.extend([octets(from), octets(to)].concat());
+    let sum: u32 = packet.chunks(2).map(|two| u32::from(two[0]) << 8 | u32::from(two[1])).sum();
+    let sum = (sum & 0xffff) + (sum >> 16);
+    packet[10..12].copy_from_slice(&(!sum as u16).to_be_bytes());
+    packet.extend([from.port(), to.port(), len, 0].map(u16::to_be_bytes).concat());
+    packet.extend_from_slice(bytes);
     packet
 }

@@ -72,7 +72,7 @@ impl Made {
         self.salted(vec![self.seed ^ (0x10 * (label as u8 + 1)); self.suite.secret_len()])
     }
 
-    fn random(&self) -> Vec<u8> {
+    pub fn random(&self) -> Vec<u8> {
         self.salted(vec![self.seed; 32])
     }
 
@@ -87,7 +87,8 @@ impl Made {
         LABELS.iter().enumerate().map(line).collect()
     }
 
-    fn keys(&self, kind: HeaderKind, sender: Side) -> PacketKeys {
+    /// The keys of a side's packets.
+    pub fn keys(&self, kind: HeaderKind, sender: Side) -> PacketKeys {
         let label = match (kind, sender) {
             (Initial, _) => return PacketKeys::initial(self.version, &self.initial_id, sender).unwrap(),
             (ZeroRtt, _) => 0,
@@ -184,13 +185,18 @@ impl Made {
 
     /// A Retry, after which the client sends to another id with a token.
     pub fn retry(&mut self, id: &[u8]) -> Kept {
+        self.retry_with(id, b"token")
+    }
+
+    /// A Retry with a token.
+    pub fn retry_with(&mut self, id: &[u8], token: &[u8]) -> Kept {
         let mut packet = Vec::new();
         let header = Header::Retry { dst_cid: &self.ids[0], src_cid: id, version: self.version };
         header.encode(&mut packet).unwrap();
-        packet.extend(b"token");
+        packet.extend(token);
         let tag = retry_tag(self.version, &self.original_id, &packet).unwrap();
         packet.extend(tag);
-        self.token = b"token".to_vec();
+        self.token = token.to_vec();
         self.initial_id = id.to_vec();
         self.first_dcid = Some(id.to_vec());
         self.datagram(Server, packet)

@@ -34,7 +34,7 @@ impl Kept {
 
     pub fn datagram(&self) -> Datagram<'_> {
         let Kept { record, time, from, to, .. } = *self;
-        Datagram { record, time, from, to, bytes: &self.bytes, missing: 0 }
+        Datagram { record, time, from, to, bytes: &self.bytes, missing: 0, outgoing: None }
     }
 }
 

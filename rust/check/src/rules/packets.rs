@@ -1,7 +1,7 @@
 //! Headers, packet numbers, and the order of packets.
 
 use crate::about::{About, id_text};
-use crate::claim::{Claim, distance};
+use crate::claim::{Claim, GRACE, distance};
 use crate::rule::{Broken, Check, Checked, History, Need, Rule};
 use quic_wire::datagram::{HeaderKind, PacketRef};
 use quic_wire::ids::SpaceId;
@@ -155,7 +155,9 @@ fn discarded_keys(about: &About<'_>, opened: &Opened<'_>) -> Checked {
     if !is_initial || !is_new || record == about.datagram.record {
         return Ok(None);
     }
-    if about.datagram.time < time.saturating_add(SECOND) {
+    // Where it was sent, the order of the records is that in which it was.
+    let least = if about.is_at_sender() { GRACE } else { SECOND };
+    if about.datagram.time < time.saturating_add(least) {
         return Err(Need::Time);
     }
     Broken::new(format!("an Initial packet after the Handshake packet of record {record}"), "none")
@@ -184,13 +186,16 @@ fn number_length(about: &About<'_>, opened: &Opened<'_>) -> Checked {
     Broken::new(seen, format!("{} bytes or more", len + 1)).at(number_at(opened)).if_still(claim).found()
 }
 
-// Only numbers show the order in which packets were sent. Anyone who saw the client's first packet can make Initial
-// packets.
+// Away from its sender, only numbers show the order in which packets were sent. Anyone who saw the client's first packet
+// can make Initial packets.
 fn after_close(about: &About<'_>, opened: &Opened<'_>) -> Checked {
     let Some(closed) = about.end().closed().filter(|closed| closed.sent.space != SpaceId::Initial) else {
         return Ok(None);
     };
-    let is_later = opened.space() == closed.sent.space && opened.number() > closed.sent.number;
+    let is_later = match opened.space() == closed.sent.space {
+        true => opened.number() > closed.sent.number,
+        false => about.is_at_sender() && about.datagram.time > closed.sent.time.saturating_add(GRACE),
+    };
     if !is_later || about.current.has_close || about.datagram.record == closed.sent.record {
         return Ok(None);
     }

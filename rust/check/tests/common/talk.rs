@@ -7,7 +7,6 @@ use quic_wire::datagram::Header;
 use quic_wire::packet::PacketNumber;
 use quic_wire::transport_parameters::TransportParameters;
 use quic_wire::{ConnectionId, Side, VarInt};
-use quic_wire_capture::ciphers::Suite;
 use quic_wire_capture::follow::Follower;
 use quic_wire_capture::keys::PacketKeys;
 use quic_wire_check::checker::Checker;
@@ -21,13 +20,19 @@ pub struct Talk {
     pub made: Made,
     pub all: Vec<Kept>,
     pub parameters: [TransportParameters; 2],
+    /// Bytes of each side's list of parameters after these.
+    pub more: [Vec<u8>; 2],
 }
 
 impl Talk {
     /// Before its first packet. Each side permits 1,000 bytes on all streams, 500 on each, and four streams of each
     /// type.
     pub fn new() -> Talk {
-        let made = Made::new(1);
+        Talk::of(Made::new(1))
+    }
+
+    /// The same with other secrets, ids and addresses.
+    pub fn of(made: Made) -> Talk {
         let id = |bytes: &[u8]| Some(ConnectionId::new(bytes));
         let number = VarInt::from_u32;
         let limits = TransportParameters {
@@ -46,7 +51,7 @@ impl Talk {
             original_dst_cid: id(&made.original_id),
             ..limits
         };
-        Talk { made, all: Vec::new(), parameters: [client, server] }
+        Talk { made, all: Vec::new(), parameters: [client, server], more: [Vec::new(), Vec::new()] }
     }
 
     /// After its handshake: each side knows that its packets so far were received, except for the server's last one.
@@ -64,38 +69,71 @@ impl Talk {
     }
 
     /// The server's first datagram, and what follows it up to HANDSHAKE_DONE.
-    pub fn answer(&mut self) {
-        let hello = [&ack(0)[..], &crypto(0, &self.made.server_hello())].concat();
-        let extensions = crypto(0, &self.encrypted_extensions());
+    pub fn answer(&mut self) -> &mut Talk {
+        self.server_flight().client_flight().confirm()
+    }
+
+    /// The server's first datagram, of an Initial and a Handshake packet: 1,200 bytes.
+    pub fn server_flight(&mut self) -> &mut Talk {
+        let hello = [&ack(0)[..], &crypto(0, &self.server_hello())].concat();
+        let extensions = crypto(0, &[self.encrypted_extensions(), finished(Server)].concat());
         let initial = self.made.packet(Server, Initial, &hello);
-        let handshake = self.made.packet(Server, Handshake, &padded(&extensions, 1200 - initial.len()));
+        // First byte, version, ids with their lengths, the packet's length, a number of a byte, and the tag.
+        let around = 1 + 4 + 2 + self.made.ids.concat().len() + 2 + 1 + 16;
+        let handshake = self.made.packet(Server, Handshake, &padded(&extensions, 1200 - initial.len() - around));
         let datagram = self.made.datagram(Server, [initial, handshake].concat());
         self.all.push(datagram);
         self.made.first_dcid = None;
-        let initial = self.made.packet(Client, Initial, &ack(0));
-        let handshake = self.made.packet(Client, Handshake, &padded(&ack(0), 1200));
-        let datagram = self.made.datagram(Client, [initial, handshake].concat());
+        self
+    }
+
+    /// The client's datagram after that, of the same two packets.
+    pub fn client_flight(&mut self) -> &mut Talk {
+        let packets = self.client_packets();
+        let datagram = self.made.datagram(Client, packets);
         self.all.push(datagram);
-        self.send(Server, Handshake, &ack(0));
+        self
+    }
+
+    /// Its packets.
+    pub fn client_packets(&mut self) -> Vec<u8> {
+        let initial = self.made.packet(Client, Initial, &ack(0));
+        let end = [&ack(0)[..], &crypto(0, &finished(Client))].concat();
+        let handshake = self.made.packet(Client, Handshake, &padded(&end, 1200));
+        [initial, handshake].concat()
+    }
+
+    /// HANDSHAKE_DONE, with the acknowledgments around it.
+    pub fn confirm(&mut self) -> &mut Talk {
+        let last = self.made.numbers[0][1] - 1;
+        self.send(Server, Handshake, &all_to(last));
         self.send(Server, Short, &[0x1e]);
-        self.send(Client, Short, &ack(0));
-        self.send(Server, Short, &[&ack(0)[..], PING].concat());
+        self.send(Client, Short, &all_to(self.made.numbers[1][2] - 1));
+        self.send(Server, Short, &[&all_to(self.made.numbers[0][2] - 1)[..], PING].concat())
     }
 
     fn list(&self, side: Side) -> Vec<u8> {
         let mut list = Vec::new();
         self.parameters[side as usize].write(&mut list).unwrap();
+        list.extend(&self.more[side as usize]);
         list
     }
 
     /// A payload with the ClientHello, for a datagram of 1,200 bytes or more.
     pub fn client_hello(&self) -> Vec<u8> {
-        let front = [&[3, 3][..], &[self.made.seed; 32], &[0, 0, 2, 0x13, 1, 1, 0]].concat();
-        padded(&crypto(0, &message(1, &front, &self.list(Client))), 1200)
+        let front = [&[3, 3][..], &self.made.random(), &[0, 0, 2, 0x13, 1, 1, 0]].concat();
+        let list = self.list(Client);
+        padded(&crypto(0, &message(1, &front, &[VERSIONS, PROTOCOL, (PARAMETERS, &list)])), 1200)
+    }
+
+    /// The ServerHello.
+    pub fn server_hello(&self) -> Vec<u8> {
+        let front = [&[3, 3][..], &[9; 32], &[0, 0x13, 1, 0]].concat();
+        message(2, &front, &[(VERSIONS.0, &[3, 4])])
     }
 
     fn encrypted_extensions(&self) -> Vec<u8> {
-        message(8, &[], &self.list(Server))
+        message(8, &[], &[PROTOCOL, (PARAMETERS, &self.list(Server))])
     }
 
     /// Sends a datagram of one packet, a millisecond after the last one.
@@ -127,8 +165,7 @@ impl Talk {
 
     /// A 1-RTT packet with a number, which has as many bytes as `field`, and bits of its first byte.
     pub fn sealed(&mut self, sender: Side, number: u64, field: PacketNumber, bits: u8, payload: &[u8]) -> &mut Talk {
-        let secret = vec![self.made.seed ^ (0x10 * (4 + sender as u8)); 32];
-        let keys = PacketKeys::new(&secret, Suite::Aes128Gcm, 1).unwrap();
+        let keys = self.made.keys(Short, sender);
         let dst_cid = &self.made.ids[!sender as usize].clone()[..];
         let header = Header::Short { spin: false, key_phase: false, dst_cid, number: field };
         let payload = if payload.is_empty() { Vec::new() } else { padded(payload, 4) };
@@ -223,9 +260,21 @@ pub fn all_to(number: u64) -> Vec<u8> {
     [&[2][..], &two, &[0, 0], &two].concat()
 }
 
-// RFC 8446, section 4: a message with only the extension of transport parameters at its end.
-fn message(kind: u8, front: &[u8], list: &[u8]) -> Vec<u8> {
-    let len = |bytes: usize| (bytes as u16).to_be_bytes();
-    let body = [front, &len(list.len() + 4), &[0, 0x39], &len(list.len()), list].concat();
-    [&[kind, 0][..], &len(body.len()), &body].concat()
+// Extensions of TLS: version 1.3, a protocol by its name, and the number of that with the transport parameters.
+const VERSIONS: (u16, &[u8]) = (0x2b, &[2, 3, 4]);
+const PROTOCOL: (u16, &[u8]) = (0x10, b"\0\x05\x04made");
+const PARAMETERS: u16 = 0x39;
+
+// RFC 8446, section 4: a message with extensions at its end.
+fn message(kind: u8, front: &[u8], extensions: &[(u16, &[u8])]) -> Vec<u8> {
+    let len = |bytes: &[u8]| (bytes.len() as u16).to_be_bytes();
+    let one = |(number, bytes): &(u16, &[u8])| [&number.to_be_bytes()[..], &len(bytes), bytes].concat();
+    let list: Vec<u8> = extensions.iter().flat_map(one).collect();
+    let body = [front, &len(&list), &list].concat();
+    [&[kind, 0][..], &len(&body), &body].concat()
+}
+
+// A Finished of nobody's handshake.
+fn finished(side: Side) -> Vec<u8> {
+    [&[20, 0, 0, 32][..], &[0xf0 | side as u8; 32]].concat()
 }

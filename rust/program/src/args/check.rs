@@ -14,13 +14,41 @@ pub struct Checks {
     pub only: Vec<String>,
     /// Whether rules count that aren't a MUST.
     pub should: bool,
+    /// Where the captures were taken; else that is found out, if it can be.
+    pub at: Option<Place>,
+    /// The names of rules that may be broken, and why.
+    pub allowed: Vec<(String, String)>,
+    pub sarif: bool,
     pub files: Vec<OsString>,
 }
+
+/// Where a capture is taken.
+#[derive(Clone, Copy)]
+pub enum Place {
+    Client,
+    Server,
+    Path,
+}
+
+pub(super) const PLACES: [(&str, Place); 3] =
+    [("client", Place::Client), ("server", Place::Server), ("path", Place::Path)];
 
 impl Options {
     pub(super) fn check(self, files: Vec<OsString>) -> Result<Checks, String> {
         self.check_for("check")?;
-        let Options { json, colours, keylogs, rules, only, should, .. } = self;
-        Ok(Checks { json, colours, keylogs, rules, only, should, files })
+        let Options { json, colours, keylogs, rules, only, should, at, allowed, sarif, .. } = self;
+        if json && sarif {
+            return Err("--json and --sarif exclude each other".into());
+        }
+        Ok(Checks { json, colours, keylogs, rules, only, should, at, allowed, sarif, files })
+    }
+}
+
+/// A rule, and why it may be broken.
+pub(super) fn allowance(text: &str) -> Result<(String, String), String> {
+    let parts = text.split_once('=').map(|(rule, reason)| (rule.trim(), reason.trim()));
+    match parts.filter(|(rule, reason)| !rule.is_empty() && !reason.is_empty()) {
+        Some((rule, reason)) => Ok((rule.into(), reason.into())),
+        None => Err(format!("--allow: expected RULE=REASON, not {text:?}")),
     }
 }

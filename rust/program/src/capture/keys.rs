@@ -4,15 +4,18 @@ use quic_wire_capture::keylog::{GrowingLog, KeyLog};
 use std::ffi::{OsStr, OsString};
 use std::fs::File;
 use std::io::{self, Read};
+use std::sync::{PoisonError, RwLock};
 
-/// The key logs that are given.
+/// The key logs that are given. Several captures may be filled from them at once.
 pub struct KeyLogs(Vec<Log>);
 
 struct Log {
     file: File,
-    text: Vec<u8>,
-    growing: GrowingLog,
+    text: RwLock<Vec<u8>>,
 }
+
+/// The lines of key logs that have no end yet, for one capture.
+pub struct Tails(Vec<GrowingLog>);
 
 impl KeyLogs {
     /// Reads the files. Also returns whether all can be read; it says which can't.
@@ -31,24 +34,28 @@ impl KeyLogs {
     }
 
     /// Adds their lines to the secrets of a capture. If they may grow, their last lines needn't be whole.
-    pub fn fill(&mut self, secrets: &mut KeyLog, may_grow: bool) {
-        for Log { text, growing, .. } in &mut self.0 {
+    pub fn fill(&self, secrets: &mut KeyLog, may_grow: bool) -> Tails {
+        let fill = |log: &Log| {
+            let text = log.text.read().unwrap_or_else(PoisonError::into_inner);
             let (whole, last) = text.split_at(text.iter().rposition(|byte| *byte == b'\n').map_or(0, |end| end + 1));
             secrets.add(whole);
             if !may_grow || is_whole(last) {
                 secrets.add(last);
             }
-            *growing = GrowingLog::default();
+            let mut growing = GrowingLog::default();
             growing.add(last, secrets);
-        }
+            growing
+        };
+        Tails(self.0.iter().map(fill).collect())
     }
 
     /// Adds the lines that came since then.
-    pub fn poll(&mut self, secrets: &mut KeyLog) {
-        for Log { file, text, growing } in &mut self.0 {
+    pub fn poll(&self, tails: &mut Tails, secrets: &mut KeyLog) {
+        for (log, growing) in self.0.iter().zip(&mut tails.0) {
+            let mut text = log.text.write().unwrap_or_else(PoisonError::into_inner);
             let len = text.len();
             // What can't be read now may be read later.
-            let _ = file.read_to_end(text);
+            let _ = (&log.file).read_to_end(&mut text);
             if let Some(new) = text.get(len..).filter(|new| !new.is_empty()) {
                 growing.add(new, secrets);
             }
@@ -60,7 +67,7 @@ impl Log {
     fn open(file: &OsStr) -> io::Result<Log> {
         let (mut file, mut text) = (File::open(file)?, Vec::new());
         file.read_to_end(&mut text)?;
-        Ok(Log { file, text, growing: GrowingLog::default() })
+        Ok(Log { file, text: RwLock::new(text) })
     }
 }
 

@@ -35,9 +35,8 @@ const RECORD: char = '\x1e';
 pub struct Qlog<'s> {
     screen: &'s Screen,
     folder: PathBuf,
-    /// What the names of a capture's files begin with, and those of all captures.
+    /// What the names of the capture's traces begin with.
     stem: OsString,
-    stems: HashSet<OsString>,
     traces: HashMap<usize, Trace>,
     waiting: usize,
 }
@@ -62,14 +61,31 @@ impl Trace {
     }
 }
 
+/// What the names of each capture's traces begin with: its name, and a number if that was there before.
+pub fn stems(files: &[OsString]) -> Vec<OsString> {
+    let mut all = HashSet::new();
+    let stem = |file: &OsString| {
+        let name = Path::new(file).file_name().filter(|_| file != "-").unwrap_or(OsStr::new("stdin"));
+        let mut stem = name.to_os_string();
+        for count in 2.. {
+            if all.insert(stem.clone()) {
+                break;
+            }
+            stem = name.to_os_string();
+            stem.push(format!("-{count}"));
+        }
+        stem
+    };
+    files.iter().map(stem).collect()
+}
+
 impl<'s> Qlog<'s> {
-    pub fn new(screen: &'s Screen, folder: &OsStr) -> Self {
+    pub fn new(screen: &'s Screen, folder: &OsStr, stem: &OsStr) -> Self {
         let folder = PathBuf::from(folder);
         if let Err(error) = fs::create_dir_all(&folder) {
             screen.fail(format!("{}: {error}", folder.display()));
         }
-        let (stem, stems, traces) = (OsString::new(), HashSet::new(), HashMap::new());
-        Qlog { screen, folder, stem, stems, traces, waiting: 0 }
+        Qlog { screen, folder, stem: stem.to_os_string(), traces: HashMap::new(), waiting: 0 }
     }
 
     // Adds an event to a connection's trace, which begins with the first one.
@@ -261,18 +277,7 @@ fn preferred_address(object: &mut Object<'_>, address: &PreferredAddress) {
 }
 
 impl Form for Qlog<'_> {
-    fn begin(&mut self, file: &OsStr) {
-        let name = Path::new(file).file_name().filter(|_| file != "-").unwrap_or(OsStr::new("stdin"));
-        let mut stem = name.to_os_string();
-        for count in 2.. {
-            if self.stems.insert(stem.clone()) {
-                break;
-            }
-            stem = name.to_os_string();
-            stem.push(format!("-{count}"));
-        }
-        self.stem = stem;
-    }
+    fn begin(&mut self, _: &OsStr) {}
 
     fn opened(&mut self, place: &Place<'_>, packet: &Packet<'_>) {
         let Some((connection, side)) = place.owner.filter(|_| packet.again.is_none()) else { return };

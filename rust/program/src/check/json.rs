@@ -5,6 +5,7 @@ use crate::capture::screen::Screen;
 use crate::capture::words::{self, Seconds};
 use quic_wire_check::finding::Finding;
 use quic_wire_check::rule::{Level, Need, Rule, Section};
+use quic_wire_check::vantage::Vantage;
 use std::ffi::OsStr;
 
 /// Writes an object for each finding, for each rule that was silent, and for each capture.
@@ -35,12 +36,12 @@ impl<'s> Json<'s> {
         self.line.clear();
     }
 
-    fn finding(&mut self, begun: u64, finding: &Finding) {
+    fn finding(&mut self, whole: &Whole<'_>, finding: &Finding) {
         self.write("finding", |object| {
             object.word("rule", finding.rule.name);
             cite(object, finding.rule.level, finding.section);
             object.number("record", finding.record);
-            object.plain("time", format_args!("{:#}", Seconds(words::after(begun, finding.time))));
+            object.plain("time", format_args!("{:#}", Seconds(words::after(whole.begun, finding.time))));
             object.number("connection", finding.connection as u64);
             object.word("sender", words::side_name(finding.sender));
             object.word("type", words::kind_name(finding.packet));
@@ -51,6 +52,7 @@ impl<'s> Json<'s> {
             object.word("expected", &finding.expected);
             object.number("count", finding.count);
             object.number("last_record", finding.last_record);
+            whole.reason(finding).into_iter().for_each(|reason| object.word("allowed", reason));
         });
     }
 }
@@ -79,8 +81,8 @@ impl Form for Json<'_> {
         if self.has_names {
             self.name = name.to_string_lossy().into_owned();
         }
-        let Whole { begun, report, capture, counts, rules } = whole;
-        report.findings.iter().for_each(|finding| self.finding(*begun, finding));
+        let Whole { report, capture, counts, rules, .. } = whole;
+        report.findings.iter().for_each(|finding| self.finding(whole, finding));
         for ((rule, need), count) in &report.unchecked {
             let need: &Need = need;
             self.write("unchecked", |object| {
@@ -99,7 +101,13 @@ impl Form for Json<'_> {
             object.number("rules", *rules as u64);
             object.number("must", whole.broken(Level::Must));
             object.number("should", whole.broken(Level::Should));
+            object.number("allowed", whole.allowed());
             object.number("further", report.further);
+            object.inner("taken_at", |object| {
+                for vantage in [Vantage::Client, Vantage::Server, Vantage::Path] {
+                    object.number(vantage.name(), report.taken.get(&vantage).copied().unwrap_or_default());
+                }
+            });
             object.flag("cut_off", capture.is_cut());
         });
         self.name.clear();

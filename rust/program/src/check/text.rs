@@ -3,7 +3,7 @@ use super::{Form, Whole};
 use crate::capture::screen::Screen;
 use crate::capture::words;
 use crate::colour::{Painted, Part as Tone};
-use quic_wire_check::finding::Finding;
+use quic_wire_check::finding::{Finding, Report};
 use quic_wire_check::rule::{Level, Rule};
 use std::ffi::OsStr;
 use std::fmt::Display;
@@ -24,7 +24,7 @@ impl<'s> Text<'s> {
     }
 
     // A finding in two lines: where it is, and what.
-    fn finding(&self, name: &str, finding: &Finding) -> String {
+    fn finding(&self, name: &str, finding: &Finding, allowed: Option<&str>) -> String {
         let source = self.paint(Tone::Source, format!("{name}:{}:", finding.record));
         let (sender, kind) = (words::side_name(finding.sender), words::kind_name(finding.packet));
         let number = finding.number.map_or(String::new(), |number| format!(" {number}"));
@@ -37,15 +37,28 @@ impl<'s> Text<'s> {
             1 => String::new(),
             count => format!(", {count} times up to record {}", finding.last_record),
         };
+        let allowed = allowed.map_or(String::new(), |reason| format!(", allowed: {reason}"));
         let connection = finding.connection;
         format!("{source} connection {connection} {sender} {kind}, {place}{again}\n")
-            + &format!("    {rule}: {seen}; expected: {expected} ({section})\n")
+            + &format!("    {rule}: {seen}; expected: {expected} ({section}){allowed}\n")
     }
 }
 
 // A number of things.
 fn count(number: u64, one: &str) -> String {
     if number == 1 { format!("1 {one}") } else { format!("{number} {one}s") }
+}
+
+// Where the connections were captured.
+fn taken(report: &Report) -> String {
+    match &report.taken.iter().collect::<Vec<_>>()[..] {
+        [] => String::new(),
+        [(vantage, _)] => format!(" {vantage}"),
+        several => {
+            let parts: Vec<_> = several.iter().map(|(vantage, number)| format!("{number} {vantage}")).collect();
+            format!(" ({})", parts.join(", "))
+        }
+    }
 }
 
 impl Form for Text<'_> {
@@ -62,7 +75,8 @@ impl Form for Text<'_> {
     fn capture(&mut self, name: &OsStr, whole: &Whole<'_>) {
         let Whole { report, capture, counts, rules, .. } = whole;
         let name = name.to_string_lossy();
-        let mut lines: String = report.findings.iter().map(|finding| self.finding(&name, finding)).collect();
+        let finding = |finding| self.finding(&name, finding, whole.reason(finding));
+        let mut lines: String = report.findings.iter().map(finding).collect();
         let source = self.paint(Tone::Source, format!("{name}:"));
         for ((rule, need), number) in &report.unchecked {
             let times = count(*number, "time");
@@ -72,15 +86,20 @@ impl Form for Text<'_> {
             lines.push_str(&format!("{source} {} not kept\n", count(report.further, "further finding")));
         }
         let unopened: u64 = counts.unopened.values().sum();
-        let broken = match (whole.broken(Level::Must), whole.broken(Level::Should)) {
-            (0, 0) => "nothing found".into(),
-            (must, 0) => format!("{must} MUST broken"),
-            (must, should) => format!("{must} MUST and {should} SHOULD broken"),
+        let broken = match (whole.broken(Level::Must), whole.broken(Level::Should), whole.allowed()) {
+            (0, 0, 0) => "nothing found".into(),
+            (must, should, allowed) => [(must, "MUST broken"), (should, "SHOULD broken"), (allowed, "allowed")]
+                .iter()
+                .filter(|(number, _)| *number > 0)
+                .map(|(number, what)| format!("{number} {what}"))
+                .collect::<Vec<_>>()
+                .join(", "),
         };
         lines.push_str(&format!(
-            "{source} {}, {}, {} opened, {unopened} not opened, {}: {broken}\n",
+            "{source} {}, {}{}, {} opened, {unopened} not opened, {}: {broken}\n",
             count(capture.records(), "record"),
             count(counts.connections as u64, "connection"),
+            taken(report),
             count(counts.opened, "packet"),
             count(*rules as u64, "rule"),
         ));

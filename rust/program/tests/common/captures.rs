@@ -5,9 +5,9 @@
 mod files;
 
 use crate::common::Kept;
-use files::{Order, interface, packet, secrets};
+use files::{Order, interface, ip_datagram, packet, secrets};
 use std::fs;
-use std::net::{IpAddr, SocketAddr};
+use std::net::SocketAddr;
 use std::path::PathBuf;
 
 /// A capture of ngtcp2's client and server, and its key log.
@@ -54,23 +54,8 @@ pub fn kept(is_clients: bool, millis: u64, bytes: &[u8]) -> Kept {
     Kept { record: 0, time: 1_700_000_000_000_000_000 + millis * 1_000_000, from, to, bytes: bytes.to_vec() }
 }
 
-fn octets(address: IpAddr) -> [u8; 4] {
-    match address {
-        IpAddr::V4(address) => address.octets(),
-        IpAddr::V6(_) => [0; 4],
-    }
-}
-
-// An IPv4 packet.
 fn ip_packet(kept: &Kept) -> Vec<u8> {
-    let len = kept.bytes.len() as u16 + 8;
-    let mut packet = vec![0x45, 0];
-    packet.extend((len + 20).to_be_bytes());
-    packet.extend([0, 0, 0x40, 0, 64, 17, 0, 0]);
-    packet.extend([octets(kept.from.ip()), octets(kept.to.ip())].concat());
-    packet.extend([kept.from.port(), kept.to.port(), len, 0].map(u16::to_be_bytes).concat());
-    packet.extend(&kept.bytes);
-    packet
+    ip_datagram(kept.from, kept.to, &kept.bytes)
 }
 
 /// A pcap file with nanoseconds. Of each record only so many bytes are captured.

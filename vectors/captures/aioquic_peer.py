@@ -1,0 +1,144 @@
+"""A server and a client by aioquic, for record.py.
+
+aioquic_peer.py serve|ask HOST PORT [NAME=VALUE ..]
+
+A client asks for a file as HTTP/0.9 does, unless `alpn` is h3: then it only sends PING. It writes its secrets to the
+file that SSLKEYLOGFILE names. Names of both: version (1 or 2, the preferred one), suite, datagram; of a client: first
+(the version of its first packet), file, update (of keys), move (to another port), ids (changed), datagram (sent), again
+(another connection, with 0-RTT), late (a PING after so many seconds), code and reason (of the close).
+"""
+
+import asyncio
+import os
+import ssl
+import sys
+from pathlib import Path
+
+from aioquic.asyncio import QuicConnectionProtocol, connect, serve
+from aioquic.quic.configuration import QuicConfiguration
+from aioquic.quic.packet import QuicProtocolVersion
+from aioquic.tls import CipherSuite
+
+VERSIONS = {"1": QuicProtocolVersion.VERSION_1, "2": QuicProtocolVersion.VERSION_2}
+
+
+def configuration(options, is_client):
+    made = QuicConfiguration(
+        is_client=is_client,
+        alpn_protocols=[options.get("alpn", "hq-interop")],
+        max_datagram_frame_size=65535 if "datagram" in options else None,
+        cipher_suites=[CipherSuite[options["suite"]]] if "suite" in options else None,
+    )
+    if "version" in options:
+        preferred = VERSIONS[options["version"]]
+        made.supported_versions = [preferred] + [one for one in VERSIONS.values() if one != preferred]
+    if is_client:
+        made.original_version = VERSIONS[options["first"]] if "first" in options else None
+        made.verify_mode = ssl.CERT_NONE
+    else:
+        made.load_cert_chain("cert.pem", "key.pem")
+    return made
+
+
+async def answer(reader, writer):
+    """Sends the file that a stream asks for."""
+    name = (await reader.read()).decode().split()[1]
+    writer.write((Path("www") / name.strip("/")).read_bytes())
+    writer.write_eof()
+
+
+def answer_soon(reader, writer):
+    asyncio.get_running_loop().create_task(answer(reader, writer))
+
+
+async def run_server(host, port, options):
+    tickets = {}
+    await serve(
+        host,
+        port,
+        configuration=configuration(options, False),
+        stream_handler=answer_soon,
+        session_ticket_fetcher=lambda label: tickets.pop(label, None),
+        session_ticket_handler=lambda ticket: tickets.__setitem__(ticket.ticket, ticket),
+    )
+    await asyncio.Future()
+
+
+async def move(protocol):
+    """Goes on from another port; aioquic has no call for that."""
+    loop = asyncio.get_running_loop()
+    made = loop.create_datagram_endpoint(lambda: Other(protocol), local_addr=("::", 0))
+    protocol._transport, _ = await made
+
+
+class Other(asyncio.DatagramProtocol):
+    """Passes on what comes to the new port."""
+
+    def __init__(self, protocol):
+        self.protocol = protocol
+
+    def datagram_received(self, data, addr):
+        self.protocol.datagram_received(data, addr)
+
+
+async def get(protocol, file):
+    reader, writer = await protocol.create_stream()
+    writer.write(f"GET /{file}\r\n".encode())
+    writer.write_eof()
+    return await reader.read()
+
+
+async def use(protocol, options):
+    """What a client does with a connection."""
+    if options.get("alpn") == "h3":
+        await protocol.ping()
+    else:
+        await get(protocol, options.get("file", "small"))
+    if "update" in options:
+        protocol.request_key_update()
+    if "ids" in options:
+        protocol.change_connection_id()
+    if "move" in options:
+        protocol.change_connection_id()
+        await move(protocol)
+    if "datagram" in options:
+        protocol._quic.send_datagram_frame(b"a datagram")
+        protocol.transmit()
+    if "late" in options:
+        # For a server that waits for this to begin again.
+        Path("again").touch()
+        await asyncio.sleep(float(options["late"]))
+        protocol._quic.send_ping(0)
+        protocol.transmit()
+        await asyncio.sleep(0.5)
+    if {"update", "ids", "move", "datagram"} & set(options):
+        await protocol.ping()
+        await get(protocol, "small")
+    protocol.close(int(options.get("code", "0"), 0), options.get("reason", ""))
+
+
+async def run_client(host, port, options):
+    tickets = []
+    with open(os.environ["SSLKEYLOGFILE"], "a") as log:
+        for early in (False, True)[: 2 if "again" in options else 1]:
+            made = configuration(options, True)
+            made.secrets_log_file = log
+            made.session_ticket = tickets[-1] if early else None
+            async with connect(
+                host,
+                port,
+                configuration=made,
+                create_protocol=QuicConnectionProtocol,
+                session_ticket_handler=tickets.append,
+                wait_connected=not early,
+            ) as protocol:
+                await use(protocol, options)
+
+
+def main(mode, host, port, *options):
+    options = dict(option.split("=", 1) for option in options)
+    asyncio.run({"serve": run_server, "ask": run_client}[mode](host, int(port), options))
+
+
+if __name__ == "__main__":
+    main(*sys.argv[1:])

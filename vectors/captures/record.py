@@ -1,0 +1,150 @@
+#!/usr/bin/env python3
+"""Records the captures of this folder again, and describes each by tshark.
+
+record.py FOLDER [SCENE ..]
+
+FOLDER gets NAME.pcap or NAME.pcapng, NAME.keys and NAME.json of each scene; of all without SCENE. The programs of a
+scene run in a network of their own (unshare), so it needs no root, and nothing leaves that network. A scene whose
+programs aren't installed is skipped, with a word. Of Debian 12: wireshark-common, tshark, iproute2, ngtcp2-client,
+ngtcp2-server, caddy; of later ones openssl 3.5, curl, nginx and HAProxy with HTTP/3, python3-aioquic. AIOQUIC names the
+Python that has aioquic; without it that is python3.
+Exit status: 0 each scene was recorded or skipped, 1 one failed, 2 usage error.
+"""
+
+import gzip
+import os
+import shutil
+import signal
+import subprocess
+import sys
+import tempfile
+import time
+from pathlib import Path
+
+import describe
+from scenes import SCENES, Scene
+
+HERE = Path(__file__).resolve().parent
+
+
+class Failed(Exception):
+    """Why a scene can't be recorded."""
+
+
+def begin(command, log, **options):
+    """Begins a program, whose words go to a log."""
+    with open(log, "ab") as output:
+        return subprocess.Popen(command, stdout=output, stderr=output, stdin=subprocess.DEVNULL, **options)
+
+
+def end(program):
+    """Ends a program as a terminal does, and waits for it."""
+    program.send_signal(signal.SIGINT)
+    try:
+        program.wait(timeout=10)
+    except subprocess.TimeoutExpired:
+        program.kill()
+        program.wait()
+
+
+def wait_for(text, log):
+    """Waits until a log has a text."""
+    for _ in range(100):
+        if Path(log).exists() and text in Path(log).read_text(errors="replace"):
+            return
+        time.sleep(0.1)
+    raise Failed(f"{log} never said {text!r}: {Path(log).read_text(errors='replace')}")
+
+
+def make_site():
+    """The files that servers send, and their certificate."""
+    Path("www").mkdir()
+    Path("www/small").write_bytes(b"hello\n")
+    Path("www/large").write_bytes(b"a" * 20_000)
+    certificate = "req -x509 -newkey ec -pkeyopt ec_paramgen_curve:prime256v1 -nodes -days 3650 -subj /CN=localhost"
+    names = ["-addext", "subjectAltName=DNS:localhost", "-keyout", "key.pem", "-out", "cert.pem"]
+    subprocess.run(["openssl", *certificate.split(), *names], check=True, stderr=subprocess.DEVNULL)
+    Path("both.pem").write_text(Path("cert.pem").read_text() + Path("key.pem").read_text())
+
+
+def play(scene: Scene):
+    """Runs a scene's programs in the present folder and network, and leaves `capture` and `keys` there."""
+    subprocess.run(["ip", "link", "set", "lo", "up"], check=True)
+    make_site()
+    for name, text in scene.files.items():
+        Path(name).write_text(text)
+    dumpcap = begin(["dumpcap", "-q", *scene.capture, "-f", "udp", "-w", "capture"], "dumpcap.log")
+    wait_for("File:", "dumpcap.log")
+    # Both sides' secrets are in the client's log.
+    server = begin(scene.server, "server.log", env=dict(os.environ, XDG_DATA_HOME=".", XDG_CONFIG_HOME="."))
+    time.sleep(scene.patience)
+    for client in scene.clients:
+        program = begin(client, "client.log", env=dict(os.environ, SSLKEYLOGFILE="keys"))
+        try:
+            status = program.wait(timeout=30)
+        except subprocess.TimeoutExpired:
+            program.kill()
+            raise Failed(f"{client[0]} doesn't end") from None
+        if (status == 0) != scene.succeeds:
+            raise Failed(f"{client[0]} ended with status {status}: {Path('client.log').read_text(errors='replace')}")
+        time.sleep(0.3)
+    end(server)
+    time.sleep(0.5)
+    end(dumpcap)
+
+
+def finish(name, scene, folder):
+    """Moves what a scene left to a folder, and describes it."""
+    capture = Path("capture")
+    if scene.secrets_inside:
+        subprocess.run(["editcap", "--inject-secrets", "tls,keys", "capture", "whole"], check=True)
+        capture = Path("whole")
+    kind = "pcap" if "-P" in scene.capture else "pcapng"
+    path = folder / f"{name}.{kind}"
+    data = capture.read_bytes()
+    if scene.compressed:
+        path = folder / f"{name}.{kind}.gz"
+        data = gzip.compress(data, mtime=0)
+    path.write_bytes(data)
+    if not scene.secrets_inside:
+        shutil.copy("keys", folder / f"{name}.keys")
+    describe.write(path, scene)
+
+
+def record(name, folder):
+    """Records a scene; it is skipped if a program isn't there."""
+    scene = SCENES[name]
+    missing = [program for program in scene.programs() if shutil.which(program) is None]
+    if missing:
+        print(f"{name}: skipped, {', '.join(missing)} isn't installed")
+        return True
+    with tempfile.TemporaryDirectory() as work:
+        inside = ["unshare", "--map-root-user", "--net", sys.executable, "-B", __file__, "--inside", name]
+        if subprocess.run(inside, cwd=work, check=False).returncode != 0:
+            return False
+        os.chdir(work)
+        finish(name, scene, folder)
+        os.chdir(folder)
+    print(f"{name}: {sum(path.stat().st_size for path in folder.glob(name + '.pcap*'))} bytes")
+    return True
+
+
+def main(arguments):
+    if arguments[:1] == ["--inside"]:
+        try:
+            play(SCENES[arguments[1]])
+        except Failed as what:
+            sys.exit(f"{arguments[1]}: {what}")
+        return 0
+    if not arguments or any(name not in SCENES for name in arguments[1:]):
+        print(f"usage: record.py FOLDER [SCENE ..], of {' '.join(SCENES)}", file=sys.stderr)
+        return 2
+    folder = Path(arguments[0]).resolve()
+    folder.mkdir(parents=True, exist_ok=True)
+    os.environ["PATH"] += ":/usr/sbin:/sbin"
+    results = [record(name, folder) for name in arguments[1:] or SCENES]
+    return 0 if all(results) else 1
+
+
+if __name__ == "__main__":
+    sys.exit(main(sys.argv[1:]))

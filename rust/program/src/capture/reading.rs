@@ -69,7 +69,7 @@ pub fn read_each<T: Send>(
         }
     };
     thread::scope(|scope| {
-        let begin = |_| thread::Builder::new().spawn_scoped(scope, &work).ok();
+        let begin = |_| thread::Builder::new().spawn_scoped(scope, work).ok();
         let others: Vec<_> = (1..threads(files)).map_while(begin).collect();
         let mut results = work();
         for other in others {

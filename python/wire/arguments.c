@@ -2,6 +2,8 @@
 /* Checks of arguments, with exceptions that name them. */
 #include "wire.h"
 
+#include <string.h>
+
 /* A number of at most so many bits; -1 with an exception that names it. */
 static int number_of(PyObject *value, const char *name, int bits,
                      uint64_t *out) {
@@ -150,15 +152,15 @@ quic_wire_range *wire_ranges(PyObject *ranges, size_t *count) {
   const Py_ssize_t len = list ? PyList_Size(list) : 0;
   const size_t room = (size_t)len + 1;
   quic_wire_range *runs = list ? PyMem_Calloc(room, sizeof *runs) : NULL;
+  quic_wire_runs set = {0, 0};
   Py_ssize_t i;
-  *count = 0;
   if (list && !runs)
     PyErr_NoMemory();
   for (i = 0; runs && i < len; i++) {
     uint64_t start, end;
     int result = 0;
     if (ends_of(PyList_GetItem(list, i), &start, &end) == 0)
-      result = quic_wire_set_insert(runs, room, count, start, end);
+      result = quic_wire_runs_insert(runs, room, &set, start, end);
     if (result < 0)
       wire_mistake(result);
     if (PyErr_Occurred()) {
@@ -167,6 +169,9 @@ quic_wire_range *wire_ranges(PyObject *ranges, size_t *count) {
     }
   }
   Py_XDECREF(list);
+  if (runs)
+    memmove(runs, runs + set.first, set.count * sizeof *runs);
+  *count = set.count;
   return runs;
 }
 

@@ -8,12 +8,15 @@ enum { ROOM = 4 }; /* for ranges, in a new set */
 
 typedef struct set_object {
   PyObject_HEAD quic_wire_range *runs;
-  size_t room, count;
+  size_t room;
+  /* Which of them are the set. */
+  quic_wire_runs set;
 } set_object;
 
 #define SET(self) ((set_object *)(self))
 
-typedef int change(quic_wire_range *, size_t, size_t *, uint64_t, uint64_t);
+typedef int change(quic_wire_range *, size_t, quic_wire_runs *, uint64_t,
+                   uint64_t);
 
 static int grow(set_object *set) {
   const size_t room = 2 * set->room;
@@ -31,11 +34,18 @@ static int grow(set_object *set) {
  * exception. */
 static int change_by(set_object *set, change *how, uint64_t start,
                      uint64_t end) {
-  int result = how(set->runs, set->room, &set->count, start, end);
+  const size_t first = set->set.first, count = set->set.count;
+  int result;
+  /* A set that slides is moved to the front of its entries, which is rare if it
+   * has at most half of them. */
+  if (first && first + count == set->room && count > set->room / 2 &&
+      grow(set) < 0)
+    return -1;
+  result = how(set->runs, set->room, &set->set, start, end);
   if (result == QUIC_WIRE_ERR_NOBUF) {
     if (grow(set) < 0)
       return -1;
-    result = how(set->runs, set->room, &set->count, start, end);
+    result = how(set->runs, set->room, &set->set, start, end);
   }
   if (result >= 0)
     return result;
@@ -63,26 +73,27 @@ static PyObject *change_to(PyObject *self, PyObject *args, change *how) {
 }
 
 static PyObject *set_insert(PyObject *self, PyObject *args) {
-  return change_to(self, args, quic_wire_set_insert);
+  return change_to(self, args, quic_wire_runs_insert);
 }
 
 static PyObject *set_remove(PyObject *self, PyObject *args) {
-  return change_to(self, args, quic_wire_set_remove);
+  return change_to(self, args, quic_wire_runs_remove);
 }
 
 static PyObject *set_clear(PyObject *self, PyObject *Py_UNUSED(unused)) {
   WIRE_BEGIN_ALONE(self);
-  SET(self)->count = 0;
+  SET(self)->set.first = SET(self)->set.count = 0;
   WIRE_END_ALONE;
   return Py_NewRef(Py_None);
 }
 
 /* The ranges as a list, ascending. */
 static PyObject *list_of(set_object *set) {
-  PyObject *list = PyList_New((Py_ssize_t)set->count);
+  PyObject *list = PyList_New((Py_ssize_t)set->set.count);
+  const quic_wire_range *runs = set->runs + set->set.first;
   size_t i;
-  for (i = 0; list && i < set->count; i++) {
-    PyObject *range = wire_range(&set->runs[i]);
+  for (i = 0; list && i < set->set.count; i++) {
+    PyObject *range = wire_range(&runs[i]);
     if (!range || PyList_SetItem(list, (Py_ssize_t)i, range) < 0)
       Py_CLEAR(list);
   }
@@ -105,7 +116,7 @@ static PyObject *set_iter(PyObject *self) {
 }
 
 static Py_ssize_t set_len(PyObject *self) {
-  return (Py_ssize_t)SET(self)->count;
+  return (Py_ssize_t)SET(self)->set.count;
 }
 
 static int set_contains(PyObject *self, PyObject *value) {
@@ -119,7 +130,8 @@ static int set_contains(PyObject *self, PyObject *value) {
     return 0;
   }
   WIRE_BEGIN_ALONE(self);
-  result = quic_wire_set_contains(SET(self)->runs, SET(self)->count, number);
+  result = quic_wire_runs_contains(SET(self)->runs, SET(self)->room,
+                                   &SET(self)->set, number);
   WIRE_END_ALONE;
   return result > 0;
 }
@@ -168,20 +180,22 @@ static PyObject *set_new(PyTypeObject *type, PyObject *args,
   }
   set->runs = runs;
   set->room = ranges ? count + 1 : ROOM;
-  set->count = count;
+  set->set.first = 0;
+  set->set.count = count;
   return (PyObject *)set;
 }
 
 /* The least or the greatest number, or None. */
 static PyObject *get_end(PyObject *self, void *which) {
   const int is_least = which == NULL;
+  const quic_wire_range *runs;
   uint64_t number = 0;
   size_t count;
   WIRE_BEGIN_ALONE(self);
-  count = SET(self)->count;
+  runs = SET(self)->runs + SET(self)->set.first;
+  count = SET(self)->set.count;
   if (count)
-    number = is_least ? SET(self)->runs[0].start
-                      : SET(self)->runs[count - 1].end - 1;
+    number = is_least ? runs[0].start : runs[count - 1].end - 1;
   WIRE_END_ALONE;
   return count ? PyLong_FromUnsignedLongLong(number) : Py_NewRef(Py_None);
 }

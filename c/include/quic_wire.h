@@ -1975,6 +1975,24 @@ QUIC_WIRE_CHECKED QUIC_WIRE_API int
 quic_wire_runs_contains(const quic_wire_range *runs, size_t room,
                         const quic_wire_runs *set, uint64_t number);
 
+/** Stores the numbers that the set has from |start| to below |end|, as runs, at
+ * the front of the |ndest| entries |dest|, as quic_wire_set_within does.  It
+ * takes two binary searches, and two steps for each run in the range.
+ *
+ * Returns:
+ *  - 0, and in |*stored| how many runs were stored; entries after them don't
+ *    change
+ *  - QUIC_WIRE_ERR_NOBUF if |ndest| is less, and in |*stored| how many there are
+ *  - QUIC_WIRE_ERR_RANGES if |*set| has entries that aren't in the array
+ *  - QUIC_WIRE_ERR_ARGUMENT for NULL
+ *
+ * |*dest| changes only with 0, and |*stored| only with 0 and
+ * QUIC_WIRE_ERR_NOBUF. */
+QUIC_WIRE_CHECKED QUIC_WIRE_API int
+quic_wire_runs_within(const quic_wire_range *runs, size_t room,
+                      const quic_wire_runs *set, uint64_t start, uint64_t end,
+                      quic_wire_range *dest, size_t ndest, size_t *stored);
+
 /* ---- Where each field is.  These calls store the fields of what is at the
  * front of the bytes, in their order, as many as |fields| has room for:
  * |nfields| of them.  The others of |fields| don't change.  |read| says how

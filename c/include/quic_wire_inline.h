@@ -133,6 +133,9 @@ int32_t quic_wire_runs_remove_(quic_wire_range *, size_t, quic_wire_runs *,
                                uint64_t, uint64_t);
 int32_t quic_wire_runs_contains_(const quic_wire_range *, size_t,
                                  const quic_wire_runs *, uint64_t);
+int32_t quic_wire_runs_within_(const quic_wire_range *, size_t,
+                               const quic_wire_runs *, uint64_t, uint64_t,
+                               quic_wire_range *, size_t, size_t *);
 int32_t quic_wire_ack_write_(uint64_t, const quic_wire_range *, size_t, size_t,
                              const uint64_t *, size_t, uint8_t *, size_t,
                              size_t *);
@@ -874,6 +877,27 @@ QUIC_WIRE_API int quic_wire_runs_contains(const quic_wire_range *runs,
     runs = (const quic_wire_range *)quic_wire_nothing_();
   }
   return quic_wire_runs_contains_(runs, room, set, number);
+}
+
+QUIC_WIRE_API int quic_wire_runs_within(const quic_wire_range *runs,
+                                        size_t room, const quic_wire_runs *set,
+                                        uint64_t start, uint64_t end,
+                                        quic_wire_range *dest, size_t ndest,
+                                        size_t *stored) {
+  if (!set || !stored)
+    return QUIC_WIRE_ERR_ARGUMENT;
+  if (!runs) {
+    if (room)
+      return QUIC_WIRE_ERR_ARGUMENT;
+    runs = (const quic_wire_range *)quic_wire_nothing_();
+  }
+  if (!dest) {
+    if (ndest)
+      return QUIC_WIRE_ERR_ARGUMENT;
+    dest = (quic_wire_range *)quic_wire_nothing_();
+  }
+  return quic_wire_runs_within_(runs, room, set, start, end, dest, ndest,
+                                stored);
 }
 
 QUIC_WIRE_API int quic_wire_frame_fields(const uint8_t *payload,

@@ -32,6 +32,12 @@ void sets_nulls(void) {
   WANT(quic_wire_runs_contains(NULL, 1, &set, 0) == INVALID);
   WANT(quic_wire_runs_contains(&range, 1, NULL, 0) == INVALID);
   WANT(quic_wire_runs_contains(NULL, 0, &set, 0) == 0);
+  WANT(quic_wire_runs_within(NULL, 1, &set, 0, 9, &range, 1, &n) == INVALID);
+  WANT(quic_wire_runs_within(&range, 1, NULL, 0, 9, &range, 1, &n) == INVALID);
+  WANT(quic_wire_runs_within(&range, 1, &set, 0, 9, NULL, 1, &n) == INVALID);
+  WANT(quic_wire_runs_within(&range, 1, &set, 0, 9, &range, 1, NULL) ==
+       INVALID);
+  WANT(quic_wire_runs_within(NULL, 0, &set, 0, 9, NULL, 0, &n) == 0);
   WANT(set.first == 0 && set.count == 0);
   range.start = 7;
   range.end = 9;
@@ -282,7 +288,28 @@ static int next_change(const quic_wire_range *runs, size_t count,
   return which != 3;
 }
 
-/* Calls that don't look at every run do what those that do would. */
+/* The numbers of the set in a range are those that the other call finds. */
+static void runs_within(const quic_wire_range *runs, size_t room,
+                        const quic_wire_runs *set,
+                        const quic_wire_range *checked, uint64_t base) {
+  uint64_t start = base + any() % 99, end = base + any() % 99;
+  size_t ndest = any() % 6, len = ndest * sizeof(quic_wire_range);
+  size_t wanted = 99, stored = 99;
+  quic_wire_range *dest = (quic_wire_range *)block(len);
+  quic_wire_range *other = (quic_wire_range *)block(len);
+  int answer;
+  memset(dest, 0xee, len);
+  memset(other, 0xee, len);
+  answer = quic_wire_set_within(checked, (size_t)set->count, start, end, other,
+                                ndest, &wanted);
+  WANT(quic_wire_runs_within(runs, room, set, start, end, dest, ndest,
+                             &stored) == answer);
+  WANT(stored == wanted && !memcmp(dest, other, len));
+  free(dest);
+  free(other);
+}
+
+/* Calls that don't check every run do what those that do would. */
 void runs_any(void) {
   static const uint64_t bases[] = {0, 1000, UINT64_MAX - 1000};
   uint64_t base = bases[any() % 3];
@@ -309,6 +336,7 @@ void runs_any(void) {
     WANT(!memcmp(runs + set.first, checked, count * sizeof *runs));
     WANT(quic_wire_runs_contains(runs, room, &set, number) ==
          quic_wire_set_contains(checked, count, number));
+    runs_within(runs, room, &set, checked, base);
   }
   free(runs);
   free(old);
@@ -321,6 +349,8 @@ void runs_rubbish(void) {
   size_t room = any() % 6, size = room * sizeof(quic_wire_range), k;
   quic_wire_range *runs = (quic_wire_range *)block(size);
   quic_wire_range *old = (quic_wire_range *)block(size);
+  quic_wire_range dest[2] = {{7, 7}, {7, 7}};
+  size_t stored = 0;
   quic_wire_runs set, was;
   uint64_t start = edge(), end = edge();
   int within, answer;
@@ -335,6 +365,10 @@ void runs_rubbish(void) {
   was = set;
   answer = quic_wire_runs_contains(runs, room, &set, start);
   WANT(within ? answer == 0 || answer == 1 : answer == QUIC_WIRE_ERR_RANGES);
+  answer =
+      quic_wire_runs_within(runs, room, &set, start, end, dest, 2, &stored);
+  WANT((answer == QUIC_WIRE_ERR_RANGES) == !within);
+  WANT(answer == 0 ? stored <= 2 : (stored > 2 || !within) && dest[0].end == 7);
   answer = (any() % 2 ? quic_wire_runs_insert
                       : quic_wire_runs_remove)(runs, room, &set, start, end);
   WANT((answer == QUIC_WIRE_ERR_RANGES) == !within);

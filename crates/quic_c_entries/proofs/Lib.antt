@@ -1,3 +1,5 @@
 pub mod Placing
 mod Planning
 pub mod Making
+mod RangeParts
+mod Touching

@@ -4,5 +4,6 @@
 #![tactic(auto)]
 
 pub mod change;
+pub mod parts;
 pub mod places;
 pub mod words;

@@ -1,9 +1,10 @@
 //! Where a number is among runs. The last run is checked first, since most changes are there; then the index is found by
 //! binary search.
 ghost use Rattle.std.specs.Prelude.{◌≡◌, ◌≤◌, length};
+ghost use Rattle.quic_ranges.specs.Intersections.{intersections};
 ghost use Rattle.quic_ranges.specs.Runs.{IsMaximalRuns, member};
 ghost use Rattle.quic_ranges.specs.Places.{ends_below, starts_upto};
-ghost use Rattle.quic_c_entries.specs.Entries.{runs_of};
+ghost use Rattle.quic_c_entries.specs.Entries.{range_of, runs_of};
 
 use crate::words::CRange;
 
@@ -41,4 +42,15 @@ pub fn contains(runs: &[CRange], x: u64) -> bool
 {
     let after = count_starts_upto(runs, x);
     after > 0 && x < runs[after - 1].end
+}
+
+/// The runs of a set that have a part in a range, by two binary searches, and those beside that only touch it. If the
+/// entries aren't such runs, it is some of them.
+pub fn touched(runs: &[CRange], x: CRange) -> &[CRange]
+    ensures { IsMaximalRuns (runs_of runs.now)
+        → intersections (runs_of result.now) (range_of x) ≡ intersections (runs_of runs.now) (range_of x) }
+{
+    let from = count_ends_below(runs, x.start);
+    let to = count_starts_upto(runs, x.end).max(from);
+    &runs[from..to]
 }

@@ -1,6 +1,7 @@
 -- What the calls return.
 use Rattle.std.proofs.Common.{◌≡◌, ℕ, ◌+◌, Bool, List, length, sym, subst}
 use Rattle.std.specs.declared.ops.Range.{Range}
+use Rattle.quic_ranges.specs.Intersections.{intersections}
 use Rattle.quic_ranges.specs.Runs.{IsMaximalRuns, IsRunsOf}
 use Rattle.quic_ranges.specs.Splices.{BecomesRunsOf}
 use Rattle.quic_c_entries.specs.declared.words.CRange.{CRange}
@@ -40,3 +41,10 @@ lacks_entry test old before change plan front full more = record {
   full = full;
   more = one_more test (entries_at old before) change before.count plan more;
 }
+
+-- the parts of those entries that were found are the parts of the entries that the set names
+pub found_in : (x : Range ℕ) (given words found : List CRange) → given ≡ words
+    → (IsMaximalRuns (runs_of given) → intersections (runs_of found) x ≡ intersections (runs_of given) x)
+    → IsMaximalRuns (runs_of words) → intersections (runs_of found) x ≡ intersections (runs_of words) x
+found_in x given words found is same =
+    subst (λ (l : List CRange). IsMaximalRuns (runs_of l) → intersections (runs_of found) x ≡ intersections (runs_of l) x) is same

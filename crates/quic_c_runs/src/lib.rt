@@ -6,6 +6,7 @@
 
 mod moves;
 mod runs;
+mod within;
 mod words;
 
 pub use quic_c_entries::words::CRange;

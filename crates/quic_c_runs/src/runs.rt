@@ -15,7 +15,7 @@ use quic_results::results::Failure;
 
 // Whether the entries that a set names are in an array of `room` entries.
 #[inline(always)]
-fn is_within(set: CRuns, room: usize) -> bool
+pub(crate) fn is_within(set: CRuns, room: usize) -> bool
     ensures { IsTrue result ↔ (set.first + set.count ≤ room) }
 {
     set.first <= room && set.count <= room - set.first
@@ -23,7 +23,7 @@ fn is_within(set: CRuns, room: usize) -> bool
 
 // The entries that a set names.
 #[inline(always)]
-fn entries(runs: &[CRange], set: CRuns) -> &[CRange]
+pub(crate) fn entries(runs: &[CRange], set: CRuns) -> &[CRange]
     requires { set.first + set.count ≤ length runs.now }
     ensures { result.now ≡ entries_at runs.now set }
 {

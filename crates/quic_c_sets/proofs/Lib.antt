@@ -1,4 +1,3 @@
 mod Checking
 mod Changing
 mod Writing
-mod RangeParts

@@ -29,9 +29,3 @@ pub record LacksRoom (test : ℕ → Bool) (words : List CRange) (count : ℕ) :
   pub set : IsSet words count
   pub full : count ≡ length words
   pub more : (runs : List (Range ℕ)) → IsRunsOf test runs → length runs ≡ count + 1
-
--- These runs are the first entries now, this many, and the entries after them didn't change.
-pub record Stores (runs : List (Range ℕ)) (old new : List CRange) (count : ℕ) : Type 0 where
-  pub stored : first_runs count new ≡ runs
-  pub within : count ≤ length new
-  pub behind : drop count new ≡ drop count old

@@ -1,56 +1,15 @@
 //! The part of a set that is in a range.
-ghost use Rattle.std.specs.Prelude.{◌≡◌, ◌<◌, ◌≤◌, ◌⊎◌, ◌↔◌, ℕ, List, length, max, min, pos};
+ghost use Rattle.std.specs.Prelude.{◌≡◌, ◌<◌, ◌⊎◌, ◌↔◌, ℕ, List, length, pos};
 ghost use Rattle.std.specs.declared.ops.Range.{Range};
-ghost use Rattle.quic_ranges.specs.Intersections.{as_runs, intersections};
 ghost use Rattle.quic_ranges.specs.Runs.{IsRunsOf, in_intersection};
-ghost use Rattle.quic_c_entries.specs.Changes.{words_of};
-ghost use Rattle.quic_c_entries.specs.Entries.{first_runs, range_of, runs_of, span};
-ghost use Rattle.quic_c_sets.specs.Sets.{IsSet, Stores};
+ghost use Rattle.quic_c_entries.specs.Entries.{Stores, first_runs, span};
+ghost use Rattle.quic_c_sets.specs.Sets.{IsSet};
 ghost use Rattle.quic_results.specs.Results.{failed};
 
 use crate::checks::is_set;
-use quic_c_entries::change::Substitute;
+use quic_c_entries::parts::{count_parts, store_parts};
 use quic_c_entries::words::CRange;
 use quic_results::results::Failure;
-
-// The part of a run that is in a range, if it has one there.
-#[inline(always)]
-fn part_of(run: CRange, x: CRange) -> Substitute
-    ensures { runs_of (words_of result) ≡ as_runs (max run.start x.start) (min x.end run.end) }
-{
-    let start = run.start.max(x.start);
-    let end = x.end.min(run.end);
-    if start < end {
-        Substitute::One(CRange { start, end })
-    } else {
-        Substitute::Nothing
-    }
-}
-
-// How many runs have a part in a range.
-fn count_parts(runs: &[CRange], x: CRange) -> usize
-    ensures { result ≡ length (intersections (runs_of runs.now) (range_of x)) }
-{
-    let mut count = 0;
-    for run in runs {
-        count += part_of(*run, x).len();
-    }
-    count
-}
-
-// Stores the parts of runs that are in a range at the front, and returns how many they are.
-fn store_parts(runs: &[CRange], x: CRange, dest: &mut [CRange]) -> usize
-    requires { length (intersections (runs_of runs.now) (range_of x)) ≤ length dest.old }
-    ensures { Stores (intersections (runs_of runs.now) (range_of x)) dest.old dest.new result }
-{
-    let mut count = 0;
-    for run in runs {
-        let part = part_of(*run, x);
-        part.write(dest, count);
-        count += part.len();
-    }
-    count
-}
 
 /// Stores the numbers that the set in the first `count` entries has from `start` to below `end` at the front of `dest`,
 /// as runs: of the packet numbers that are in flight, those that a range of an ACK acknowledges (RFC 9002, appendix

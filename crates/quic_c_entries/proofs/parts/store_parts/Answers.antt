@@ -1,6 +1,6 @@
 use Rattle.quic_c_entries.specs.Entries.{range_of}
-use Rattle.quic_c_sets.proofs.RangeParts.{room_for, stored_more}
-use Rattle.quic_c_sets.proofs.within.store_parts.Goals as goal
+use Rattle.quic_c_entries.proofs.RangeParts.{room_for, stored_more}
+use Rattle.quic_c_entries.proofs.parts.store_parts.Goals as goal
 
 pub write-requires : goal.write-requires
 write-requires c =

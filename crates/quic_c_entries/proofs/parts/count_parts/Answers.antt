@@ -1,7 +1,7 @@
 use Rattle.std.proofs.Common.{arith}
 use Rattle.quic_c_entries.specs.Entries.{range_of}
-use Rattle.quic_c_sets.proofs.RangeParts.{counted_few, counted_more}
-use Rattle.quic_c_sets.proofs.within.count_parts.Goals as goal
+use Rattle.quic_c_entries.proofs.RangeParts.{counted_few, counted_more}
+use Rattle.quic_c_entries.proofs.parts.count_parts.Goals as goal
 
 pub overflow_add-count : goal.overflow_add-count
 overflow_add-count c = omega (

@@ -1,0 +1,5 @@
+pub mod AtLevels
+pub mod HeaderLevels
+pub mod LevelBack
+pub mod Protections
+pub mod Runs

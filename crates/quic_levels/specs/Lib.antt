@@ -1,0 +1,4 @@
+pub mod Levels
+pub mod Protection
+pub mod Opening
+pub mod Receiving

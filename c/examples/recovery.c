@@ -11,13 +11,13 @@
 enum { ROOM = 32, THRESHOLD = 3 };
 typedef struct set {
   quic_wire_range runs[ROOM];
-  size_t count;
+  quic_wire_runs at; /* which of them are the set */
 } set;
 
 static void print_set(const char *name, const set *s) {
   size_t i;
   printf("%s", name);
-  for (i = 0; i < s->count; i++)
+  for (i = s->at.first; i < s->at.first + s->at.count; i++)
     printf(" %" PRIu64 "-%" PRIu64, s->runs[i].start, s->runs[i].end - 1);
   putchar('\n');
 }
@@ -25,19 +25,19 @@ static void print_set(const char *name, const set *s) {
 /* Adds a number.  If there is no room, the least ones are dropped (RFC 9000,
  * section 13.2.3). */
 static void add(set *s, uint64_t number) {
-  if (quic_wire_set_insert(s->runs, ROOM, &s->count, number, number + 1) !=
+  if (quic_wire_runs_insert(s->runs, ROOM, &s->at, number, number + 1) !=
       QUIC_WIRE_ERR_NOBUF)
     return;
-  s->count--;
-  memmove(s->runs, s->runs + 1, s->count * sizeof *s->runs);
+  s->at.first++;
+  s->at.count--;
   add(s, number);
 }
 
 static size_t write_ack(const set *came, uint8_t *dest, size_t room) {
   static const uint64_t counts[3] = {20, 0, 1};
   size_t n = 0;
-  const int answer = quic_wire_ack_write(8, came->runs, came->count, counts,
-                                         dest, room, &n);
+  const int answer = quic_wire_ack_write(8, came->runs + came->at.first,
+                                         came->at.count, counts, dest, room, &n);
   check(answer == QUIC_WIRE_OK, quic_wire_strerror(answer));
   return n;
 }
@@ -45,14 +45,14 @@ static size_t write_ack(const set *came, uint8_t *dest, size_t room) {
 /* Numbers that are acknowledged are no longer in flight, so those in flight are
  * newly acknowledged. */
 static void acknowledge(set *in_flight, const quic_wire_range *range) {
-  set newly;
-  check(quic_wire_set_within(in_flight->runs, in_flight->count, range->start,
-                             range->end, newly.runs, ROOM,
-                             &newly.count) == QUIC_WIRE_OK,
+  set newly = {{{0, 0}}, {0, 0}};
+  check(quic_wire_runs_within(in_flight->runs, ROOM, &in_flight->at,
+                              range->start, range->end, newly.runs, ROOM,
+                              &newly.at.count) == QUIC_WIRE_OK,
         "no room");
   print_set("acknowledged", &newly);
-  check(quic_wire_set_remove(in_flight->runs, ROOM, &in_flight->count,
-                             range->start, range->end) >= 0,
+  check(quic_wire_runs_remove(in_flight->runs, ROOM, &in_flight->at,
+                              range->start, range->end) >= 0,
         "no room");
 }
 
@@ -72,13 +72,14 @@ static void read_ack(set *in_flight, const uint8_t *bytes, size_t len) {
     acknowledge(in_flight, &range);
   print_set("in flight", in_flight);
   for (lost = 0; lost + THRESHOLD <= frame.ack.largest; lost++)
-    if (quic_wire_set_contains(in_flight->runs, in_flight->count, lost) == 1)
+    if (quic_wire_runs_contains(in_flight->runs, ROOM, &in_flight->at, lost) ==
+        1)
       printf("lost %" PRIu64 "\n", lost);
 }
 
 int main(void) {
   static const uint64_t numbers[] = {0, 1, 2, 5, 4, 9, 7, 12, 13, 12, 20};
-  set came = {{{0, 0}}, 0}, in_flight = {{{0, 23}}, 1};
+  set came = {{{0, 0}}, {0, 0}}, in_flight = {{{0, 23}}, {0, 1}};
   uint8_t bytes[200];
   size_t i;
   for (i = 0; i < sizeof numbers / sizeof *numbers; i++)

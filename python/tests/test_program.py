@@ -21,14 +21,13 @@ exit 7
 
 def calls(folder, of="path", text=SHOWS_ARGUMENTS):
     """A call of the module that finds programs only in a folder: on the path, or as those of the interpreter."""
-    folders = [folder] if of == "scripts" else []
+    folders, path = ([folder], []) if of == "scripts" else ([], [folder])
     begin = f"from quic_wire import __main__ as it; it.folders = lambda: {folders}; it.sys.exit(it.main())"
     if text is not None:
         file = pathlib.Path(folder, "quic-wire")
         file.write_text(text)
         file.chmod(0o755)
-    path = "" if of == "scripts" else folder
-    return [sys.executable, "-c", begin], {**os.environ, "PATH": f"{path}{os.pathsep}/usr/bin{os.pathsep}/bin"}
+    return [sys.executable, "-c", begin], {**os.environ, "PATH": os.pathsep.join([*path, "/usr/bin", "/bin"])}
 
 
 def run(call, *words, given=b""):

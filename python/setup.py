@@ -4,6 +4,8 @@
 - the library as C, as scripts/portable leaves it, in the folder that QUIC_WIRE_PORTABLE names, or in `portable` beside
   this file: any machine with a C compiler and 64-bit integers builds it
 
+A wheel also has the program quic-wire if QUIC_WIRE_PROGRAM names its file.
+
 The module uses the limited API of CPython 3.11, so that one wheel serves 3.11 and later. An interpreter without its
 lock has another API, and a separate wheel.
 """
@@ -15,6 +17,9 @@ import sysconfig
 
 from setuptools import Extension, setup
 from setuptools.command.build_ext import build_ext
+
+# That of setuptools, which therefore comes first.
+from distutils.command.build_scripts import build_scripts  # isort: skip
 
 HERE = pathlib.Path(__file__).resolve().parent
 LIMITED_API = "0x030b0000"
@@ -53,6 +58,26 @@ def include():
     return str(folders[0])
 
 
+def programs():
+    """The file that QUIC_WIRE_PROGRAM names, if it names one."""
+    file = os.environ.get("QUIC_WIRE_PROGRAM")
+    if file and not (pathlib.Path(file).is_absolute() and pathlib.Path(file).is_file()):
+        sys.exit(f"setup.py: QUIC_WIRE_PROGRAM must be the absolute path of a file: {file}")
+    return [file] if file else []
+
+
+class CopyPrograms(build_scripts):
+    """Copies programs as they are: setuptools takes them for texts, and would also add them to the source package."""
+
+    def copy_scripts(self):
+        self.mkpath(self.build_dir)
+        for file in self.scripts:
+            self.copy_file(file, self.build_dir)
+
+    def get_source_files(self):
+        return []
+
+
 class BuildWithLibrary(build_ext):
     """Builds the library as C first, if no archive is named."""
 
@@ -84,6 +109,7 @@ WIRE = Extension(
 
 setup(
     ext_modules=[WIRE],
-    cmdclass={"build_ext": BuildWithLibrary},
+    scripts=programs(),
+    cmdclass={"build_ext": BuildWithLibrary, "build_scripts": CopyPrograms},
     options={"bdist_wheel": {"py_limited_api": "cp311"}} if IS_LIMITED else {},
 )

@@ -7,8 +7,6 @@ import unittest
 
 import quic_wire as q
 from quic_wire import capture, pcap
-from quic_wire._program import captured
-from quic_wire._program.output import Look, Output
 from quic_wire.keylog import KeyLog
 from quic_wire.protection import open_packet, seal_packet
 
@@ -273,8 +271,8 @@ class Captures(unittest.TestCase):
                 changed[choice.randrange(len(changed))] = choice.randrange(256)
             try:
                 for one in capture.packets(io.BytesIO(changed), keylog):
-                    self.assertTrue(all(isinstance(line, str) for line in captured._lines(one)))
-                    captured._show_objects(one, Output(str, Look.JSON))
+                    for read_object in (one.packet, one.opened, *(one.frames or ()), one.error):
+                        self.assertIsInstance(repr(read_object), str)
                     read += 1
             except pcap.CaptureError:
                 rejected += 1

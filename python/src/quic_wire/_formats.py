@@ -32,11 +32,6 @@ class Field(NamedTuple):
     at_most: Optional[tuple[int, int]] = None
     """Of a rule: two indices; the number of the first field is at most that of the second."""
 
-    @property
-    def key(self) -> str:
-        """The name in small letters."""
-        return self.name.lower().replace(" ", "_").replace("-", "_")
-
 
 class Frame(NamedTuple):
     """A type of frame."""
@@ -45,8 +40,6 @@ class Frame(NamedTuple):
     name: str
     section: str
     fields: tuple[Field, ...]
-    quinn_proto: str
-    """quinn-proto's name, which tells the types of one frame apart: ACK_ECN."""
     senders: tuple[str, ...]
 
 
@@ -84,8 +77,6 @@ class Parameter(NamedTuple):
 
     id: int
     name: str
-    quinn_proto: str
-    """The field in quinn-proto."""
     kind: str
     wanted: str
     """What its value must be."""
@@ -174,10 +165,10 @@ class PacketType(enum.IntEnum):
 FRAMES: dict[int, Frame] = {
     0x00: Frame(0x00, "PADDING", "RFC 9000, section 19.1", (
         Field(0, "number", "Type", unit="frame type"),
-    ), "PADDING", ("client", "server")),
+    ), ("client", "server")),
     0x01: Frame(0x01, "PING", "RFC 9000, section 19.2", (
         Field(0, "number", "Type", unit="frame type"),
-    ), "PING", ("client", "server")),
+    ), ("client", "server")),
     0x02: Frame(0x02, "ACK", "RFC 9000, section 19.3", (
         Field(0, "number", "Type", unit="frame type"),
         Field(1, "number", "Largest Acknowledged", unit="packet number"),
@@ -186,7 +177,7 @@ FRAMES: dict[int, Frame] = {
             3, "ranges", "ACK Ranges", unit="packet numbers",
             numbers=("ACK Range Count", "First ACK Range", "Gap", "ACK Range Length"),
         ),
-    ), "ACK", ("client", "server")),
+    ), ("client", "server")),
     0x03: Frame(0x03, "ACK", "RFC 9000, section 19.3", (
         Field(0, "number", "Type", unit="frame type"),
         Field(1, "number", "Largest Acknowledged", unit="packet number"),
@@ -198,121 +189,121 @@ FRAMES: dict[int, Frame] = {
         Field(4, "number", "ECT0 Count", unit="packets"),
         Field(5, "number", "ECT1 Count", unit="packets"),
         Field(6, "number", "ECN-CE Count", unit="packets"),
-    ), "ACK_ECN", ("client", "server")),
+    ), ("client", "server")),
     0x04: Frame(0x04, "RESET_STREAM", "RFC 9000, section 19.4", (
         Field(0, "number", "Type", unit="frame type"),
         Field(1, "number", "Stream ID", unit="stream id"),
         Field(2, "number", "Application Protocol Error Code", unit="application error code"),
         Field(3, "number", "Final Size", unit="bytes"),
-    ), "RESET_STREAM", ("client", "server")),
+    ), ("client", "server")),
     0x05: Frame(0x05, "STOP_SENDING", "RFC 9000, section 19.5", (
         Field(0, "number", "Type", unit="frame type"),
         Field(1, "number", "Stream ID", unit="stream id"),
         Field(2, "number", "Application Protocol Error Code", unit="application error code"),
-    ), "STOP_SENDING", ("client", "server")),
+    ), ("client", "server")),
     0x06: Frame(0x06, "CRYPTO", "RFC 9000, section 19.6", (
         Field(0, "number", "Type", unit="frame type"),
         Field(1, "number", "Offset", unit="bytes"),
         Field(2, "counted", "Crypto Data", length="Length"),
-    ), "CRYPTO", ("client", "server")),
+    ), ("client", "server")),
     0x07: Frame(0x07, "NEW_TOKEN", "RFC 9000, section 19.7", (
         Field(0, "number", "Type", unit="frame type"),
         Field(1, "counted", "Token", length="Token Length"),
-    ), "NEW_TOKEN", ("server",)),
+    ), ("server",)),
     0x08: Frame(0x08, "STREAM", "RFC 9000, section 19.8", (
         Field(0, "number", "Type", unit="frame type"),
         Field(1, "implied", "FIN", unit="1 at the end of the stream", value=0),
         Field(2, "number", "Stream ID", unit="stream id"),
         Field(3, "implied", "Offset", unit="bytes", value=0),
         Field(4, "rest", "Stream Data"),
-    ), "STREAM", ("client", "server")),
+    ), ("client", "server")),
     0x09: Frame(0x09, "STREAM", "RFC 9000, section 19.8", (
         Field(0, "number", "Type", unit="frame type"),
         Field(1, "implied", "FIN", unit="1 at the end of the stream", value=1),
         Field(2, "number", "Stream ID", unit="stream id"),
         Field(3, "implied", "Offset", unit="bytes", value=0),
         Field(4, "rest", "Stream Data"),
-    ), "STREAM", ("client", "server")),
+    ), ("client", "server")),
     0x0a: Frame(0x0a, "STREAM", "RFC 9000, section 19.8", (
         Field(0, "number", "Type", unit="frame type"),
         Field(1, "implied", "FIN", unit="1 at the end of the stream", value=0),
         Field(2, "number", "Stream ID", unit="stream id"),
         Field(3, "implied", "Offset", unit="bytes", value=0),
         Field(4, "counted", "Stream Data", length="Length"),
-    ), "STREAM", ("client", "server")),
+    ), ("client", "server")),
     0x0b: Frame(0x0b, "STREAM", "RFC 9000, section 19.8", (
         Field(0, "number", "Type", unit="frame type"),
         Field(1, "implied", "FIN", unit="1 at the end of the stream", value=1),
         Field(2, "number", "Stream ID", unit="stream id"),
         Field(3, "implied", "Offset", unit="bytes", value=0),
         Field(4, "counted", "Stream Data", length="Length"),
-    ), "STREAM", ("client", "server")),
+    ), ("client", "server")),
     0x0c: Frame(0x0c, "STREAM", "RFC 9000, section 19.8", (
         Field(0, "number", "Type", unit="frame type"),
         Field(1, "implied", "FIN", unit="1 at the end of the stream", value=0),
         Field(2, "number", "Stream ID", unit="stream id"),
         Field(3, "number", "Offset", unit="bytes"),
         Field(4, "rest", "Stream Data"),
-    ), "STREAM", ("client", "server")),
+    ), ("client", "server")),
     0x0d: Frame(0x0d, "STREAM", "RFC 9000, section 19.8", (
         Field(0, "number", "Type", unit="frame type"),
         Field(1, "implied", "FIN", unit="1 at the end of the stream", value=1),
         Field(2, "number", "Stream ID", unit="stream id"),
         Field(3, "number", "Offset", unit="bytes"),
         Field(4, "rest", "Stream Data"),
-    ), "STREAM", ("client", "server")),
+    ), ("client", "server")),
     0x0e: Frame(0x0e, "STREAM", "RFC 9000, section 19.8", (
         Field(0, "number", "Type", unit="frame type"),
         Field(1, "implied", "FIN", unit="1 at the end of the stream", value=0),
         Field(2, "number", "Stream ID", unit="stream id"),
         Field(3, "number", "Offset", unit="bytes"),
         Field(4, "counted", "Stream Data", length="Length"),
-    ), "STREAM", ("client", "server")),
+    ), ("client", "server")),
     0x0f: Frame(0x0f, "STREAM", "RFC 9000, section 19.8", (
         Field(0, "number", "Type", unit="frame type"),
         Field(1, "implied", "FIN", unit="1 at the end of the stream", value=1),
         Field(2, "number", "Stream ID", unit="stream id"),
         Field(3, "number", "Offset", unit="bytes"),
         Field(4, "counted", "Stream Data", length="Length"),
-    ), "STREAM", ("client", "server")),
+    ), ("client", "server")),
     0x10: Frame(0x10, "MAX_DATA", "RFC 9000, section 19.9", (
         Field(0, "number", "Type", unit="frame type"),
         Field(1, "number", "Maximum Data", unit="bytes"),
-    ), "MAX_DATA", ("client", "server")),
+    ), ("client", "server")),
     0x11: Frame(0x11, "MAX_STREAM_DATA", "RFC 9000, section 19.10", (
         Field(0, "number", "Type", unit="frame type"),
         Field(1, "number", "Stream ID", unit="stream id"),
         Field(2, "number", "Maximum Stream Data", unit="bytes"),
-    ), "MAX_STREAM_DATA", ("client", "server")),
+    ), ("client", "server")),
     0x12: Frame(0x12, "MAX_STREAMS", "RFC 9000, section 19.11", (
         Field(0, "number", "Type", unit="frame type"),
         Field(1, "implied", "Direction", unit="0 bidirectional, 1 unidirectional", value=0),
         Field(2, "number", "Maximum Streams", unit="streams", most=1152921504606846976),
-    ), "MAX_STREAMS_BIDI", ("client", "server")),
+    ), ("client", "server")),
     0x13: Frame(0x13, "MAX_STREAMS", "RFC 9000, section 19.11", (
         Field(0, "number", "Type", unit="frame type"),
         Field(1, "implied", "Direction", unit="0 bidirectional, 1 unidirectional", value=1),
         Field(2, "number", "Maximum Streams", unit="streams", most=1152921504606846976),
-    ), "MAX_STREAMS_UNI", ("client", "server")),
+    ), ("client", "server")),
     0x14: Frame(0x14, "DATA_BLOCKED", "RFC 9000, section 19.12", (
         Field(0, "number", "Type", unit="frame type"),
         Field(1, "number", "Maximum Data", unit="bytes"),
-    ), "DATA_BLOCKED", ("client", "server")),
+    ), ("client", "server")),
     0x15: Frame(0x15, "STREAM_DATA_BLOCKED", "RFC 9000, section 19.13", (
         Field(0, "number", "Type", unit="frame type"),
         Field(1, "number", "Stream ID", unit="stream id"),
         Field(2, "number", "Maximum Stream Data", unit="bytes"),
-    ), "STREAM_DATA_BLOCKED", ("client", "server")),
+    ), ("client", "server")),
     0x16: Frame(0x16, "STREAMS_BLOCKED", "RFC 9000, section 19.14", (
         Field(0, "number", "Type", unit="frame type"),
         Field(1, "implied", "Direction", unit="0 bidirectional, 1 unidirectional", value=0),
         Field(2, "number", "Maximum Streams", unit="streams", most=1152921504606846976),
-    ), "STREAMS_BLOCKED_BIDI", ("client", "server")),
+    ), ("client", "server")),
     0x17: Frame(0x17, "STREAMS_BLOCKED", "RFC 9000, section 19.14", (
         Field(0, "number", "Type", unit="frame type"),
         Field(1, "implied", "Direction", unit="0 bidirectional, 1 unidirectional", value=1),
         Field(2, "number", "Maximum Streams", unit="streams", most=1152921504606846976),
-    ), "STREAMS_BLOCKED_UNI", ("client", "server")),
+    ), ("client", "server")),
     0x18: Frame(0x18, "NEW_CONNECTION_ID", "RFC 9000, section 19.15", (
         Field(0, "number", "Type", unit="frame type"),
         Field(1, "number", "Sequence Number", unit="sequence number"),
@@ -320,51 +311,51 @@ FRAMES: dict[int, Frame] = {
         Field(3, "ordered", "", at_most=(2, 1)),
         Field(4, "id", "Connection ID", length="Length", size=(1, 20)),
         Field(5, "bytes", "Stateless Reset Token", size=(16, 16)),
-    ), "NEW_CONNECTION_ID", ("client", "server")),
+    ), ("client", "server")),
     0x19: Frame(0x19, "RETIRE_CONNECTION_ID", "RFC 9000, section 19.16", (
         Field(0, "number", "Type", unit="frame type"),
         Field(1, "number", "Sequence Number", unit="sequence number"),
-    ), "RETIRE_CONNECTION_ID", ("client", "server")),
+    ), ("client", "server")),
     0x1a: Frame(0x1a, "PATH_CHALLENGE", "RFC 9000, section 19.17", (
         Field(0, "number", "Type", unit="frame type"),
         Field(1, "uint64", "Data", size=(8, 8)),
-    ), "PATH_CHALLENGE", ("client", "server")),
+    ), ("client", "server")),
     0x1b: Frame(0x1b, "PATH_RESPONSE", "RFC 9000, section 19.18", (
         Field(0, "number", "Type", unit="frame type"),
         Field(1, "uint64", "Data", size=(8, 8)),
-    ), "PATH_RESPONSE", ("client", "server")),
+    ), ("client", "server")),
     0x1c: Frame(0x1c, "CONNECTION_CLOSE", "RFC 9000, section 19.19", (
         Field(0, "number", "Type", unit="frame type"),
         Field(1, "number", "Error Code", unit="error code"),
         Field(2, "number", "Frame Type", unit="frame type, 0 if unknown"),
         Field(3, "counted", "Reason Phrase", unit="UTF-8", length="Reason Phrase Length"),
-    ), "CONNECTION_CLOSE", ("client", "server")),
+    ), ("client", "server")),
     0x1d: Frame(0x1d, "CONNECTION_CLOSE", "RFC 9000, section 19.19", (
         Field(0, "number", "Type", unit="frame type"),
         Field(1, "number", "Error Code", unit="application error code"),
         Field(2, "counted", "Reason Phrase", unit="UTF-8", length="Reason Phrase Length"),
-    ), "APPLICATION_CLOSE", ("client", "server")),
+    ), ("client", "server")),
     0x1e: Frame(0x1e, "HANDSHAKE_DONE", "RFC 9000, section 19.20", (
         Field(0, "number", "Type", unit="frame type"),
-    ), "HANDSHAKE_DONE", ("server",)),
+    ), ("server",)),
     0x1f: Frame(0x1f, "IMMEDIATE_ACK", "draft-ietf-quic-ack-frequency, section 5", (
         Field(0, "number", "Type", unit="frame type"),
-    ), "IMMEDIATE_ACK", ("client", "server")),
+    ), ("client", "server")),
     0x30: Frame(0x30, "DATAGRAM", "RFC 9221, section 4", (
         Field(0, "number", "Type", unit="frame type"),
         Field(1, "rest", "Datagram Data"),
-    ), "DATAGRAM", ("client", "server")),
+    ), ("client", "server")),
     0x31: Frame(0x31, "DATAGRAM", "RFC 9221, section 4", (
         Field(0, "number", "Type", unit="frame type"),
         Field(1, "counted", "Datagram Data", length="Length"),
-    ), "DATAGRAM", ("client", "server")),
+    ), ("client", "server")),
     0xaf: Frame(0xaf, "ACK_FREQUENCY", "draft-ietf-quic-ack-frequency, section 4", (
         Field(0, "number", "Type", unit="frame type"),
         Field(1, "number", "Sequence Number", unit="sequence number"),
         Field(2, "number", "Ack-Eliciting Threshold", unit="packets"),
         Field(3, "number", "Requested Max Ack Delay", unit="microseconds"),
         Field(4, "number", "Reordering Threshold", unit="packets"),
-    ), "ACK_FREQUENCY", ("client", "server")),
+    ), ("client", "server")),
 }
 # By their versions and kinds of packets; those without a version of their own have version 0.
 HEADERS: dict[tuple[int, int], Header] = {
@@ -492,100 +483,97 @@ HEADERS: dict[tuple[int, int], Header] = {
 }
 PARAMETERS: dict[int, Parameter] = {
     0x0: Parameter(
-        0, "original_destination_connection_id", "original_dst_cid", "id", "an id of at most 20 bytes",
-        "RFC 9000, section 18.2", ("server",), Readings(False, False), 16, size=(0, 20),
+        0, "original_destination_connection_id", "id", "an id of at most 20 bytes", "RFC 9000, section 18.2",
+        ("server",), Readings(False, False), 16, size=(0, 20),
     ),
     0x1: Parameter(
-        1, "max_idle_timeout", "max_idle_timeout", "number", "one variable-length integer and nothing after it",
-        "RFC 9000, section 18.2", ("client", "server"), Readings(False, False), 0, unit="milliseconds, 0 for none",
-        default=0, any_width=Readings(False, True),
+        1, "max_idle_timeout", "number", "one variable-length integer and nothing after it", "RFC 9000, section 18.2",
+        ("client", "server"), Readings(False, False), 0, unit="milliseconds, 0 for none", default=0,
+        any_width=Readings(False, True),
     ),
     0x2: Parameter(
-        2, "stateless_reset_token", "stateless_reset_token", "bytes", "16 bytes", "RFC 9000, section 18.2",
-        ("server",), Readings(False, False), 12, size=(16, 16),
+        2, "stateless_reset_token", "bytes", "16 bytes", "RFC 9000, section 18.2", ("server",), Readings(False, False),
+        12, size=(16, 16),
     ),
     0x3: Parameter(
-        3, "max_udp_payload_size", "max_udp_payload_size", "number", "a number of 1200 or more",
-        "RFC 9000, section 18.2", ("client", "server"), Readings(False, False), 1, unit="bytes", default=65527,
-        bounds=(1200, None), any_width=Readings(False, True),
+        3, "max_udp_payload_size", "number", "a number of 1200 or more", "RFC 9000, section 18.2",
+        ("client", "server"), Readings(False, False), 1, unit="bytes", default=65527, bounds=(1200, None),
+        any_width=Readings(False, True),
     ),
     0x4: Parameter(
-        4, "initial_max_data", "initial_max_data", "number", "one variable-length integer and nothing after it",
-        "RFC 9000, section 18.2", ("client", "server"), Readings(False, False), 2, unit="bytes", default=0,
-        any_width=Readings(False, True),
+        4, "initial_max_data", "number", "one variable-length integer and nothing after it", "RFC 9000, section 18.2",
+        ("client", "server"), Readings(False, False), 2, unit="bytes", default=0, any_width=Readings(False, True),
     ),
     0x5: Parameter(
-        5, "initial_max_stream_data_bidi_local", "initial_max_stream_data_bidi_local", "number",
-        "one variable-length integer and nothing after it", "RFC 9000, section 18.2", ("client", "server"),
-        Readings(False, False), 3, unit="bytes", default=0, any_width=Readings(False, True),
-    ),
-    0x6: Parameter(
-        6, "initial_max_stream_data_bidi_remote", "initial_max_stream_data_bidi_remote", "number",
-        "one variable-length integer and nothing after it", "RFC 9000, section 18.2", ("client", "server"),
-        Readings(False, False), 4, unit="bytes", default=0, any_width=Readings(False, True),
-    ),
-    0x7: Parameter(
-        7, "initial_max_stream_data_uni", "initial_max_stream_data_uni", "number",
-        "one variable-length integer and nothing after it", "RFC 9000, section 18.2", ("client", "server"),
-        Readings(False, False), 5, unit="bytes", default=0, any_width=Readings(False, True),
-    ),
-    0x8: Parameter(
-        8, "initial_max_streams_bidi", "initial_max_streams_bidi", "number", "a number of at most 2^60",
-        "RFC 9000, section 18.2", ("client", "server"), Readings(False, False), 6, unit="streams", default=0,
-        bounds=(None, 1152921504606846976), any_width=Readings(False, True),
-    ),
-    0x9: Parameter(
-        9, "initial_max_streams_uni", "initial_max_streams_uni", "number", "a number of at most 2^60",
-        "RFC 9000, section 18.2", ("client", "server"), Readings(False, False), 7, unit="streams", default=0,
-        bounds=(None, 1152921504606846976), any_width=Readings(False, True),
-    ),
-    0xa: Parameter(
-        10, "ack_delay_exponent", "ack_delay_exponent", "number", "a number of at most 20", "RFC 9000, section 18.2",
-        ("client", "server"), Readings(False, False), 8, unit="power of 2", default=3, bounds=(None, 20),
+        5, "initial_max_stream_data_bidi_local", "number", "one variable-length integer and nothing after it",
+        "RFC 9000, section 18.2", ("client", "server"), Readings(False, False), 3, unit="bytes", default=0,
         any_width=Readings(False, True),
     ),
+    0x6: Parameter(
+        6, "initial_max_stream_data_bidi_remote", "number", "one variable-length integer and nothing after it",
+        "RFC 9000, section 18.2", ("client", "server"), Readings(False, False), 4, unit="bytes", default=0,
+        any_width=Readings(False, True),
+    ),
+    0x7: Parameter(
+        7, "initial_max_stream_data_uni", "number", "one variable-length integer and nothing after it",
+        "RFC 9000, section 18.2", ("client", "server"), Readings(False, False), 5, unit="bytes", default=0,
+        any_width=Readings(False, True),
+    ),
+    0x8: Parameter(
+        8, "initial_max_streams_bidi", "number", "a number of at most 2^60", "RFC 9000, section 18.2",
+        ("client", "server"), Readings(False, False), 6, unit="streams", default=0, bounds=(None, 1152921504606846976),
+        any_width=Readings(False, True),
+    ),
+    0x9: Parameter(
+        9, "initial_max_streams_uni", "number", "a number of at most 2^60", "RFC 9000, section 18.2",
+        ("client", "server"), Readings(False, False), 7, unit="streams", default=0, bounds=(None, 1152921504606846976),
+        any_width=Readings(False, True),
+    ),
+    0xa: Parameter(
+        10, "ack_delay_exponent", "number", "a number of at most 20", "RFC 9000, section 18.2", ("client", "server"),
+        Readings(False, False), 8, unit="power of 2", default=3, bounds=(None, 20), any_width=Readings(False, True),
+    ),
     0xb: Parameter(
-        11, "max_ack_delay", "max_ack_delay", "number", "a number below 2^14", "RFC 9000, section 18.2",
-        ("client", "server"), Readings(False, False), 9, unit="milliseconds", default=25, bounds=(None, 16383),
+        11, "max_ack_delay", "number", "a number below 2^14", "RFC 9000, section 18.2", ("client", "server"),
+        Readings(False, False), 9, unit="milliseconds", default=25, bounds=(None, 16383),
         any_width=Readings(False, True),
     ),
     0xc: Parameter(
-        12, "disable_active_migration", "disable_active_migration", "flag", "no bytes", "RFC 9000, section 18.2",
-        ("client", "server"), Readings(False, False), 13, size=(0, 0),
+        12, "disable_active_migration", "flag", "no bytes", "RFC 9000, section 18.2", ("client", "server"),
+        Readings(False, False), 13, size=(0, 0),
     ),
     0xd: Parameter(
-        13, "preferred_address", "preferred_address", "preferred_address",
-        "an address, an id that isn't empty, a token", "RFC 9000, section 18.2", ("server",), Readings(False, False),
-        15,
+        13, "preferred_address", "preferred_address", "an address, an id that isn't empty, a token",
+        "RFC 9000, section 18.2", ("server",), Readings(False, False), 15,
     ),
     0xe: Parameter(
-        14, "active_connection_id_limit", "active_connection_id_limit", "number", "a number of 2 or more",
-        "RFC 9000, section 18.2", ("client", "server"), Readings(False, False), 10, unit="connection ids", default=2,
-        bounds=(2, None), any_width=Readings(False, True),
+        14, "active_connection_id_limit", "number", "a number of 2 or more", "RFC 9000, section 18.2",
+        ("client", "server"), Readings(False, False), 10, unit="connection ids", default=2, bounds=(2, None),
+        any_width=Readings(False, True),
     ),
     0xf: Parameter(
-        15, "initial_source_connection_id", "initial_src_cid", "id", "an id of at most 20 bytes",
-        "RFC 9000, section 18.2", ("client", "server"), Readings(False, False), 17, size=(0, 20),
+        15, "initial_source_connection_id", "id", "an id of at most 20 bytes", "RFC 9000, section 18.2",
+        ("client", "server"), Readings(False, False), 17, size=(0, 20),
     ),
     0x10: Parameter(
-        16, "retry_source_connection_id", "retry_src_cid", "id", "an id of at most 20 bytes", "RFC 9000, section 18.2",
-        ("server",), Readings(False, False), 18, size=(0, 20),
+        16, "retry_source_connection_id", "id", "an id of at most 20 bytes", "RFC 9000, section 18.2", ("server",),
+        Readings(False, False), 18, size=(0, 20),
     ),
     0x1b: Parameter(
-        27, "reserved", "grease_transport_parameter", "skipped", "any bytes", "RFC 9000, section 18.1",
-        ("client", "server"), Readings(True, True), 11,
+        27, "reserved", "skipped", "any bytes", "RFC 9000, section 18.1", ("client", "server"), Readings(True, True),
+        11,
     ),
     0x20: Parameter(
-        32, "max_datagram_frame_size", "max_datagram_frame_size", "number",
-        "one variable-length integer and nothing after it", "RFC 9221, section 3", ("client", "server"),
-        Readings(False, False), 14, unit="bytes", any_width=Readings(True, True),
+        32, "max_datagram_frame_size", "number", "one variable-length integer and nothing after it",
+        "RFC 9221, section 3", ("client", "server"), Readings(False, False), 14, unit="bytes",
+        any_width=Readings(True, True),
     ),
     0x2ab2: Parameter(
-        10930, "grease_quic_bit", "grease_quic_bit", "flag", "no bytes", "RFC 9287, section 3", ("client", "server"),
+        10930, "grease_quic_bit", "flag", "no bytes", "RFC 9287, section 3", ("client", "server"),
         Readings(True, False), 19, size=(0, 0),
     ),
     0xff04de1b: Parameter(
-        4278509083, "min_ack_delay", "min_ack_delay", "number", "a number of microseconds, at most max_ack_delay",
+        4278509083, "min_ack_delay", "number", "a number of microseconds, at most max_ack_delay",
         "draft-ietf-quic-ack-frequency, section 3", ("client", "server"), Readings(True, False), 20,
         unit="microseconds", max_of=(1000, "max_ack_delay"), any_width=Readings(True, True),
     ),
@@ -700,19 +688,6 @@ REASONS: dict[int, Reason] = {
     -60: Reason(-60, "list", "PARAMS_MALFORMED", 8, "RFC 9000, section 7.4", "malformed"),
     -61: Reason(-61, "list", "PARAMS_ILLEGAL", 8, "RFC 9000, sections 7.4, 18.2", "illegal value"),
 }
-# What quinn-proto calls attributes of frames, by their classes, if that is another name.
-OWN_NAMES: dict[str, dict[str, str]] = {
-    "ResetStream": {"stream_id": "id", "final_size": "final_offset"},
-    "StopSending": {"stream_id": "id"},
-    "Stream": {"stream_id": "id"},
-    "MaxStreamData": {"stream_id": "id", "limit": "offset"},
-    "MaxStreamsBidi": {"limit": "count"},
-    "MaxStreamsUni": {"limit": "count"},
-    "DataBlocked": {"limit": "offset"},
-    "StreamDataBlocked": {"stream_id": "id", "limit": "offset"},
-    "NewConnectionId": {"connection_id": "id"},
-    "AckFrequency": {"max_ack_delay": "request_max_ack_delay"},
-}
 PREFERRED_ADDRESS: tuple[Field, ...] = (
     Field(0, "bytes", "IPv4 Address", size=(4, 4)),
     Field(1, "bytes", "IPv4 Port", size=(2, 2)),
@@ -720,8 +695,4 @@ PREFERRED_ADDRESS: tuple[Field, ...] = (
     Field(3, "bytes", "IPv6 Port", size=(2, 2)),
     Field(4, "id", "Connection ID", length="Connection ID Length", size=(1, 20)),
     Field(5, "bytes", "Stateless Reset Token", size=(16, 16)),
-)
-# The versions that are read by default.
-USUAL_VERSIONS: tuple[int, ...] = (
-    0x00000001, 0xff00001d, 0xff00001e, 0xff00001f, 0xff000020, 0xff000021, 0xff000022, 0x6b3343cf,
 )

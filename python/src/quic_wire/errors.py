@@ -19,7 +19,6 @@ if TYPE_CHECKING:
     from ._types import Buffer
     from ._wire import Frame, Packet
 
-_NEW_TOKEN = 0x07
 _OF_TYPES = (FRAME_TYPE, FRAME_LONG_TYPE)  # results for a type that was read
 _LONG_FORM = 0x80  # of a first byte
 _PERMISSIONS = (FRAME_PACKET, FRAME_SENDER, FRAME_STREAM)
@@ -84,11 +83,9 @@ class FrameError(Error):
     code: Code
     frame_type: Optional[int] = None
     frames: Optional[list[Frame]] = None
-    # The last type that was read: the program prints it, as quinn-proto does.
+    # The last type that was read, which quinn-proto and quic-show print; tests/show.py of the repository does.
     _last_type: Optional[int] = None
     _is_permission = False
-    # Whether only some Checks forbid what is wrong.
-    _breaks_rule = False
 
     def _what(self) -> str:
         if self.frame_type is None:
@@ -133,11 +130,6 @@ class ParameterError(Error):
         return self.why if self.wanted is None else f"expected {self.wanted}"
 
 
-def frame_name(frame_type: int) -> str:
-    """The name of a frame type, or its number, as the program prints it."""
-    return type_name(frame_type) or f"<unknown {frame_type:x}>"
-
-
 def _frame_section(result: int, frame_type: Optional[int]) -> str:
     if result in (PAYLOAD_EMPTY, FRAME_PACKET, *_OF_TYPES):
         return "RFC 9000, section 12.4"
@@ -174,8 +166,6 @@ def _frame_error(
     error.frame_type = None if is_cut_off else frame_type
     error._last_type, error.why, error.frames = frame_type, why or _why_unknown(result, frame_type), before
     error.fields = of_frame(found)
-    is_of_token = result == FRAME_MALFORMED and frame_type == _NEW_TOKEN
-    error._breaks_rule = result == FRAME_LIMIT or is_of_token or _why_unknown(result, frame_type) is not None
     return error
 
 

@@ -19,7 +19,6 @@ TOP, WORK, SEED, COUNT = pathlib.Path(sys.argv[1]), pathlib.Path(sys.argv[2]), i
 HERE = pathlib.Path(__file__).parent
 READERS = {
     "Rust": [WORK / "read"],
-    "Python": [sys.executable, "-B", HERE / "read.py", TOP / "python" / "src"],
     "JavaScript": ["node", HERE / "read.mjs", WORK / "page"],
 }
 AT_ONCE = 25_000
@@ -120,7 +119,7 @@ def compare_times():
     }
     wrong = 0
     for name, text in forms.items():
-        for reader, times in (("Rust", 40), ("Python", 1), ("JavaScript", 5)):
+        for reader, times in (("Rust", 40), ("JavaScript", 5)):
             one, two = (time_of(reader, text(count).encode(), times) for count in (NUMBERS, 2 * NUMBERS))
             print(f"{name}, {reader}: {one / times:.3f} s for {NUMBERS}, {two / one:.2f} times that for twice as many")
             wrong += two > MOST_TIMES * one

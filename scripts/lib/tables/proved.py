@@ -44,16 +44,6 @@ def structs():
             yield path, name, struct_name(name), fields
 
 
-def frame_members():
-    """The names of a frame's members in Rattle, which are quinn-proto's, by its name there."""
-    found = {}
-    for path in ("crates/quic_frame_fields/src/frame.rt", "crates/quic_frames/src/frame.rt"):
-        begin = r"^(?:pub struct|   ) (\w+)(?:<'a>)? \{\n"
-        for name, body in re.findall(begin + r"(.*?)^(?:    )?\},?$", read(path), re.S | re.M):
-            found[name] = re.findall(r"^ +(?:pub )?(\w+): ", body, re.M)
-    return found
-
-
 def versions():
     """The versions that are read by default, as hexadecimal numbers."""
     body = re.search(r"^pub const DEFAULT_SUPPORTED_VERSIONS: &\[u32\] = &\[(.*?)\];", read(VERSIONS), re.M | re.S)[1]

@@ -1,7 +1,7 @@
 """python/src/quic_wire/_formats.py."""
 import json
 
-from lib.tables import classes, proved
+from lib.tables import proved
 from lib.tables.formats import MADE, filled, headers, wanted
 
 PATH = "python/src/quic_wire/_formats.py"
@@ -39,11 +39,6 @@ class Field(NamedTuple):
     at_most: Optional[tuple[int, int]] = None
     """Of a rule: two indices; the number of the first field is at most that of the second."""
 
-    @property
-    def key(self) -> str:
-        """The name in small letters."""
-        return self.name.lower().replace(" ", "_").replace("-", "_")
-
 
 class Frame(NamedTuple):
     """A type of frame."""
@@ -52,8 +47,6 @@ class Frame(NamedTuple):
     name: str
     section: str
     fields: tuple[Field, ...]
-    quinn_proto: str
-    """quinn-proto's name, which tells the types of one frame apart: ACK_ECN."""
     senders: tuple[str, ...]
 
 
@@ -91,8 +84,6 @@ class Parameter(NamedTuple):
 
     id: int
     name: str
-    quinn_proto: str
-    """The field in quinn-proto."""
     kind: str
     wanted: str
     """What its value must be."""
@@ -179,10 +170,10 @@ def rows(fields):
 
 
 def frame(one):
-    number, quinn_proto = f"{one['type']:#04x}", one.get("quinn_proto", one["name"])
+    number = f"{one['type']:#04x}"
     return (
         f"    {number}: Frame({number}, {text(one['name'])}, {text(one['section'])}, (\n"
-        f"{rows(one['fields'])}    ), {text(quinn_proto)}, {text(one['senders'])}),\n")
+        f"{rows(one['fields'])}    ), {text(one['senders'])}),\n")
 
 
 def header(version, kind, one):
@@ -195,8 +186,7 @@ def header(version, kind, one):
 
 def parameter(one):
     needed = [
-        one["id"], one["name"], one.get("quinn_proto", one["name"]), one["kind"], wanted(one), one["section"],
-        one["senders"], one["repeat"], one["order"]]
+        one["id"], one["name"], one["kind"], wanted(one), one["section"], one["senders"], one["repeat"], one["order"]]
     return f"    {one['id']:#x}: " + call("Parameter", needed, {
         "unit": one.get("unit"), "default": one.get("default"), "bounds": (one.get("min"), one.get("max")),
         "max_of": tuple(one.get("max_of", {}).values()), "size": one.get("bytes"),
@@ -214,18 +204,6 @@ def reason(one):
     return f"    {one['number']}: {call('Reason', needed, {}, '    ')},\n"
 
 
-def own_names(formats):
-    """The attributes of each class of frames to which quinn-proto gives another name, except data."""
-    members = proved.frame_members()
-    for one in classes.frames(formats):
-        own = members.get(one.name.removesuffix("Bidi").removesuffix("Uni"), [])
-        named = zip(one.fields, (name for name in own if name != "dir"))
-        pairs = [(it.name, name) for it, name in named if name not in (it.name, "bytes")]
-        if pairs:
-            listed = ", ".join(f"{text(name)}: {text(other)}" for name, other in pairs)
-            yield f"    {text(one.name)}: {{{listed}}},\n"
-
-
 def enumeration(name, module, doc, members):
     lines = "".join(f"    {word} = {number}\n" for word, number in members)
     return f'class {name}(enum.IntEnum):\n    """{doc}"""\n\n    __module__ = "quic_wire.{module}"\n\n{lines}\n\n'
@@ -241,13 +219,9 @@ def made(formats):
         "PARAMETERS: dict[int, Parameter] = {": map(parameter, formats["parameters"]),
         "ERROR_CODES: dict[int, ErrorCode] = {": map(error_code, formats["error_codes"]),
         "REASONS: dict[int, Reason] = {": map(reason, formats["reasons"]),
-        "# What quinn-proto calls attributes of frames, by their classes, if that is another name.\n"
-        "OWN_NAMES: dict[str, dict[str, str]] = {": own_names(formats),
     }
     address = "".join(field(one, "    ", index) for index, one in enumerate(formats["preferred_address"]))
     parts = [f"{begin}\n{''.join(some)}}}\n" for begin, some in tables.items()]
     return (
         f"{BEGIN}{enumeration(*CODES, codes)}{enumeration(*PACKET_TYPES, packets)}{''.join(parts)}"
-        f"PREFERRED_ADDRESS: tuple[Field, ...] = (\n{address})\n"
-        "# The versions that are read by default.\n"
-        f"{filled('USUAL_VERSIONS: tuple[int, ...] = (', proved.versions(), ')', '')}\n")
+        f"PREFERRED_ADDRESS: tuple[Field, ...] = (\n{address})\n")

@@ -101,7 +101,7 @@ impl Follower {
         self.counts.datagrams += 1;
         self.sweep(datagram.time, sink);
         let (mut owners, mut id_len) = self.owners(datagram, *first);
-        if owners.is_empty() && first & LONG_HEADER_FORM == 0 && may_be_several(datagram) {
+        if owners.is_empty() && first & LONG_HEADER_FORM == 0 && may_be_several(datagram, id_len) {
             (owners, id_len) = self.near_offloaded(datagram).unwrap_or((owners, id_len));
         }
         let size = self.segment_len(datagram, &owners, id_len).unwrap_or(datagram.bytes.len());
@@ -142,10 +142,10 @@ impl Follower {
         (owners, id_len)
     }
 
-    // The size of the segments of a datagram that is longer than usual and has several.
+    // The size of the segments of a datagram that has several.
     fn segment_len(&mut self, datagram: &Datagram<'_>, owners: &[Owner], id_len: usize) -> Option<usize> {
         let bytes = datagram.bytes;
-        if !may_be_several(datagram) {
+        if !may_be_several(datagram, id_len) {
             return None;
         }
         let short = Packets::with_checks(bytes, id_len, &VERSIONS, CHECKS)
@@ -423,9 +423,17 @@ fn packet_at<'a>(datagram: &Datagram<'a>, offset: usize, id_len: usize) -> Optio
         .find(|packet| packet.place().range().start == offset)
 }
 
-// Whether a network card may cut a datagram into several.
-fn may_be_several(datagram: &Datagram<'_>) -> bool {
-    datagram.bytes.len() > MOST_USUAL && datagram.missing == 0
+// Whether a network card may cut a datagram into several: it is longer than usual, or has its short header's id again.
+fn may_be_several(datagram: &Datagram<'_>, id_len: usize) -> bool {
+    datagram.missing == 0 && (datagram.bytes.len() > MOST_USUAL || has_id_again(datagram.bytes, id_len))
+}
+
+// By the first bytes of an id, so that most datagrams are passed over at once.
+fn has_id_again(datagram: &[u8], id_len: usize) -> bool {
+    let [first, behind @ ..] = datagram else { return false };
+    let Some((id, rest)) = behind.split_first_chunk::<4>() else { return false };
+    let is_id = first & LONG_HEADER_FORM == 0 && id_len >= id.len();
+    is_id && rest.windows(id.len()).filter(|window| window == id).count() > 0
 }
 
 fn packets_are_over(rest: &[u8]) -> bool {

@@ -13,15 +13,8 @@ use quic_wire_capture::opened::Opened;
 // An id of fewer bytes may be there by chance.
 const LEAST_ID: usize = 4;
 
-const AMPLIFICATION: &[Need] = &[
-    Need::Begin,
-    Need::PeerPackets,
-    Need::OwnPackets,
-    Need::NoEarlyData,
-    Need::NoStrays,
-    Need::Order,
-    Need::End,
-];
+const AMPLIFICATION: &[Need] =
+    &[Need::Begin, Need::PeerPackets, Need::OwnPackets, Need::NoEarlyData, Need::NoStrays, Need::Order, Need::End];
 
 pub(super) static RULES: &[Rule] = &[
     Rule::must(

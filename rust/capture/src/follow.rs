@@ -428,12 +428,13 @@ fn may_be_several(datagram: &Datagram<'_>, id_len: usize) -> bool {
     datagram.missing == 0 && (datagram.bytes.len() > MOST_USUAL || has_id_again(datagram.bytes, id_len))
 }
 
-// By the first bytes of an id, so that most datagrams are passed over at once.
+// By the first bytes of an id, and without a branch for each byte: most datagrams have one packet.
 fn has_id_again(datagram: &[u8], id_len: usize) -> bool {
-    let [first, behind @ ..] = datagram else { return false };
-    let Some((id, rest)) = behind.split_first_chunk::<4>() else { return false };
-    let is_id = first & LONG_HEADER_FORM == 0 && id_len >= id.len();
-    is_id && rest.windows(id.len()).filter(|window| window == id).count() > 0
+    let [first, a, b, c, d, rest @ ..] = datagram else { return false };
+    let [second, third, fourth] = [1, 2, 3].map(|from| rest.get(from..).unwrap_or_default());
+    let fours = rest.iter().zip(second).zip(third).zip(fourth);
+    let is_there = |(((one, two), three), four)| (one == a) & (two == b) & (three == c) & (four == d);
+    first & LONG_HEADER_FORM == 0 && id_len >= 4 && fours.fold(false, |found, bytes| found | is_there(bytes))
 }
 
 fn packets_are_over(rest: &[u8]) -> bool {

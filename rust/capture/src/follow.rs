@@ -101,7 +101,7 @@ impl Follower {
         self.counts.datagrams += 1;
         self.sweep(datagram.time, sink);
         let (mut owners, mut id_len) = self.owners(datagram, *first);
-        if owners.is_empty() && first & LONG_HEADER_FORM == 0 && may_be_several(datagram) {
+        if owners.is_empty() && first & LONG_HEADER_FORM == 0 && may_be_several(datagram, id_len) {
             (owners, id_len) = self.near_offloaded(datagram).unwrap_or((owners, id_len));
         }
         let size = self.segment_len(datagram, &owners, id_len).unwrap_or(datagram.bytes.len());
@@ -142,10 +142,10 @@ impl Follower {
         (owners, id_len)
     }
 
-    // The size of the segments of a datagram that is longer than usual and has several.
+    // The size of the segments of a datagram that has several.
     fn segment_len(&mut self, datagram: &Datagram<'_>, owners: &[Owner], id_len: usize) -> Option<usize> {
         let bytes = datagram.bytes;
-        if !may_be_several(datagram) {
+        if !may_be_several(datagram, id_len) {
             return None;
         }
         let short = Packets::with_checks(bytes, id_len, &VERSIONS, CHECKS)
@@ -423,9 +423,18 @@ fn packet_at<'a>(datagram: &Datagram<'a>, offset: usize, id_len: usize) -> Optio
         .find(|packet| packet.place().range().start == offset)
 }
 
-// Whether a network card may cut a datagram into several.
-fn may_be_several(datagram: &Datagram<'_>) -> bool {
-    datagram.bytes.len() > MOST_USUAL && datagram.missing == 0
+// Whether a network card may cut a datagram into several: it is longer than usual, or has its short header's id again.
+fn may_be_several(datagram: &Datagram<'_>, id_len: usize) -> bool {
+    datagram.missing == 0 && (datagram.bytes.len() > MOST_USUAL || has_id_again(datagram.bytes, id_len))
+}
+
+// By the first bytes of an id, and without a branch for each byte: most datagrams have one packet.
+fn has_id_again(datagram: &[u8], id_len: usize) -> bool {
+    let [first, a, b, c, d, rest @ ..] = datagram else { return false };
+    let [second, third, fourth] = [1, 2, 3].map(|from| rest.get(from..).unwrap_or_default());
+    let fours = rest.iter().zip(second).zip(third).zip(fourth);
+    let is_there = |(((one, two), three), four)| (one == a) & (two == b) & (three == c) & (four == d);
+    first & LONG_HEADER_FORM == 0 && id_len >= 4 && fours.fold(false, |found, bytes| found | is_there(bytes))
 }
 
 fn packets_are_over(rest: &[u8]) -> bool {

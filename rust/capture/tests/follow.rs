@@ -229,6 +229,12 @@ fn segmentation_offload() {
     packets.extend(made.packet(Server, Short, PING));
     all.push(made.datagram(Server, packets));
     all_opened(&made, &all, 8);
+    // All of them are shorter than a datagram usually is.
+    let mut made = Made::new(1);
+    let mut all = made.handshake();
+    let packets = (0..3).flat_map(|_| made.packet(Server, Short, &[0; 30])).collect();
+    all.push(made.datagram(Server, packets));
+    all_opened(&made, &all, 7);
 }
 
 #[test]

@@ -104,6 +104,7 @@ impl Facts {
         let (sender, spaces) = (finding.sender, claim.spaces());
         let is_closed = connection.end(sender).closed().or(connection.end(!sender).closed()).is_some();
         finding.rule.needs.iter().copied().find(|need| match need {
+            Need::PeerPackets if matches!(claim, Claim::Bytes(_)) && history.lacks_handshake() => true,
             Need::PeerPackets => !history.is_whole(!sender, spaces),
             Need::OwnPackets => !history.is_whole(sender, spaces),
             Need::NoEarlyData => history.has_early,

@@ -17,6 +17,7 @@ const MOST_WAITING: usize = 256;
 const MOST_UNSENT: usize = 64;
 
 const DATA: &[SpaceId] = &[SpaceId::Data];
+const ALL: &[SpaceId] = &[SpaceId::Initial, SpaceId::Handshake, SpaceId::Data];
 
 /// What a side did, by what is known of its peer so far.
 #[derive(Clone, Copy, Debug)]
@@ -41,7 +42,7 @@ pub(crate) enum Claim {
     Retired(u64),
     /// The server sent so many bytes.
     Bytes(u64),
-    /// It sent a long header to an id that its peer didn't choose.
+    /// It sent a long header to an id that its peer didn't choose and didn't issue.
     Destination(ConnectionId),
 }
 
@@ -50,7 +51,9 @@ impl Claim {
     pub(crate) fn spaces(&self) -> &[SpaceId] {
         match self {
             Claim::Unsent { space, .. } | Claim::Number { space, .. } => std::slice::from_ref(space),
-            Claim::Bytes(_) | Claim::Destination(_) => &[SpaceId::Initial, SpaceId::Handshake],
+            // A datagram at the end of a space leaves no gap; those of the other spaces show whether any are missing.
+            Claim::Bytes(_) => ALL,
+            Claim::Destination(_) => ALL,
             _ => DATA,
         }
     }
@@ -85,7 +88,7 @@ impl Claim {
             Claim::Answer(data) => !peer.challenges.contains(&data),
             Claim::Retired(sequence) => last_id(connection, !sender).is_none_or(|last| last < sequence),
             Claim::Bytes(bytes) => bytes > peer.bytes.saturating_mul(3),
-            Claim::Destination(id) => !peer.sources.contains(&id),
+            Claim::Destination(id) => !peer.sources.contains(&id) && !is_issued(connection, !sender, &id),
         }
     }
 }
@@ -132,6 +135,11 @@ pub(crate) fn active_ids(connection: &Connection, history: &History, sender: Sid
 /// The greatest sequence number of a side's ids.
 pub(crate) fn last_id(connection: &Connection, side: Side) -> Option<u64> {
     connection.end(side).ids().map(|(sequence, ..)| sequence).last()
+}
+
+/// Whether a side issued an id. Packets of any type may go to it (RFC 9000, sections 5.1.1 and 7.2).
+pub(crate) fn is_issued(connection: &Connection, side: Side, id: &ConnectionId) -> bool {
+    connection.end(side).ids().any(|(_, one, _)| one == id)
 }
 
 /// A claim that waits, with what is found if it holds.

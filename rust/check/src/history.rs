@@ -165,6 +165,13 @@ impl History {
         !self.is_full && spaces.iter().all(|space| self.half(side).is_whole(*space))
     }
 
+    /// Whether the client is past its handshake without a Handshake packet: those aren't in the capture.
+    pub(crate) fn lacks_handshake(&self) -> bool {
+        let client = self.half(Side::Client);
+        let is_past = self.is_confirmed || !client.seen[SpaceId::Data as usize].is_empty();
+        is_past && client.handshake.is_none()
+    }
+
     /// Takes a datagram of a side.
     pub(crate) fn take_datagram(&mut self, datagram: &Datagram<'_>, sender: Side) {
         let half = &mut self.halves[sender as usize];

@@ -151,6 +151,17 @@ fn destination_id() {
     let index = Talk::open().next();
     with(b"elsewhere").finds("destination-id", "RFC 9000, section 7.2", index);
     with(&Talk::new().made.ids[1]).finds_nothing();
+
+    // An id of NEW_CONNECTION_ID, before the handshake ends: sections 5.1.1 and 7.2 permit it in any packet.
+    let mut talk = Talk::new();
+    let (hello, issued) = (talk.client_hello(), new_id(1, 0, b"issued", 1));
+    talk.send(Client, Initial, &hello).server_flight().short(Server, &issued);
+    talk.made.first_dcid = Some(b"issued".to_vec());
+    talk.client_flight().made.first_dcid = None;
+    talk.confirm().later().finds_nothing();
+    // It isn't in the capture.
+    talk.all.remove(2);
+    talk.is_silent("destination-id", Need::PeerPackets);
 }
 
 // RFC 9001, section 4.9.1.

@@ -13,6 +13,9 @@ use quic_wire_capture::opened::Opened;
 // An id of fewer bytes may be there by chance.
 const LEAST_ID: usize = 4;
 
+const AMPLIFICATION: &[Need] =
+    &[Need::Begin, Need::PeerPackets, Need::OwnPackets, Need::NoEarlyData, Need::NoStrays, Need::Order, Need::End];
+
 pub(super) static RULES: &[Rule] = &[
     Rule::must(
         "initial-size",
@@ -26,7 +29,7 @@ pub(super) static RULES: &[Rule] = &[
         "A server sends at most three times as many bytes as it received until the client's address is validated.",
         Check::Datagram(amplification),
     )
-    .with(History::Whole, &[Need::Begin, Need::PeerPackets, Need::NoEarlyData, Need::NoStrays, Need::Order, Need::End]),
+    .with(History::Whole, AMPLIFICATION),
     Rule::must(
         "payload-size",
         "18.2",

@@ -1,7 +1,7 @@
 //! Headers, packet numbers, and the order of packets.
 
 use crate::about::{About, id_text};
-use crate::claim::{Claim, GRACE, distance};
+use crate::claim::{Claim, GRACE, distance, is_issued};
 use crate::rule::{Broken, Check, Checked, History, Need, Rule};
 use quic_wire::datagram::{HeaderKind, PacketRef};
 use quic_wire::ids::SpaceId;
@@ -34,8 +34,7 @@ pub(super) static RULES: &[Rule] = &[
     Rule::must(
         "destination-id",
         "7.2",
-        "Packets with long headers go to the id that the peer chose or, before its first packet, to the client's first \
-         one.",
+        "Packets with long headers go to an id of the peer or, before its first packet, to the client's first one.",
         Check::Packet(destination_id),
     )
     .with(History::Whole, &[Need::Begin, Need::PeerPackets]),
@@ -141,6 +140,9 @@ fn destination_id(about: &About<'_>, opened: &Opened<'_>) -> Checked {
     let is_of_client = about.sender == Side::Client && of_client.contains(&Some(&id));
     let sources = &about.peer_half().sources;
     if packet.header().is_short() || is_of_client || sources.contains(&id) || sources.is_empty() {
+        return Ok(None);
+    }
+    if is_issued(connection, !about.sender, &id) {
         return Ok(None);
     }
     let expected = sources.first().map_or_else(String::new, id_text);

@@ -46,7 +46,7 @@ pub struct Counts {
     pub connections: usize,
     /// Of these, those that began before the capture.
     pub began_before: usize,
-    /// Datagrams that were cut apart, as a network card does with those of Linux that are longer than usual.
+    /// Datagrams that were cut apart, as a network card does with those that Linux joined.
     pub offloaded: u64,
     /// Into how many.
     pub segments: u64,

@@ -197,8 +197,8 @@ impl Keyring {
         slot.as_mut()?.open(candidate, buffer)
     }
 
-    /// Finds the size of the datagrams that a network card cuts from one that is longer than usual: Linux passes
-    /// datagrams to the card that have one size, except for the last. It is the size with which the first short packet
+    /// Finds the size of the datagrams that a network card cuts from one of these: Linux passes datagrams to the card
+    /// that have one size, except for the last. It is the size with which the first short packet
     /// opens; `None` if it opens with none.
     pub(crate) fn segment_len(
         &mut self,

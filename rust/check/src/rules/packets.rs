@@ -167,9 +167,10 @@ fn discarded_keys(about: &About<'_>, opened: &Opened<'_>) -> Checked {
         .found()
 }
 
-// After a Version Negotiation a client begins anew with another version, perhaps with the same ids (RFC 9000, section 6).
+// After a Version Negotiation a client begins anew with another version, perhaps with the same ids.
 fn number_reuse(about: &About<'_>, opened: &Opened<'_>, before: &Sent) -> Checked {
-    let is_anew = opened.kind() == HeaderKind::Initial && opened.packet().header().version() != about.connection.version();
+    let version = opened.packet().header().version();
+    let is_anew = opened.kind() == HeaderKind::Initial && version != about.connection.version();
     if is_anew || opened.tag() == before.tag {
         return Ok(None);
     }

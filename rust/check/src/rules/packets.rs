@@ -167,8 +167,11 @@ fn discarded_keys(about: &About<'_>, opened: &Opened<'_>) -> Checked {
         .found()
 }
 
-fn number_reuse(_: &About<'_>, opened: &Opened<'_>, before: &Sent) -> Checked {
-    if opened.tag() == before.tag {
+// After a Version Negotiation a client begins anew with another version, perhaps with the same ids.
+fn number_reuse(about: &About<'_>, opened: &Opened<'_>, before: &Sent) -> Checked {
+    let version = opened.packet().header().version();
+    let is_anew = opened.kind() == HeaderKind::Initial && version != about.connection.version();
+    if is_anew || opened.tag() == before.tag {
         return Ok(None);
     }
     let seen = format!("number {} again, with other contents than in record {}", opened.number(), before.record);

@@ -9,7 +9,6 @@ use bytes::BytesMut;
 use quic_crypto::crypto::{HeaderKey, PacketKey};
 use quic_frames::frame::Frame;
 use quic_levels::keys::LevelKeys;
-use quic_levels::laws::sealed_is_received;
 use quic_levels::opening::LevelError;
 use quic_levels::protection::OpensLevels;
 use quic_levels::receiving::Receiver;
@@ -17,6 +16,7 @@ use quic_packets::keys::Keys;
 use quic_packets::opening::{Opened, Packets};
 use quic_packets::packet::{ConnectionIdParser, DecodeOptions, Header, SealError, seal_packet};
 use quic_packets::pairs::PairOfKeys;
+use quic_wire::laws::packets_received;
 use std::alloc::Global;
 
 /// Why a packet is not sealed and received.
@@ -51,7 +51,7 @@ pub fn received_after<C: ConnectionIdParser, H: HeaderKey, P: PacketKey>(
         (λ received. IfSome received (λ opened. Carries opened header.now number frames.now)) }
     ensures refused { IfErr result (IsFailure (⟦<Keys<H, P> as PairOfKeys>⟧.pair sealer.now) header.now frames.now) }
 {
-    sealed_is_received();
+    packets_received();
     let mut receiver = Receiver::new();
     let mut before = Packets::new(first);
     let Some(Err(_)) = receiver.receive_next(&mut before, options, keys) else {

@@ -18,6 +18,10 @@ pub use Rattle.quic_header_decode.specs.Headers
 pub use Rattle.quic_header_decode.specs.Reading as HeaderReading
 pub use Rattle.quic_header_decode.specs.Refusal
 pub use Rattle.quic_header_decode.specs.Rfc as PacketRfc
+pub use Rattle.quic_levels.specs.Levels
+pub use Rattle.quic_levels.specs.Opening as LevelOpening
+pub use Rattle.quic_levels.specs.Protection
+pub use Rattle.quic_levels.specs.Receiving
 pub use Rattle.quic_packets.specs.Opening
 pub use Rattle.quic_packets.specs.Pairs
 pub use Rattle.quic_packets.specs.Sealing

@@ -58,7 +58,7 @@ returns-in-Some-Ok-clause-carried g c =
     sealed_alone keys a.header.now a.number a.frames.now c.new-out.result.items c.seal_packet.new.out.items
     c.from_vec.result.items c.in_default-seal_packet.ensures.sealed c.new-out.ensures.items c.from_vec.ensures in
     let back =
-    returned_again c.sealed_is_received.ensures.opens opening c.new-receiver.result c.receive_next.new.self
+    returned_again c.packets_received.ensures.opens opening c.new-receiver.result c.receive_next.new.self
     c.receive_next-2.new.self a.first c.new-before.result.rest arm.field-0 arm.field-0-0 c.receive_next.new.packets.rest
     c.from_vec.result c.new-packets.result.rest last.field-0 c.receive_next-2.new.packets.rest keys a.header.now a.number
     a.frames.now c.new-receiver.ensures c.new-before.ensures one arm.ensures.next arm.ensures.expected
@@ -83,7 +83,7 @@ returns-in-Some-Err-receive_next-clause-refused g c =
     sealed_alone keys a.header.now a.number a.frames.now c.new-out.result.items c.seal_packet.new.out.items
     c.from_vec.result.items c.in_default-seal_packet.ensures.sealed c.new-out.ensures.items c.from_vec.ensures in
     let back =
-    returned_again c.sealed_is_received.ensures.opens opening c.new-receiver.result c.receive_next.new.self
+    returned_again c.packets_received.ensures.opens opening c.new-receiver.result c.receive_next.new.self
     c.receive_next-2.new.self a.first c.new-before.result.rest arm.field-0 arm.field-0-0 c.receive_next.new.packets.rest
     c.from_vec.result c.new-packets.result.rest last.field-0 c.receive_next-2.new.packets.rest keys a.header.now a.number
     a.frames.now c.new-receiver.ensures c.new-before.ensures one arm.ensures.next arm.ensures.expected

@@ -57,7 +57,7 @@ def reported(formats):
 
 LAWS = [
     "", "## Laws", "",
-    "README.md states the laws of crates/quic_wire/src/laws.rt. `ExactlyOne` (crates/quic_base/specs/One.antt): there"
+    "docs/PROOF.md states the laws of crates/quic_wire/src/laws.rt. `ExactlyOne` (crates/quic_base/specs/One.antt): there"
     " is such a value, and every other such value equals it. A datagram's result is its first packet (`Cut`) or an"
     " error (`Uncut`), that of a list a record (`IsMeant`, `IsValid`) or an error (`IsBadList`). A `Reading`"
     " (crates/quic_frame_fields/specs/Payload.antt) is `Complete`, the payload's frames (`AreFrames`), or"

@@ -1,32 +1,72 @@
-# make            the library for C, in out/lib, and the program quic-show
-# make check      tests them, the crate and callers in C, and proves nothing that is proved
+# make            builds the program quic-wire by cargo and, with the Rattle kit, quic-show and the library for C in out/lib
+# make check      checks all that needs no kit, on what is installed, and says what is missing: some ten minutes
+# make ci         the gate: proves everything, and checks the rest: over an hour on four cores; needs the kit
+# make proofs     only the proofs, mutants and proved tests of the gate
 # make install    installs what make left below PREFIX, the libraries in PREFIX/LIBDIR, all below DESTDIR if it is set
 # make dist       packs a release in out/dist
+# make docs       makes again what is made of other files: the format as data and as a page, tables, the erased crate
+# make lint       checks the format and the habits of Rust, shell and Python
+# make vectors    runs the test vectors through what is built
+# make page       makes the web page in out/page
 # make bench      counts instructions and takes times
+# make stacks     builds and tests other stacks with the library in them
 # make help       prints this
 #
-# Each calls a script of scripts/, whose --help says more; CC, AR and CPU are as there.
+# Most call a script of scripts/, whose --help says more; CC, AR, CPU and CRATES are as there.
 PREFIX ?= /usr/local
 LIBDIR ?= lib
 CPU ?=
+CRATES ?=
+CARGO = cargo $(CRATES:%=--config %/config.toml)
+KIT := $(shell command -v rt)
 
-.PHONY: all check install dist bench help
+.PHONY: all check ci proofs install dist docs lint vectors page bench stacks help
 all:
-	scripts/library out/lib $(if $(CPU),--cpu $(CPU))
+	$(CARGO) build --release -p quic-wire-cli
+ifneq ($(KIT),)
+	scripts/library out/lib $(CPU:%=--cpu %)
 	scripts/build
+else
+	@echo 'without the Rattle kit neither quic-show nor the library for C is built'
+endif
 
-check: all
-	scripts/test
-	scripts/callers
+check:
+	scripts/layers
+
+ci:
+	.ci/run
+
+proofs:
+	rt ci
 
 install:
-	scripts/install $(PREFIX) --lib out/lib --libdir $(LIBDIR) $(if $(DESTDIR),--destdir $(DESTDIR))
+	scripts/install $(PREFIX) --lib out/lib --libdir $(LIBDIR) $(DESTDIR:%=--destdir %)
 
 dist:
 	scripts/release out/dist
 
+docs:
+	$(if $(KIT),scripts/formats)
+	mkdir -p out && scripts/format-page >out/FORMAT.md && mv out/FORMAT.md docs/FORMAT.md
+	scripts/tables
+	scripts/erase
+
+lint:
+	cargo fmt --all --check
+	$(CARGO) clippy --workspace --all-targets -- -D warnings
+	scripts/check-docs
+
+vectors:
+	scripts/vectors $(wildcard out/lib)
+
+page:
+	scripts/web out/page
+
 bench:
 	scripts/bench
+
+stacks:
+	scripts/stacks
 
 help:
 	@sed -n 's/^# \{0,1\}//p' Makefile

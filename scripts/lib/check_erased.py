@@ -111,13 +111,14 @@ CALLED = {
     "quic_frame_fields/src/frame/ack_encode.rt": r"counts \. encode",
     "quic_frame_fields/src/frame/encode.rt": r"close \. encode|close \. min_len|self \. min_len",
     "quic_frames/src/frame/encode.rt": r"crypto \. encode|new \. encode|token \. encode|token \. size",
+    "quic_levels/src/opening.rt": r"\) \. expand",
     "quic_packets/src/opening.rt": r"\) \. expand",
     "quic_packets/src/payload.rt": r"\] \. encoded_len|frame \. encode",
     "quic_packets/src/seal.rt": r"header \. encode|header \. encoded_len|partial \. finish",
     "quic_wire/src/calls.rt": r"\] \. encode",
 }
 # Lists of names with functions that users may not call, and methods that they need not.
-HIDDEN = r"\b(?:open_datagram|open_packet|seal_packet|write_(?:number_)?entry(?:_header)?(?:_into)?)\b"
+HIDDEN = r"\b(?:open_datagram|open_next|open_packet|seal_packet|write_(?:number_)?entry(?:_header)?(?:_into)?)\b"
 # Those that the crate has under the same names, or as a method; and what stands before a contract in its documentation.
 WRAPPED = ("open_datagram", "open_packet", "seal_packet", "write_entry")
 BEFORE_CONTRACT = """

@@ -31,7 +31,7 @@ const RENAMED: [(&str, &[&str]); 20] = [
 ];
 
 /// Calls of these by a value: the source, the token before the `.`, and the method.
-const CALLS: [(&str, &str, &str); 17] = [
+const CALLS: [(&str, &str, &str); 18] = [
     ("quic_canon/src/canonical.rt", "frame", "encode"),
     ("quic_canon/src/canonical.rt", "frame", "encoded_len"),
     ("quic_frame_fields/src/frame/ack_encode.rt", "counts", "encode"),
@@ -42,6 +42,7 @@ const CALLS: [(&str, &str, &str); 17] = [
     ("quic_frames/src/frame/encode.rt", "new", "encode"),
     ("quic_frames/src/frame/encode.rt", "token", "encode"),
     ("quic_frames/src/frame/encode.rt", "token", "size"),
+    ("quic_levels/src/opening.rt", ")", "expand"),
     ("quic_packets/src/opening.rt", ")", "expand"),
     ("quic_packets/src/payload.rt", "]", "encoded_len"),
     ("quic_packets/src/payload.rt", "frame", "encode"),
@@ -55,8 +56,9 @@ const CALLS: [(&str, &str, &str); 17] = [
 const WRAPPED: [&str; 4] = ["open_datagram", "open_packet", "seal_packet", "write_entry"];
 
 /// Functions with a `requires` in lists of names that a module reexports.
-const REEXPORTED: [&str; 7] = [
+const REEXPORTED: [&str; 8] = [
     "open_datagram",
+    "open_next",
     "open_packet",
     "seal_packet",
     "write_entry",

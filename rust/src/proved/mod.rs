@@ -13,6 +13,7 @@ pub mod quic_frames;
 pub mod quic_header_decode;
 pub mod quic_header_encode;
 pub mod quic_header_fields;
+pub mod quic_levels;
 pub mod quic_negotiation;
 pub mod quic_packets;
 pub mod quic_param_fields;

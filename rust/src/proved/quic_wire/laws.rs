@@ -3,9 +3,10 @@
 //! about all bytes, in terms of the grammar in `crates/*/specs/`; the body names the laws of other crates that prove
 //! it. `(x : A) × P` says that there is an x for which P holds. The functions in the module `calls` compute the
 //! readings, packets, records and shortest payloads that exist by these laws.
-// ghost use Rattle.std.specs.Prelude.{◌≡◌, ◌≢◌, ◌+◌, ◌++◌, ℕ, List, [], Bool, true, false, drop, length, map, None, Option, Ok};
+// ghost use Rattle.std.specs.Prelude.{◌≡◌, ◌≢◌, ◌+◌, ◌++◌, ℕ, List, [], Bool, true, false, drop, filter, length, map, None, Option, Ok};
 // ghost use Rattle.quic_base.specs.Number.{AreBytes};
 // ghost use Rattle.quic_base.specs.One.{ExactlyOne};
+// ghost use Rattle.quic_base.specs.declared.ids.SpaceId.{SpaceId};
 // ghost use Rattle.quic_base.specs.Varint.{Encodes};
 // ghost use Rattle.quic_canon.specs.Least.{IsLeast};
 // ghost use Rattle.quic_frame_fields.specs.Payload.{AreClosed, Complete, FailsAfter, IsReadingAfter, IsReadingOf, Meaning, Reading, TypedFrame, followed_by, last_type};
@@ -19,8 +20,13 @@
 // ghost use Rattle.quic_header_decode.specs.declared.protected.ProtectedHeader.{ProtectedHeader};
 // ghost use Rattle.quic_header_encode.specs.Kinds.{space_in};
 // ghost use Rattle.quic_header_encode.specs.Writing.{IsWritable, header_bytes, header_with, size_in};
+// ghost use Rattle.quic_levels.specs.Opening as level;
+// ghost use Rattle.quic_levels.specs.Opening.{ReturnsAgain};
+// ghost use Rattle.quic_levels.specs.Protection.{pair_of};
+// ghost use Rattle.quic_levels.specs.Receiving.{IsExpectedNext, Receives, Reception, Run, fresh, is_opened};
 // ghost use Rattle.quic_packets.specs.Opening.{BeginsSealed, IsReadable, Opening, Opens, returned_by};
-// ghost use Rattle.quic_packets.specs.Pairs.{IsLawful};
+// ghost use Rattle.quic_packets.specs.declared.keys.Expected.{Expected};
+// ghost use Rattle.quic_packets.specs.Pairs.{IsLawful, expected_in};
 // ghost use Rattle.quic_packets.specs.Sealing.{PacketContents};
 // ghost use Rattle.quic_params.specs.Meaning.{IsReadAnswer};
 // ghost use Rattle.quic_params.specs.Order.{IsOrder};
@@ -116,6 +122,27 @@ pub fn packets_again() { #![doc = "# Contract\n```text"]
     //!     → Opens opening bytes (returned_by opening contents) rest }
     //! ```
     crate::proved::quic_packets::laws::sealed_opens();
+}
+
+/// A `Receiver` opens packets with keys by level and key phase, which may differ from call to call. After any
+/// receptions (`Run`), whatever packets came, were lost, came again or weren't sealed with its keys:
+pub fn packets_received() { #![doc = "# Contract\n```text"]
+    //! // The number that is expected next in a space is one more than the greatest that was opened there, or 0.
+    //! ensures next { (receptions : List Reception) (expected : Expected) → Run fresh receptions expected
+    //!     → (space : SpaceId) → IsExpectedNext space receptions (expected_in expected space) }
+    //! // A packet that was sealed with the keys of its level and phase, and whose number follows from the one that is
+    //! // expected (`BeginsSealed`), is opened to its header, number and payload, unless an allocation fails.
+    //! ensures opens { (receptions : List Reception) (expected : Expected) → Run fresh receptions expected
+    //!     → (last : Reception) (new : Expected) → Receives expected last new
+    //!     → (contents : PacketContents) (rest : List ℕ) (next : ℕ)
+    //!     → IsExpectedNext (space_in contents.header) receptions next
+    //!     → (begins : level.BeginsSealed last.opening next last.bytes contents rest)
+    //!     → ReturnsAgain (pair_of begins.header_key begins.packet_key) contents rest last.answer last.left }
+    //! // Receptions that opened nothing can be left out: the others are the same run, to the same expected numbers.
+    //! ensures foreign { (receptions : List Reception) (expected : Expected) → Run fresh receptions expected
+    //!     → Run fresh (filter is_opened receptions) expected }
+    //! ```
+    crate::proved::quic_levels::laws::sealed_is_received();
 }
 
 /// Parameters in range for the side that reads them are read, in each way of reading, as the record that was written,

@@ -5,6 +5,7 @@
 
 pub mod calls;
 pub mod laws;
+pub mod levels;
 pub mod meanings;
 pub mod rfc;
 

@@ -120,7 +120,7 @@ CALLED = {
 # Lists of names with functions that users may not call, and methods that they need not.
 HIDDEN = r"\b(?:open_datagram|open_next|open_packet|seal_packet|write_(?:number_)?entry(?:_header)?(?:_into)?)\b"
 # Those that the crate has under the same names, or as a method; and what stands before a contract in its documentation.
-WRAPPED = ("open_datagram", "open_packet", "seal_packet", "write_entry")
+WRAPPED = ("open_datagram", "open_next", "open_packet", "seal_packet", "write_entry")
 BEFORE_CONTRACT = """
 # What is proved
 
@@ -131,11 +131,12 @@ UNNEEDED = ("numbers", "of_flags", "type_bounds")
 # The traits that types have in Rust beside those of the sources.
 DERIVED = {
     "Clone": "CanonBytes InitialPacket Opened Packet PartialDecode",
-    "Clone, Debug": "Checked Cursor Iter Keys SpaceKeys",
+    "Clone, Debug": "Checked Cursor Iter Keys LevelKeys OneRttKeys SpaceKeys",
+    "Clone, Default": "Receiver",
     "Clone, PartialEq, Eq": "Header InitialHeader",
     "Default, Hash": "EcnCounts Expected",
-    "Hash": "Ack AckError AckFrequency ApplicationClose ConnectionClose EcnCodepoint HeaderKind InvalidFrame LongType "
-    "PacketNumber PacketType ReadOptions Rules SpaceId",
+    "Hash": "Ack AckError AckFrequency ApplicationClose ConnectionClose EcnCodepoint HeaderKind InvalidFrame Level "
+    "LongType PacketNumber PacketType ReadOptions Rules SpaceId",
     "PartialEq, Eq": "ProtectedHeader ProtectedInitialHeader",
     "PartialEq, Eq, Hash": "Close Crypto Datagram Frame NewConnectionId NewToken ResetStream StopSending Stream "
     "StreamMeta",

@@ -53,7 +53,7 @@ const CALLS: [(&str, &str, &str); 18] = [
 ];
 
 /// Those that the crate has under the same names, or as a method.
-const WRAPPED: [&str; 4] = ["open_datagram", "open_packet", "seal_packet", "write_entry"];
+const WRAPPED: [&str; 5] = ["open_datagram", "open_next", "open_packet", "seal_packet", "write_entry"];
 
 /// Functions with a `requires` in lists of names that a module reexports.
 const REEXPORTED: [&str; 8] = [
@@ -71,7 +71,7 @@ const REEXPORTED: [&str; 8] = [
 const FOR_THE_CRATE: [&str; 3] = ["numbers", "of_flags", "type_bounds"];
 
 /// Types, and the traits that they have in Rust beside those of the sources.
-const DERIVED: [(&str, &str); 42] = [
+const DERIVED: [(&str, &str); 46] = [
     ("Ack", "Hash"),
     ("AckError", "Hash"),
     ("AckFrequency", "Hash"),
@@ -96,9 +96,12 @@ const DERIVED: [(&str, &str); 42] = [
     ("InvalidFrame", "Hash"),
     ("Iter", "Clone, Debug"),
     ("Keys", "Clone, Debug"),
+    ("Level", "Hash"),
+    ("LevelKeys", "Clone, Debug"),
     ("LongType", "Hash"),
     ("NewConnectionId", "PartialEq, Eq, Hash"),
     ("NewToken", "PartialEq, Eq, Hash"),
+    ("OneRttKeys", "Clone, Debug"),
     ("Opened", "Clone"),
     ("Packet", "Clone"),
     ("PacketNumber", "Hash"),
@@ -107,6 +110,7 @@ const DERIVED: [(&str, &str); 42] = [
     ("ProtectedHeader", "PartialEq, Eq"),
     ("ProtectedInitialHeader", "PartialEq, Eq"),
     ("ReadOptions", "Hash"),
+    ("Receiver", "Clone, Default"),
     ("ResetStream", "PartialEq, Eq, Hash"),
     ("Rules", "Hash"),
     ("SpaceId", "Hash"),

@@ -8,7 +8,7 @@ use crate::proved::quic_levels::levels::Level;
 use crate::proved::quic_packets::keys::Keys;
 
 /// The keys of 1-RTT packets.
-#[derive()]
+#[derive(Clone, Debug)]
 pub struct OneRttKeys<H, P> {
     /// The key that protects headers. A key update leaves it (RFC 9001, section 6.1).
     pub header: H,
@@ -46,7 +46,7 @@ impl<H, P> OneRttKeys<H, P> {
 
 /// The keys that open packets, by level. Those of a level are `None` before they are there, and once they are discarded
 /// (RFC 9001, section 4.9).
-#[derive()]
+#[derive(Clone, Debug)]
 pub struct LevelKeys<H, P> {
     /// For Initial packets.
     pub initial: Option<Keys<H, P>>,

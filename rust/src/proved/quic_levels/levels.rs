@@ -8,7 +8,7 @@ use crate::proved::quic_header_decode::protected::ProtectedHeader;
 use crate::proved::quic_header_encode::long_type::LongType;
 
 /// The level of a packet's keys (RFC 9001, section 2.1).
-#[derive(Clone, Copy, Debug, PartialEq, Eq)]
+#[derive(Clone, Copy, Debug, PartialEq, Eq, Hash)]
 pub enum Level {
     /// Of Initial packets.
     Initial,

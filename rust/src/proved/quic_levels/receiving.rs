@@ -22,7 +22,7 @@ const _: () = debug_assert!(MAX_NUMBER == 4_611_686_018_427_387_903);
 
 /// Receives packets, and keeps which number is expected next in each space: one more than the greatest that was opened
 /// there, at most 2^62 - 1, or 0 if none was.
-#[derive(Debug)]
+#[derive(Debug, Clone, Default)]
 pub struct Receiver {
     expected: Expected,
 }

@@ -3,6 +3,7 @@ use crate::canonical::CanonError;
 use crate::coding::{NoRoom, UnexpectedEnd};
 use crate::datagram::{HeaderError, UnprotectError};
 use crate::frame::InvalidFrame;
+use crate::levels::LevelError;
 use crate::packet::{OpenError, PacketDecodeError, SealError};
 use crate::transport_error::{self, Code};
 use crate::transport_parameters;
@@ -82,6 +83,8 @@ pub enum Error {
     Protection(UnprotectError),
     /// A packet isn't opened.
     Open(OpenError),
+    /// A packet isn't opened with the keys of its level.
+    Level(LevelError),
     /// A packet isn't sealed.
     Seal(SealError),
     /// A list of transport parameters is rejected.
@@ -123,6 +126,7 @@ impl fmt::Display for Error {
             Error::Header(error) => write!(f, "packet: {error}"),
             Error::Protection(error) => write!(f, "header protection: {error}"),
             Error::Open(error) => write!(f, "packet: {error}"),
+            Error::Level(error) => write!(f, "packet: {error}"),
             Error::Seal(error) => write!(f, "not sealed: {error}"),
             Error::TransportParameters(error) => error.fmt(f),
             Error::UnexpectedEnd => UnexpectedEnd.fmt(f),
@@ -152,6 +156,7 @@ from! {
     HeaderError => Header;
     UnprotectError => Protection;
     OpenError => Open;
+    LevelError => Level;
     SealError => Seal;
     transport_parameters::Error => TransportParameters;
     WriteError => Write;

@@ -1,11 +1,11 @@
 //! The wire layer of QUIC, versions 1 and 2, for stacks and for tools that inspect bytes: frames ([`frame`]; RFC 9000,
 //! section 19, with DATAGRAM of RFC 9221 and the ACK frequency extension) and their shortest form ([`canonical`]);
 //! packet headers and their protection ([`packet`], and [`datagram`] for borrowed bytes; RFC 9000, sections 12.2 and
-//! 17; RFC 9001, section 5); transport parameters ([`transport_parameters`]; RFC 9000, section 18); sets of packet
-//! numbers ([`range_set`]); which packets may carry a frame ([`permitted`]); version_information and the answer to
-//! packets of other versions ([`versions`]; RFC 9368; RFC 8999, section 6); nonces and what a Retry's tag protects
-//! ([`tls`]; RFC 9001); stateless resets ([`reset`]). The names are those of `quinn-proto`, which keeps these parts
-//! private.
+//! 17; RFC 9001, section 5); packets opened by level and key phase ([`levels`]; RFC 9001, sections 4 to 6); transport
+//! parameters ([`transport_parameters`]; RFC 9000, section 18); sets of packet numbers ([`range_set`]); which packets
+//! may carry a frame ([`permitted`]); version_information and the answer to packets of other versions ([`versions`];
+//! RFC 9368; RFC 8999, section 6); nonces and what a Retry's tag protects ([`tls`]; RFC 9001); stateless resets
+//! ([`reset`]). The names are those of `quinn-proto`, which keeps these parts private.
 //!
 //! Reading and writing is proved: each function with a section "Contract" was written in Rattle and proved to fulfil
 //! the clauses that stand there, and a tool made Rust of it. What is written in Rust instead says so. You bring the
@@ -51,6 +51,7 @@ pub mod fields;
 pub mod frame;
 pub mod ids;
 mod kit;
+pub mod levels;
 pub mod packet;
 pub mod permitted;
 #[rustfmt::skip]

@@ -1,5 +1,6 @@
 //! Packets as values: cut from datagrams, opened, sealed, and their headers written (RFC 9000, sections 12.2 and 17;
-//! RFC 9001, section 5). [`crate::datagram`] does that in borrowed bytes.
+//! RFC 9001, section 5). [`crate::datagram`] does that in borrowed bytes. [`SpaceKeys`] have one pair of keys for each
+//! packet number space; a connection with 0-RTT or key updates opens its packets by [`crate::levels`].
 //!
 //! ```
 //! use bytes::BytesMut;
@@ -257,7 +258,7 @@ impl PartialDecode {
 
 impl Expected {
     // What opening requires.
-    fn assert_in_range(&self) {
+    pub(crate) fn assert_in_range(&self) {
         let most = self.initial.max(self.handshake).max(self.app);
         assert!(most <= varint::MAX, "an expected packet number is below 2^62");
     }

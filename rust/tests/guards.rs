@@ -70,7 +70,7 @@ fn what_is_reexported_is_named() {
 fn contracts_are_shown() {
     let mut files = vec![];
     files_of(&Path::new(env!("CARGO_MANIFEST_DIR")).join("src/proved/contracts"), &mut files);
-    assert_eq!(files.len(), 39);
+    assert_eq!(files.len(), 40);
     let layer: String = sources("").into_iter().map(|(_, text)| text).collect();
     for file in files {
         let name = file.file_name().unwrap().to_str().unwrap();

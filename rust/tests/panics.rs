@@ -3,8 +3,9 @@
 
 use bytes::BytesMut;
 use quic_wire::coding::{BufMut, Cursor};
-use quic_wire::crypto::{CryptoError, HeaderKey, PacketKey};
+use quic_wire::crypto::{CryptoError, HeaderKey, PacketKey, mask_in_place, seal_in_place};
 use quic_wire::datagram::{HeaderError, HeaderPlaces, PacketPlace, Packets, PacketsMut};
+use quic_wire::levels::LevelKeys;
 use quic_wire::packet::{
     DecodeOptions, Expected, FixedLengthConnectionIdParser, Header, Keys, PacketNumber, PartialDecode, PartialEncode,
     SpaceKeys, open_datagram, open_packet,
@@ -132,10 +133,17 @@ fn of_opening() {
     ];
     let options = DecodeOptions { parser: &parser, versions: &[1], grease: false };
     let open = |expected: &Expected| quic_wire::packet::Packets::new(packet()).open_next(&options, &keys, expected);
-    is_fine! { open(&Expected { app: (1 << 62) - 1, ..Expected::default() }); }
+    let levels = LevelKeys::<Key, Key>::new();
+    let by_level =
+        |expected: &Expected| quic_wire::packet::Packets::new(packet()).open_next_by_level(&options, &levels, expected);
+    is_fine! {
+        open(&Expected { app: (1 << 62) - 1, ..Expected::default() });
+        by_level(&Expected { app: (1 << 62) - 1, ..Expected::default() });
+    }
     for expected in &late {
         panic_on! {
             open(expected);
+            by_level(expected);
             open_packet(packet(), &parser, &[1], false, &keys, expected);
             open_datagram(packet(), &parser, &[1], false, &keys, expected, &mut vec![]);
         }
@@ -144,6 +152,25 @@ fn of_opening() {
     let retry = || BytesMut::from(&[0xf0, 0, 0, 0, 1, 0, 0, 7][..]);
     is_fine! { cut(retry()).finish(None::<&Key>).unwrap(); }
     panic_on! { cut(packet()).finish(None::<&Key>); }
+}
+
+#[test]
+fn of_ciphers_in_place() {
+    let mask = |pn_offset, sample_size| mask_in_place(pn_offset, &mut [0; 30], sample_size, |_, _, _| {});
+    let seal = |header_len, tag_len| seal_in_place(&mut [0; 30], header_len, tag_len, |_, _| [0_u8; 16]);
+    is_fine! {
+        mask(1, 25);
+        mask(10, 16);
+        seal(14, 16);
+    }
+    panic_on! {
+        mask(0, 16);
+        mask(10, 17);
+        mask(31, 0);
+        seal(15, 16);
+        seal(31, 0);
+        seal(2, 15);
+    }
 }
 
 #[test]

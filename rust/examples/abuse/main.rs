@@ -1,6 +1,7 @@
 //! abuse [ROUNDS [SEED [PAYLOADS DATAGRAMS LISTS]]]: every call with random and damaged bytes and fields. Different
 //! calls must agree: from the front or resumed, in borrowed bytes or with packets that own theirs, written and read.
 //! Inputs in files, one a line in hexadecimal, are changed.
+mod levels;
 mod lists;
 mod opening;
 mod packets;
@@ -30,7 +31,7 @@ fn main() {
     let mut file = || inputs(words.next());
     let seeds = Seeds { payloads: file(), datagrams: file(), lists: file() };
     let mut random = Random::new(seed, seeds);
-    for _ in 0..rounds {
+    for round in 0..rounds {
         payloads::frames(&mut random);
         payloads::streams(&mut random);
         payloads::meanings(&mut random);
@@ -40,6 +41,10 @@ fn main() {
         packets::negotiations(&mut random);
         opening::opened(&mut random);
         opening::sealed(&mut random);
+        levels::opened(&mut random);
+        if round % 32 == 0 {
+            levels::delivered(&mut random);
+        }
         reading::headers(&mut random);
         reading::values(&mut random);
         reading::acks(&mut random);

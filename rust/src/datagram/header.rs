@@ -1,6 +1,7 @@
 //! The header of a packet as byte ranges in it.
 use super::{HeaderKind, PacketPlace, Versions};
 use crate::ids::MAX_CID_SIZE;
+use crate::levels::Level;
 use crate::proved::quic_header_decode::places::{self, ReadError, read_header};
 use core::fmt;
 use core::ops::Range;
@@ -240,6 +241,19 @@ impl HeaderPlaces {
     #[inline]
     pub fn kind(&self) -> HeaderKind {
         self.places.kind
+    }
+
+    /// The level of the packet's keys (RFC 9001, section 4, table 1). `None` for Retry and version negotiation, which have
+    /// no protection.
+    #[inline]
+    pub fn level(&self) -> Option<Level> {
+        match self.places.kind {
+            HeaderKind::Initial => Some(Level::Initial),
+            HeaderKind::ZeroRtt => Some(Level::ZeroRtt),
+            HeaderKind::Handshake => Some(Level::Handshake),
+            HeaderKind::Short => Some(Level::OneRtt),
+            HeaderKind::Retry | HeaderKind::VersionNegotiate => None,
+        }
     }
 
     /// Whether the header is short.

@@ -253,8 +253,8 @@ impl Opened {
 impl Packets {
     /// Opens the next packet with the keys of its level, and of its key phase if it is a 1-RTT packet, and moves past
     /// it. `expected` is the packet number that is expected next in each space: [`Receiver::receive_next`] keeps these
-    /// itself. Returns `None` once nothing is left. The module has a [table](crate::levels#answers) of the
-    /// other answers.
+    /// itself. Returns `None` once nothing is left. The module has a [table](crate::levels#answers) of the other
+    /// answers. In the proved sources this is the function `open_next` of `quic_levels`.
     ///
     /// # Panics
     ///

@@ -1,5 +1,4 @@
 //! Packets that are opened by level and key phase (RFC 9001, sections 4 to 6), each answer once.
-#[allow(dead_code, reason = "the fuzzer's other inputs use the rest")]
 #[path = "../examples/abuse/levels.rs"]
 mod fuzz;
 #[allow(dead_code, reason = "the fuzzer's other inputs use the rest")]

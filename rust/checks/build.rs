@@ -6,7 +6,6 @@ use std::process::exit;
 fn main() {
     println!("cargo:rerun-if-changed=../../crates");
     println!("cargo:rerun-if-changed=../../crates.txt");
-    println!("cargo:rerun-if-changed=../../tests");
     let into = env::var("OUT_DIR").unwrap_or_default();
     if let Err(why) = eraser::checks(Path::new("../..")).and_then(|tree| tree.write(Path::new(&into))) {
         eprintln!("{why}");

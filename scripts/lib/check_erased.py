@@ -348,7 +348,7 @@ def files(kind, folder):
     """All files of the folder, with their sources."""
     crates = {path.name: path for pattern in ("quic_*", "*/quic_*") for path in folder.glob(pattern) if path.is_dir()}
     for name in sorted(crates):
-        source = next(TOP / of / name / "src" for of in ("tests", "crates") if (TOP / of / name).is_dir())
+        source = TOP / "crates" / name / "src"
         is_program = (source / "main.rt").exists()
 
         def others(crate):

@@ -64,7 +64,7 @@ impl Tree {
 
     // Erases all files of a crate into a folder.
     fn add(&mut self, top: &Path, name: &str, into: &Path, paths: &Paths) -> Result<(), String> {
-        let source = folder_of(top, name).join("src");
+        let source = top.join("crates").join(name).join("src");
         let mut files = Vec::new();
         files_of(&source, &mut files).map_err(|e| format!("{}: {e}", source.display()))?;
         for file in files {
@@ -87,12 +87,6 @@ impl Tree {
         }
         Ok(())
     }
-}
-
-// The folder of a crate.
-fn folder_of(top: &Path, name: &str) -> PathBuf {
-    let tested = top.join("tests").join(name);
-    if tested.is_dir() { tested } else { top.join("crates").join(name) }
 }
 
 // A refusal with the file and the line.
@@ -123,9 +117,10 @@ fn rust_name(path: &Path) -> PathBuf {
     }
 }
 
-// The crates of a list, each with those that it uses, without those for C.
-fn crates(list: &Path) -> Result<BTreeMap<String, Vec<String>>, String> {
-    let text = fs::read_to_string(list).map_err(|e| format!("{}: {e}", list.display()))?;
+// The crates of crates.txt, each with those that it uses, without those for C.
+fn crates(top: &Path) -> Result<BTreeMap<String, Vec<String>>, String> {
+    let path = top.join("crates.txt");
+    let text = fs::read_to_string(&path).map_err(|e| format!("{}: {e}", path.display()))?;
     let lines = text.lines().filter(|line| !line.starts_with('#'));
     let mut all = BTreeMap::new();
     for (name, uses) in lines.filter_map(|line| line.split_once(':')) {
@@ -159,7 +154,7 @@ fn modules<'a>(names: impl Iterator<Item = &'a String>) -> String {
 ///
 /// A source that can't be erased, or a file that can't be read.
 pub fn library(top: &Path) -> Result<Tree, String> {
-    let names = library_of(&crates(&top.join("crates.txt"))?);
+    let names = library_of(&crates(top)?);
     let others: BTreeMap<_, _> = names.iter().map(|name| (name.clone(), format!("crate::proved::{name}"))).collect();
     let mut tree = Tree::default();
     for (name, own) in &others {
@@ -171,17 +166,15 @@ pub fn library(top: &Path) -> Result<Tree, String> {
     Ok(tree)
 }
 
-/// The other crates, and those of the folder `tests`: libraries and tests are modules of `checks::tested`, programs of
-/// `checks::programs`.
+/// The other crates: libraries and tests are modules of `checks::tested`, programs of `checks::programs`.
 ///
 /// # Errors
 ///
 /// A source that can't be erased, or a file that can't be read.
 pub fn checks(top: &Path) -> Result<Tree, String> {
-    let mut all = crates(&top.join("crates.txt"))?;
-    all.append(&mut crates(&top.join("tests/crates.txt"))?);
+    let all = crates(top)?;
     let library = library_of(&all);
-    let source = |name: &str, root: &str| folder_of(top, name).join("src").join(root).exists();
+    let source = |name: &str, root: &str| top.join("crates").join(name).join("src").join(root).exists();
     let rest: Vec<&String> = all.keys().filter(|name| !library.contains(*name)).collect();
     let (programs, tested): (Vec<&String>, Vec<&String>) = rest.into_iter().partition(|name| source(name, "main.rt"));
     let paths = |own: String| {

@@ -12,6 +12,7 @@ lock has another API, and a separate wheel.
 
 import os
 import pathlib
+import shutil
 import sys
 import sysconfig
 
@@ -25,8 +26,9 @@ HERE = pathlib.Path(__file__).resolve().parent
 LIMITED_API = "0x030b0000"
 IS_LIMITED = not sysconfig.get_config_var("Py_GIL_DISABLED")
 COMPILE = [] if os.name == "nt" else ["-O2", "-fvisibility=hidden", "-ffunction-sections", "-g0"]
-# The library's own symbols stay inside the module, and what it doesn't call stays out.
-LINK = ["-Wl,--exclude-libs,ALL", "-Wl,--gc-sections"] if sys.platform == "linux" else []
+# The library's own symbols stay inside the module, and what it doesn't call stays out. Addresses are bound when it is
+# loaded, and can't be written afterwards.
+LINK = ["-Wl,--exclude-libs,ALL", "-Wl,--gc-sections", "-Wl,-z,relro,-z,now"] if sys.platform == "linux" else []
 NO_LIBRARY = (
     "setup.py: no library: set QUIC_WIRE_LIB to the folder of libquic_wire.a, or QUIC_WIRE_PORTABLE to what "
     "scripts/portable made (README.md, Building)"
@@ -78,8 +80,24 @@ class CopyPrograms(build_scripts):
         return []
 
 
+def lacking(compiler, folders):
+    """What a machine lacks to build the module, and how to get it; None if nothing."""
+    if not any((pathlib.Path(folder) / "Python.h").is_file() for folder in folders):
+        return "Python.h is missing: install Python's headers (python3-dev; Fedora: python3-devel)"
+    command = getattr(compiler, "compiler_so", None)
+    if command and not shutil.which(command[0]):
+        return f"the C compiler {command[0]} isn't on the path"
+    return None
+
+
 class BuildWithLibrary(build_ext):
     """Builds the library as C first, if no archive is named."""
+
+    def build_extensions(self):
+        fault = lacking(self.compiler, self.include_dirs)
+        if fault:
+            sys.exit(f"setup.py: {fault}")
+        super().build_extensions()
 
     def build_extension(self, ext):
         if AS_C:

@@ -42,6 +42,41 @@ class Errors(unittest.TestCase):
                 for call in (q.canonical, lambda payload: list(q.frames(payload))):
                     self.assertEqual(str(rejected(call, bytes.fromhex(digits))), str(error))
 
+    # By the names of c/include/quic_wire.h.
+    def test_kinds(self):
+        kind, frames, packets = q.ErrorKind, q.read_frames, lambda data: q.read_packets(data, 0, checks=q.Checks.RFC)
+        by_rfc = lambda data: q.read_frames(data, checks=q.Checks.RFC)  # noqa: E731
+        parameters = lambda data: q.TransportParameters.read(q.Side.SERVER, data)  # noqa: E731
+        rows = [
+            (frames, "", kind.PAYLOAD_EMPTY),
+            (frames, "10", kind.FRAME_END),
+            (frames, "24", kind.FRAME_TYPE),
+            (frames, "180102", kind.FRAME_MALFORMED),
+            (by_rfc, "4001", kind.FRAME_LONG_TYPE),
+            (by_rfc, "12d000000000000001", kind.FRAME_LIMIT),
+            (lambda data: frames(data)[0].check_permitted(0, 0), "0800", kind.FRAME_PACKET),
+            (lambda data: frames(data)[0].check_permitted(4, 0), "1e", kind.FRAME_SENDER),
+            (lambda data: frames(data)[0].check_permitted(4, 1), "0802", kind.FRAME_STREAM),
+            (packets, "", kind.PACKET_END),
+            (packets, "00", kind.PACKET_FIXED_BIT),
+            (packets, "c00000000115", kind.PACKET_CID),
+            (packets, "c0000000010000" + "00" + "4004", kind.PACKET_CUT),
+            (packets, "f0000000010000" + "00" * 16, kind.PACKET_RETRY),
+            (lambda data: q.unprotect(data, 8, bytes(5)), "00" * 9, kind.PACKET_SMALL),
+            (parameters, "0401", kind.PARAMS_MALFORMED),
+            (parameters, "0000", kind.PARAMS_ILLEGAL),
+            (lambda data: list(q.parameters(data)), "0401", kind.PARAMS_MALFORMED),
+            (q.parameter_fields, "0401", kind.PARAMS_MALFORMED),
+            (q.frame_fields, "10", kind.FRAME_END),
+            (q.read_varint, "", None),
+        ]
+        for call, digits, wanted in rows:
+            with self.subTest(digits, wanted=wanted):
+                error = rejected(call, bytes.fromhex(digits))
+                self.assertIs(error.kind, wanted)
+                self.assertIs(copy.copy(error).kind, wanted)
+                self.assertIs(type(error.kind), type(None) if wanted is None else q.ErrorKind)
+
     def test_messages_of_payloads(self):
         rows = [
             ("0140", "unexpected end at 1, Type at 1 (RFC 9000, section 20.1)"),

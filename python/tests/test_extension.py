@@ -23,7 +23,7 @@ def frames(payload):
                 yield type(frame).__name__
             return
         except q.FrameError as error:
-            if (error.frame_type, error.reason) != (RESET_STREAM_AT, UNKNOWN):
+            if (error.frame_type, error.kind) != (RESET_STREAM_AT, q.ErrorKind.FRAME_TYPE):
                 raise
         end = found.offset + 1
         for _ in range(4):
@@ -66,6 +66,15 @@ class Extension(unittest.TestCase):
         next(found)
         found.skip(3, 0x01)
         self.assertEqual([(frame.begin, frame.end) for frame in found], [(3, 4), (4, 5), (5, 6)])
+
+    def test_another_iterator_goes_on(self):
+        payload = bytes.fromhex("01" + "2404010805" + "0801")
+        for read, end in ((q.read_frames, 6), (lambda data, at: list(q.frames(data, at=at)), 6)):
+            with self.assertRaises(q.FrameError) as raised:
+                q.read_frames(payload)
+            self.assertEqual((raised.exception.offset, raised.exception.frames), (1, [q.Ping()]))
+            (frame,) = read(payload, at=end)
+            self.assertEqual((frame.begin, frame.end), (6, 8))
 
     def test_rejected(self):
         found = q.frames(b"\x01\x01\x01")

@@ -1,6 +1,7 @@
 """Frames: what no test vector covers about the objects that are read and made."""
 
 import copy
+import inspect
 import pickle
 import unittest
 
@@ -77,6 +78,71 @@ class Frames(unittest.TestCase):
         for change in (lambda: setattr(frame, "stream_id", 2), lambda: setattr(frame, "other", 2)):
             with self.assertRaises(AttributeError):
                 change()
+
+    def test_a_class_does_not_change(self):
+        for kind in (q.Frame, q.Stream, q.Packet, q.OneRtt, q.FrameIterator, q.RangeSet):
+            for name in ("KIND", "__match_args__", "other", "__repr__"):
+                with self.subTest(kind.__name__, name=name), self.assertRaisesRegex(TypeError, "immutable"):
+                    setattr(kind, name, 2)
+        with self.assertRaises(TypeError):
+            q.Ping().__class__ = q.Stream
+        self.assertEqual({kind.KIND for kind in q.Frame.__subclasses__()}, {frame.kind for frame, _, _ in ROWS})
+
+    def test_a_class_says_how_it_is_called(self):
+        rows = [
+            (q.Stream, "(stream_id=0, offset=0, fin=False, data=b'')"),
+            (q.Ack, "(largest=0, delay=0, ranges=None, ect0=None, ect1=None, ce=None)"),
+            (q.Padding, "(count=1)"),
+            (q.Ping, "()"),
+            (q.RangeSet, "(ranges=())"),
+            (q.frames, "(payload, /, *, at=0, checks=0)"),
+            (q.Ping().encode, "(last=False, *, checks=0)"),
+        ]
+        for call, text in rows:
+            with self.subTest(call):
+                self.assertEqual(str(inspect.signature(call)), text)
+        for frame, _, _ in ROWS:
+            self.assertEqual(list(inspect.signature(type(frame)).parameters), list(frame.__match_args__))
+            self.assertTrue(type(frame).__doc__.strip())
+        self.assertEqual(tuple(inspect.signature(q.TransportParameters).parameters), q.TransportParameters.__match_args__)
+
+    def test_ids_tokens_and_reasons_are_bytes(self):
+        payload = q.write_frames([
+            q.NewConnectionId(5, 2, b"ab", b"t" * 16), q.NewToken(b"cd"), q.ConnectionClose(1, 2, b"why"),
+            q.ApplicationClose(1, b""),
+        ])  # fmt: skip
+        for data in (payload, bytearray(payload)):
+            given, token, close, of_application = q.read_frames(data)
+            found = (given.connection_id, given.reset_token, token.token, close.reason, of_application.reason)
+            self.assertEqual(found, (b"ab", b"t" * 16, b"cd", b"why", b""))
+            self.assertEqual({type(one) for one in found}, {bytes})
+
+    def test_views_are_of_the_callers_bytes(self):
+        for data in (b"\x06\x00\x03abc", bytearray(b"\x06\x00\x03abc"), memoryview(b"\x06\x00\x03abc")):
+            view = q.read_frames(data)[0].data
+            self.assertEqual((view.tobytes(), view.format, view.shape, view.strides), (b"abc", "B", (3,), (1,)))
+            self.assertEqual((view[1], bytes(view[1:]), view.readonly, view.contiguous), (98, b"bc", True, True))
+            self.assertIs(view.obj, data.obj if isinstance(data, memoryview) else data)
+        self.assertEqual(bytes(q.Crypto().data), b"")
+
+    def test_from_an_offset(self):
+        payload = bytes.fromhex("01" "0a040161" "1005" "01")
+        for read in (q.read_frames, lambda payload, **how: list(q.frames(payload, **how))):
+            self.assertEqual([(it.begin, it.end) for it in read(payload, at=1)], [(1, 5), (5, 7), (7, 8)])
+            self.assertEqual([(it.begin, it.end) for it in read(payload, at=7)], [(7, 8)])
+            # What is behind the last frame isn't an empty payload.
+            self.assertEqual(read(payload, at=8), [])
+            for at in (9, 1 << 40, -1, 1 << 70):
+                with self.subTest(at), self.assertRaises(ValueError):
+                    read(payload, at=at)
+            with self.assertRaises(TypeError):
+                read(payload, at="1")
+            with self.assertRaisesRegex(q.FrameError, "empty"):
+                read(b"", at=0)
+            with self.assertRaises(q.FrameError) as caught:
+                read(payload + b"\x10", at=7)
+            self.assertEqual((caught.exception.offset, caught.exception.field_offset), (8, 9))
+        self.assertEqual(q.frames(payload, at=5).offset, 5)
 
     def test_patterns_match_by_position_and_name(self):
         match q.read_frames(bytes.fromhex("0d04106869"))[0]:
@@ -173,6 +239,14 @@ class Frames(unittest.TestCase):
             (TypeError, "stream_id is given twice", lambda: q.Stream(1, stream_id=1)),
             (ValueError, "data must have 8 bytes", lambda: q.PathChallenge(b"1")),
             (ValueError, "ranges", lambda: q.Ack(ranges=[])),
+            (ValueError, "range of step 1", lambda: q.Ack(ranges=[range(0, 30, 3)])),
+            (ValueError, "range of step 1", lambda: q.Ack(ranges=[range(9, 0, -1), range(20, 30)])),
+            (ValueError, "range of step 1", lambda: q.Ack(ranges=[range(0, 9, 1 << 70)])),
+            (TypeError, "range of step 1 or a pair", lambda: q.Ack(ranges="abc")),
+            (TypeError, "range of step 1 or a pair", lambda: q.Ack(ranges=[(1, 2, 3)])),
+            (TypeError, "range of step 1 or a pair", lambda: q.Ack(ranges=[{1: 2, 3: 4}])),
+            (TypeError, "the start of a range must be an int", lambda: q.Ack(ranges=["ab"])),
+            (TypeError, "not iterable", lambda: q.Ack(ranges=1)),
             (ValueError, "largest must be the greatest", lambda: q.Ack(largest=9, ranges=[range(3)])),
             (ValueError, "count must be 1 or more", lambda: q.Padding(0)),
             (TypeError, "instances", q.Frame),

@@ -150,6 +150,39 @@ class Memory(unittest.TestCase):
         self.assertIsNone(kept())
 
 
+    def test_cycles_are_collected(self):
+        class Bytes(bytearray):
+            pass
+
+        def half(payload):
+            found = q.frames(payload)
+            next(found)
+            return found
+
+        rows = [
+            ("frames", b"\x01\x01", q.frames),
+            ("frames, half of them read", b"\x01\x01", half),
+            ("a list", b"\x06\x00\x01a", q.read_frames),
+            ("a frame that is made", b"abc", lambda data: q.Crypto(0, data)),
+            ("a packet", b"\x41" * 9, lambda data: q.read_packet(data, 8)),
+            ("data", b"\x06\x00\x01a", lambda data: q.read_frames(data)[0].data),
+        ]
+        for name, data, make in rows:
+            with self.subTest(name):
+                kept = Bytes(data)
+                freed = weakref.ref(kept)
+                kept.held = make(kept)
+                del kept
+                gc.collect()
+                self.assertIsNone(freed())
+
+    def test_what_holds_bytes_is_not_tracked(self):
+        # So a list of many frames costs the collector nothing.
+        made = [q.read_frames(b"\x01")[0], q.frames(b"\x01"), q.Crypto(0, b"a"), q.read_packet(b"\x41", 0)]
+        self.assertEqual([gc.is_tracked(one) for one in made], [False] * 4)
+        self.assertTrue(gc.is_tracked(q.read_frames(bytearray(b"\x01"))[0]))
+
+
 class Threads(unittest.TestCase):
     def test_several_threads_read(self):
         payload = b"\x01" + b"\x10\x05" * 2000

@@ -42,6 +42,17 @@ class Packets(unittest.TestCase):
         self.assertIsInstance(unknown, q.UnknownVersion)
         self.assertEqual((unknown.version, bytes(unknown.dcid), unknown.end), (9, b"a", 12))
 
+    def test_ids_and_tokens_are_bytes(self):
+        initial = bytearray(q.write_header(q.PacketType.INITIAL, CID, b"ab", b"token", number_len=1) + bytes(19))
+        q.set_length(initial, len(initial) - 20)
+        retry = q.write_header(q.PacketType.RETRY, CID, b"ab") + b"token" + bytes(16)
+        for data in (bytes(initial), initial, retry, bytearray(retry)):
+            packet = q.read_packet(data, 0)
+            self.assertEqual((packet.dcid, packet.scid, packet.token), (CID, b"ab", b"token"))
+            self.assertEqual({type(one) for one in (packet.dcid, packet.scid, packet.token)}, {bytes})
+            self.assertIs(type(packet.data), memoryview)
+        self.assertIs(type(packet.integrity_tag), bytes)
+
     def test_a_packet_is_a_value(self):
         data = q.write_header(q.PacketType.ONE_RTT, CID)
         packet, other = q.read_packet(data, 8), q.read_packet(bytearray(data), 8)
@@ -79,6 +90,12 @@ class Packets(unittest.TestCase):
             (ValueError, lambda: q.write_header(q.PacketType.INITIAL, CID, version=1 << 32)),
             (ValueError, lambda: q.read_packet(b"\x40", 0, 2)),
             (ValueError, lambda: q.read_packet(b"\x40", 0, -1)),
+            (ValueError, lambda: q.read_packet(b"\x40", 0, 1 << 70)),
+            (TypeError, lambda: q.read_packet(b"\x40", 0, "1")),
+            (TypeError, lambda: q.read_packet(b"\x40")),
+            (TypeError, lambda: q.read_packet(b"\x40", cid_length=0)),
+            (TypeError, lambda: q.read_packet(b"\x40", 0, datagram=b"\x40")),
+            (TypeError, lambda: q.read_packet(b"\x40", 0, 0, None, 0)),
             (ValueError, lambda: q.read_packets(b"\x40", 0, [1 << 32])),
             (ValueError, lambda: q.read_packets(b"\x40", 0, [1] * 33)),
             (ValueError, lambda: q.write_header(q.PacketType.INITIAL, bytes(21))),
@@ -138,6 +155,9 @@ class Packets(unittest.TestCase):
         opened = open_packet(q.read_packet(sealed, 8), Keys(), 5)
         self.assertEqual((opened.number, opened.payload), (7, b"\x01\x00"))
         self.assertEqual((opened.key_phase, opened.reserved_bits_are_zero), (True, True))
+        self.assertEqual((opened.payload_at, opened.packet.number_at), (11, 9))
+        behind = open_packet(q.read_packet(b"\xff" * 5 + sealed, 8, 5), Keys(), 5)
+        self.assertEqual((behind.payload_at, behind.packet.number_at, behind.header), (16, 14, opened.header))
         self.assertEqual(calls[-1], (7, b"\x45" + CID + b"\x00\x07"))
         with self.assertRaises(KeyError):
             open_packet(q.read_packet(sealed[:-1] + b"\x01", 8), Keys())

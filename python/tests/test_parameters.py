@@ -72,6 +72,29 @@ class Parameters(unittest.TestCase):
             case q.TransportParameters(initial_max_data=limit, preferred_address=q.PreferredAddress(v4=(_, port))):
                 self.assertEqual((limit, port), (5, 443))
 
+    def test_what_is_present(self):
+        every = q.TransportParameters(**{name: value for name, value, _ in ROWS}).write(q.Side.SERVER)
+        # One with its default value, one in a longer encoding, one that isn't known, a repeat.
+        data = bytes.fromhex("0b0119" "04024005" "1b00" "6ab200" "6ab200")
+        read = q.TransportParameters.read(q.Side.CLIENT, data, checks=q.Checks.ANY_WIDTH)
+        named = {"max_ack_delay": 25, "initial_max_data": 5, "grease_quic_bit": True}
+        rows = [
+            (q.TransportParameters.read(q.Side.CLIENT, b""), {}),
+            (q.TransportParameters.read(q.Side.CLIENT, every), {name: value for name, value, _ in ROWS}),
+            (read, named),
+            (q.TransportParameters(**named), named),
+            (q.TransportParameters(min_ack_delay=None), {"min_ack_delay": None}),
+        ]
+        for made, wanted in rows:
+            with self.subTest(made):
+                self.assertEqual((made.present, made.as_dict(present=True)), (frozenset(wanted), wanted))
+                self.assertEqual(list(made.as_dict()), list(q.TransportParameters.__match_args__))
+                self.assertEqual(made.as_dict(present=False), made.as_dict())
+                for other in (pickle.loads(pickle.dumps(made)), copy.copy(made)):
+                    self.assertEqual((other, other.present), (made, made.present))
+        # They are the same parameters.
+        self.assertEqual(read, q.TransportParameters(initial_max_data=5, grease_quic_bit=True))
+
     def test_a_list_of_nothing_has_the_defaults(self):
         read = q.TransportParameters.read(q.Side.SERVER, b"")
         self.assertEqual(read, q.TransportParameters())

@@ -68,3 +68,25 @@ def entries(data: bytes) -> dict[int, bytes]:
 def acknowledged(numbers: q.RangeSet) -> bytes:
     numbers.insert(1, 5)
     return q.write_frames([q.Ack(ranges=numbers, delay=3), q.Padding(3)])
+
+
+def kinds(payload: bytes, at: int) -> Optional[q.ErrorKind]:
+    try:
+        closes = [frame.reason for frame in q.frames(payload, at=at) if isinstance(frame, q.ConnectionClose)]
+    except q.FrameError as error:
+        unknown: bool = error.kind == q.ErrorKind.FRAME_TYPE
+        return error.kind if unknown else None
+    text: bytes = b"".join(closes)
+    return None if text else q.ErrorKind.PAYLOAD_EMPTY
+
+
+def ids(packet: q.Packet) -> bytes:
+    return packet.dcid + packet.scid + (packet.token if isinstance(packet, q.Initial) else b"")
+
+
+def present(read: q.TransportParameters) -> frozenset[str]:
+    return read.present & set(read.as_dict(present=True))
+
+
+def acknowledged_by(ack: q.Ack) -> q.RangeSet:
+    return q.RangeSet(ack)

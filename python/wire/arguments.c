@@ -1,10 +1,136 @@
 /* SPDX-License-Identifier: MIT OR Apache-2.0 */
-/* Checks of arguments, with exceptions that name them. */
+/* The arguments of calls and their checks, with exceptions that name them. */
 #include "wire.h"
 
+#include <stdlib.h>
 #include <string.h>
 
-/* A number of at most so many bits; -1 with an exception that names it. */
+/* ---- Which arguments a call has */
+
+typedef struct call_row {
+  const char *function;
+  Py_ssize_t needed;     /* how many must be given: the first ones */
+  Py_ssize_t positional; /* how many may be given by position */
+  Py_ssize_t count;
+  const char *names[MOST_ARGUMENTS]; /* empty: only by position */
+} call_row;
+
+static const call_row calls[CALLS] = {
+#define CALL(word, function, needed, positional, ...)                          \
+  {function,                                                                   \
+   needed,                                                                     \
+   positional,                                                                 \
+   sizeof((const char *[]){__VA_ARGS__}) / sizeof(const char *),               \
+   {__VA_ARGS__}},
+    WIRE_CALLS
+#undef CALL
+};
+
+/* The index of a name among others, or -1. Names that a program has literally
+ * are interned. */
+static Py_ssize_t index_of(PyObject *const *names, Py_ssize_t count,
+                           PyObject *name) {
+  Py_ssize_t i;
+  for (i = 0; i < count; i++)
+    if (names[i] == name)
+      return i;
+  for (i = 0; i < count; i++)
+    if (names[i] && PyUnicode_Compare(names[i], name) == 0)
+      return i;
+  return -1;
+}
+
+static int fail_count(const call_row *row, Py_ssize_t nargs) {
+  if (row->needed == row->positional)
+    return wire_fail(PyExc_TypeError,
+                     "%s() takes exactly %zd arguments, not %zd", row->function,
+                     row->needed, nargs);
+  return wire_fail(PyExc_TypeError,
+                   "%s() takes %zd to %zd arguments by position, not %zd",
+                   row->function, row->needed, row->positional, nargs);
+}
+
+static int fail_missing(const call_row *row, Py_ssize_t i, Py_ssize_t nargs) {
+  if (!*row->names[i])
+    return fail_count(row, nargs);
+  return wire_fail(PyExc_TypeError, "%s() lacks the argument %s", row->function,
+                   row->names[i]);
+}
+
+int wire_arguments(const wire_state *state, wire_call_index call,
+                   PyObject *const *args, Py_ssize_t nargs, PyObject *names,
+                   PyObject **out) {
+  const call_row *row = &calls[call];
+  const Py_ssize_t named = names ? PyTuple_Size(names) : 0;
+  Py_ssize_t i, at;
+  if (nargs > row->positional)
+    return fail_count(row, nargs);
+  for (i = 0; i < nargs; i++)
+    out[i] = args[i];
+  for (; i < row->count; i++)
+    out[i] = NULL;
+  for (i = 0; i < named; i++) {
+    PyObject *name = PyTuple_GetItem(names, i);
+    at = index_of(state->arguments[call], row->count, name);
+    if (at < 0)
+      return wire_fail(PyExc_TypeError, "%s() has no keyword argument %U",
+                       row->function, name);
+    if (out[at])
+      return wire_fail(PyExc_TypeError, "%s() is given %s twice", row->function,
+                       row->names[at]);
+    out[at] = args[nargs + i];
+  }
+  for (i = nargs; i < row->needed; i++)
+    if (!out[i])
+      return fail_missing(row, i, nargs);
+  return 0;
+}
+
+/* ---- Names of the state */
+
+static const wire_kind *const frame_kinds = wire_frame_kinds;
+static const char *const parameter_names[PARAMETERS] = {
+#define PARAMETER(name, kind, id, at, len_at, present, doc) #name,
+#include "formats.h"
+};
+
+static int intern(PyObject **out, const char *name) {
+  *out = PyUnicode_InternFromString(name);
+  return *out ? 0 : -1;
+}
+
+static int intern_arguments(wire_state *state) {
+  Py_ssize_t call, i;
+  for (call = 0; call < CALLS; call++)
+    for (i = 0; i < calls[call].count; i++)
+      if (*calls[call].names[i] &&
+          intern(&state->arguments[call][i], calls[call].names[i]) < 0)
+        return -1;
+  return 0;
+}
+
+static int intern_fields(wire_state *state) {
+  Py_ssize_t kind, i;
+  for (kind = 0; kind < KINDS; kind++)
+    for (i = 0; frame_kinds[kind].fields[i].name; i++)
+      if (intern(&state->fields[kind][i], frame_kinds[kind].fields[i].name) < 0)
+        return -1;
+  for (i = 0; i < PARAMETERS; i++)
+    if (intern(&state->parameter_names[i], parameter_names[i]) < 0)
+      return -1;
+  return 0;
+}
+
+int wire_intern(wire_state *state) {
+  if (intern(&state->start, "start") < 0 || intern(&state->stop, "stop") < 0 ||
+      intern(&state->step, "step") < 0 || intern_arguments(state) < 0)
+    return -1;
+  return intern_fields(state);
+}
+
+/* ---- Numbers */
+
+/* A number of at most so many bits. */
 static int number_of(PyObject *value, const char *name, int bits,
                      uint64_t *out) {
   unsigned long long number;
@@ -29,6 +155,29 @@ int wire_varint(PyObject *value, const char *name, uint64_t *out) {
   return number_of(value, name, 62, out);
 }
 
+int wire_uint32(PyObject *value, const char *name, uint32_t *out) {
+  uint64_t number = 0;
+  if (number_of(value, name, 32, &number) < 0)
+    return -1;
+  *out = (uint32_t)number;
+  return 0;
+}
+
+int wire_uint8(PyObject *value, const char *name, uint8_t *out) {
+  uint64_t number = 0;
+  if (number_of(value, name, 8, &number) < 0)
+    return -1;
+  *out = (uint8_t)number;
+  return 0;
+}
+
+int wire_index(PyObject *value, const char *name, Py_ssize_t *out) {
+  if (!PyLong_Check(value) && !PyIndex_Check(value))
+    return wire_fail(PyExc_TypeError, "%s must be an int", name);
+  *out = PyNumber_AsSsize_t(value, PyExc_ValueError);
+  return *out == -1 && PyErr_Occurred() ? -1 : 0;
+}
+
 int wire_version(PyObject *value, uint32_t *out) {
   uint64_t version;
   if (wire_number(value, "a version", &version) < 0)
@@ -41,138 +190,177 @@ int wire_version(PyObject *value, uint32_t *out) {
 }
 
 uint32_t *wire_versions(PyObject *versions, size_t *count) {
-  PyObject *list = PySequence_List(versions);
-  const Py_ssize_t len = list ? PyList_Size(list) : 0;
-  uint32_t *out = list ? PyMem_Calloc((size_t)len + 1, sizeof *out) : NULL;
+  PyObject *all = PySequence_Tuple(versions);
+  const Py_ssize_t len = all ? PyTuple_Size(all) : 0;
+  uint32_t *out = all ? PyMem_Calloc((size_t)len + 1, sizeof *out) : NULL;
   Py_ssize_t i;
+  if (all && !out)
+    PyErr_NoMemory();
   for (i = 0; out && i < len; i++)
-    if (wire_version(PyList_GetItem(list, i), &out[i]) < 0) {
+    if (wire_version(PyTuple_GetItem(all, i), &out[i]) < 0) {
       PyMem_Free(out);
       out = NULL;
     }
-  Py_XDECREF(list);
+  Py_XDECREF(all);
   *count = (size_t)len;
   return out;
 }
 
-int wire_to_uint32(PyObject *value, void *out) {
-  uint64_t number;
-  if (number_of(value, "this argument", 32, &number) < 0)
-    return 0;
-  *(uint32_t *)out = (uint32_t)number;
-  return 1;
-}
-
-int wire_to_uint8(PyObject *value, void *out) {
-  uint64_t number;
-  if (number_of(value, "this argument", 8, &number) < 0)
-    return 0;
-  *(uint8_t *)out = (uint8_t)number;
-  return 1;
-}
-
-static int to_side(PyObject *value, const char *name, uint32_t *out) {
+int wire_side(PyObject *value, const char *name, uint32_t *out) {
   uint64_t number = 0;
   const int is_number = PyLong_Check(value);
   if (is_number && wire_number(value, name, &number) < 0)
     PyErr_Clear();
   else if (is_number && number <= QUIC_WIRE_SIDE_SERVER) {
     *out = (uint32_t)number;
-    return 1;
+    return 0;
   }
-  PyErr_Format(is_number ? PyExc_ValueError : PyExc_TypeError,
-               "%s must be Side.CLIENT or Side.SERVER", name);
-  return 0;
+  return wire_fail(is_number ? PyExc_ValueError : PyExc_TypeError,
+                   "%s must be Side.CLIENT or Side.SERVER", name);
 }
 
-int wire_to_side(PyObject *value, void *out) {
-  return to_side(value, "side", out);
-}
-
-int wire_to_sender(PyObject *value, void *out) {
-  return to_side(value, "sender", out);
-}
-
-int wire_to_packet_type(PyObject *value, void *out) {
+int wire_packet_type(PyObject *value, uint32_t *out) {
   uint64_t number = PACKET_KINDS;
   const int is_number = PyLong_Check(value);
   if (is_number && wire_number(value, "packet_type", &number) < 0)
     PyErr_Clear();
   if (number <= QUIC_WIRE_PACKET_HANDSHAKE || number == QUIC_WIRE_PACKET_1RTT) {
-    *(uint32_t *)out = (uint32_t)number;
-    return 1;
-  }
-  PyErr_SetString(is_number ? PyExc_ValueError : PyExc_TypeError,
-                  "packet_type must be INITIAL, ZERO_RTT, HANDSHAKE or ONE_RTT "
-                  "of PacketType");
-  return 0;
-}
-
-int wire_to_checks(PyObject *value, void *out) {
-  uint64_t number;
-  if (number_of(value, "checks", 32, &number) < 0)
+    *out = (uint32_t)number;
     return 0;
-  *(uint32_t *)out = (uint32_t)number;
-  return 1;
-}
-
-int wire_checks(PyObject *const *args, Py_ssize_t nargs, PyObject *names,
-                uint32_t *flags) {
-  const Py_ssize_t count = names ? PyTuple_Size(names) : 0;
-  Py_ssize_t i;
-  *flags = 0;
-  for (i = 0; i < count; i++) {
-    PyObject *name = PyTuple_GetItem(names, i);
-    if (PyUnicode_CompareWithASCIIString(name, "checks") != 0)
-      return wire_fail(PyExc_TypeError, "no such keyword argument: %U", name);
-    if (!wire_to_checks(args[nargs + i], flags))
-      return -1;
   }
-  return 0;
+  return wire_fail(is_number ? PyExc_ValueError : PyExc_TypeError,
+                   "packet_type must be INITIAL, ZERO_RTT, HANDSHAKE or "
+                   "ONE_RTT of PacketType");
 }
 
-/* Both ends of a range or of a pair. */
-static int ends_of(PyObject *range, uint64_t *start, uint64_t *end) {
-  const int is_range = PyObject_TypeCheck(range, &PyRange_Type);
-  PyObject *first = is_range ? PyObject_GetAttrString(range, "start")
-                             : PySequence_GetItem(range, 0);
-  PyObject *last = !first     ? NULL
-                   : is_range ? PyObject_GetAttrString(range, "stop")
-                              : PySequence_GetItem(range, 1);
-  const int found = first && last &&
-                    wire_number(first, "the start of a range", start) == 0 &&
-                    wire_number(last, "the end of a range", end) == 0;
+int wire_checks(PyObject *value, uint32_t *out) {
+  *out = 0;
+  return value ? wire_uint32(value, "checks", out) : 0;
+}
+
+/* ---- Ranges */
+
+static const char not_a_range[] =
+    "a range must be a range of step 1 or a pair of numbers";
+
+static int ends_of(PyObject *first, PyObject *last, quic_wire_range *out) {
+  if (wire_number(first, "the start of a range", &out->start) < 0)
+    return -1;
+  return wire_number(last, "the end of a range", &out->end);
+}
+
+/* The ends of a `range`; another step would be other numbers. */
+static int ends_of_range(const wire_state *state, PyObject *range,
+                         quic_wire_range *out) {
+  PyObject *first = PyObject_GetAttr(range, state->start);
+  PyObject *last = first ? PyObject_GetAttr(range, state->stop) : NULL;
+  PyObject *step = last ? PyObject_GetAttr(range, state->step) : NULL;
+  uint64_t number = 1;
+  int result = -1;
+  if (step && (wire_number(step, "step", &number) < 0 || number != 1)) {
+    PyErr_Clear();
+    PyErr_SetString(PyExc_ValueError, not_a_range);
+  } else if (step)
+    result = ends_of(first, last, out);
   Py_XDECREF(first);
   Py_XDECREF(last);
-  return found ? 0 : -1;
+  Py_XDECREF(step);
+  return result;
 }
 
-quic_wire_range *wire_ranges(PyObject *ranges, size_t *count) {
-  PyObject *list = PySequence_List(ranges);
-  const Py_ssize_t len = list ? PyList_Size(list) : 0;
-  const size_t room = (size_t)len + 1;
-  quic_wire_range *runs = list ? PyMem_Calloc(room, sizeof *runs) : NULL;
-  quic_wire_runs set = {0, 0};
-  Py_ssize_t i;
-  if (list && !runs)
-    PyErr_NoMemory();
-  for (i = 0; runs && i < len; i++) {
-    uint64_t start, end;
-    int result = 0;
-    if (ends_of(PyList_GetItem(list, i), &start, &end) == 0)
-      result = quic_wire_runs_insert(runs, room, &set, start, end);
-    if (result < 0)
-      wire_mistake(result);
-    if (PyErr_Occurred()) {
-      PyMem_Free(runs);
-      runs = NULL;
-    }
+static int ends_of_pair(PyObject *pair, quic_wire_range *out) {
+  const Py_ssize_t len = PySequence_Size(pair);
+  PyObject *first, *last;
+  int result = -1;
+  if (len < 0 && !PyErr_ExceptionMatches(PyExc_TypeError))
+    return -1;
+  if (len != 2) {
+    PyErr_Clear();
+    return wire_fail(PyExc_TypeError, not_a_range);
   }
-  Py_XDECREF(list);
+  first = PySequence_GetItem(pair, 0);
+  last = first ? PySequence_GetItem(pair, 1) : NULL;
+  if (last)
+    result = ends_of(first, last, out);
+  Py_XDECREF(first);
+  Py_XDECREF(last);
+  return result;
+}
+
+static int by_start(const void *a, const void *b) {
+  const uint64_t first = ((const quic_wire_range *)a)->start;
+  const uint64_t second = ((const quic_wire_range *)b)->start;
+  return (first > second) - (first < second);
+}
+
+/* Sorts ranges. Those of an ACK come from the greatest to the least. */
+static void sort(quic_wire_range *ranges, size_t count) {
+  size_t i, unsorted = 0;
+  if (count && ranges[0].start > ranges[count - 1].start)
+    for (i = 0; i < count / 2; i++) {
+      const quic_wire_range other = ranges[i];
+      ranges[i] = ranges[count - 1 - i];
+      ranges[count - 1 - i] = other;
+    }
+  for (i = 1; i < count; i++)
+    unsorted += ranges[i].start < ranges[i - 1].start;
+  if (unsorted)
+    qsort(ranges, count, sizeof *ranges, by_start);
+}
+
+/* The set of these ranges, which it frees: each is inserted behind the others,
+ * so that none is moved. */
+static quic_wire_range *set_of(quic_wire_range *ranges, size_t len,
+                               size_t *count) {
+  const size_t room = len + 1;
+  quic_wire_range *runs = PyMem_Calloc(room, sizeof *runs);
+  quic_wire_runs set = {0, 0};
+  size_t i;
+  int result = 0;
+  if (!runs)
+    PyErr_NoMemory();
+  sort(ranges, len);
+  for (i = 0; runs && result >= 0 && i < len; i++)
+    result = quic_wire_runs_insert(runs, room, &set, ranges[i].start,
+                                   ranges[i].end);
+  PyMem_Free(ranges);
+  if (result < 0) {
+    PyMem_Free(runs);
+    return (quic_wire_range *)wire_mistake(result);
+  }
   if (runs)
     memmove(runs, runs + set.first, set.count * sizeof *runs);
   *count = set.count;
   return runs;
+}
+
+quic_wire_range *wire_ranges(const wire_state *state, PyObject *ranges,
+                             size_t *count) {
+  PyObject *all, *type = (PyObject *)Py_TYPE(ranges);
+  quic_wire_range *out;
+  Py_ssize_t len, i;
+  if (type == state->set)
+    return numbers_of_set(ranges, count);
+  if (type == state->frames[KIND_ACK])
+    return frame_ranges(ranges, count);
+  all = PySequence_Tuple(ranges);
+  if (!all)
+    return NULL;
+  len = PyTuple_Size(all);
+  out = PyMem_Calloc((size_t)len + 1, sizeof *out);
+  if (!out)
+    PyErr_NoMemory();
+  for (i = 0; out && i < len; i++) {
+    PyObject *one = PyTuple_GetItem(all, i);
+    if ((PyObject_TypeCheck(one, &PyRange_Type)
+             ? ends_of_range(state, one, &out[i])
+             : ends_of_pair(one, &out[i])) < 0) {
+      PyMem_Free(out);
+      out = NULL;
+    }
+  }
+  Py_DECREF(all);
+  return out ? set_of(out, (size_t)len, count) : NULL;
 }
 
 PyObject *wire_range(const quic_wire_range *range) {

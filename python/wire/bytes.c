@@ -58,18 +58,105 @@ void wire_release(wire_bytes *bytes) {
   bytes->is_held = 0;
 }
 
-PyObject *wire_part(PyObject *owner, size_t begin, size_t len) {
-  PyObject *view, *out;
+int wire_acquire_writable(PyObject *value, const char *name, wire_bytes *out) {
+  out->is_held = 0;
+  if (PyObject_GetBuffer(value, &out->view, PyBUF_WRITABLE) < 0) {
+    PyErr_Clear();
+    return wire_fail(PyExc_TypeError,
+                     "%s must be bytes that can be written to, as a bytearray",
+                     name);
+  }
+  out->is_held = 1;
+  out->at = out->view.buf;
+  out->len = (size_t)out->view.len;
+  return 0;
+}
+
+/* ---- Parts */
+
+/* A part of an owner that is `bytes`, from which a view of the part is made
+ * without a view of the whole. */
+typedef struct part_object {
+  PyObject_HEAD PyObject *owner;
+  size_t begin, len;
+} part_object;
+
+static int part_buffer(PyObject *self, Py_buffer *view, int flags) {
+  const part_object *part = (part_object *)self;
+  return PyBuffer_FillInfo(view, part->owner,
+                           PyBytes_AsString(part->owner) + part->begin,
+                           (Py_ssize_t)part->len, 1, flags);
+}
+
+static void part_dealloc(PyObject *self) {
+  PyTypeObject *type = Py_TYPE(self);
+  Py_XDECREF(((part_object *)self)->owner);
+  PyObject_Free(self);
+  Py_DECREF(type);
+}
+
+static PyType_Slot part_slots[] = {{Py_bf_getbuffer, part_buffer},
+                                   {Py_tp_dealloc, part_dealloc},
+                                   {0, NULL}};
+static PyType_Spec part_spec = {
+    "quic_wire._wire._Part", sizeof(part_object), 0,
+    Py_TPFLAGS_DEFAULT | Py_TPFLAGS_IMMUTABLETYPE |
+        Py_TPFLAGS_DISALLOW_INSTANTIATION,
+    part_slots};
+
+int wire_add_part(PyObject *module, wire_state *state) {
+  state->part = wire_add_type(module, &part_spec, NULL, "_Part", NULL);
+  return state->part ? 0 : -1;
+}
+
+/* Whether an owner's bytes, which don't change their number, have this part. */
+static int has_part(size_t owned, size_t begin, size_t len) {
+  if (begin <= owned && len <= owned - begin)
+    return 1;
+  PyErr_SetString(PyExc_ValueError, "these bytes are outside of the others");
+  return 0;
+}
+
+static PyObject *view_of_bytes(wire_state *state, PyObject *owner, size_t begin,
+                               size_t len) {
+  part_object *part;
+  PyObject *view;
+  if (!has_part((size_t)PyBytes_Size(owner), begin, len))
+    return NULL;
+  part = PyObject_New(part_object, (PyTypeObject *)state->part);
+  if (!part)
+    return NULL;
+  part->owner = Py_NewRef(owner);
+  part->begin = begin;
+  part->len = len;
+  view = PyMemoryView_FromObject((PyObject *)part);
+  Py_DECREF((PyObject *)part);
+  return view;
+}
+
+PyObject *wire_part(wire_state *state, PyObject *owner, size_t begin,
+                    size_t len) {
   if (!owner || !len)
     return PyMemoryView_FromMemory((char *)"", 0, PyBUF_READ);
-  view = PyBytes_CheckExact(owner) ? PyMemoryView_FromObject(owner)
-                                   : Py_NewRef(owner);
-  if (!view)
+  if (PyBytes_CheckExact(owner))
+    return view_of_bytes(state, owner, begin, len);
+  return PySequence_GetSlice(owner, (Py_ssize_t)begin,
+                             (Py_ssize_t)(begin + len));
+}
+
+PyObject *wire_copy(PyObject *owner, size_t begin, size_t len) {
+  PyObject *out = NULL;
+  wire_bytes bytes;
+  if (wire_acquire(len ? owner : NULL, &bytes) < 0)
     return NULL;
-  out = PySequence_GetSlice(view, (Py_ssize_t)begin, (Py_ssize_t)(begin + len));
-  Py_DECREF(view);
+  if (!len || has_part(bytes.len, begin, len))
+    out = PyBytes_FromStringAndSize(
+        len ? (const char *)bytes.at + begin : "", (Py_ssize_t)len);
+  wire_release(&bytes);
   return out;
 }
+
+/* ---- New bytes */
 
 PyObject *wire_new_bytes(size_t len, uint8_t **at) {
   PyObject *out = PyBytes_FromStringAndSize(NULL, (Py_ssize_t)len);

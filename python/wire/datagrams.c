@@ -8,21 +8,22 @@
 static const uint32_t usual_versions[] = USUAL_VERSIONS;
 
 int wire_set_versions(wire_reader *how, PyObject *versions) {
-  PyObject *list;
+  PyObject *all;
   Py_ssize_t i, len;
-  if (versions == Py_None) {
-    memcpy(how->versions, usual_versions, sizeof usual_versions);
+  if (!versions || versions == Py_None) {
+    how->versions = usual_versions;
     how->count = sizeof usual_versions / sizeof *usual_versions;
     return 0;
   }
-  list = PySequence_List(versions);
-  len = list ? PyList_Size(list) : 0;
+  all = PySequence_Tuple(versions);
+  len = all ? PyTuple_Size(all) : 0;
   if (len > MOST_VERSIONS)
     PyErr_Format(PyExc_ValueError, "at most %d versions", (int)MOST_VERSIONS);
   for (i = 0; !PyErr_Occurred() && i < len; i++)
-    wire_version(PyList_GetItem(list, i), &how->versions[i]);
+    wire_version(PyTuple_GetItem(all, i), &how->given[i]);
+  how->versions = how->given;
   how->count = (size_t)len;
-  Py_XDECREF(list);
+  Py_XDECREF(all);
   return PyErr_Occurred() ? -1 : 0;
 }
 
@@ -94,38 +95,44 @@ static PyObject *read_from(wire_state *state, const wire_reader *how,
   return is_list ? list : packet;
 }
 
-static PyObject *read_packets(PyObject *module, PyObject *args,
-                              PyObject *keywords) {
-  static char *names[] = NAMES_read_packets;
-  PyObject *datagram, *versions = Py_None;
-  wire_reader how = {0};
-  if (!PyArg_ParseTupleAndKeywords(args, keywords, "OO&|O$O&:read_packets",
-                                   names, &datagram, wire_to_uint32,
-                                   &how.cid_len, &versions, wire_to_checks,
-                                   &how.flags) ||
-      wire_set_versions(&how, versions) < 0)
-    return NULL;
-  return read_from(PyModule_GetState(module), &how, datagram, 0, 1);
+/* The arguments that say how packets are read: -1 with an exception. */
+static int parse(wire_reader *how, PyObject *cid_len, PyObject *versions,
+                 PyObject *checks) {
+  if (wire_uint32(cid_len, "cid_len", &how->cid_len) < 0 ||
+      wire_checks(checks, &how->flags) < 0)
+    return -1;
+  return wire_set_versions(how, versions);
 }
 
-static PyObject *read_packet(PyObject *module, PyObject *args,
-                             PyObject *keywords) {
-  static char *names[] = NAMES_read_packet;
-  PyObject *datagram, *versions = Py_None;
+static PyObject *read_packets(PyObject *module, PyObject *const *args,
+                              Py_ssize_t nargs, PyObject *names) {
+  enum { DATAGRAM, CID_LEN, VERSIONS, CHECKS, COUNT };
+  wire_state *state = PyModule_GetState(module);
+  PyObject *given[COUNT];
+  wire_reader how;
+  if (wire_arguments(state, CALL_read_packets, args, nargs, names, given) < 0 ||
+      parse(&how, given[CID_LEN], given[VERSIONS], given[CHECKS]) < 0)
+    return NULL;
+  return read_from(state, &how, given[DATAGRAM], 0, 1);
+}
+
+static PyObject *read_packet(PyObject *module, PyObject *const *args,
+                             Py_ssize_t nargs, PyObject *names) {
+  enum { DATAGRAM, CID_LEN, AT, VERSIONS, CHECKS, COUNT };
+  wire_state *state = PyModule_GetState(module);
+  PyObject *given[COUNT];
   Py_ssize_t at = 0;
-  wire_reader how = {0};
-  if (!PyArg_ParseTupleAndKeywords(args, keywords, "OO&|nO$O&:read_packet",
-                                   names, &datagram, wire_to_uint32,
-                                   &how.cid_len, &at, &versions, wire_to_checks,
-                                   &how.flags) ||
-      wire_set_versions(&how, versions) < 0)
+  wire_reader how;
+  if (wire_arguments(state, CALL_read_packet, args, nargs, names, given) < 0 ||
+      (given[AT] && wire_index(given[AT], "at", &at) < 0) ||
+      parse(&how, given[CID_LEN], given[VERSIONS], given[CHECKS]) < 0)
     return NULL;
   if (at < 0)
     return PyErr_Format(PyExc_ValueError, "at must not be negative");
-  return read_from(PyModule_GetState(module), &how, datagram, (size_t)at, 0);
+  return read_from(state, &how, given[DATAGRAM], (size_t)at, 0);
 }
 
 PyMethodDef wire_packet_functions[] = {
-    WIRE_FUNCTION(read_packets, read_packets, WIRE_NAMED),
-    WIRE_FUNCTION(read_packet, read_packet, WIRE_NAMED),
+    WIRE_FUNCTION(read_packets, read_packets, WIRE_FAST),
+    WIRE_FUNCTION(read_packet, read_packet, WIRE_FAST),
     {NULL, NULL, 0, NULL}};

@@ -3,13 +3,13 @@
 #include "wire.h"
 
 static PyObject *entry_at(PyObject *Py_UNUSED(module), PyObject *args) {
-  PyObject *list;
+  PyObject *list, *offset;
   Py_ssize_t at;
   quic_wire_param param;
   wire_bytes bytes;
   int64_t end = QUIC_WIRE_ERR_PLACE;
-  if (!PyArg_ParseTuple(args, "On:_entry_at", &list, &at) ||
-      wire_acquire(list, &bytes) < 0)
+  if (!PyArg_UnpackTuple(args, "_entry_at", 2, 2, &list, &offset) ||
+      wire_index(offset, "at", &at) < 0 || wire_acquire(list, &bytes) < 0)
     return NULL;
   if (at >= 0 && (size_t)at < bytes.len)
     end = quic_wire_param_read(bytes.at + at, bytes.len - (size_t)at, &param);
@@ -22,15 +22,19 @@ static PyObject *entry_at(PyObject *Py_UNUSED(module), PyObject *args) {
                        at + (Py_ssize_t)param.value, at + (Py_ssize_t)end);
 }
 
-static PyObject *write_entry(PyObject *Py_UNUSED(module), PyObject *args) {
-  PyObject *number, *value, *out = NULL;
+static PyObject *write_entry(PyObject *module, PyObject *const *args,
+                             Py_ssize_t nargs) {
+  enum { ID, VALUE, COUNT };
+  PyObject *given[COUNT], *out = NULL;
   uint64_t id;
   wire_bytes bytes;
   uint8_t *at;
   size_t len = 0;
   int result = 0;
-  if (!PyArg_ParseTuple(args, "OO:write_parameter", &number, &value) ||
-      wire_varint(number, "id", &id) < 0 || wire_acquire(value, &bytes) < 0)
+  if (wire_arguments(PyModule_GetState(module), CALL_write_parameter, args,
+                     nargs, NULL, given) < 0 ||
+      wire_varint(given[ID], "id", &id) < 0 ||
+      wire_acquire(given[VALUE], &bytes) < 0)
     return NULL;
   out = wire_new_bytes(bytes.len + 16, &at);
   if (out)
@@ -49,6 +53,6 @@ static PyObject *is_known(PyObject *Py_UNUSED(module), PyObject *number) {
 
 PyMethodDef wire_parameter_functions[] = {
     {"_entry_at", entry_at, METH_VARARGS, NULL},
-    WIRE_FUNCTION(write_parameter, write_entry, METH_VARARGS),
+    WIRE_FUNCTION(write_parameter, write_entry, METH_FASTCALL),
     WIRE_FUNCTION(is_known_parameter, is_known, METH_O),
     {NULL, NULL, 0, NULL}};

@@ -82,7 +82,8 @@ PyObject *wire_parameter_error(int result, uint32_t side, uint32_t flags,
                      ? Py_NewRef(Py_None)
                      : PyLong_FromUnsignedLongLong(refusal->id);
   return raise_by("_parameter_error",
-                  Py_BuildValue("(sIIIOnN)", quic_wire_strerror(result),
+                  Py_BuildValue("(isIIIOnN)", result,
+                                quic_wire_strerror(result),
                                 quic_wire_close_code(result), side, flags, list,
                                 (Py_ssize_t)refusal->offset, id));
 }

@@ -59,12 +59,14 @@ static PyObject *entry_read(const wire_bytes *bytes, size_t begin,
 }
 
 /* What one of these returns for an offset of a bytes-like object. */
-static PyObject *read_at(PyObject *data, Py_ssize_t at, const wire_reader *how,
+static PyObject *read_at(PyObject *data, PyObject *offset,
+                         const wire_reader *how,
                          PyObject *(*read)(const wire_bytes *, size_t,
                                            const wire_reader *)) {
   wire_bytes bytes;
   PyObject *out = NULL;
-  if (wire_acquire(data, &bytes) < 0)
+  Py_ssize_t at;
+  if (wire_index(offset, "at", &at) < 0 || wire_acquire(data, &bytes) < 0)
     return NULL;
   if (at >= 0 && (size_t)at <= bytes.len)
     out = read(&bytes, (size_t)at, how);
@@ -75,31 +77,29 @@ static PyObject *read_at(PyObject *data, Py_ssize_t at, const wire_reader *how,
 }
 
 static PyObject *frame_fields(PyObject *Py_UNUSED(module), PyObject *args) {
-  PyObject *payload;
-  Py_ssize_t at;
+  PyObject *payload, *at, *checks;
   wire_reader how = {0};
-  if (!PyArg_ParseTuple(args, "OnO&:frame_fields", &payload, &at,
-                        wire_to_checks, &how.flags))
+  if (!PyArg_UnpackTuple(args, "frame_fields", 3, 3, &payload, &at, &checks) ||
+      wire_checks(checks, &how.flags) < 0)
     return NULL;
   return read_at(payload, at, &how, wire_frame_read);
 }
 
 static PyObject *packet_fields(PyObject *Py_UNUSED(module), PyObject *args) {
-  PyObject *datagram, *versions;
-  Py_ssize_t at;
-  wire_reader how = {0};
-  if (!PyArg_ParseTuple(args, "OO&nOO&:packet_fields", &datagram,
-                        wire_to_uint32, &how.cid_len, &at, &versions,
-                        wire_to_checks, &how.flags) ||
+  PyObject *datagram, *cid_len, *at, *versions, *checks;
+  wire_reader how;
+  if (!PyArg_UnpackTuple(args, "packet_fields", 5, 5, &datagram, &cid_len, &at,
+                         &versions, &checks) ||
+      wire_uint32(cid_len, "cid_len", &how.cid_len) < 0 ||
+      wire_checks(checks, &how.flags) < 0 ||
       wire_set_versions(&how, versions) < 0)
     return NULL;
   return read_at(datagram, at, &how, wire_packet_read);
 }
 
 static PyObject *parameter_fields(PyObject *Py_UNUSED(module), PyObject *args) {
-  PyObject *list;
-  Py_ssize_t at;
-  if (!PyArg_ParseTuple(args, "On:parameter_fields", &list, &at))
+  PyObject *list, *at;
+  if (!PyArg_UnpackTuple(args, "parameter_fields", 2, 2, &list, &at))
     return NULL;
   return read_at(list, at, NULL, entry_read);
 }

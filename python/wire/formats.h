@@ -7,6 +7,8 @@
  * - FIELD(name, what it is, its slot in the union, documentation) */
 /* The versions that are read by default. */
 #define USUAL_VERSIONS {0x00000001, 0xff00001d, 0xff00001e, 0xff00001f, 0xff000020, 0xff000021, 0xff000022, 0x6b3343cf}
+/* How the class of transport parameters is called. */
+#define PARAMETERS_SIGNATURE "*, max_idle_timeout=0, max_udp_payload_size=65527, initial_max_data=0, initial_max_stream_data_bidi_local=0, initial_max_stream_data_bidi_remote=0, initial_max_stream_data_uni=0, initial_max_streams_bidi=0, initial_max_streams_uni=0, ack_delay_exponent=3, max_ack_delay=25, active_connection_id_limit=2, stateless_reset_token=None, disable_active_migration=False, max_datagram_frame_size=None, preferred_address=None, original_destination_connection_id=None, initial_source_connection_id=None, retry_source_connection_id=None, grease_quic_bit=False, min_ack_delay=None"
 #ifndef FRAME_FIELD
 #define FRAME_FIELD(name, how, bit, doc)
 #endif
@@ -20,7 +22,7 @@
 #define PACKET_KIND(name, doc, fields)
 #endif
 #ifndef PARAMETER
-#define PARAMETER(name, kind, at, len_at, present, doc)
+#define PARAMETER(name, kind, id, at, len_at, present, doc)
 #endif
 #ifndef RESULT
 #define RESULT(word)
@@ -68,12 +70,12 @@ PACKET_FIELD("scid", scid, 0,
      "Source Connection ID; empty in a short header")
 
 FRAME_KIND(PADDING, "Padding",
-     "PADDING (RFC 9000, section 19.1), as many as follow each other.",
+     "Padding(count=1)\n--\n\nPADDING (RFC 9000, section 19.1), as many as follow each other.",
      FIELD("count", count, 0, "how many PADDING frames follow each other here"))
 FRAME_KIND(PING, "Ping",
-     "PING (RFC 9000, section 19.2).",)
+     "Ping()\n--\n\nPING (RFC 9000, section 19.2).",)
 FRAME_KIND(ACK, "Ack",
-     "ACK (RFC 9000, section 19.3).",
+     "Ack(largest=0, delay=0, ranges=None, ect0=None, ect1=None, ce=None)\n--\n\nACK (RFC 9000, section 19.3).",
      FIELD("largest", number, 0, "the largest acknowledged packet number")
      FIELD("delay", number, 1, "ACK Delay: microseconds, shifted right by the sender's ack_delay_exponent")
      FIELD("ranges", ranges, 0, "the acknowledged packet numbers, the greatest range first")
@@ -81,86 +83,86 @@ FRAME_KIND(ACK, "Ack",
      FIELD("ect1", ecn, 3, "ECT1 Count, packets marked ECT(1), or None")
      FIELD("ce", ecn, 4, "ECN-CE Count, packets marked ECN-CE, or None"))
 FRAME_KIND(RESET_STREAM, "ResetStream",
-     "RESET_STREAM (RFC 9000, section 19.4).",
+     "ResetStream(stream_id=0, error_code=0, final_size=0)\n--\n\nRESET_STREAM (RFC 9000, section 19.4).",
      FIELD("stream_id", number, 0, "Stream ID")
      FIELD("error_code", number, 1, "Application Protocol Error Code")
      FIELD("final_size", number, 2, "Final Size, bytes"))
 FRAME_KIND(STOP_SENDING, "StopSending",
-     "STOP_SENDING (RFC 9000, section 19.5).",
+     "StopSending(stream_id=0, error_code=0)\n--\n\nSTOP_SENDING (RFC 9000, section 19.5).",
      FIELD("stream_id", number, 0, "Stream ID")
      FIELD("error_code", number, 1, "Application Protocol Error Code"))
 FRAME_KIND(CRYPTO, "Crypto",
-     "CRYPTO (RFC 9000, section 19.6).",
+     "Crypto(offset=0, data=b'')\n--\n\nCRYPTO (RFC 9000, section 19.6).",
      FIELD("offset", number, 1, "Offset, where the data begin in their stream, bytes")
      FIELD("data", data, 0, "Crypto Data"))
 FRAME_KIND(NEW_TOKEN, "NewToken",
-     "NEW_TOKEN (RFC 9000, section 19.7).",
-     FIELD("token", data, 0, "Token"))
+     "NewToken(token=b'')\n--\n\nNEW_TOKEN (RFC 9000, section 19.7).",
+     FIELD("token", bytes, 0, "Token"))
 FRAME_KIND(STREAM, "Stream",
-     "STREAM (RFC 9000, section 19.8).",
+     "Stream(stream_id=0, offset=0, fin=False, data=b'')\n--\n\nSTREAM (RFC 9000, section 19.8).",
      FIELD("stream_id", number, 0, "Stream ID")
      FIELD("offset", number, 1, "Offset, where the data begin in their stream, bytes")
      FIELD("fin", fin, 0, "FIN, whether the data end the stream")
      FIELD("data", data, 0, "Stream Data"))
 FRAME_KIND(MAX_DATA, "MaxData",
-     "MAX_DATA (RFC 9000, section 19.9).",
+     "MaxData(limit=0)\n--\n\nMAX_DATA (RFC 9000, section 19.9).",
      FIELD("limit", number, 1, "Maximum Data, bytes"))
 FRAME_KIND(MAX_STREAM_DATA, "MaxStreamData",
-     "MAX_STREAM_DATA (RFC 9000, section 19.10).",
+     "MaxStreamData(stream_id=0, limit=0)\n--\n\nMAX_STREAM_DATA (RFC 9000, section 19.10).",
      FIELD("stream_id", number, 0, "Stream ID")
      FIELD("limit", number, 1, "Maximum Stream Data, bytes"))
 FRAME_KIND(MAX_STREAMS_BIDI, "MaxStreamsBidi",
-     "MAX_STREAMS of bidirectional streams (RFC 9000, section 19.11).",
+     "MaxStreamsBidi(limit=0)\n--\n\nMAX_STREAMS of bidirectional streams (RFC 9000, section 19.11).",
      FIELD("limit", number, 1, "Maximum Streams"))
 FRAME_KIND(MAX_STREAMS_UNI, "MaxStreamsUni",
-     "MAX_STREAMS of unidirectional streams (RFC 9000, section 19.11).",
+     "MaxStreamsUni(limit=0)\n--\n\nMAX_STREAMS of unidirectional streams (RFC 9000, section 19.11).",
      FIELD("limit", number, 1, "Maximum Streams"))
 FRAME_KIND(DATA_BLOCKED, "DataBlocked",
-     "DATA_BLOCKED (RFC 9000, section 19.12).",
+     "DataBlocked(limit=0)\n--\n\nDATA_BLOCKED (RFC 9000, section 19.12).",
      FIELD("limit", number, 1, "Maximum Data, bytes"))
 FRAME_KIND(STREAM_DATA_BLOCKED, "StreamDataBlocked",
-     "STREAM_DATA_BLOCKED (RFC 9000, section 19.13).",
+     "StreamDataBlocked(stream_id=0, limit=0)\n--\n\nSTREAM_DATA_BLOCKED (RFC 9000, section 19.13).",
      FIELD("stream_id", number, 0, "Stream ID")
      FIELD("limit", number, 1, "Maximum Stream Data, bytes"))
 FRAME_KIND(STREAMS_BLOCKED_BIDI, "StreamsBlockedBidi",
-     "STREAMS_BLOCKED of bidirectional streams (RFC 9000, section 19.14).",
+     "StreamsBlockedBidi(limit=0)\n--\n\nSTREAMS_BLOCKED of bidirectional streams (RFC 9000, section 19.14).",
      FIELD("limit", number, 1, "Maximum Streams"))
 FRAME_KIND(STREAMS_BLOCKED_UNI, "StreamsBlockedUni",
-     "STREAMS_BLOCKED of unidirectional streams (RFC 9000, section 19.14).",
+     "StreamsBlockedUni(limit=0)\n--\n\nSTREAMS_BLOCKED of unidirectional streams (RFC 9000, section 19.14).",
      FIELD("limit", number, 1, "Maximum Streams"))
 FRAME_KIND(NEW_CONNECTION_ID, "NewConnectionId",
-     "NEW_CONNECTION_ID (RFC 9000, section 19.15).",
+     "NewConnectionId(sequence=0, retire_prior_to=0, connection_id=..., reset_token=...)\n--\n\nNEW_CONNECTION_ID (RFC 9000, section 19.15).",
      FIELD("sequence", number, 0, "Sequence Number")
      FIELD("retire_prior_to", number, 1, "Retire Prior To, sequence number")
-     FIELD("connection_id", data, 0, "Connection ID, 1 to 20 bytes")
+     FIELD("connection_id", bytes, 0, "Connection ID, 1 to 20 bytes")
      FIELD("reset_token", token, 0, "Stateless Reset Token, 16 bytes; compare it by hmac.compare_digest (RFC 9000, section 10.3.1)"))
 FRAME_KIND(RETIRE_CONNECTION_ID, "RetireConnectionId",
-     "RETIRE_CONNECTION_ID (RFC 9000, section 19.16).",
+     "RetireConnectionId(sequence=0)\n--\n\nRETIRE_CONNECTION_ID (RFC 9000, section 19.16).",
      FIELD("sequence", number, 0, "Sequence Number"))
 FRAME_KIND(PATH_CHALLENGE, "PathChallenge",
-     "PATH_CHALLENGE (RFC 9000, section 19.17).",
+     "PathChallenge(data=...)\n--\n\nPATH_CHALLENGE (RFC 9000, section 19.17).",
      FIELD("data", path, 0, "Data, 8 bytes"))
 FRAME_KIND(PATH_RESPONSE, "PathResponse",
-     "PATH_RESPONSE (RFC 9000, section 19.18).",
+     "PathResponse(data=...)\n--\n\nPATH_RESPONSE (RFC 9000, section 19.18).",
      FIELD("data", path, 0, "Data, 8 bytes"))
 FRAME_KIND(CONNECTION_CLOSE, "ConnectionClose",
-     "CONNECTION_CLOSE of the transport, 0x1c (RFC 9000, section 19.19).",
+     "ConnectionClose(error_code=0, frame_type=0, reason=b'')\n--\n\nCONNECTION_CLOSE of the transport, 0x1c (RFC 9000, section 19.19).",
      FIELD("error_code", number, 0, "Error Code")
      FIELD("frame_type", number, 1, "Frame Type, that of the frame at fault; 0: none is known")
-     FIELD("reason", data, 0, "Reason Phrase, UTF-8"))
+     FIELD("reason", bytes, 0, "Reason Phrase, UTF-8"))
 FRAME_KIND(APPLICATION_CLOSE, "ApplicationClose",
-     "CONNECTION_CLOSE of the application, 0x1d (RFC 9000, section 19.19).",
+     "ApplicationClose(error_code=0, reason=b'')\n--\n\nCONNECTION_CLOSE of the application, 0x1d (RFC 9000, section 19.19).",
      FIELD("error_code", number, 0, "Error Code, application error code")
-     FIELD("reason", data, 0, "Reason Phrase, UTF-8"))
+     FIELD("reason", bytes, 0, "Reason Phrase, UTF-8"))
 FRAME_KIND(HANDSHAKE_DONE, "HandshakeDone",
-     "HANDSHAKE_DONE (RFC 9000, section 19.20).",)
+     "HandshakeDone()\n--\n\nHANDSHAKE_DONE (RFC 9000, section 19.20).",)
 FRAME_KIND(IMMEDIATE_ACK, "ImmediateAck",
-     "IMMEDIATE_ACK (draft-ietf-quic-ack-frequency, section 5).",)
+     "ImmediateAck()\n--\n\nIMMEDIATE_ACK (draft-ietf-quic-ack-frequency, section 5).",)
 FRAME_KIND(DATAGRAM, "Datagram",
-     "DATAGRAM (RFC 9221, section 4).",
+     "Datagram(data=b'')\n--\n\nDATAGRAM (RFC 9221, section 4).",
      FIELD("data", data, 0, "Datagram Data"))
 FRAME_KIND(ACK_FREQUENCY, "AckFrequency",
-     "ACK_FREQUENCY (draft-ietf-quic-ack-frequency, section 4).",
+     "AckFrequency(sequence=0, ack_eliciting_threshold=0, max_ack_delay=0, reordering_threshold=0)\n--\n\nACK_FREQUENCY (draft-ietf-quic-ack-frequency, section 4).",
      FIELD("sequence", number, 0, "Sequence Number")
      FIELD("ack_eliciting_threshold", number, 1, "Ack-Eliciting Threshold, packets")
      FIELD("max_ack_delay", number, 2, "Requested Max Ack Delay, microseconds")
@@ -208,45 +210,45 @@ PACKET_KIND("UnknownVersion",
      FIELD("dcid", dcid, 0, "Destination Connection ID")
      FIELD("scid", scid, 0, "Source Connection ID"))
 
-PARAMETER(max_idle_timeout, INTEGER, AT(max_idle_timeout), 0,
+PARAMETER(max_idle_timeout, INTEGER, 0x1, AT(max_idle_timeout), 0,
      0, "milliseconds, 0 for none")
-PARAMETER(max_udp_payload_size, INTEGER, AT(max_udp_payload_size), 0,
+PARAMETER(max_udp_payload_size, INTEGER, 0x3, AT(max_udp_payload_size), 0,
      0, "bytes, 1200 or more")
-PARAMETER(initial_max_data, INTEGER, AT(initial_max_data), 0,
+PARAMETER(initial_max_data, INTEGER, 0x4, AT(initial_max_data), 0,
      0, "bytes")
-PARAMETER(initial_max_stream_data_bidi_local, INTEGER, AT(initial_max_stream_data_bidi_local), 0,
+PARAMETER(initial_max_stream_data_bidi_local, INTEGER, 0x5, AT(initial_max_stream_data_bidi_local), 0,
      0, "bytes, for bidirectional streams that the sender of the list opens")
-PARAMETER(initial_max_stream_data_bidi_remote, INTEGER, AT(initial_max_stream_data_bidi_remote), 0,
+PARAMETER(initial_max_stream_data_bidi_remote, INTEGER, 0x6, AT(initial_max_stream_data_bidi_remote), 0,
      0, "bytes, for bidirectional streams that its receiver opens")
-PARAMETER(initial_max_stream_data_uni, INTEGER, AT(initial_max_stream_data_uni), 0,
+PARAMETER(initial_max_stream_data_uni, INTEGER, 0x7, AT(initial_max_stream_data_uni), 0,
      0, "bytes, for unidirectional streams that its receiver opens")
-PARAMETER(initial_max_streams_bidi, INTEGER, AT(initial_max_streams_bidi), 0,
+PARAMETER(initial_max_streams_bidi, INTEGER, 0x8, AT(initial_max_streams_bidi), 0,
      0, "bidirectional streams, at most 2^60")
-PARAMETER(initial_max_streams_uni, INTEGER, AT(initial_max_streams_uni), 0,
+PARAMETER(initial_max_streams_uni, INTEGER, 0x9, AT(initial_max_streams_uni), 0,
      0, "unidirectional streams, at most 2^60")
-PARAMETER(ack_delay_exponent, INTEGER, AT(ack_delay_exponent), 0,
+PARAMETER(ack_delay_exponent, INTEGER, 0xa, AT(ack_delay_exponent), 0,
      0, "by how many bits ACK Delay is shifted, at most 20")
-PARAMETER(max_ack_delay, INTEGER, AT(max_ack_delay), 0,
+PARAMETER(max_ack_delay, INTEGER, 0xb, AT(max_ack_delay), 0,
      0, "milliseconds, below 2^14")
-PARAMETER(active_connection_id_limit, INTEGER, AT(active_connection_id_limit), 0,
+PARAMETER(active_connection_id_limit, INTEGER, 0xe, AT(active_connection_id_limit), 0,
      0, "connection ids, 2 or more")
-PARAMETER(stateless_reset_token, TOKEN, AT(stateless_reset_token), 0,
+PARAMETER(stateless_reset_token, TOKEN, 0x2, AT(stateless_reset_token), 0,
      QUIC_WIRE_HAS_STATELESS_RESET_TOKEN, "16 bytes, or None; from servers only")
-PARAMETER(disable_active_migration, FLAG, 0, 0,
+PARAMETER(disable_active_migration, FLAG, 0xc, 0, 0,
      QUIC_WIRE_HAS_DISABLE_ACTIVE_MIGRATION, "True or False")
-PARAMETER(max_datagram_frame_size, OPTIONAL, AT(max_datagram_frame_size), 0,
+PARAMETER(max_datagram_frame_size, OPTIONAL, 0x20, AT(max_datagram_frame_size), 0,
      QUIC_WIRE_HAS_MAX_DATAGRAM_FRAME_SIZE, "bytes, or None (RFC 9221)")
-PARAMETER(preferred_address, ADDRESS, 0, 0,
+PARAMETER(preferred_address, ADDRESS, 0xd, 0, 0,
      QUIC_WIRE_HAS_PREFERRED_ADDRESS, "a PreferredAddress, or None; from servers only")
-PARAMETER(original_destination_connection_id, ID, AT(original_dst_cid), AT(original_dst_cidlen),
+PARAMETER(original_destination_connection_id, ID, 0x0, AT(original_dst_cid), AT(original_dst_cidlen),
      QUIC_WIRE_HAS_ORIGINAL_DST_CID, "at most 20 bytes, or None; from servers only")
-PARAMETER(initial_source_connection_id, ID, AT(initial_src_cid), AT(initial_src_cidlen),
+PARAMETER(initial_source_connection_id, ID, 0xf, AT(initial_src_cid), AT(initial_src_cidlen),
      QUIC_WIRE_HAS_INITIAL_SRC_CID, "at most 20 bytes, or None")
-PARAMETER(retry_source_connection_id, ID, AT(retry_src_cid), AT(retry_src_cidlen),
+PARAMETER(retry_source_connection_id, ID, 0x10, AT(retry_src_cid), AT(retry_src_cidlen),
      QUIC_WIRE_HAS_RETRY_SRC_CID, "at most 20 bytes, or None; from servers only")
-PARAMETER(grease_quic_bit, FLAG, 0, 0,
+PARAMETER(grease_quic_bit, FLAG, 0x2ab2, 0, 0,
      QUIC_WIRE_HAS_GREASE_QUIC_BIT, "True or False (RFC 9287)")
-PARAMETER(min_ack_delay, OPTIONAL, AT(min_ack_delay), 0,
+PARAMETER(min_ack_delay, OPTIONAL, 0xff04de1b, AT(min_ack_delay), 0,
      QUIC_WIRE_HAS_MIN_ACK_DELAY, "microseconds, at most max_ack_delay, or None (draft-ietf-quic-ack-frequency)")
 
 RESULT(PAYLOAD_EMPTY)

@@ -6,6 +6,7 @@
 
 /* A frame that is being made. */
 typedef struct maker {
+  const wire_state *state;
   frame_object *made;
   uint64_t ecn[3];
   int has_ecn;
@@ -78,9 +79,14 @@ static int set_path(maker *m, const PyGetSetDef *Py_UNUSED(field),
   return wire_fail(PyExc_ValueError, "data must have 8 bytes");
 }
 
+/* Of an id, a token or a reason. */
+static int set_bytes(maker *m, const PyGetSetDef *field, PyObject *value) {
+  return set_data(m, field, value);
+}
+
 static int set_ranges(maker *m, const PyGetSetDef *Py_UNUSED(field),
                       PyObject *value) {
-  m->ranges = value;
+  m->ranges = value == Py_None ? NULL : value;
   return 0;
 }
 
@@ -100,12 +106,15 @@ static set_field *const *const setters[KINDS] = {
 /* The fields that are given, by position or by name. */
 static int set_fields(maker *m, const wire_kind *kind, PyObject *args,
                       PyObject *keywords) {
-  set_field *const *set = setters[kind - wire_frame_kinds];
+  const ptrdiff_t row = kind - wire_frame_kinds;
+  set_field *const *set = setters[row];
+  PyObject *const *names = m->state->fields[row];
   const Py_ssize_t len = PyTuple_Size(args);
   Py_ssize_t named = 0, i;
   for (i = 0; kind->fields[i].name; i++) {
     const char *name = kind->fields[i].name;
-    PyObject *by_name = keywords ? PyDict_GetItemString(keywords, name) : NULL;
+    PyObject *by_name =
+        keywords ? PyDict_GetItemWithError(keywords, names[i]) : NULL;
     PyObject *value = i < len ? PyTuple_GetItem(args, i) : by_name;
     if (i < len && by_name)
       return wire_fail(PyExc_TypeError, "%s: %s is given twice", kind->name,
@@ -138,13 +147,18 @@ static int finish_new_connection_id(maker *m) {
   return both ? set_owner(m, both) : -1;
 }
 
+enum { SMALL = 256 }; /* bytes of a frame that is first written to the stack */
+
 /* An ACK to be written. */
 static PyObject *ack_bytes(uint64_t delay, const quic_wire_range *runs,
                            size_t count, const uint64_t *ecn) {
-  uint8_t none, *at = &none;
+  uint8_t small[SMALL], *at = NULL;
   size_t len = 0;
-  int result = quic_wire_ack_write(delay, runs, count, ecn, at, 0, &len);
+  int result =
+      quic_wire_ack_write(delay, runs, count, ecn, small, SMALL, &len);
   PyObject *out = NULL;
+  if (result == QUIC_WIRE_OK)
+    return PyBytes_FromStringAndSize((char *)small, (Py_ssize_t)len);
   if (result == QUIC_WIRE_ERR_NOBUF) {
     out = wire_new_bytes(len, &at);
     if (!out)
@@ -164,7 +178,7 @@ static int finish_ack(maker *m) {
   wire_bytes bytes;
   int result = QUIC_WIRE_ERR_RANGES;
   PyObject *ack = NULL;
-  runs = m->ranges ? wire_ranges(m->ranges, &count) : &only;
+  runs = m->ranges ? wire_ranges(m->state, m->ranges, &count) : &only;
   if (!runs)
     return -1;
   if (count && largest && runs[count - 1].end - 1 != largest)
@@ -218,22 +232,25 @@ static int finish(maker *m) {
   }
 }
 
-/* Which kind a class is. */
-static const wire_kind *kind_of_class(PyTypeObject *type) {
-  PyObject *number = PyObject_GetAttrString((PyObject *)type, "KIND");
-  quic_wire_frame frame;
-  memset(&frame, 0, sizeof frame);
-  frame.kind = number ? (uint16_t)PyLong_AsUnsignedLong(number) : 0;
-  Py_XDECREF(number);
-  return PyErr_Occurred() ? NULL : wire_kind_of(&frame);
+/* Which kind a class is, which has no classes below it. */
+static const wire_kind *kind_of_class(const wire_state *state,
+                                      PyTypeObject *type) {
+  size_t i;
+  for (i = 0; i < KINDS; i++)
+    if (state->frames[i] == (PyObject *)type)
+      return &wire_frame_kinds[i];
+  PyErr_SetString(PyExc_TypeError, "this class is no kind of frame");
+  return NULL;
 }
 
 PyObject *frame_new(PyTypeObject *type, PyObject *args, PyObject *keywords) {
-  const wire_kind *kind = kind_of_class(type);
+  const wire_state *state = PyType_GetModuleState(type);
+  const wire_kind *kind = state ? kind_of_class(state, type) : NULL;
   maker m = {0};
   if (!kind)
     return NULL;
-  m.made = PyObject_New(frame_object, type);
+  m.state = state;
+  m.made = PyObject_GC_New(frame_object, type);
   if (!m.made)
     return NULL;
   m.made->owner = NULL;
@@ -242,19 +259,26 @@ PyObject *frame_new(PyTypeObject *type, PyObject *args, PyObject *keywords) {
   m.made->f.kind = m.made->f.type = kind->kind;
   if (set_fields(&m, kind, args, keywords) < 0 || finish(&m) < 0)
     Py_CLEAR(m.made);
+  else
+    wire_track((PyObject *)m.made, m.made->owner);
   return (PyObject *)m.made;
 }
 
 /* ---- Writing */
 
+/* One that wasn't read was written when it was made. */
 static PyObject *encode_ack(PyObject *self) {
   const quic_wire_frame *f = FRAME(self);
   const int has_ecn = (f->flags & QUIC_WIRE_FLAG_ECN) != 0;
+  PyObject *out;
   size_t count;
-  quic_wire_range *runs = frame_ranges(self, &count);
-  PyObject *out =
-      runs ? ack_bytes(f->ack.delay, runs, count, has_ecn ? &f->ack.ect0 : NULL)
-           : NULL;
+  quic_wire_range *runs;
+  if (!((frame_object *)self)->is_read)
+    return Py_NewRef(OWNER(self));
+  runs = frame_ranges(self, &count);
+  out = runs ? ack_bytes(f->ack.delay, runs, count,
+                         has_ecn ? &f->ack.ect0 : NULL)
+             : NULL;
   PyMem_Free(runs);
   return out;
 }
@@ -270,30 +294,42 @@ static PyObject *encode_padding(PyObject *self) {
 }
 
 static PyObject *encode_other(PyObject *self, uint32_t flags) {
+  const quic_wire_frame *f = FRAME(self);
   wire_bytes bytes;
   size_t len = 0;
   int result;
-  uint8_t *at = NULL;
+  uint8_t small[SMALL], *at = NULL;
   PyObject *out = NULL;
   if (wire_acquire(OWNER(self), &bytes) < 0)
     return NULL;
-  result = quic_wire_frame_len(FRAME(self), bytes.at, bytes.len, flags, &len);
-  if (result >= 0 && (out = wire_new_bytes(len, &at)))
-    result = quic_wire_frame_write(FRAME(self), bytes.at, bytes.len, flags, at,
-                                   len, &len);
+  result = quic_wire_frame_write(f, bytes.at, bytes.len, flags, small, SMALL,
+                                 &len);
+  if (result == QUIC_WIRE_OK)
+    out = PyBytes_FromStringAndSize((char *)small, (Py_ssize_t)len);
+  else if (result == QUIC_WIRE_ERR_NOBUF && (out = wire_new_bytes(len, &at)))
+    result =
+        quic_wire_frame_write(f, bytes.at, bytes.len, flags, at, len, &len);
   wire_release(&bytes);
-  if (result >= QUIC_WIRE_ERR_PAYLOAD_EMPTY)
-    return wire_written(out, result, len);
+  if (result >= 0 || PyErr_Occurred())
+    return out;
   Py_XDECREF(out);
+  if (result > QUIC_WIRE_ERR_PAYLOAD_EMPTY)
+    return wire_mistake(result);
   return frame_reject(self, result);
 }
 
-PyObject *frame_encode(PyObject *self, PyObject *args, PyObject *keywords) {
-  static char *names[] = NAMES_Frame_encode;
-  int last = 0;
-  uint32_t flags = 0;
-  if (!PyArg_ParseTupleAndKeywords(args, keywords, "|p$O&:encode", names, &last,
-                                   wire_to_checks, &flags))
+PyObject *frame_encode(PyObject *self, PyObject *const *args, Py_ssize_t nargs,
+                       PyObject *names) {
+  enum { LAST, CHECKS, COUNT };
+  PyObject *given[COUNT];
+  int last;
+  uint32_t flags;
+  if (wire_arguments(WIRE_STATE(self), CALL_Frame_encode, args, nargs, names,
+                     given) < 0 ||
+      wire_checks(given[CHECKS], &flags) < 0)
+    return NULL;
+  last = given[LAST] ? PyObject_IsTrue(given[LAST]) : 0;
+  if (last < 0)
     return NULL;
   flags = (flags & QUIC_WIRE_WRITE_RFC) | (last ? QUIC_WIRE_WRITE_LAST : 0);
   switch (FRAME(self)->kind) {

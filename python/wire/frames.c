@@ -14,9 +14,11 @@ static PyObject *get_ecn(PyObject *self, void *slot) {
   return get_number(self, slot);
 }
 
-WIRE_GETTER(get_data,
-            wire_part(OWNER(self), FRAME(self)->data, FRAME(self)->datalen))
-WIRE_GETTER(get_token, wire_part(OWNER(self),
+WIRE_GETTER(get_data, wire_part(WIRE_STATE(self), OWNER(self),
+                                FRAME(self)->data, FRAME(self)->datalen))
+WIRE_GETTER(get_bytes,
+            wire_copy(OWNER(self), FRAME(self)->data, FRAME(self)->datalen))
+WIRE_GETTER(get_token, wire_copy(OWNER(self),
                                  FRAME(self)->data + FRAME(self)->datalen, 16))
 WIRE_GETTER(get_begin, PyLong_FromSize_t(FRAME(self)->begin))
 WIRE_GETTER(get_end, PyLong_FromSize_t(FRAME(self)->end))
@@ -49,7 +51,7 @@ quic_wire_range *frame_ranges(PyObject *self, size_t *count) {
   const quic_wire_frame *f = FRAME(self);
   /* A range has at least two bytes, and the first one another two. */
   const size_t room = (f->end - f->begin) / 2 + 1;
-  quic_wire_range *runs = PyMem_Malloc(room * sizeof *runs), other;
+  quic_wire_range *runs = PyMem_Malloc((room + 1) * sizeof *runs), other;
   quic_wire_range_iter iter;
   wire_bytes bytes;
   size_t len = 0, i;
@@ -110,8 +112,11 @@ static PyObject *get_rule_not(PyObject *self, void *rule) {
 static PyObject *is_permitted_in(PyObject *self, PyObject *packet_type) {
   const long packet = PyLong_AsLong(packet_type);
   const uint32_t rules = quic_wire_frame_rules(FRAME(self)->kind);
-  if (packet == -1 && PyErr_Occurred())
-    return NULL;
+  if (packet == -1 && PyErr_Occurred()) {
+    if (!PyErr_ExceptionMatches(PyExc_OverflowError))
+      return NULL;
+    PyErr_Clear();
+  }
   return PyBool_FromLong(packet >= 0 && packet < PACKET_KINDS &&
                          (rules & QUIC_WIRE_RULE_IN(packet)) != 0);
 }
@@ -126,15 +131,17 @@ PyObject *frame_reject(PyObject *self, int result) {
 }
 
 /* By the rules of checks, in a packet of a type from a sender. */
-static PyObject *frame_check(PyObject *self, PyObject *args,
-                             PyObject *keywords) {
-  static char *names[] = NAMES_Frame_check_permitted;
-  uint32_t packet, sender, flags = 0;
+static PyObject *frame_check(PyObject *self, PyObject *const *args,
+                             Py_ssize_t nargs, PyObject *names) {
+  enum { PACKET_TYPE, SENDER, CHECKS, COUNT };
+  PyObject *given[COUNT];
+  uint32_t packet, sender, flags;
   int result;
-  if (!PyArg_ParseTupleAndKeywords(args, keywords, "O&O&|$O&:check_permitted",
-                                   names, wire_to_packet_type, &packet,
-                                   wire_to_sender, &sender, wire_to_checks,
-                                   &flags))
+  if (wire_arguments(WIRE_STATE(self), CALL_Frame_check_permitted, args, nargs,
+                     names, given) < 0 ||
+      wire_packet_type(given[PACKET_TYPE], &packet) < 0 ||
+      wire_side(given[SENDER], "sender", &sender) < 0 ||
+      wire_checks(given[CHECKS], &flags) < 0)
     return NULL;
   result = quic_wire_frame_permitted(FRAME(self), packet, sender, flags);
   return result == QUIC_WIRE_OK ? Py_NewRef(Py_None)
@@ -167,20 +174,28 @@ const wire_kind *wire_kind_of(const quic_wire_frame *frame) {
 PyObject *frame_made(wire_state *state, PyObject *owner,
                      const quic_wire_frame *frame) {
   PyTypeObject *type = (PyTypeObject *)state->frames[index_of(frame->kind)];
-  frame_object *made = PyObject_New(frame_object, type);
+  frame_object *made = PyObject_GC_New(frame_object, type);
   if (!made)
     return NULL;
   made->owner = Py_NewRef(owner);
   made->is_read = 1;
   made->f = *frame;
+  wire_track((PyObject *)made, owner);
   return (PyObject *)made;
 }
 
 static void frame_dealloc(PyObject *self) {
   PyTypeObject *type = Py_TYPE(self);
+  PyObject_GC_UnTrack(self);
   Py_XDECREF(OWNER(self));
-  PyObject_Free(self);
+  PyObject_GC_Del(self);
   Py_DECREF(type);
+}
+
+static int frame_visit(PyObject *self, visitproc visit, void *arg) {
+  Py_VISIT(Py_TYPE(self));
+  Py_VISIT(OWNER(self));
+  return 0;
 }
 
 /* The values of the fields, data as bytes. */
@@ -233,8 +248,8 @@ static Py_hash_t frame_hash(PyObject *self) {
 }
 
 static PyMethodDef frame_methods[] = {
-    WIRE_METHOD(Frame, encode, frame_encode, WIRE_NAMED),
-    WIRE_METHOD(Frame, check_permitted, frame_check, WIRE_NAMED),
+    WIRE_METHOD(Frame, encode, frame_encode, WIRE_FAST),
+    WIRE_METHOD(Frame, check_permitted, frame_check, WIRE_FAST),
     WIRE_METHOD(Frame, as_dict, frame_as_dict, METH_NOARGS),
     WIRE_METHOD(Frame, is_permitted_in, is_permitted_in, METH_O),
     {"__reduce__", frame_reduce, METH_NOARGS, NULL},
@@ -248,6 +263,7 @@ static PyGetSetDef common_fields[] = {
 
 static PyType_Slot frame_slots[] = {
     {Py_tp_dealloc, frame_dealloc},
+    {Py_tp_traverse, frame_visit},
     {Py_tp_methods, frame_methods},
     {Py_tp_getset, common_fields},
     {Py_tp_repr, frame_repr},
@@ -255,19 +271,20 @@ static PyType_Slot frame_slots[] = {
     {Py_tp_hash, frame_hash},
     {Py_tp_doc, "A frame (RFC 9000, section 19)."},
     {0, NULL}};
-static PyType_Spec frame_spec = {"quic_wire.Frame", sizeof(frame_object), 0,
-                                 Py_TPFLAGS_DEFAULT | Py_TPFLAGS_BASETYPE |
-                                     Py_TPFLAGS_DISALLOW_INSTANTIATION,
-                                 frame_slots};
+static PyType_Spec frame_spec = {
+    "quic_wire.Frame", sizeof(frame_object), 0,
+    Py_TPFLAGS_DEFAULT | Py_TPFLAGS_HAVE_GC | Py_TPFLAGS_BASETYPE |
+        Py_TPFLAGS_IMMUTABLETYPE | Py_TPFLAGS_DISALLOW_INSTANTIATION,
+    frame_slots};
 
 static PyObject *add_kind(PyObject *module, PyObject *bases,
                           const wire_kind *kind) {
   PyObject *number = PyLong_FromLong(kind->kind);
   PyObject *type =
       number ? wire_add_kind(module, bases, kind, sizeof(frame_object),
-                             frame_dealloc, frame_new)
+                             frame_dealloc, frame_visit, frame_new)
              : NULL;
-  if (type && PyObject_SetAttrString(type, "KIND", number) < 0)
+  if (type && wire_set_constant(type, "KIND", number) < 0)
     Py_CLEAR(type);
   Py_XDECREF(number);
   return type;

@@ -14,38 +14,62 @@ static PyObject *front_or(PyObject *bytes, size_t len, const char *mistake) {
   return NULL;
 }
 
-static PyObject *nonce(PyObject *Py_UNUSED(module), PyObject *args) {
-  Py_buffer iv;
-  PyObject *number_word;
+static PyObject *nonce(PyObject *module, PyObject *const *args,
+                       Py_ssize_t nargs) {
+  enum { IV, NUMBER, COUNT };
+  PyObject *given[COUNT];
+  wire_bytes iv;
   uint64_t number;
   uint8_t out[12];
   int is_made = 0;
-  if (!PyArg_ParseTuple(args, "y*O:nonce", &iv, &number_word))
+  if (wire_arguments(PyModule_GetState(module), CALL_nonce, args, nargs, NULL,
+                     given) < 0 ||
+      wire_acquire(given[IV], &iv) < 0)
     return NULL;
   if (iv.len != sizeof out)
     PyErr_SetString(PyExc_ValueError, "iv must have 12 bytes");
-  else if (wire_varint(number_word, "number", &number) == 0)
-    is_made = quic_wire_nonce(iv.buf, number, out);
-  PyBuffer_Release(&iv);
+  else if (wire_varint(given[NUMBER], "number", &number) == 0)
+    is_made = quic_wire_nonce(iv.at, number, out);
+  wire_release(&iv);
   return is_made ? PyBytes_FromStringAndSize((char *)out, sizeof out) : NULL;
 }
 
-static PyObject *retry_pseudo(PyObject *Py_UNUSED(module), PyObject *args) {
-  Py_buffer original, retry;
-  PyObject *out;
-  uint8_t *at = NULL;
-  size_t room, len = 0;
-  if (!PyArg_ParseTuple(args, "y*y*:retry_pseudo_packet", &original, &retry))
+/* What a call makes of two arguments that are bytes, or NULL with an
+ * exception. */
+static PyObject *of_two(PyObject *module, wire_call_index call,
+                        PyObject *const *args, Py_ssize_t nargs,
+                        PyObject *(*make)(const wire_bytes *,
+                                          const wire_bytes *)) {
+  PyObject *given[2], *out = NULL;
+  wire_bytes first, second;
+  if (wire_arguments(PyModule_GetState(module), call, args, nargs, NULL,
+                     given) < 0 ||
+      wire_acquire(given[0], &first) < 0)
     return NULL;
-  room = 1 + (size_t)original.len + (size_t)retry.len;
-  out = wire_new_bytes(room, &at);
+  if (wire_acquire(given[1], &second) == 0) {
+    out = make(&first, &second);
+    wire_release(&second);
+  }
+  wire_release(&first);
+  return out;
+}
+
+static PyObject *pseudo_packet(const wire_bytes *original,
+                               const wire_bytes *retry) {
+  const size_t room = 1 + original->len + retry->len;
+  uint8_t *at = NULL;
+  size_t len = 0;
+  PyObject *out = wire_new_bytes(room, &at);
   if (out)
-    len = quic_wire_retry_pseudo_write(original.buf, (size_t)original.len,
-                                       retry.buf, (size_t)retry.len, at, room);
-  PyBuffer_Release(&original);
-  PyBuffer_Release(&retry);
-  return front_or(out, len,
-                  "an id has at most 20 bytes, and a Retry ends in a tag of 16");
+    len = quic_wire_retry_pseudo_write(original->at, original->len, retry->at,
+                                       retry->len, at, room);
+  return front_or(
+      out, len, "an id has at most 20 bytes, and a Retry ends in a tag of 16");
+}
+
+static PyObject *retry_pseudo(PyObject *module, PyObject *const *args,
+                              Py_ssize_t nargs) {
+  return of_two(module, CALL_retry_pseudo_packet, args, nargs, pseudo_packet);
 }
 
 /* All constants of a version, as bytes. */
@@ -70,17 +94,19 @@ static PyObject *constants(PyObject *Py_UNUSED(module), PyObject *number) {
   return out;
 }
 
-static PyObject *write_information(PyObject *Py_UNUSED(module),
-                                   PyObject *args) {
-  PyObject *chosen_word, *available, *out = NULL;
+static PyObject *write_information(PyObject *module, PyObject *const *args,
+                                   Py_ssize_t nargs) {
+  enum { CHOSEN, AVAILABLE, COUNT };
+  PyObject *given[COUNT], *out = NULL;
   uint32_t chosen, *list;
   size_t count, len = 0;
   uint8_t *at = NULL;
-  if (!PyArg_ParseTuple(args, "OO:write_version_information", &chosen_word,
-                        &available) ||
-      wire_version(chosen_word, &chosen) < 0)
+  if (wire_arguments(PyModule_GetState(module),
+                     CALL_write_version_information, args, nargs, NULL,
+                     given) < 0 ||
+      wire_version(given[CHOSEN], &chosen) < 0)
     return NULL;
-  list = wire_versions(available, &count);
+  list = wire_versions(given[AVAILABLE], &count);
   out = list ? wire_new_bytes(4 + 4 * count, &at) : NULL;
   if (out)
     len = quic_wire_version_information_write(chosen, list, count, at,
@@ -117,77 +143,81 @@ static PyObject *read_information(PyObject *Py_UNUSED(module),
                    : NULL;
 }
 
-static PyObject *write_reset(PyObject *Py_UNUSED(module), PyObject *args) {
-  Py_buffer unpredictable, token;
+enum { TOKEN_LEN = 16 }; /* bytes of a stateless reset token */
+
+static int check_token(const wire_bytes *token) {
+  if (token->len == TOKEN_LEN)
+    return 0;
+  return wire_fail(PyExc_ValueError, "token must have 16 bytes");
+}
+
+static PyObject *reset(const wire_bytes *unpredictable,
+                       const wire_bytes *token) {
+  const size_t room = unpredictable->len + TOKEN_LEN;
   PyObject *out;
   uint8_t *at = NULL;
-  size_t room, len = 0;
-  int has_token;
-  if (!PyArg_ParseTuple(args, "y*y*:write_stateless_reset", &unpredictable,
-                        &token))
+  size_t len = 0;
+  if (check_token(token) < 0)
     return NULL;
-  has_token = token.len == 16;
-  room = (size_t)unpredictable.len + 16;
   out = wire_new_bytes(room, &at);
-  if (out && has_token)
-    len = quic_wire_reset_write(unpredictable.buf, (size_t)unpredictable.len,
-                                token.buf, at, room);
-  PyBuffer_Release(&unpredictable);
-  PyBuffer_Release(&token);
-  return front_or(out, len,
-                  has_token ? "a stateless reset has at least 21 bytes"
-                            : "token must have 16 bytes");
+  if (out)
+    len = quic_wire_reset_write(unpredictable->at, unpredictable->len,
+                                token->at, at, room);
+  return front_or(out, len, "a stateless reset has at least 21 bytes");
 }
 
-static PyObject *is_reset(PyObject *Py_UNUSED(module), PyObject *args) {
-  Py_buffer datagram, token;
-  int result = 0, has_token;
-  if (!PyArg_ParseTuple(args, "y*y*:is_stateless_reset", &datagram, &token))
+static PyObject *write_reset(PyObject *module, PyObject *const *args,
+                             Py_ssize_t nargs) {
+  return of_two(module, CALL_write_stateless_reset, args, nargs, reset);
+}
+
+static PyObject *is_reset_with(const wire_bytes *datagram,
+                               const wire_bytes *token) {
+  if (check_token(token) < 0)
     return NULL;
-  has_token = token.len == 16;
-  if (has_token)
-    result = quic_wire_is_reset(datagram.buf, (size_t)datagram.len, token.buf);
-  PyBuffer_Release(&datagram);
-  PyBuffer_Release(&token);
-  if (!has_token)
-    return PyErr_Format(PyExc_ValueError, "token must have 16 bytes");
-  return PyBool_FromLong(result);
+  return PyBool_FromLong(
+      quic_wire_is_reset(datagram->at, datagram->len, token->at));
 }
 
-static PyObject *answer(PyObject *Py_UNUSED(module), PyObject *args,
-                        PyObject *keywords) {
-  static char *names[] = NAMES_answer_version;
-  Py_buffer received;
-  PyObject *versions, *out = NULL;
+static PyObject *is_reset(PyObject *module, PyObject *const *args,
+                          Py_ssize_t nargs) {
+  return of_two(module, CALL_is_stateless_reset, args, nargs, is_reset_with);
+}
+
+static PyObject *answer(PyObject *module, PyObject *const *args,
+                        Py_ssize_t nargs, PyObject *names) {
+  enum { RECEIVED, VERSIONS, UNUSED, COUNT };
+  PyObject *given[COUNT], *out = NULL;
+  wire_bytes received;
   uint8_t unused = QUIC_WIRE_BIT_FIXED, *at = NULL;
   uint32_t *list;
   size_t count, room, len = 0;
-  if (!PyArg_ParseTupleAndKeywords(args, keywords, "y*O|O&:answer_version",
-                                   names, &received, &versions, wire_to_uint8,
-                                   &unused))
+  if (wire_arguments(PyModule_GetState(module), CALL_answer_version, args,
+                     nargs, names, given) < 0 ||
+      (given[UNUSED] && wire_uint8(given[UNUSED], "unused", &unused) < 0) ||
+      wire_acquire(given[RECEIVED], &received) < 0)
     return NULL;
-  list = wire_versions(versions, &count);
+  list = wire_versions(given[VERSIONS], &count);
   /* Its ids, and what stands around them, are in what was received. */
-  room = (size_t)received.len + 4 * count;
+  room = received.len + 4 * count;
   out = list ? wire_new_bytes(room, &at) : NULL;
   if (out)
-    len = quic_wire_negotiation_answer(unused, received.buf,
-                                       (size_t)received.len, list, count, at,
-                                       room);
+    len = quic_wire_negotiation_answer(unused, received.at, received.len, list,
+                                       count, at, room);
   PyMem_Free(list);
-  PyBuffer_Release(&received);
+  wire_release(&received);
   return front_or(out, len,
                   "only a long header of a version other than 0 is answered, "
                   "with one version or more, none of which is 0");
 }
 
 PyMethodDef wire_layer_functions[] = {
-    WIRE_FUNCTION(nonce, nonce, METH_VARARGS),
-    WIRE_FUNCTION(retry_pseudo_packet, retry_pseudo, METH_VARARGS),
+    WIRE_FUNCTION(nonce, nonce, METH_FASTCALL),
+    WIRE_FUNCTION(retry_pseudo_packet, retry_pseudo, METH_FASTCALL),
     {"version_constants", constants, METH_O, NULL},
-    WIRE_FUNCTION(write_version_information, write_information, METH_VARARGS),
+    WIRE_FUNCTION(write_version_information, write_information, METH_FASTCALL),
     WIRE_FUNCTION(read_version_information, read_information, METH_O),
-    WIRE_FUNCTION(write_stateless_reset, write_reset, METH_VARARGS),
-    WIRE_FUNCTION(is_stateless_reset, is_reset, METH_VARARGS),
-    WIRE_FUNCTION(answer_version, answer, WIRE_NAMED),
+    WIRE_FUNCTION(write_stateless_reset, write_reset, METH_FASTCALL),
+    WIRE_FUNCTION(is_stateless_reset, is_reset, METH_FASTCALL),
+    WIRE_FUNCTION(answer_version, answer, WIRE_FAST),
     {NULL, NULL, 0, NULL}};

@@ -2,6 +2,20 @@
 /* The module quic_wire._wire: the library quic_wire for Python. */
 #include "wire.h"
 
+/* PyObject_SetAttr asks the type, which is immutable. */
+int wire_set_constant(PyObject *type, const char *name, PyObject *value) {
+  PyObject *key = PyUnicode_InternFromString(name);
+  const int result = key ? PyObject_GenericSetAttr(type, key, value) : -1;
+  Py_XDECREF(key);
+  PyType_Modified((PyTypeObject *)type);
+  return result;
+}
+
+void wire_track(PyObject *self, PyObject *owner) {
+  if (owner && !PyBytes_CheckExact(owner))
+    PyObject_GC_Track(self);
+}
+
 /* What patterns name: the names of the fields. */
 static int set_names(PyObject *type, const PyGetSetDef *fields) {
   Py_ssize_t count = 0, i;
@@ -13,10 +27,10 @@ static int set_names(PyObject *type, const PyGetSetDef *fields) {
   for (i = 0; names && i < count; i++)
     if (PyTuple_SetItem(names, i, PyUnicode_FromString(fields[i].name)) < 0)
       Py_CLEAR(names);
-  result = names && none ? PyObject_SetAttrString(type, "__match_args__", names)
+  result = names && none ? wire_set_constant(type, "__match_args__", names)
                          : -1;
   if (result == 0)
-    result = PyObject_SetAttrString(type, "__slots__", none);
+    result = wire_set_constant(type, "__slots__", none);
   Py_XDECREF(names);
   Py_XDECREF(none);
   return result;
@@ -33,15 +47,18 @@ PyObject *wire_add_type(PyObject *module, PyType_Spec *spec, PyObject *bases,
 
 PyObject *wire_add_kind(PyObject *module, PyObject *bases,
                         const wire_kind *kind, int size, destructor dealloc,
-                        newfunc make) {
+                        traverseproc visit, newfunc make) {
   char name[64];
-  const unsigned flags = make ? 0 : Py_TPFLAGS_DISALLOW_INSTANTIATION;
+  const unsigned flags = Py_TPFLAGS_DEFAULT | Py_TPFLAGS_HAVE_GC |
+                         Py_TPFLAGS_IMMUTABLETYPE |
+                         (make ? 0 : Py_TPFLAGS_DISALLOW_INSTANTIATION);
   PyType_Slot slots[] = {{Py_tp_getset, kind->fields},
                          {Py_tp_dealloc, (void *)dealloc},
+                         {Py_tp_traverse, (void *)visit},
                          {Py_tp_doc, (void *)kind->doc},
                          {make ? Py_tp_new : 0, (void *)make},
                          {0, NULL}};
-  PyType_Spec spec = {name, size, 0, Py_TPFLAGS_DEFAULT | flags, slots};
+  PyType_Spec spec = {name, size, 0, flags, slots};
   PyOS_snprintf(name, sizeof name, "quic_wire.%s", kind->name);
   return wire_add_type(module, &spec, bases, kind->name, kind->fields);
 }
@@ -71,14 +88,14 @@ static int exec(PyObject *module) {
   if (quic_wire_check(QUIC_WIRE_LIB) != QUIC_WIRE_OK)
     return wire_fail(PyExc_ImportError, "%s",
                      quic_wire_strerror(QUIC_WIRE_ERR_LIBRARY));
-  if (add_constants(module) < 0 ||
+  if (wire_intern(state) < 0 || add_constants(module) < 0 ||
       PyModule_AddFunctions(module, wire_read_functions) < 0 ||
       PyModule_AddFunctions(module, wire_packet_functions) < 0 ||
       PyModule_AddFunctions(module, wire_number_functions) < 0 ||
       PyModule_AddFunctions(module, wire_parameter_functions) < 0 ||
       PyModule_AddFunctions(module, wire_field_functions) < 0 ||
       PyModule_AddFunctions(module, wire_layer_functions) < 0 ||
-      wire_add_frames(module, state) < 0 ||
+      wire_add_part(module, state) < 0 || wire_add_frames(module, state) < 0 ||
       wire_add_iterator(module, state) < 0 ||
       wire_add_packets(module, state) < 0 ||
       wire_add_parameters(module, state) < 0 || wire_add_set(module, state) < 0)

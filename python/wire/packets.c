@@ -20,26 +20,31 @@ static int has_number(const quic_wire_header *h) {
   return h->kind < NO_NUMBER_FROM && h->kind != QUIC_WIRE_PACKET_RETRY;
 }
 
-/* A part of the packet, by its offset in it. */
+/* A part of the packet, by its offset in it, as a view and as a copy. */
 static PyObject *part(PyObject *self, size_t at, size_t len) {
-  return wire_part(PACKET(self)->owner, PACKET(self)->begin + at, len);
+  return wire_part(WIRE_STATE(self), PACKET(self)->owner,
+                   PACKET(self)->begin + at, len);
+}
+
+static PyObject *copy(PyObject *self, size_t at, size_t len) {
+  return wire_copy(PACKET(self)->owner, PACKET(self)->begin + at, len);
 }
 
 WIRE_GETTER(get_data, part(self, 0, HEADER(self)->end))
 
-/* The offset of an id, for which the library returns a pointer. */
 static PyObject *id_of(PyObject *self, int is_source) {
   const quic_wire_header *h = HEADER(self);
-  const uint8_t *packet;
+  const uint8_t *packet, *id;
   wire_bytes bytes;
-  size_t at;
+  PyObject *out;
   if (wire_acquire(PACKET(self)->owner, &bytes) < 0)
     return NULL;
   packet = bytes.at + PACKET(self)->begin;
-  at = (size_t)((is_source ? quic_wire_scid : quic_wire_dcid)(packet, h) -
-                packet);
+  id = is_source ? quic_wire_scid(packet, h) : quic_wire_dcid(packet, h);
+  out = PyBytes_FromStringAndSize((const char *)id,
+                                  is_source ? h->scidlen : h->dcidlen);
   wire_release(&bytes);
-  return part(self, at, is_source ? h->scidlen : h->dcidlen);
+  return out;
 }
 
 WIRE_GETTER(get_dcid, id_of(self, 0))
@@ -50,7 +55,7 @@ WIRE_GETTER(get_kind, PyLong_FromLong(HEADER(self)->kind))
 WIRE_GETTER(get_first, PyLong_FromLong(HEADER(self)->first))
 WIRE_GETTER(get_begin, PyLong_FromSize_t(PACKET(self)->begin))
 WIRE_GETTER(get_end, PyLong_FromSize_t(packet_end(self)))
-WIRE_GETTER(get_token, part(self, HEADER(self)->token, HEADER(self)->tokenlen))
+WIRE_GETTER(get_token, copy(self, HEADER(self)->token, HEADER(self)->tokenlen))
 WIRE_GETTER(get_token_at,
             PyLong_FromSize_t(PACKET(self)->begin + HEADER(self)->token))
 
@@ -60,7 +65,7 @@ enum { RETRY_TAG = 16 }; /* bytes of the Retry Integrity Tag */
 static PyObject *get_retry_token(PyObject *self, void *Py_UNUSED(unused)) {
   const quic_wire_header *h = HEADER(self);
   const size_t len = h->end - h->header_end;
-  return part(self, h->header_end, len < RETRY_TAG ? len : len - RETRY_TAG);
+  return copy(self, h->header_end, len < RETRY_TAG ? len : len - RETRY_TAG);
 }
 
 static PyObject *get_retry_tag(PyObject *self, void *Py_UNUSED(unused)) {
@@ -68,7 +73,7 @@ static PyObject *get_retry_tag(PyObject *self, void *Py_UNUSED(unused)) {
   const size_t len = h->end - h->header_end;
   if (len < RETRY_TAG)
     return Py_NewRef(Py_None);
-  return part(self, h->end - RETRY_TAG, RETRY_TAG);
+  return copy(self, h->end - RETRY_TAG, RETRY_TAG);
 }
 
 static PyObject *get_spin(PyObject *self, void *Py_UNUSED(unused)) {
@@ -115,9 +120,16 @@ static const wire_kind packet_kinds[PACKET_KINDS] = {
 
 static void packet_dealloc(PyObject *self) {
   PyTypeObject *type = Py_TYPE(self);
+  PyObject_GC_UnTrack(self);
   Py_XDECREF(PACKET(self)->owner);
-  PyObject_Free(self);
+  PyObject_GC_Del(self);
   Py_DECREF(type);
+}
+
+static int packet_visit(PyObject *self, visitproc visit, void *arg) {
+  Py_VISIT(Py_TYPE(self));
+  Py_VISIT(PACKET(self)->owner);
+  return 0;
 }
 
 /* Versions as the program prints them, with 0x. */
@@ -196,13 +208,18 @@ static Py_hash_t packet_hash(PyObject *self) {
   return wire_hash(bytes);
 }
 
-static PyObject *packet_sample(PyObject *self, PyObject *args) {
+static PyObject *packet_sample(PyObject *self, PyObject *const *args,
+                               Py_ssize_t nargs) {
+  enum { LENGTH, COUNT };
   const quic_wire_header *h = HEADER(self);
+  PyObject *given[COUNT];
   Py_ssize_t len = 16;
   const uint8_t *packet, *sample = NULL;
   wire_bytes bytes;
   size_t at;
-  if (!PyArg_ParseTuple(args, "|n:sample", &len) ||
+  if (wire_arguments(WIRE_STATE(self), CALL_Packet_sample, args, nargs, NULL,
+                     given) < 0 ||
+      (given[LENGTH] && wire_index(given[LENGTH], "length", &len) < 0) ||
       wire_acquire(PACKET(self)->owner, &bytes) < 0)
     return NULL;
   packet = bytes.at + PACKET(self)->begin;
@@ -214,7 +231,7 @@ static PyObject *packet_sample(PyObject *self, PyObject *args) {
 }
 
 static PyMethodDef packet_methods[] = {
-    WIRE_METHOD(Packet, sample, packet_sample, METH_VARARGS),
+    WIRE_METHOD(Packet, sample, packet_sample, METH_FASTCALL),
     {NULL, NULL, 0, NULL}};
 #define PACKET_FIELD(name, how, bit, doc)                                      \
   {name, get_##how, NULL, PyDoc_STR(doc), NULL},
@@ -223,6 +240,7 @@ static PyGetSetDef packet_fields[] = {
     WIRE_END_OF_FIELDS};
 static PyType_Slot packet_slots[] = {
     {Py_tp_dealloc, packet_dealloc},
+    {Py_tp_traverse, packet_visit},
     {Py_tp_methods, packet_methods},
     {Py_tp_getset, packet_fields},
     {Py_tp_repr, packet_repr},
@@ -230,10 +248,11 @@ static PyType_Slot packet_slots[] = {
     {Py_tp_hash, packet_hash},
     {Py_tp_doc, "A packet, with its protection (RFC 9000, section 17)."},
     {0, NULL}};
-static PyType_Spec packet_spec = {"quic_wire.Packet", sizeof(packet_object), 0,
-                                  Py_TPFLAGS_DEFAULT | Py_TPFLAGS_BASETYPE |
-                                      Py_TPFLAGS_DISALLOW_INSTANTIATION,
-                                  packet_slots};
+static PyType_Spec packet_spec = {
+    "quic_wire.Packet", sizeof(packet_object), 0,
+    Py_TPFLAGS_DEFAULT | Py_TPFLAGS_HAVE_GC | Py_TPFLAGS_BASETYPE |
+        Py_TPFLAGS_IMMUTABLETYPE | Py_TPFLAGS_DISALLOW_INSTANTIATION,
+    packet_slots};
 
 int wire_add_packets(PyObject *module, wire_state *state) {
   PyObject *bases;
@@ -244,7 +263,7 @@ int wire_add_packets(PyObject *module, wire_state *state) {
   for (i = 0; bases && result == 0 && i < PACKET_KINDS; i++) {
     state->packets[i] =
         wire_add_kind(module, bases, &packet_kinds[i], sizeof(packet_object),
-                      packet_dealloc, NULL);
+                      packet_dealloc, packet_visit, NULL);
     result = state->packets[i] ? 0 : -1;
   }
   Py_XDECREF(bases);
@@ -254,12 +273,13 @@ int wire_add_packets(PyObject *module, wire_state *state) {
 PyObject *packet_made(wire_state *state, PyObject *owner, size_t begin,
                       const quic_wire_header *h) {
   PyTypeObject *type = (PyTypeObject *)state->packets[h->kind];
-  packet_object *o = PyObject_New(packet_object, type);
+  packet_object *o = PyObject_GC_New(packet_object, type);
   if (!o)
     return NULL;
   o->owner = Py_NewRef(owner);
   o->begin = begin;
   o->h = *h;
+  wire_track((PyObject *)o, owner);
   return (PyObject *)o;
 }
 

@@ -7,9 +7,11 @@
 
 typedef struct parameters_object {
   PyObject_HEAD quic_wire_params p;
+  uint32_t given; /* which rows were in the list, or given by name */
 } parameters_object;
 
 #define PARAMS(self) (&((parameters_object *)(self))->p)
+#define GIVEN(self) (((parameters_object *)(self))->given)
 
 /* What a field of the struct is. */
 enum field_kind {
@@ -28,16 +30,21 @@ typedef struct parameter_field {
 } parameter_field;
 
 #define AT(field) offsetof(quic_wire_params, field)
-enum row {
-#define PARAMETER(name, kind, at, len_at, present, doc) ROW_##name,
-#include "formats.h"
-  FIELDS
-};
-static const parameter_field table[FIELDS] = {
-#define PARAMETER(name, kind, at, len_at, present, doc)                        \
+static const parameter_field table[PARAMETERS] = {
+#define PARAMETER(name, kind, id, at, len_at, present, doc)                    \
   {#name, kind, at, len_at, present},
 #include "formats.h"
 };
+
+/* The bit of the parameter of this id; 0 if none has it. */
+static uint32_t bit_of(uint64_t id) {
+  switch (id) {
+#define PARAMETER(name, kind, id, at, len_at, present, doc)                    \
+  case id: return 1u << ROW_##name;
+#include "formats.h"
+  default: return 0;
+  }
+}
 enum { CID = 20, RESET_TOKEN = 16 };
 
 static uint8_t *bytes_at(quic_wire_params *p, size_t at) {
@@ -186,7 +193,7 @@ static int set_field(quic_wire_params *p, const parameter_field *field,
 /* ---- The object */
 
 static PyGetSetDef fields[] = {
-#define PARAMETER(name, kind, at, len_at, present, doc)                        \
+#define PARAMETER(name, kind, id, at, len_at, present, doc)                    \
   {#name, get_field, NULL, PyDoc_STR(doc), (void *)&table[ROW_##name]},
 #include "formats.h"
     WIRE_END_OF_FIELDS};
@@ -195,9 +202,26 @@ static PyGetSetDef fields[] = {
 static parameters_object *allocate(PyTypeObject *type) {
   allocfunc alloc = (allocfunc)PyType_GetSlot(type, Py_tp_alloc);
   parameters_object *o = (parameters_object *)alloc(type, 0);
-  if (o)
+  if (o) {
     memset(&o->p, 0, sizeof o->p);
+    o->given = 0;
+  }
   return o;
+}
+
+static void parameters_dealloc(PyObject *self) {
+  PyTypeObject *type = Py_TYPE(self);
+  freefunc release = (freefunc)PyType_GetSlot(type, Py_tp_free);
+  release(self);
+  Py_DECREF(type);
+}
+
+/* The state of the module, by a class that Python derived from that of this
+ * file. */
+static wire_state *state_of(PyTypeObject *type) {
+  while (PyType_GetSlot(type, Py_tp_dealloc) != (void *)parameters_dealloc)
+    type = PyType_GetSlot(type, Py_tp_base);
+  return PyType_GetModuleState(type);
 }
 
 static parameters_object *by_default(PyTypeObject *type) {
@@ -214,14 +238,14 @@ static parameters_object *by_default(PyTypeObject *type) {
 }
 
 /* Raises TypeError for the first name that no parameter has. */
-static void raise_unknown(PyObject *keywords) {
+static void raise_unknown(const wire_state *state, PyObject *keywords) {
   PyObject *name, *value;
   Py_ssize_t at = 0, i;
   while (PyDict_Next(keywords, &at, &name, &value)) {
-    for (i = 0; i < FIELDS; i++)
-      if (PyUnicode_CompareWithASCIIString(name, table[i].name) == 0)
+    for (i = 0; i < PARAMETERS; i++)
+      if (PyUnicode_Compare(name, state->parameter_names[i]) == 0)
         break;
-    if (i == FIELDS) {
+    if (i == PARAMETERS) {
       PyErr_Format(PyExc_TypeError, "no transport parameter is called %U",
                    name);
       return;
@@ -231,59 +255,89 @@ static void raise_unknown(PyObject *keywords) {
 
 static PyObject *parameters_new(PyTypeObject *type, PyObject *args,
                                 PyObject *keywords) {
+  const wire_state *state = state_of(type);
   parameters_object *o;
   Py_ssize_t named = 0, i;
+  if (!state)
+    return NULL;
   if (PyTuple_Size(args))
     return PyErr_Format(PyExc_TypeError, "parameters are given by name");
   o = by_default(type);
-  for (i = 0; o && keywords && i < FIELDS; i++) {
-    PyObject *value = PyDict_GetItemString(keywords, table[i].name);
-    named += value != NULL;
-    if (value && set_field(&o->p, &table[i], value) < 0)
+  for (i = 0; o && keywords && i < PARAMETERS; i++) {
+    PyObject *value =
+        PyDict_GetItemWithError(keywords, state->parameter_names[i]);
+    if (!value)
+      continue;
+    named++;
+    o->given |= 1u << i;
+    if (set_field(&o->p, &table[i], value) < 0)
       Py_CLEAR(o);
   }
   if (o && keywords && PyDict_Size(keywords) != named) {
-    raise_unknown(keywords);
+    raise_unknown(state, keywords);
     Py_CLEAR(o);
   }
   return (PyObject *)o;
 }
 
-static void parameters_dealloc(PyObject *self) {
-  PyTypeObject *type = Py_TYPE(self);
-  freefunc release = (freefunc)PyType_GetSlot(type, Py_tp_free);
-  release(self);
-  Py_DECREF(type);
+/* Which fields a dictionary has. */
+typedef enum choice {
+  ALL,
+  CHANGED, /* those that differ from their defaults */
+  PRESENT  /* those that were given */
+} choice;
+
+/* Whether a field has another value than by default: -1 with an exception. */
+static int is_changed(PyObject *usual, const parameter_field *field,
+                      PyObject *value) {
+  PyObject *other = get_field(usual, (void *)field);
+  const int is_same =
+      other ? PyObject_RichCompareBool(value, other, Py_EQ) : -1;
+  Py_XDECREF(other);
+  return is_same < 0 ? -1 : !is_same;
 }
 
-/* The fields that differ from their defaults, by name; all if |all|. */
-static PyObject *dict_of(PyObject *self, int all) {
-  PyObject *usual = (PyObject *)by_default(Py_TYPE(self));
-  PyObject *out = usual ? PyDict_New() : NULL;
-  size_t i;
-  for (i = 0; out && i < FIELDS; i++) {
-    PyObject *value = get_field(self, (void *)&table[i]);
-    PyObject *other = value ? get_field(usual, (void *)&table[i]) : NULL;
-    const int is_same =
-        other ? PyObject_RichCompareBool(value, other, Py_EQ) : -1;
-    if (is_same < 0 || ((all || !is_same) &&
-                        PyDict_SetItemString(out, table[i].name, value) < 0))
+/* Fields by their names. */
+static PyObject *dict_of(PyObject *self, choice which) {
+  const wire_state *state = state_of(Py_TYPE(self));
+  PyObject *usual =
+      which == CHANGED ? (PyObject *)by_default(Py_TYPE(self)) : NULL;
+  PyObject *out = state && (usual || which != CHANGED) ? PyDict_New() : NULL;
+  Py_ssize_t i;
+  for (i = 0; out && i < PARAMETERS; i++) {
+    PyObject *value;
+    int is_in = 1;
+    if (which == PRESENT && !(GIVEN(self) >> i & 1))
+      continue;
+    value = get_field(self, (void *)&table[i]);
+    if (value && usual)
+      is_in = is_changed(usual, &table[i], value);
+    if (!value || is_in < 0 ||
+        (is_in && PyDict_SetItem(out, state->parameter_names[i], value) < 0))
       Py_CLEAR(out);
     Py_XDECREF(value);
-    Py_XDECREF(other);
   }
   Py_XDECREF(usual);
   return out;
 }
 
-static PyObject *parameters_as_dict(PyObject *self,
-                                    PyObject *Py_UNUSED(unused)) {
-  return dict_of(self, 1);
+static PyObject *parameters_as_dict(PyObject *self, PyObject *const *args,
+                                    Py_ssize_t nargs, PyObject *names) {
+  enum { ONLY_PRESENT, COUNT };
+  const wire_state *state = state_of(Py_TYPE(self));
+  PyObject *given[COUNT];
+  int is_true;
+  if (!state || wire_arguments(state, CALL_Parameters_as_dict, args, nargs,
+                               names, given) < 0)
+    return NULL;
+  is_true = given[ONLY_PRESENT] ? PyObject_IsTrue(given[ONLY_PRESENT]) : 0;
+  return is_true < 0 ? NULL : dict_of(self, is_true ? PRESENT : ALL);
 }
 
+/* By the names that were given, so that they are given again. */
 static PyObject *parameters_reduce(PyObject *self,
                                    PyObject *Py_UNUSED(unused)) {
-  PyObject *dict = dict_of(self, 0);
+  PyObject *dict = dict_of(self, PRESENT);
   PyObject *maker = NULL, *from = PyImport_ImportModule("quic_wire.parameters");
   if (from)
     maker = PyObject_GetAttrString(from, "_of_dict");
@@ -297,7 +351,7 @@ static PyObject *parameters_reduce(PyObject *self,
 }
 
 static PyObject *parameters_repr(PyObject *self) {
-  return wire_repr("TransportParameters", dict_of(self, 0));
+  return wire_repr("TransportParameters", dict_of(self, CHANGED));
 }
 
 static PyObject *struct_of(PyObject *self) {
@@ -315,27 +369,45 @@ static Py_hash_t parameters_hash(PyObject *self) {
 
 /* ---- Reading and writing lists */
 
-static PyObject *parameters_read(PyObject *type, PyObject *args,
-                                 PyObject *keywords) {
-  static char *names[] = NAMES_Parameters_read;
-  PyObject *list;
-  uint32_t side, flags = 0;
+/* Which parameters a list has. */
+static uint32_t given_in(const wire_bytes *list) {
+  quic_wire_param entry;
+  uint32_t given = 0;
+  size_t at = 0;
+  int64_t end;
+  while (at < list->len && (end = quic_wire_param_read(
+                                list->at + at, list->len - at, &entry)) > 0) {
+    given |= bit_of(entry.id);
+    at += (size_t)end;
+  }
+  return given;
+}
+
+static PyObject *parameters_read(PyObject *type, PyObject *const *args,
+                                 Py_ssize_t nargs, PyObject *names) {
+  enum { SIDE, DATA, CHECKS, COUNT };
+  const wire_state *state = state_of((PyTypeObject *)type);
+  PyObject *given[COUNT];
+  uint32_t side, flags;
   wire_bytes bytes;
   parameters_object *o;
   quic_wire_refusal refusal;
   int result;
-  if (!PyArg_ParseTupleAndKeywords(args, keywords, "O&O|$O&:read", names,
-                                   wire_to_side, &side, &list, wire_to_checks,
-                                   &flags) ||
-      wire_acquire(list, &bytes) < 0)
+  if (!state ||
+      wire_arguments(state, CALL_Parameters_read, args, nargs, names, given) <
+          0 ||
+      wire_side(given[SIDE], "side", &side) < 0 ||
+      wire_checks(given[CHECKS], &flags) < 0 ||
+      wire_acquire(given[DATA], &bytes) < 0)
     return NULL;
   o = allocate((PyTypeObject *)type);
   if (o) {
     result = quic_wire_params_read(side, flags, bytes.at, bytes.len, &o->p,
                                    sizeof o->p, &refusal);
+    o->given = result < 0 ? 0 : given_in(&bytes);
     if (result < 0) {
       if (result <= QUIC_WIRE_ERR_PARAMS_MALFORMED)
-        wire_parameter_error(result, side, flags, list, &refusal);
+        wire_parameter_error(result, side, flags, given[DATA], &refusal);
       else
         wire_mistake(result);
       Py_CLEAR(o);
@@ -347,42 +419,45 @@ static PyObject *parameters_read(PyObject *type, PyObject *args,
 
 /* Further entries and an order of all, as quic_wire_params_write_with has them.
  */
-static PyObject *written(PyObject *self, uint32_t side, const Py_buffer *more,
-                         const Py_buffer *order) {
-  const size_t room = sizeof(quic_wire_params) + 256 + (size_t)more->len;
+static PyObject *written(PyObject *self, uint32_t side, const wire_bytes *more,
+                         const wire_bytes *order) {
+  const size_t room = sizeof(quic_wire_params) + 256 + more->len;
   uint8_t *at;
   PyObject *out = wire_new_bytes(room, &at);
   size_t len = 0;
   int result;
   if (!out)
     return NULL;
-  result = quic_wire_params_write_with(
-      side, PARAMS(self), sizeof(quic_wire_params), more->buf,
-      (size_t)more->len, order->buf, (size_t)order->len, at, room, &len);
+  result = quic_wire_params_write_with(side, PARAMS(self),
+                                       sizeof(quic_wire_params), more->at,
+                                       more->len, order->at, order->len, at,
+                                       room, &len);
   return wire_written(out, result, len);
 }
 
 static PyObject *parameters_write(PyObject *self, PyObject *args) {
-  Py_buffer more = {0}, order = {0};
+  PyObject *for_side, *further = NULL, *first = NULL, *out = NULL;
+  wire_bytes more, order;
   uint32_t side;
-  PyObject *out;
-  more.buf = order.buf = (void *)"";
-  if (!PyArg_ParseTuple(args, "O&|y*y*:write", wire_to_side, &side, &more,
-                        &order))
+  if (!PyArg_UnpackTuple(args, "_write", 1, 3, &for_side, &further, &first) ||
+      wire_side(for_side, "side", &side) < 0 ||
+      wire_acquire(further, &more) < 0)
     return NULL;
-  out = written(self, side, &more, &order);
-  PyBuffer_Release(&more);
-  PyBuffer_Release(&order);
+  if (wire_acquire(first, &order) == 0) {
+    out = written(self, side, &more, &order);
+    wire_release(&order);
+  }
+  wire_release(&more);
   return out;
 }
 
 /* What is wrong with the first parameter that the peer would reject, and its
  * id. */
-static PyObject *parameters_write_fault(PyObject *self, PyObject *args) {
+static PyObject *parameters_write_fault(PyObject *self, PyObject *for_side) {
   uint32_t side;
   uint64_t id = UINT64_MAX;
   int fault;
-  if (!PyArg_ParseTuple(args, "O&:write_fault", wire_to_side, &side))
+  if (wire_side(for_side, "side", &side) < 0)
     return NULL;
   fault = quic_wire_params_write_fault(side, PARAMS(self),
                                        sizeof(quic_wire_params), &id);
@@ -394,10 +469,10 @@ static PyObject *parameters_write_fault(PyObject *self, PyObject *args) {
 }
 
 static PyMethodDef parameters_methods[] = {
-    WIRE_METHOD(Parameters, read, parameters_read, WIRE_NAMED | METH_CLASS),
+    WIRE_METHOD(Parameters, read, parameters_read, WIRE_FAST | METH_CLASS),
     {"_write", parameters_write, METH_VARARGS, NULL},
-    {"_write_fault", parameters_write_fault, METH_VARARGS, NULL},
-    WIRE_METHOD(Parameters, as_dict, parameters_as_dict, METH_NOARGS),
+    {"_write_fault", parameters_write_fault, METH_O, NULL},
+    WIRE_METHOD(Parameters, as_dict, parameters_as_dict, WIRE_FAST),
     {"__reduce__", parameters_reduce, METH_NOARGS, NULL},
     {NULL, NULL, 0, NULL}};
 static PyType_Slot parameters_slots[] = {
@@ -408,10 +483,13 @@ static PyType_Slot parameters_slots[] = {
     {Py_tp_repr, parameters_repr},
     {Py_tp_richcompare, parameters_compare},
     {Py_tp_hash, parameters_hash},
+    {Py_tp_doc, "_Parameters(" PARAMETERS_SIGNATURE
+                ")\n--\n\nTransport parameters (RFC 9000, section 18)."},
     {0, NULL}};
 static PyType_Spec parameters_spec = {
     "quic_wire._wire._Parameters", sizeof(parameters_object), 0,
-    Py_TPFLAGS_DEFAULT | Py_TPFLAGS_BASETYPE, parameters_slots};
+    Py_TPFLAGS_DEFAULT | Py_TPFLAGS_BASETYPE | Py_TPFLAGS_IMMUTABLETYPE,
+    parameters_slots};
 
 int wire_add_parameters(PyObject *module, wire_state *state) {
   state->parameters =

@@ -5,205 +5,260 @@
 
 #include <string.h>
 
-enum { MASK = 5 }; /* bytes that protect a header (RFC 9001, section 5.4.1) */
+enum { MASK_LEN = 5 }; /* bytes that protect a header (RFC 9001, 5.4.1) */
 
 /* An offset and a mask, as arguments: -1 with an exception. */
-static int check_mask(Py_ssize_t at, const Py_buffer *mask) {
+static int check_mask(Py_ssize_t at, const wire_bytes *mask) {
   if (at < 0)
-    PyErr_SetString(PyExc_ValueError, "number_at must not be negative");
-  else if (mask->len < MASK)
-    PyErr_SetString(PyExc_ValueError, "mask must have 5 bytes or more");
-  return PyErr_Occurred() ? -1 : 0;
+    return wire_fail(PyExc_ValueError, "number_at must not be negative");
+  if (mask->len < MASK_LEN)
+    return wire_fail(PyExc_ValueError, "mask must have 5 bytes or more");
+  return 0;
 }
 
 /* PacketError for a packet whose fixed bit isn't checked. */
-static PyObject *packet_error(int result, const uint8_t *at, size_t len) {
-  wire_reader how = {0};
-  wire_bytes bytes = {0};
-  bytes.at = len ? at : (const uint8_t *)"";
-  bytes.len = len;
-  how.flags = QUIC_WIRE_READ_GREASED_BIT;
-  if (wire_set_versions(&how, Py_None) < 0)
+static PyObject *packet_error(int result, const wire_bytes *packet) {
+  wire_reader how = {.flags = QUIC_WIRE_READ_GREASED_BIT};
+  if (wire_set_versions(&how, NULL) < 0)
     return NULL;
-  return wire_packet_error(result, &bytes, 0, &how, Py_None, NULL);
+  return wire_packet_error(result, packet, 0, &how, Py_None, NULL);
 }
 
 /* The result of a call: an error of the packet or of the caller. */
-static PyObject *reject(int result, const Py_buffer *packet) {
-  return result == QUIC_WIRE_ERR_PACKET_SMALL
-             ? packet_error(result, packet->buf, (size_t)packet->len)
-             : wire_mistake(result);
+static PyObject *reject(int result, const wire_bytes *packet) {
+  return result == QUIC_WIRE_ERR_PACKET_SMALL ? packet_error(result, packet)
+                                              : wire_mistake(result);
 }
 
-static PyObject *unprotect(PyObject *Py_UNUSED(module), PyObject *args,
-                           PyObject *keywords) {
-  static char *names[] = NAMES_unprotect;
-  Py_buffer packet, mask;
-  Py_ssize_t at;
-  PyObject *expected = NULL, *header = NULL;
-  uint64_t next = 0, number = 0;
+/* The packet number and the header, or NULL with an exception. */
+static PyObject *unprotected(const wire_bytes *packet, Py_ssize_t at,
+                             const wire_bytes *mask, uint64_t next) {
+  const size_t room = ((size_t)at < packet->len ? (size_t)at : 0) + 4;
+  uint64_t number = 0;
   uint8_t *copy;
-  size_t room;
+  PyObject *header = wire_new_bytes(room, &copy);
   int result = QUIC_WIRE_ERR_PACKET_SMALL;
-  if (!PyArg_ParseTupleAndKeywords(args, keywords, "y*ny*|O:unprotect", names,
-                                   &packet, &at, &mask, &expected))
+  if (!header)
     return NULL;
-  if (check_mask(at, &mask) == 0 &&
-      (!expected || wire_varint(expected, "expected", &next) == 0)) {
-    room = (at < packet.len ? (size_t)at : 0) + 4;
-    header = wire_new_bytes(room, &copy);
-    if (header && at < packet.len)
-      result =
-          quic_wire_unprotect_copy(packet.buf, (size_t)packet.len, (size_t)at,
-                                   mask.buf, next, copy, room, &number);
-    if (header && result < 0) {
-      Py_CLEAR(header);
-      reject(result, &packet);
-    } else if (header)
-      header = wire_front(header, (size_t)(at + result));
+  if ((size_t)at < packet->len)
+    result = quic_wire_unprotect_copy(packet->at, packet->len, (size_t)at,
+                                      mask->at, next, copy, room, &number);
+  if (result < 0) {
+    Py_DECREF(header);
+    return reject(result, packet);
   }
-  PyBuffer_Release(&packet);
-  PyBuffer_Release(&mask);
+  header = wire_front(header, (size_t)(at + result));
   return header ? Py_BuildValue("(KN)", (unsigned long long)number, header)
                 : NULL;
 }
 
-static PyObject *protect(PyObject *Py_UNUSED(module), PyObject *args,
-                         PyObject *keywords) {
-  static char *names[] = NAMES_protect;
-  Py_buffer packet, mask;
+static PyObject *unprotect(PyObject *module, PyObject *const *args,
+                           Py_ssize_t nargs, PyObject *names) {
+  enum { PACKET, NUMBER_AT, MASK, EXPECTED, COUNT };
+  PyObject *given[COUNT], *out = NULL;
+  wire_bytes packet, mask;
   Py_ssize_t at;
-  PyObject *out = NULL;
-  int result;
-  if (!PyArg_ParseTupleAndKeywords(args, keywords, "w*ny*:protect", names,
-                                   &packet, &at, &mask))
+  uint64_t next = 0;
+  if (wire_arguments(PyModule_GetState(module), CALL_unprotect, args, nargs,
+                     names, given) < 0 ||
+      wire_index(given[NUMBER_AT], "number_at", &at) < 0 ||
+      (given[EXPECTED] &&
+       wire_varint(given[EXPECTED], "expected", &next) < 0) ||
+      wire_acquire(given[PACKET], &packet) < 0)
     return NULL;
-  if (check_mask(at, &mask) == 0) {
-    result =
-        quic_wire_protect(packet.buf, (size_t)packet.len, (size_t)at, mask.buf);
-    out = result < 0 ? reject(result, &packet) : PyLong_FromLong(result);
+  if (wire_acquire(given[MASK], &mask) == 0) {
+    if (check_mask(at, &mask) == 0)
+      out = unprotected(&packet, at, &mask, next);
+    wire_release(&mask);
   }
-  PyBuffer_Release(&packet);
-  PyBuffer_Release(&mask);
+  wire_release(&packet);
   return out;
 }
 
-static PyObject *set_length(PyObject *Py_UNUSED(module), PyObject *args,
-                            PyObject *keywords) {
-  static char *names[] = NAMES_set_length;
-  Py_buffer packet;
+static PyObject *protect(PyObject *module, PyObject *const *args,
+                         Py_ssize_t nargs, PyObject *names) {
+  enum { PACKET, NUMBER_AT, MASK, COUNT };
+  PyObject *given[COUNT], *out = NULL;
+  wire_bytes packet, mask;
+  Py_ssize_t at;
+  int result;
+  if (wire_arguments(PyModule_GetState(module), CALL_protect, args, nargs,
+                     names, given) < 0 ||
+      wire_index(given[NUMBER_AT], "number_at", &at) < 0 ||
+      wire_acquire_writable(given[PACKET], "packet", &packet) < 0)
+    return NULL;
+  if (wire_acquire(given[MASK], &mask) == 0) {
+    if (check_mask(at, &mask) == 0) {
+      result = quic_wire_protect(packet.view.buf, packet.len, (size_t)at,
+                                 mask.at);
+      out = result < 0 ? reject(result, &packet) : PyLong_FromLong(result);
+    }
+    wire_release(&mask);
+  }
+  wire_release(&packet);
+  return out;
+}
+
+static PyObject *set_length(PyObject *module, PyObject *const *args,
+                            Py_ssize_t nargs, PyObject *names) {
+  enum { PACKET, NUMBER_AT, LENGTH_LEN, COUNT };
+  PyObject *given[COUNT];
+  wire_bytes packet;
   Py_ssize_t at;
   uint32_t len = 2;
   int result = QUIC_WIRE_ERR_PLACE;
-  if (!PyArg_ParseTupleAndKeywords(args, keywords, "w*n|O&:set_length", names,
-                                   &packet, &at, wire_to_uint32, &len))
+  if (wire_arguments(PyModule_GetState(module), CALL_set_length, args, nargs,
+                     names, given) < 0 ||
+      wire_index(given[NUMBER_AT], "number_at", &at) < 0 ||
+      (given[LENGTH_LEN] &&
+       wire_uint32(given[LENGTH_LEN], "length_len", &len) < 0) ||
+      wire_acquire_writable(given[PACKET], "packet", &packet) < 0)
     return NULL;
   if (at >= 0)
-    result = quic_wire_set_len(packet.buf, (size_t)packet.len, (size_t)at, len);
-  PyBuffer_Release(&packet);
+    result = quic_wire_set_len(packet.view.buf, packet.len, (size_t)at, len);
+  wire_release(&packet);
   return result < 0 ? wire_mistake(result) : Py_NewRef(Py_None);
 }
 
 /* ---- Writing headers */
 
-/* The arguments of write_header. */
-typedef struct header_arguments {
-  quic_wire_header_fields fields;
-  Py_buffer dcid, scid, token;
-} header_arguments;
+enum {
+  PACKET_TYPE,
+  DCID,
+  SCID,
+  TOKEN,
+  VERSION,
+  NUMBER,
+  NUMBER_LEN,
+  LENGTH_LEN,
+  SPIN,
+  KEY_PHASE,
+  FIXED_BIT,
+  HEADER_ARGUMENTS
+};
 
-static void release(header_arguments *a) {
-  PyBuffer_Release(&a->dcid);
-  PyBuffer_Release(&a->scid);
-  PyBuffer_Release(&a->token);
+/* Sets a flag if a bit is given that is true, or one that isn't: -1 with an
+ * exception. */
+static int set_bit(quic_wire_header_fields *fields, PyObject *value, int flag,
+                   int is_set_if_true) {
+  const int is_true = value ? PyObject_IsTrue(value) : !is_set_if_true;
+  if (is_true == is_set_if_true)
+    fields->flags |= (uint8_t)flag;
+  return is_true < 0 ? -1 : 0;
 }
 
-static int parse_header(PyObject *args, PyObject *keywords,
-                        header_arguments *a) {
-  static char *names[] = NAMES_write_header;
-  quic_wire_header_fields *fields = &a->fields;
-  int spin = 0, key_phase = 0, fixed_bit = 1;
-  PyObject *number = NULL;
+static int parse_header(PyObject *const *given,
+                        quic_wire_header_fields *fields) {
   fields->version = QUIC_WIRE_VERSION_1;
   fields->numberlen = 4;
   fields->lengthlen = 2;
-  if (!PyArg_ParseTupleAndKeywords(
-          args, keywords, "O&|y*y*y*$O&OO&O&ppp:write_header", names,
-          wire_to_uint8, &fields->kind, &a->dcid, &a->scid, &a->token,
-          wire_to_uint32, &fields->version, &number, wire_to_uint8,
-          &fields->numberlen, wire_to_uint8, &fields->lengthlen, &spin,
-          &key_phase, &fixed_bit) ||
-      (number && wire_varint(number, "number", &fields->number) < 0))
+  if (wire_uint8(given[PACKET_TYPE], "packet_type", &fields->kind) < 0 ||
+      (given[VERSION] && wire_version(given[VERSION], &fields->version) < 0) ||
+      (given[NUMBER] &&
+       wire_varint(given[NUMBER], "number", &fields->number) < 0) ||
+      (given[NUMBER_LEN] &&
+       wire_uint8(given[NUMBER_LEN], "number_len", &fields->numberlen) < 0) ||
+      (given[LENGTH_LEN] &&
+       wire_uint8(given[LENGTH_LEN], "length_len", &fields->lengthlen) < 0) ||
+      set_bit(fields, given[SPIN], QUIC_WIRE_BIT_SPIN, 1) < 0 ||
+      set_bit(fields, given[KEY_PHASE], QUIC_WIRE_BIT_KEY_PHASE, 1) < 0 ||
+      set_bit(fields, given[FIXED_BIT], QUIC_WIRE_CLEAR_FIXED_BIT, 0) < 0)
     return -1;
-  if (fields->kind >= QUIC_WIRE_PACKET_VERSION_NEGOTIATION)
-    return wire_fail(PyExc_ValueError, "packet_type must be INITIAL, ZERO_RTT, "
-                                       "HANDSHAKE, RETRY or ONE_RTT");
-  fields->flags = (uint8_t)((fixed_bit ? 0 : QUIC_WIRE_CLEAR_FIXED_BIT) |
-                            (spin ? QUIC_WIRE_BIT_SPIN : 0) |
-                            (key_phase ? QUIC_WIRE_BIT_KEY_PHASE : 0));
-  return 0;
+  if (fields->kind < QUIC_WIRE_PACKET_VERSION_NEGOTIATION)
+    return 0;
+  return wire_fail(PyExc_ValueError, "packet_type must be INITIAL, ZERO_RTT, "
+                                     "HANDSHAKE, RETRY or ONE_RTT");
 }
 
-static PyObject *write_header(PyObject *Py_UNUSED(module), PyObject *args,
-                              PyObject *keywords) {
-  header_arguments a;
+/* Bytes of a header with ids of at most so many, and without a token. */
+enum { MOST_HEADER = 128, MOST_IDS = 40 };
+
+static PyObject *header_bytes(const quic_wire_header_fields *fields,
+                              const wire_bytes *dcid, const wire_bytes *scid,
+                              const wire_bytes *token) {
+  uint8_t small[MOST_HEADER], *at = small;
   PyObject *out = NULL;
-  uint8_t *at = NULL;
-  int64_t result = 0;
-  size_t room;
-  memset(&a, 0, sizeof a);
-  if (parse_header(args, keywords, &a) == 0) {
-    room = quic_wire_header_len(&a.fields, (size_t)a.dcid.len,
-                                (size_t)a.scid.len, (size_t)a.token.len);
+  size_t room = MOST_HEADER;
+  int64_t result;
+  if (dcid->len + scid->len > MOST_IDS || token->len) {
+    room = quic_wire_header_len(fields, dcid->len, scid->len, token->len);
     out = wire_new_bytes(room, &at);
-    if (out)
-      result = quic_wire_header_write(
-          &a.fields, a.dcid.buf, (size_t)a.dcid.len, a.scid.buf,
-          (size_t)a.scid.len, a.token.buf, (size_t)a.token.len, at, room);
+    if (!out)
+      return NULL;
   }
-  release(&a);
-  return wire_written(out, (int)result, (size_t)result);
+  result = quic_wire_header_write(fields, dcid->at, dcid->len, scid->at,
+                                  scid->len, token->at, token->len, at, room);
+  if (out || result < 0)
+    return wire_written(out, (int)result, (size_t)result);
+  return PyBytes_FromStringAndSize((char *)small, (Py_ssize_t)result);
 }
 
-static PyObject *write_negotiation(PyObject *Py_UNUSED(module), PyObject *args,
-                                   PyObject *keywords) {
-  static char *names[] = NAMES_write_version_negotiation;
-  Py_buffer dcid, scid;
-  PyObject *versions, *out = NULL;
-  uint8_t unused = QUIC_WIRE_BIT_FIXED;
-  uint32_t *list;
-  size_t count, room, len = 0;
-  uint8_t *at = NULL;
-  int result = 0;
-  if (!PyArg_ParseTupleAndKeywords(
-          args, keywords, "y*y*O|O&:write_version_negotiation", names, &dcid,
-          &scid, &versions, wire_to_uint8, &unused))
+static PyObject *write_header(PyObject *module, PyObject *const *args,
+                              Py_ssize_t nargs, PyObject *names) {
+  PyObject *given[HEADER_ARGUMENTS], *out = NULL;
+  quic_wire_header_fields fields = {0};
+  wire_bytes dcid, scid, token;
+  if (wire_arguments(PyModule_GetState(module), CALL_write_header, args, nargs,
+                     names, given) < 0 ||
+      parse_header(given, &fields) < 0 ||
+      wire_acquire(given[DCID], &dcid) < 0)
     return NULL;
-  list = wire_versions(versions, &count);
-  room = 7 + (size_t)dcid.len + (size_t)scid.len + 4 * count;
+  if (wire_acquire(given[SCID], &scid) == 0) {
+    if (wire_acquire(given[TOKEN], &token) == 0) {
+      out = header_bytes(&fields, &dcid, &scid, &token);
+      wire_release(&token);
+    }
+    wire_release(&scid);
+  }
+  wire_release(&dcid);
+  return out;
+}
+
+static PyObject *negotiation_bytes(uint8_t unused, const wire_bytes *dcid,
+                                   const wire_bytes *scid,
+                                   PyObject *versions) {
+  size_t count, room, len = 0;
+  uint32_t *list = wire_versions(versions, &count);
+  uint8_t *at = NULL;
+  PyObject *out;
+  int result = 0;
+  room = 7 + dcid->len + scid->len + 4 * count;
   out = list ? wire_new_bytes(room, &at) : NULL;
   if (out)
     result = quic_wire_negotiation_write(
-        (uint8_t)((unused & 0x7f) ^ QUIC_WIRE_BIT_FIXED), dcid.buf,
-        (size_t)dcid.len, scid.buf, (size_t)scid.len, list, count, at, room,
-        &len);
+        (uint8_t)((unused & 0x7f) ^ QUIC_WIRE_BIT_FIXED), dcid->at, dcid->len,
+        scid->at, scid->len, list, count, at, room, &len);
   PyMem_Free(list);
-  PyBuffer_Release(&dcid);
-  PyBuffer_Release(&scid);
   return wire_written(out, result, len);
+}
+
+static PyObject *write_negotiation(PyObject *module, PyObject *const *args,
+                                   Py_ssize_t nargs, PyObject *names) {
+  enum { TO, FROM, VERSIONS, UNUSED, COUNT };
+  PyObject *given[COUNT], *out = NULL;
+  wire_bytes dcid, scid;
+  uint8_t unused = QUIC_WIRE_BIT_FIXED;
+  if (wire_arguments(PyModule_GetState(module), CALL_write_version_negotiation,
+                     args, nargs, names, given) < 0 ||
+      (given[UNUSED] && wire_uint8(given[UNUSED], "unused", &unused) < 0) ||
+      wire_acquire(given[TO], &dcid) < 0)
+    return NULL;
+  if (wire_acquire(given[FROM], &scid) == 0) {
+    out = negotiation_bytes(unused, &dcid, &scid, given[VERSIONS]);
+    wire_release(&scid);
+  }
+  wire_release(&dcid);
+  return out;
 }
 
 /* ---- Numbers */
 
-/* The integer at an offset and where it ends, or None. */
-static PyObject *varint_at(PyObject *Py_UNUSED(module), PyObject *args) {
-  PyObject *data;
-  Py_ssize_t at;
+/* The integer at an offset and where it ends; None if none is there. */
+static PyObject *varint_from(PyObject *data, Py_ssize_t at) {
   uint64_t value = 0;
   size_t len = 0;
   wire_bytes bytes;
-  if (!PyArg_ParseTuple(args, "On:varint_at", &data, &at) ||
-      wire_acquire(data, &bytes) < 0)
+  if (wire_acquire(data, &bytes) < 0)
     return NULL;
   if (at >= 0 && (size_t)at < bytes.len)
     len = quic_wire_varint_read(bytes.at + at, bytes.len - (size_t)at, &value);
@@ -213,14 +268,25 @@ static PyObject *varint_at(PyObject *Py_UNUSED(module), PyObject *args) {
   return Py_BuildValue("(Kn)", (unsigned long long)value, at + (Py_ssize_t)len);
 }
 
-static PyObject *read_varint(PyObject *module, PyObject *args) {
-  PyObject *data, *found, *both;
-  Py_ssize_t at = 0;
-  if (!PyArg_ParseTuple(args, "O|n:read_varint", &data, &at))
+static PyObject *varint_at(PyObject *Py_UNUSED(module), PyObject *args) {
+  PyObject *data, *offset;
+  Py_ssize_t at;
+  if (!PyArg_UnpackTuple(args, "varint_at", 2, 2, &data, &offset) ||
+      wire_index(offset, "at", &at) < 0)
     return NULL;
-  both = Py_BuildValue("(On)", data, at);
-  found = both ? varint_at(module, both) : NULL;
-  Py_XDECREF(both);
+  return varint_from(data, at);
+}
+
+static PyObject *read_varint(PyObject *module, PyObject *const *args,
+                             Py_ssize_t nargs) {
+  enum { DATA, AT, COUNT };
+  PyObject *given[COUNT], *found;
+  Py_ssize_t at = 0;
+  if (wire_arguments(PyModule_GetState(module), CALL_read_varint, args, nargs,
+                     NULL, given) < 0 ||
+      (given[AT] && wire_index(given[AT], "at", &at) < 0))
+    return NULL;
+  found = varint_from(given[DATA], at);
   if (found != Py_None)
     return found;
   Py_DECREF(found);
@@ -228,15 +294,18 @@ static PyObject *read_varint(PyObject *module, PyObject *args) {
                    Py_BuildValue("(n)", at));
 }
 
-static PyObject *write_varint(PyObject *Py_UNUSED(module), PyObject *args) {
-  PyObject *value;
+static PyObject *write_varint(PyObject *module, PyObject *const *args,
+                              Py_ssize_t nargs) {
+  enum { VALUE, WIDTH, COUNT };
+  PyObject *given[COUNT];
   uint32_t width = 0;
   uint64_t number;
   uint8_t out[8];
   size_t len;
-  if (!PyArg_ParseTuple(args, "O|O&:write_varint", &value, wire_to_uint32,
-                        &width) ||
-      wire_varint(value, "value", &number) < 0)
+  if (wire_arguments(PyModule_GetState(module), CALL_write_varint, args, nargs,
+                     NULL, given) < 0 ||
+      (given[WIDTH] && wire_uint32(given[WIDTH], "width", &width) < 0) ||
+      wire_varint(given[VALUE], "value", &number) < 0)
     return NULL;
   len = quic_wire_varint_write(number, width, out, sizeof out);
   if (!len)
@@ -251,46 +320,55 @@ static PyObject *varint_len(PyObject *Py_UNUSED(module), PyObject *value) {
   return PyLong_FromSize_t(quic_wire_varint_len(number));
 }
 
-static PyObject *number_len(PyObject *Py_UNUSED(module), PyObject *args) {
-  PyObject *number, *acked = Py_None;
+static PyObject *number_len(PyObject *module, PyObject *const *args,
+                            Py_ssize_t nargs) {
+  enum { NUMBER_SENT, ACKNOWLEDGED, COUNT };
+  PyObject *given[COUNT];
   uint64_t value, largest = 0;
   int len;
-  if (!PyArg_ParseTuple(args, "O|O:packet_number_len", &number, &acked) ||
-      wire_varint(number, "number", &value) < 0 ||
-      (acked != Py_None &&
-       wire_varint(acked, "largest_acknowledged", &largest) < 0))
+  if (wire_arguments(PyModule_GetState(module), CALL_packet_number_len, args,
+                     nargs, NULL, given) < 0 ||
+      wire_varint(given[NUMBER_SENT], "number", &value) < 0 ||
+      (given[ACKNOWLEDGED] && given[ACKNOWLEDGED] != Py_None &&
+       wire_varint(given[ACKNOWLEDGED], "largest_acknowledged", &largest) < 0))
     return NULL;
   len = quic_wire_number_len(value, largest);
   return len < 0 ? wire_mistake(len) : PyLong_FromLong(len);
 }
 
-static PyObject *number_expand(PyObject *Py_UNUSED(module), PyObject *args) {
-  PyObject *truncated, *expected;
+static PyObject *number_expand(PyObject *module, PyObject *const *args,
+                               Py_ssize_t nargs) {
+  enum { TRUNCATED, LENGTH, EXPECTED, COUNT };
+  PyObject *given[COUNT];
   uint64_t written, next, number;
   uint32_t len;
-  if (!PyArg_ParseTuple(args, "OO&O:expand_packet_number", &truncated,
-                        wire_to_uint32, &len, &expected) ||
-      wire_number(truncated, "truncated", &written) < 0 ||
-      wire_varint(expected, "expected", &next) < 0)
+  if (wire_arguments(PyModule_GetState(module), CALL_expand_packet_number, args,
+                     nargs, NULL, given) < 0 ||
+      wire_number(given[TRUNCATED], "truncated", &written) < 0 ||
+      wire_uint32(given[LENGTH], "length", &len) < 0 ||
+      wire_varint(given[EXPECTED], "expected", &next) < 0)
     return NULL;
   number = quic_wire_number_expand(written, len, next);
   return number == UINT64_MAX ? wire_mistake(QUIC_WIRE_ERR_LENGTH)
                               : PyLong_FromUnsignedLongLong(number);
 }
 
-static PyObject *number_read(PyObject *Py_UNUSED(module), PyObject *args) {
-  PyObject *data;
+static PyObject *number_read(PyObject *module, PyObject *const *args,
+                             Py_ssize_t nargs) {
+  enum { DATA, LENGTH, COUNT };
+  PyObject *given[COUNT];
   uint32_t len;
   uint64_t written = 0;
   wire_bytes bytes;
   int result;
-  if (!PyArg_ParseTuple(args, "OO&:read_packet_number", &data, wire_to_uint32,
-                        &len) ||
-      wire_acquire(data, &bytes) < 0)
+  if (wire_arguments(PyModule_GetState(module), CALL_read_packet_number, args,
+                     nargs, NULL, given) < 0 ||
+      wire_uint32(given[LENGTH], "length", &len) < 0 ||
+      wire_acquire(given[DATA], &bytes) < 0)
     return NULL;
   result = quic_wire_number_read(bytes.at, bytes.len, len, &written);
   if (result == QUIC_WIRE_ERR_PACKET_END)
-    packet_error(result, bytes.at, bytes.len);
+    packet_error(result, &bytes);
   wire_release(&bytes);
   if (result == QUIC_WIRE_ERR_PACKET_END)
     return NULL;
@@ -298,15 +376,18 @@ static PyObject *number_read(PyObject *Py_UNUSED(module), PyObject *args) {
                     : PyLong_FromUnsignedLongLong(written);
 }
 
-static PyObject *number_write(PyObject *Py_UNUSED(module), PyObject *args) {
-  PyObject *value;
+static PyObject *number_write(PyObject *module, PyObject *const *args,
+                              Py_ssize_t nargs) {
+  enum { VALUE, LENGTH, COUNT };
+  PyObject *given[COUNT];
   uint32_t len;
   uint64_t number;
   uint8_t out[4];
   int result;
-  if (!PyArg_ParseTuple(args, "OO&:write_packet_number", &value, wire_to_uint32,
-                        &len) ||
-      wire_number(value, "number", &number) < 0)
+  if (wire_arguments(PyModule_GetState(module), CALL_write_packet_number, args,
+                     nargs, NULL, given) < 0 ||
+      wire_uint32(given[LENGTH], "length", &len) < 0 ||
+      wire_number(given[VALUE], "number", &number) < 0)
     return NULL;
   result = quic_wire_number_write(number, len, out, sizeof out);
   return result < 0 ? wire_mistake(result)
@@ -314,17 +395,17 @@ static PyObject *number_write(PyObject *Py_UNUSED(module), PyObject *args) {
 }
 
 PyMethodDef wire_number_functions[] = {
-    WIRE_FUNCTION(unprotect, unprotect, WIRE_NAMED),
-    WIRE_FUNCTION(protect, protect, WIRE_NAMED),
-    WIRE_FUNCTION(set_length, set_length, WIRE_NAMED),
-    WIRE_FUNCTION(write_header, write_header, WIRE_NAMED),
-    WIRE_FUNCTION(write_version_negotiation, write_negotiation, WIRE_NAMED),
+    WIRE_FUNCTION(unprotect, unprotect, WIRE_FAST),
+    WIRE_FUNCTION(protect, protect, WIRE_FAST),
+    WIRE_FUNCTION(set_length, set_length, WIRE_FAST),
+    WIRE_FUNCTION(write_header, write_header, WIRE_FAST),
+    WIRE_FUNCTION(write_version_negotiation, write_negotiation, WIRE_FAST),
     {"varint_at", varint_at, METH_VARARGS, NULL},
-    WIRE_FUNCTION(read_varint, read_varint, METH_VARARGS),
-    WIRE_FUNCTION(write_varint, write_varint, METH_VARARGS),
+    WIRE_FUNCTION(read_varint, read_varint, METH_FASTCALL),
+    WIRE_FUNCTION(write_varint, write_varint, METH_FASTCALL),
     WIRE_FUNCTION(varint_len, varint_len, METH_O),
-    WIRE_FUNCTION(packet_number_len, number_len, METH_VARARGS),
-    WIRE_FUNCTION(expand_packet_number, number_expand, METH_VARARGS),
-    WIRE_FUNCTION(read_packet_number, number_read, METH_VARARGS),
-    WIRE_FUNCTION(write_packet_number, number_write, METH_VARARGS),
+    WIRE_FUNCTION(packet_number_len, number_len, METH_FASTCALL),
+    WIRE_FUNCTION(expand_packet_number, number_expand, METH_FASTCALL),
+    WIRE_FUNCTION(read_packet_number, number_read, METH_FASTCALL),
+    WIRE_FUNCTION(write_packet_number, number_write, METH_FASTCALL),
     {NULL, NULL, 0, NULL}};

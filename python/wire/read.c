@@ -2,19 +2,33 @@
 /* Payloads read: frame by frame, as a list, in their shortest form. */
 #include "wire.h"
 
-enum { BATCH = 16 }; /* frames that one call of the library reads */
+/* How many frames one call of the library reads: for a list, and ahead for an
+ * iterator, which the interpreter's own allocator still has room for. */
+enum { BATCH = 16, AHEAD = 4 };
 
 typedef struct iterator_object {
   PyObject_HEAD PyObject *owner;
   wire_bytes bytes;
   quic_wire_frame_iter iter;
-  size_t next, count; /* of the batch */
-  quic_wire_frame batch[BATCH];
+  size_t next, count; /* of those that were read ahead */
+  quic_wire_frame ahead[AHEAD];
 } iterator_object;
 
+/* The arguments of the functions that read payloads. */
+typedef struct payload_arguments {
+  PyObject *payload;
+  uint32_t flags;
+  size_t at;
+} payload_arguments;
+
+/* An empty payload is rejected, but not the end of one. */
 static int start(quic_wire_frame_iter *iter, const wire_bytes *bytes,
-                 uint32_t flags) {
-  return quic_wire_frames_init(iter, bytes->at, bytes->len, flags);
+                 const payload_arguments *how) {
+  const int result =
+      quic_wire_frames_init(iter, bytes->at, bytes->len, how->flags);
+  if (result == QUIC_WIRE_OK)
+    iter->offset = how->at;
+  return result;
 }
 
 static int fill(quic_wire_frame_iter *iter, const wire_bytes *bytes,
@@ -40,28 +54,38 @@ static PyObject *reject(int result, const wire_bytes *bytes,
 static void iterator_dealloc(PyObject *self) {
   iterator_object *o = (iterator_object *)self;
   PyTypeObject *type = Py_TYPE(self);
+  PyObject_GC_UnTrack(self);
   wire_release(&o->bytes);
   Py_XDECREF(o->owner);
-  PyObject_Free(self);
+  PyObject_GC_Del(self);
   Py_DECREF(type);
+}
+
+static int iterator_visit(PyObject *self, visitproc visit, void *arg) {
+  iterator_object *o = (iterator_object *)self;
+  Py_VISIT(Py_TYPE(self));
+  Py_VISIT(o->owner);
+  if (o->bytes.is_held)
+    Py_VISIT(o->bytes.view.obj);
+  return 0;
 }
 
 static PyObject *next_frame(PyObject *self) {
   iterator_object *o = (iterator_object *)self;
-  wire_state *state = PyType_GetModuleState(Py_TYPE(self));
+  wire_state *state = WIRE_STATE(self);
   if (!state)
     return NULL;
   if (o->next == o->count) {
-    int result = fill(&o->iter, &o->bytes, o->batch, BATCH, &o->count);
+    int result = fill(&o->iter, &o->bytes, o->ahead, AHEAD, &o->count);
     o->next = 0;
     if (result != QUIC_WIRE_ITEM)
       o->count = 0;
     if (result < 0)
-      return reject(result, &o->bytes, &o->iter, o->batch, Py_None);
+      return reject(result, &o->bytes, &o->iter, o->ahead, Py_None);
     if (result == QUIC_WIRE_OK)
       return NULL;
   }
-  return frame_made(state, o->owner, &o->batch[o->next++]);
+  return frame_made(state, o->owner, &o->ahead[o->next++]);
 }
 
 static PyObject *iterator_next(PyObject *self) {
@@ -76,17 +100,17 @@ static PyObject *iterator_offset(PyObject *self, void *Py_UNUSED(unused)) {
   iterator_object *o = (iterator_object *)self;
   size_t offset;
   WIRE_BEGIN_ALONE(self);
-  offset = o->next < o->count ? o->batch[o->next].begin : o->iter.offset;
+  offset = o->next < o->count ? o->ahead[o->next].begin : o->iter.offset;
   WIRE_END_ALONE;
   return PyLong_FromSize_t(offset);
 }
 
-/* What is still in the batch is read again if |end| lies within it. */
+/* What was read ahead is read again if |end| lies within it. */
 static int skip(iterator_object *o, size_t end, uint64_t type) {
   quic_wire_frame_iter iter = o->iter;
   int result;
   if (o->next < o->count)
-    iter.offset = o->batch[o->next].begin;
+    iter.offset = o->ahead[o->next].begin;
   result = quic_wire_frames_skip(&iter, o->bytes.at, o->bytes.len, end, type);
   if (result != QUIC_WIRE_ITEM)
     return wire_fail(PyExc_ValueError,
@@ -97,13 +121,16 @@ static int skip(iterator_object *o, size_t end, uint64_t type) {
   return 0;
 }
 
-static PyObject *iterator_skip(PyObject *self, PyObject *args) {
-  PyObject *end_word, *type_word;
+static PyObject *iterator_skip(PyObject *self, PyObject *const *args,
+                               Py_ssize_t nargs) {
+  enum { END, TYPE, COUNT };
+  PyObject *given[COUNT];
   uint64_t end, type;
   int result;
-  if (!PyArg_ParseTuple(args, "OO:skip", &end_word, &type_word) ||
-      wire_number(end_word, "end", &end) < 0 ||
-      wire_varint(type_word, "type", &type) < 0)
+  if (wire_arguments(WIRE_STATE(self), CALL_FrameIterator_skip, args, nargs,
+                     NULL, given) < 0 ||
+      wire_number(given[END], "end", &end) < 0 ||
+      wire_varint(given[TYPE], "type", &type) < 0)
     return NULL;
   WIRE_BEGIN_ALONE(self);
   result = skip((iterator_object *)self,
@@ -113,7 +140,7 @@ static PyObject *iterator_skip(PyObject *self, PyObject *args) {
 }
 
 static PyMethodDef iterator_methods[] = {
-    WIRE_METHOD(FrameIterator, skip, iterator_skip, METH_VARARGS),
+    WIRE_METHOD(FrameIterator, skip, iterator_skip, METH_FASTCALL),
     {NULL, NULL, 0, NULL}};
 static PyGetSetDef iterator_fields[] = {
     {"offset", iterator_offset, NULL, PyDoc_STR("where the next frame begins"),
@@ -121,6 +148,7 @@ static PyGetSetDef iterator_fields[] = {
     WIRE_END_OF_FIELDS};
 static PyType_Slot iterator_slots[] = {
     {Py_tp_dealloc, iterator_dealloc},
+    {Py_tp_traverse, iterator_visit},
     {Py_tp_iter, PyObject_SelfIter},
     {Py_tp_iternext, iterator_next},
     {Py_tp_methods, iterator_methods},
@@ -129,7 +157,9 @@ static PyType_Slot iterator_slots[] = {
     {0, NULL}};
 static PyType_Spec iterator_spec = {
     "quic_wire.FrameIterator", sizeof(iterator_object), 0,
-    Py_TPFLAGS_DEFAULT | Py_TPFLAGS_DISALLOW_INSTANTIATION, iterator_slots};
+    Py_TPFLAGS_DEFAULT | Py_TPFLAGS_HAVE_GC | Py_TPFLAGS_IMMUTABLETYPE |
+        Py_TPFLAGS_DISALLOW_INSTANTIATION,
+    iterator_slots};
 
 int wire_add_iterator(PyObject *module, wire_state *state) {
   state->iterator =
@@ -137,42 +167,69 @@ int wire_add_iterator(PyObject *module, wire_state *state) {
   return state->iterator ? 0 : -1;
 }
 
-/* The one argument of these functions, and what they check. */
-static int options(PyObject *const *args, Py_ssize_t nargs, PyObject *names,
-                   uint32_t *flags) {
-  if (nargs != 1) {
-    PyErr_SetString(PyExc_TypeError,
-                    nargs ? "one payload is expected; checks is a keyword "
-                            "argument: checks=..."
-                          : "a payload is expected");
+/* The arguments of these functions, by the places that they have in a call. */
+static int parse(PyObject *module, wire_call_index call, PyObject *const *args,
+                 Py_ssize_t nargs, PyObject *names, payload_arguments *out) {
+  const int has_at = call != CALL_canonical;
+  PyObject *given[MOST_ARGUMENTS];
+  Py_ssize_t at = 0;
+  if (nargs != 1)
+    return wire_fail(PyExc_TypeError,
+                     nargs ? "one payload is expected; checks is a keyword "
+                             "argument: checks=..."
+                           : "a payload is expected");
+  if (wire_arguments(PyModule_GetState(module), call, args, nargs, names,
+                     given) < 0 ||
+      wire_checks(given[has_at ? 2 : 1], &out->flags) < 0 ||
+      (has_at && given[1] && wire_index(given[1], "at", &at) < 0))
     return -1;
+  if (at < 0)
+    return wire_fail(PyExc_ValueError, "at must not be negative");
+  out->payload = given[0];
+  out->at = (size_t)at;
+  return 0;
+}
+
+/* The owner of a payload and its bytes: NULL with an exception. */
+static PyObject *open_payload(const payload_arguments *how,
+                              wire_bytes *bytes) {
+  PyObject *owner = wire_owner(how->payload);
+  if (!owner || wire_acquire(owner, bytes) < 0) {
+    Py_XDECREF(owner);
+    return NULL;
   }
-  return wire_checks(args, nargs, names, flags);
+  if (how->at <= bytes->len)
+    return owner;
+  PyErr_SetString(PyExc_ValueError, "at is behind the payload");
+  wire_release(bytes);
+  Py_DECREF(owner);
+  return NULL;
 }
 
 static PyObject *frames(PyObject *module, PyObject *const *args,
                         Py_ssize_t nargs, PyObject *names) {
   wire_state *state = PyModule_GetState(module);
-  uint32_t flags;
+  payload_arguments how;
   int result;
   iterator_object *o;
-  if (options(args, nargs, names, &flags) < 0)
+  if (parse(module, CALL_frames, args, nargs, names, &how) < 0)
     return NULL;
-  o = PyObject_New(iterator_object, (PyTypeObject *)state->iterator);
+  o = PyObject_GC_New(iterator_object, (PyTypeObject *)state->iterator);
   if (!o)
     return NULL;
   o->bytes.is_held = 0;
   o->next = o->count = 0;
-  o->owner = wire_owner(args[0]);
-  if (!o->owner || wire_acquire(o->owner, &o->bytes) < 0) {
+  o->owner = open_payload(&how, &o->bytes);
+  if (!o->owner) {
     Py_DECREF((PyObject *)o);
     return NULL;
   }
-  result = start(&o->iter, &o->bytes, flags);
+  result = start(&o->iter, &o->bytes, &how);
   if (result < 0) {
-    reject(result, &o->bytes, &o->iter, o->batch, Py_None);
+    reject(result, &o->bytes, &o->iter, o->ahead, Py_None);
     Py_CLEAR(o);
-  }
+  } else
+    wire_track((PyObject *)o, o->owner);
   return (PyObject *)o;
 }
 
@@ -192,12 +249,13 @@ static int append(PyObject *list, wire_state *state, PyObject *owner,
 
 /* The frames of an owner's bytes, or NULL with an exception. */
 static PyObject *list_of(wire_state *state, PyObject *owner,
-                         const wire_bytes *bytes, uint32_t flags) {
+                         const wire_bytes *bytes,
+                         const payload_arguments *how) {
   quic_wire_frame_iter iter;
   quic_wire_frame batch[BATCH];
   size_t count = 0;
   PyObject *list = PyList_New(0);
-  int result = list ? start(&iter, bytes, flags) : 0;
+  int result = list ? start(&iter, bytes, how) : 0;
   while (list && result >= 0 &&
          (result = fill(&iter, bytes, batch, BATCH, &count)) == QUIC_WIRE_ITEM)
     if (append(list, state, owner, batch, count) < 0)
@@ -211,76 +269,87 @@ static PyObject *list_of(wire_state *state, PyObject *owner,
 
 static PyObject *read_frames(PyObject *module, PyObject *const *args,
                              Py_ssize_t nargs, PyObject *names) {
-  uint32_t flags;
+  payload_arguments how;
   wire_bytes bytes;
   PyObject *owner, *list;
-  if (options(args, nargs, names, &flags) < 0)
+  if (parse(module, CALL_read_frames, args, nargs, names, &how) < 0)
     return NULL;
-  owner = wire_owner(args[0]);
-  if (!owner || wire_acquire(owner, &bytes) < 0) {
-    Py_XDECREF(owner);
+  owner = open_payload(&how, &bytes);
+  if (!owner)
     return NULL;
-  }
-  list = list_of(PyModule_GetState(module), owner, &bytes, flags);
+  list = list_of(PyModule_GetState(module), owner, &bytes, &how);
   wire_release(&bytes);
   Py_DECREF(owner);
   return list;
 }
 
 /* Where the last whole frame of a payload ends. */
-static size_t end_of_frames(const wire_bytes *bytes, uint32_t flags) {
+static size_t end_of_frames(const wire_bytes *bytes,
+                            const payload_arguments *how) {
   quic_wire_frame_iter iter;
   quic_wire_frame batch[BATCH];
   size_t count;
-  int result = start(&iter, bytes, flags);
+  int result = start(&iter, bytes, how);
   while (result >= 0 &&
          (result = fill(&iter, bytes, batch, BATCH, &count)) == QUIC_WIRE_ITEM)
     ;
   return iter.offset;
 }
 
-static PyObject *canonical(PyObject *Py_UNUSED(module), PyObject *const *args,
+/* The exception for a result of the library's calls. */
+static PyObject *reject_canonical(int result, const wire_bytes *bytes,
+                                  const payload_arguments *how,
+                                  uint64_t last_type) {
+  if (result == QUIC_WIRE_ERR_PAYLOAD_EMPTY)
+    return wire_frame_error(result, bytes, 0, how->flags, QUIC_WIRE_NO_TYPE,
+                            Py_None);
+  if (result > QUIC_WIRE_ERR_PAYLOAD_EMPTY)
+    return wire_mistake(result);
+  return wire_frame_error(result, bytes, end_of_frames(bytes, how), how->flags,
+                          last_type, Py_None);
+}
+
+static PyObject *canonical(PyObject *module, PyObject *const *args,
                            Py_ssize_t nargs, PyObject *names) {
+  payload_arguments how;
   PyObject *out;
-  quic_wire_canon canon;
+  quic_wire_canon canon = {0};
   wire_bytes bytes;
   uint8_t *at = NULL;
-  uint32_t flags;
   int result = 0;
-  if (options(args, nargs, names, &flags) < 0 ||
-      wire_acquire(args[0], &bytes) < 0)
+  if (parse(module, CALL_canonical, args, nargs, names, &how) < 0 ||
+      wire_acquire(how.payload, &bytes) < 0)
     return NULL;
   out = wire_new_bytes(bytes.len, &at);
   if (out)
-    result =
-        flags ? quic_wire_canonical_with(bytes.at, bytes.len, flags, at,
-                                         bytes.len, &canon)
-              : quic_wire_canonical(bytes.at, bytes.len, at, bytes.len, &canon);
+    result = how.flags
+                 ? quic_wire_canonical_with(bytes.at, bytes.len, how.flags, at,
+                                            bytes.len, &canon)
+                 : quic_wire_canonical(bytes.at, bytes.len, at, bytes.len,
+                                       &canon);
   if (out && result == QUIC_WIRE_OK)
     out = wire_front(out, canon.len);
   else if (out) {
-    const int is_empty = result == QUIC_WIRE_ERR_PAYLOAD_EMPTY;
     Py_CLEAR(out);
-    wire_frame_error(result, &bytes,
-                     is_empty ? 0 : end_of_frames(&bytes, flags), flags,
-                     is_empty ? QUIC_WIRE_NO_TYPE : canon.last_type, Py_None);
+    reject_canonical(result, &bytes, &how, canon.last_type);
   }
   wire_release(&bytes);
   return out;
 }
 
-static PyObject *check_type(PyObject *Py_UNUSED(module), PyObject *args,
-                            PyObject *keywords) {
-  static char *names[] = NAMES_check_type;
-  uint32_t packet, sender, flags = 0;
-  PyObject *number;
+static PyObject *check_type(PyObject *module, PyObject *const *args,
+                            Py_ssize_t nargs, PyObject *names) {
+  enum { TYPE, PACKET_TYPE, SENDER, CHECKS, COUNT };
+  PyObject *given[COUNT];
+  uint32_t packet, sender, flags;
   uint64_t type;
   int result;
-  if (!PyArg_ParseTupleAndKeywords(args, keywords, "OO&O&|$O&:check_type",
-                                   names, &number, wire_to_packet_type, &packet,
-                                   wire_to_sender, &sender, wire_to_checks,
-                                   &flags) ||
-      wire_number(number, "type", &type) < 0)
+  if (wire_arguments(PyModule_GetState(module), CALL_check_type, args, nargs,
+                     names, given) < 0 ||
+      wire_packet_type(given[PACKET_TYPE], &packet) < 0 ||
+      wire_side(given[SENDER], "sender", &sender) < 0 ||
+      wire_checks(given[CHECKS], &flags) < 0 ||
+      wire_number(given[TYPE], "type", &type) < 0)
     return NULL;
   result = quic_wire_type_permitted(type, packet, sender, flags);
   return result == QUIC_WIRE_OK ? Py_NewRef(Py_None)
@@ -300,6 +369,6 @@ PyMethodDef wire_read_functions[] = {
     WIRE_FUNCTION(frames, frames, WIRE_FAST),
     WIRE_FUNCTION(read_frames, read_frames, WIRE_FAST),
     WIRE_FUNCTION(canonical, canonical, WIRE_FAST),
-    WIRE_FUNCTION(check_type, check_type, WIRE_NAMED),
+    WIRE_FUNCTION(check_type, check_type, WIRE_FAST),
     WIRE_FUNCTION(type_name, type_name, METH_O),
     {NULL, NULL, 0, NULL}};

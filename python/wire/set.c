@@ -54,17 +54,21 @@ static int change_by(set_object *set, change *how, uint64_t start,
 }
 
 /* A number, or a range from one up to, but not including, another. */
-static PyObject *change_to(PyObject *self, PyObject *args, change *how) {
-  PyObject *first, *last = Py_None;
+static PyObject *change_to(PyObject *self, PyObject *const *args,
+                           Py_ssize_t nargs, wire_call_index call,
+                           change *how) {
+  enum { START, STOP, COUNT };
+  PyObject *given[COUNT];
   uint64_t start, end;
   int result = 0;
-  if (!PyArg_ParseTuple(args, "O|O", &first, &last) ||
-      wire_number(first, "start", &start) < 0)
+  if (wire_arguments(WIRE_STATE(self), call, args, nargs, NULL, given) < 0 ||
+      wire_number(given[START], "start", &start) < 0)
     return NULL;
   end = start + 1;
-  if (last != Py_None && wire_number(last, "stop", &end) < 0)
-    return NULL;
-  if (last == Py_None && end == 0)
+  if (given[STOP] && given[STOP] != Py_None) {
+    if (wire_number(given[STOP], "stop", &end) < 0)
+      return NULL;
+  } else if (end == 0)
     return PyErr_Format(PyExc_ValueError, "a number must be below 2^64 - 1");
   WIRE_BEGIN_ALONE(self);
   result = change_by(SET(self), how, start, end);
@@ -72,12 +76,16 @@ static PyObject *change_to(PyObject *self, PyObject *args, change *how) {
   return result < 0 ? NULL : PyBool_FromLong(result);
 }
 
-static PyObject *set_insert(PyObject *self, PyObject *args) {
-  return change_to(self, args, quic_wire_runs_insert);
+static PyObject *set_insert(PyObject *self, PyObject *const *args,
+                            Py_ssize_t nargs) {
+  return change_to(self, args, nargs, CALL_RangeSet_insert,
+                   quic_wire_runs_insert);
 }
 
-static PyObject *set_remove(PyObject *self, PyObject *args) {
-  return change_to(self, args, quic_wire_runs_remove);
+static PyObject *set_remove(PyObject *self, PyObject *const *args,
+                            Py_ssize_t nargs) {
+  return change_to(self, args, nargs, CALL_RangeSet_remove,
+                   quic_wire_runs_remove);
 }
 
 static PyObject *set_clear(PyObject *self, PyObject *Py_UNUSED(unused)) {
@@ -85,6 +93,18 @@ static PyObject *set_clear(PyObject *self, PyObject *Py_UNUSED(unused)) {
   SET(self)->set.first = SET(self)->set.count = 0;
   WIRE_END_ALONE;
   return Py_NewRef(Py_None);
+}
+
+quic_wire_range *numbers_of_set(PyObject *self, size_t *count) {
+  const set_object *set = SET(self);
+  quic_wire_range *out;
+  WIRE_BEGIN_ALONE(self);
+  *count = set->set.count;
+  out = PyMem_Calloc(*count + 1, sizeof *out);
+  if (out)
+    memcpy(out, set->runs + set->set.first, *count * sizeof *out);
+  WIRE_END_ALONE;
+  return out ? out : (quic_wire_range *)PyErr_NoMemory();
 }
 
 /* The ranges as a list, ascending. */
@@ -169,8 +189,8 @@ static PyObject *set_new(PyTypeObject *type, PyObject *args,
   if (!PyArg_ParseTupleAndKeywords(args, keywords, "|O:RangeSet", names,
                                    &ranges))
     return NULL;
-  runs =
-      ranges ? wire_ranges(ranges, &count) : PyMem_Calloc(ROOM, sizeof *runs);
+  runs = ranges ? wire_ranges(PyType_GetModuleState(type), ranges, &count)
+                : PyMem_Calloc(ROOM, sizeof *runs);
   if (!runs)
     return PyErr_Occurred() ? NULL : PyErr_NoMemory();
   set = PyObject_New(set_object, type);
@@ -206,8 +226,8 @@ static PyGetSetDef set_fields[] = {
      (void *)1},
     WIRE_END_OF_FIELDS};
 static PyMethodDef set_methods[] = {
-    WIRE_METHOD(RangeSet, insert, set_insert, METH_VARARGS),
-    WIRE_METHOD(RangeSet, remove, set_remove, METH_VARARGS),
+    WIRE_METHOD(RangeSet, insert, set_insert, METH_FASTCALL),
+    WIRE_METHOD(RangeSet, remove, set_remove, METH_FASTCALL),
     WIRE_METHOD(RangeSet, clear, set_clear, METH_NOARGS),
     {"__reduce__", set_reduce, METH_NOARGS, NULL},
     {NULL, NULL, 0, NULL}};
@@ -225,10 +245,12 @@ static PyType_Slot set_slots[] = {
     {Py_tp_doc,
      "RangeSet(ranges=())\n--\n\nA set of packet numbers, kept as ascending "
      "ranges that never touch. Iterating\nyields these ranges, and len() is "
-     "how many there are."},
+     "how many there are. It is made of ranges, of\nanother set, or of an ACK, "
+     "whose ranges then aren't made one by one."},
     {0, NULL}};
 static PyType_Spec set_spec = {"quic_wire.RangeSet", sizeof(set_object), 0,
-                               Py_TPFLAGS_DEFAULT, set_slots};
+                               Py_TPFLAGS_DEFAULT | Py_TPFLAGS_IMMUTABLETYPE,
+                               set_slots};
 
 int wire_add_set(PyObject *module, wire_state *state) {
   state->set = wire_add_type(module, &set_spec, NULL, "RangeSet", NULL);

@@ -31,24 +31,51 @@ enum {
   KINDS
 };
 
-/* The types of one module, and so of one interpreter. */
+/* The transport parameters, by their indices. */
+enum {
+#define PARAMETER(name, kind, id, at, len_at, present, doc) ROW_##name,
+#include "formats.h"
+  PARAMETERS
+};
+
+/* The functions and methods that wire_arguments knows. */
+typedef enum wire_call_index {
+#define CALL(word, ...) CALL_##word,
+  WIRE_CALLS
+#undef CALL
+  CALLS
+} wire_call_index;
+
+enum { MOST_ARGUMENTS = 11, MOST_FRAME_FIELDS = 6 };
+
+/* The types of one module, and so of one interpreter, and the names that it
+ * compares and looks up, interned. It has nothing but objects. */
 typedef struct wire_state {
   PyObject *frame, *frames[KINDS];
   PyObject *iterator;
   PyObject *packet, *packets[PACKET_KINDS];
   PyObject *parameters;
   PyObject *set;
+  PyObject *part;
+  PyObject *start, *stop, *step;                /* of a range */
+  PyObject *arguments[CALLS][MOST_ARGUMENTS];   /* NULL: only by position */
+  PyObject *fields[KINDS][MOST_FRAME_FIELDS];        /* of frames */
+  PyObject *parameter_names[PARAMETERS];
 } wire_state;
+
+/* The state of the module that has the type of an object. */
+#define WIRE_STATE(self) ((wire_state *)PyType_GetModuleState(Py_TYPE(self)))
 
 /* ---- datagrams.c: how packets are read */
 
 typedef struct wire_reader {
-  uint32_t cid_len, versions[MOST_VERSIONS];
+  uint32_t cid_len, flags;
+  const uint32_t *versions;
   size_t count;
-  uint32_t flags;
+  uint32_t given[MOST_VERSIONS];
 } wire_reader;
 
-/* The versions of an argument, or the usual ones for None: -1 with an
+/* The versions of an argument, or the usual ones for None and NULL: -1 with an
  * exception. */
 int wire_set_versions(wire_reader *how, PyObject *versions);
 
@@ -69,8 +96,13 @@ PyObject *wire_owner(PyObject *value);
  * exception. */
 int wire_acquire(PyObject *owner, wire_bytes *out);
 void wire_release(wire_bytes *bytes);
-/* A memoryview of a part of an owner's bytes. */
-PyObject *wire_part(PyObject *owner, size_t begin, size_t len);
+/* A memoryview of a part of an owner's bytes, and a copy of it. */
+PyObject *wire_part(wire_state *state, PyObject *owner, size_t begin,
+                    size_t len);
+PyObject *wire_copy(PyObject *owner, size_t begin, size_t len);
+/* The bytes of an object that can be written to, until wire_release; -1 with an
+ * exception that names it. */
+int wire_acquire_writable(PyObject *value, const char *name, wire_bytes *out);
 /* New Python bytes, and where they are. */
 PyObject *wire_new_bytes(size_t len, uint8_t **at);
 /* The same bytes, cut off after their beginning. */
@@ -79,33 +111,43 @@ PyObject *wire_front(PyObject *bytes, size_t len);
  * its result is an error, or if there are no bytes. */
 PyObject *wire_written(PyObject *bytes, int result, size_t len);
 
-/* ---- arguments.c: checks of arguments */
+/* ---- arguments.c: arguments and their checks */
 
-/* A number below 2^64; -1 with an exception that names it. */
+/* The arguments of a call in their order, however they are given: borrowed, and
+ * NULL if not given. The call is METH_FASTCALL, with METH_KEYWORDS if |names|
+ * may be there. -1 with an exception. */
+int wire_arguments(const wire_state *state, wire_call_index call,
+                   PyObject *const *args, Py_ssize_t nargs, PyObject *names,
+                   PyObject **out);
+/* Interns the names of the state: -1 with an exception. */
+int wire_intern(wire_state *state);
+
+/* Each of these is -1 with an exception that names the argument. */
+
+/* A number below 2^64. */
 int wire_number(PyObject *value, const char *name, uint64_t *out);
 /* A number below 2^62. */
 int wire_varint(PyObject *value, const char *name, uint64_t *out);
+/* A number below 2^32, and a byte. */
+int wire_uint32(PyObject *value, const char *name, uint32_t *out);
+int wire_uint8(PyObject *value, const char *name, uint8_t *out);
+/* An offset or a length, which may be negative. */
+int wire_index(PyObject *value, const char *name, Py_ssize_t *out);
 /* A version. */
 int wire_version(PyObject *value, uint32_t *out);
-/* For "O&" of PyArg_ParseTuple: a number below 2^32, a byte, the side `side` or
- * `sender`, a type of packets that have frames, the argument `checks` as flags
- * of readers. */
-int wire_to_uint32(PyObject *value, void *out);
-int wire_to_uint8(PyObject *value, void *out);
-int wire_to_side(PyObject *value, void *out);
-int wire_to_sender(PyObject *value, void *out);
-int wire_to_packet_type(PyObject *value, void *out);
-int wire_to_checks(PyObject *value, void *out);
-/* The same, if it is there: the only keyword argument, after the positional
- * ones of a METH_FASTCALL | METH_KEYWORDS function. -1 with an exception. */
-int wire_checks(PyObject *const *args, Py_ssize_t nargs, PyObject *names,
-                uint32_t *flags);
+/* A side, and a type of packets that have frames. */
+int wire_side(PyObject *value, const char *name, uint32_t *out);
+int wire_packet_type(PyObject *value, uint32_t *out);
+/* The argument |checks| as flags of readers; NULL is none. */
+int wire_checks(PyObject *value, uint32_t *out);
 /* The versions of an iterable, and how many: free them with PyMem_Free.  NULL
  * with an exception. */
 uint32_t *wire_versions(PyObject *versions, size_t *count);
-/* The ranges of an iterable of `range` or of pairs, as a set: free it with
- * PyMem_Free.  NULL with an exception. */
-quic_wire_range *wire_ranges(PyObject *ranges, size_t *count);
+/* The numbers of a RangeSet, of an Ack, or of an iterable of `range` or of
+ * pairs, as a set with room for one more range: free it with PyMem_Free.  NULL
+ * with an exception. */
+quic_wire_range *wire_ranges(const wire_state *state, PyObject *ranges,
+                             size_t *count);
 /* A `range` of Python. */
 PyObject *wire_range(const quic_wire_range *range);
 
@@ -158,9 +200,12 @@ int wire_add_iterator(PyObject *module, wire_state *state);
 int wire_add_packets(PyObject *module, wire_state *state);
 int wire_add_parameters(PyObject *module, wire_state *state);
 int wire_add_set(PyObject *module, wire_state *state);
+int wire_add_part(PyObject *module, wire_state *state);
 /* A type, added to the module with the names for patterns. */
 PyObject *wire_add_type(PyObject *module, PyType_Spec *spec, PyObject *bases,
                         const char *name, const PyGetSetDef *fields);
+/* An attribute of a type that Python can't change: -1 with an exception. */
+int wire_set_constant(PyObject *type, const char *name, PyObject *value);
 /* A kind of frame or of packet as a class. */
 typedef struct wire_kind {
   uint16_t kind;
@@ -169,10 +214,13 @@ typedef struct wire_kind {
   const char *doc;
 } wire_kind;
 /* Its type, added to the module; without |make| no objects of it can be made.
- */
+ * Its objects take part in garbage collection by |visit|. */
 PyObject *wire_add_kind(PyObject *module, PyObject *bases,
                         const wire_kind *kind, int size, destructor dealloc,
-                        newfunc make);
+                        traverseproc visit, newfunc make);
+/* Tracks an object for garbage collection, if it holds anything that may hold
+ * it: no `bytes` do. */
+void wire_track(PyObject *self, PyObject *owner);
 
 /* ---- frames.c, frame_new.c */
 
@@ -192,12 +240,18 @@ const wire_kind *wire_kind_of(const quic_wire_frame *frame);
 PyObject *frame_made(wire_state *state, PyObject *owner,
                      const quic_wire_frame *frame);
 PyObject *frame_new(PyTypeObject *type, PyObject *args, PyObject *keywords);
-PyObject *frame_encode(PyObject *self, PyObject *args, PyObject *keywords);
+PyObject *frame_encode(PyObject *self, PyObject *const *args, Py_ssize_t nargs,
+                       PyObject *names);
 /* FrameError: the frame breaks a rule.  Returns NULL. */
 PyObject *frame_reject(PyObject *self, int result);
-/* The ranges of an ACK that was read, ascending, and how many: free them with
- * PyMem_Free.  NULL with an exception. */
+/* The ranges of an ACK, ascending, with room for one more, and how many: free
+ * them with PyMem_Free.  NULL with an exception. */
 quic_wire_range *frame_ranges(PyObject *self, size_t *count);
+
+/* ---- set.c */
+
+/* The same of a RangeSet. */
+quic_wire_range *numbers_of_set(PyObject *self, size_t *count);
 
 /* ---- packets.c */
 
@@ -223,7 +277,6 @@ extern PyMethodDef wire_layer_functions[];
   WIRE_CALL(#name, call, flags, DOC_##name)
 #define WIRE_METHOD(of, name, call, flags)                                     \
   WIRE_CALL(#name, call, flags, DOC_##of##_##name)
-#define WIRE_NAMED (METH_VARARGS | METH_KEYWORDS)
 #define WIRE_FAST (METH_FASTCALL | METH_KEYWORDS)
 #define WIRE_END_OF_FIELDS                                                     \
   { NULL, NULL, NULL, NULL, NULL }

@@ -36,7 +36,7 @@ from ._constants import Constants, constants
 from ._own import Encodes, read_frame_body, write_frame_body
 from ._version import VERSION
 from .checks import Checks
-from .errors import Code, Error, FrameError, PacketError, ParameterError
+from .errors import Code, Error, ErrorKind, FrameError, PacketError, ParameterError
 from .fields import Field, frame_fields, packet_fields, parameter_fields
 from .packets import PacketType, Version, packets
 from .parameters import Parameter, PreferredAddress, Side, TransportParameters, parameters
@@ -46,19 +46,19 @@ __version__ = VERSION
 # Made by scripts/tables:
 __all__ = [
     "LIBRARY_VERSION", "Ack", "AckFrequency", "ApplicationClose", "Checks", "Code", "ConnectionClose", "Constants",
-    "Crypto", "DataBlocked", "Datagram", "Encodes", "Error", "Field", "Frame", "FrameError", "FrameIterator",
-    "Handshake", "HandshakeDone", "ImmediateAck", "Initial", "MaxData", "MaxStreamData", "MaxStreamsBidi",
-    "MaxStreamsUni", "NewConnectionId", "NewToken", "OneRtt", "Packet", "PacketError", "PacketType", "Padding",
-    "Parameter", "ParameterError", "PathChallenge", "PathResponse", "Ping", "PreferredAddress", "RangeSet",
-    "ResetStream", "RetireConnectionId", "Retry", "Side", "StopSending", "Stream", "StreamDataBlocked",
-    "StreamsBlockedBidi", "StreamsBlockedUni", "TransportParameters", "UnknownVersion", "Version",
-    "VersionNegotiation", "ZeroRtt", "acknowledged", "answer_version", "canonical", "check_type", "constants",
-    "expand_packet_number", "frame_fields", "frames", "is_known_parameter", "is_stateless_reset", "nonce",
-    "packet_fields", "packet_number_len", "packets", "parameter_fields", "parameters", "protect", "read_frame_body",
-    "read_frames", "read_packet", "read_packet_number", "read_packets", "read_varint", "read_version_information",
-    "retry_pseudo_packet", "set_length", "type_name", "unprotect", "varint_len", "write_frame_body", "write_frames",
-    "write_header", "write_packet_number", "write_parameter", "write_stateless_reset", "write_varint",
-    "write_version_information", "write_version_negotiation",
+    "Crypto", "DataBlocked", "Datagram", "Encodes", "Error", "ErrorKind", "Field", "Frame", "FrameError",
+    "FrameIterator", "Handshake", "HandshakeDone", "ImmediateAck", "Initial", "MaxData", "MaxStreamData",
+    "MaxStreamsBidi", "MaxStreamsUni", "NewConnectionId", "NewToken", "OneRtt", "Packet", "PacketError",
+    "PacketType", "Padding", "Parameter", "ParameterError", "PathChallenge", "PathResponse", "Ping",
+    "PreferredAddress", "RangeSet", "ResetStream", "RetireConnectionId", "Retry", "Side", "StopSending", "Stream",
+    "StreamDataBlocked", "StreamsBlockedBidi", "StreamsBlockedUni", "TransportParameters", "UnknownVersion",
+    "Version", "VersionNegotiation", "ZeroRtt", "acknowledged", "answer_version", "canonical", "check_type",
+    "constants", "expand_packet_number", "frame_fields", "frames", "is_known_parameter", "is_stateless_reset",
+    "nonce", "packet_fields", "packet_number_len", "packets", "parameter_fields", "parameters", "protect",
+    "read_frame_body", "read_frames", "read_packet", "read_packet_number", "read_packets", "read_varint",
+    "read_version_information", "retry_pseudo_packet", "set_length", "type_name", "unprotect", "varint_len",
+    "write_frame_body", "write_frames", "write_header", "write_packet_number", "write_parameter",
+    "write_stateless_reset", "write_varint", "write_version_information", "write_version_negotiation",
 ]  # fmt: skip
 # End of what is made.
 

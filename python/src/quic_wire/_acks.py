@@ -11,7 +11,7 @@ def acknowledged(in_flight: RangeSet, ack: Ack) -> RangeSet:
     If the set has the packets in flight, they are newly acknowledged (RFC 9002, appendix A.7): remove them from it. It
     takes one pass over both.
     """
-    own, theirs = list(in_flight), ack.ranges[::-1]
+    own, theirs = list(RangeSet(in_flight)), list(RangeSet(ack))
     both, i, j = [], 0, 0
     while i < len(own) and j < len(theirs):
         start, stop = max(own[i].start, theirs[j].start), min(own[i].stop, theirs[j].stop)

@@ -148,6 +148,32 @@ class Code(enum.IntEnum):
     CRYPTO_ERROR = 0x100
 
 
+class ErrorKind(enum.IntEnum):
+    """Why something is rejected: the results of the library for C, by their names and numbers."""
+
+    __module__ = "quic_wire.errors"
+
+    PAYLOAD_EMPTY = -20
+    FRAME_END = -21
+    FRAME_TYPE = -22
+    FRAME_MALFORMED = -23
+    FRAME_LONG_TYPE = -24
+    FRAME_LIMIT = -25
+    FRAME_PACKET = -26
+    FRAME_SENDER = -27
+    FRAME_STREAM = -28
+    PACKET_END = -40
+    PACKET_FIXED_BIT = -41
+    PACKET_SMALL = -42
+    PACKET_CID = -43
+    PACKET_TOKEN = -44
+    PACKET_VERSION = -45
+    PACKET_CUT = -46
+    PACKET_RETRY = -47
+    PARAMS_MALFORMED = -60
+    PARAMS_ILLEGAL = -61
+
+
 class PacketType(enum.IntEnum):
     """The types of packets in Packet.kind."""
 

@@ -40,7 +40,7 @@ def read_frame_body(
     """
     front = write_varint(frame_type)
     # The body of PADDING is empty: what follows is PADDING of its own.
-    frame = next(frames(front if frame_type == 0 else front + bytes(body), checks=checks))
+    frame = next(frames(front if frame_type == 0 else front + bytes(memoryview(body)), checks=checks))
     return frame, frame.end - len(front)
 
 

@@ -7,7 +7,7 @@ from ._types import Buffer
 from .checks import Checks
 from .parameters import PreferredAddress
 
-_Ranges = Iterable[Union[range, tuple[int, int]]]
+_Ranges = Union[Iterable[Union[range, tuple[int, int]]], "Ack"]
 _Self = TypeVar("_Self", bound="_Parameters")
 
 LIBRARY_VERSION: str
@@ -103,7 +103,7 @@ class Ack(Frame):
         self,
         largest: int = 0,
         delay: int = 0,
-        ranges: _Ranges = ...,
+        ranges: Optional[_Ranges] = None,
         ect0: Optional[int] = None,
         ect1: Optional[int] = None,
         ce: Optional[int] = None,
@@ -159,7 +159,7 @@ class NewToken(Frame):
     __match_args__ = ("token",)
     def __init__(self, token: Buffer = b"") -> None: ...
     @property
-    def token(self) -> memoryview: ...
+    def token(self) -> bytes: ...
 
 @final
 class Stream(Frame):
@@ -255,9 +255,9 @@ class NewConnectionId(Frame):
     @property
     def retire_prior_to(self) -> int: ...
     @property
-    def connection_id(self) -> memoryview: ...
+    def connection_id(self) -> bytes: ...
     @property
-    def reset_token(self) -> memoryview: ...
+    def reset_token(self) -> bytes: ...
 
 @final
 class RetireConnectionId(Frame):
@@ -293,7 +293,7 @@ class ConnectionClose(Frame):
     @property
     def frame_type(self) -> int: ...
     @property
-    def reason(self) -> memoryview: ...
+    def reason(self) -> bytes: ...
 
 @final
 class ApplicationClose(Frame):
@@ -303,7 +303,7 @@ class ApplicationClose(Frame):
     @property
     def error_code(self) -> int: ...
     @property
-    def reason(self) -> memoryview: ...
+    def reason(self) -> bytes: ...
 
 @final
 class HandshakeDone(Frame):
@@ -349,13 +349,13 @@ class FrameIterator(Iterator[Frame]):
         FrameError that the frame raised; the frame begins at offset."""
     def __next__(self) -> Frame: ...
 
-def frames(payload: Buffer, /, *, checks: Checks = ...) -> FrameIterator:
-    """The frames of a payload, each read when it is asked for. Consecutive PADDING frames
-    are one. Raises FrameError if there is no frame, or if one is invalid or breaks a
-    rule of checks."""
-def read_frames(payload: Buffer, /, *, checks: Checks = ...) -> list[Frame]:
-    """The frames of a payload as a list. Raises FrameError, with the frames before an
-    invalid one in its attribute frames."""
+def frames(payload: Buffer, /, *, at: int = 0, checks: Checks = ...) -> FrameIterator:
+    """The frames of a payload from an offset on, each read when it is asked for. Offsets
+    count from the payload. Consecutive PADDING frames are one. Raises FrameError if the
+    payload is empty, or if a frame is invalid or breaks a rule of checks."""
+def read_frames(payload: Buffer, /, *, at: int = 0, checks: Checks = ...) -> list[Frame]:
+    """The frames of a payload from an offset on, as a list. Raises FrameError, with the
+    frames before an invalid one in its attribute frames."""
 def canonical(payload: Buffer, /, *, checks: Checks = ...) -> bytes:
     """The one shortest payload with the same frames in the same order. Raises FrameError, also
     if a frame breaks a rule of checks."""
@@ -385,9 +385,9 @@ class Packet:
     @property
     def version(self) -> int: ...
     @property
-    def dcid(self) -> memoryview: ...
+    def dcid(self) -> bytes: ...
     @property
-    def scid(self) -> memoryview: ...
+    def scid(self) -> bytes: ...
     def sample(self, length: int = 16, /) -> Optional[memoryview]:
         """The bytes from which the mask of the header is made (RFC 9001, section 5.4.2), or None
         if the packet is too short or has no packet number."""
@@ -397,7 +397,7 @@ class Packet:
 class Initial(Packet):
     __match_args__ = ("version", "dcid", "scid", "token", "length", "token_at")
     @property
-    def token(self) -> memoryview: ...
+    def token(self) -> bytes: ...
     @property
     def length(self) -> int: ...
     @property
@@ -419,9 +419,9 @@ class Handshake(Packet):
 class Retry(Packet):
     __match_args__ = ("version", "dcid", "scid", "token", "integrity_tag")
     @property
-    def token(self) -> memoryview: ...
+    def token(self) -> bytes: ...
     @property
-    def integrity_tag(self) -> Optional[memoryview]: ...
+    def integrity_tag(self) -> Optional[bytes]: ...
 
 @final
 class OneRtt(Packet):
@@ -593,8 +593,8 @@ class _Parameters:
         Raises ParameterError."""
     def _write(self, side: int, further: bytes = b"", order: bytes = b"", /) -> bytes: ...
     def _write_fault(self, side: int, /) -> Optional[tuple[int, int]]: ...
-    def as_dict(self) -> dict[str, Any]:
-        """All parameters by name."""
+    def as_dict(self, *, present: bool = False) -> dict[str, Any]:
+        """All parameters by name, or only those that were in the list, or given."""
     def __hash__(self) -> int: ...
 
 def _entry_at(data: Buffer, at: int, /) -> Optional[tuple[int, int, int]]: ...

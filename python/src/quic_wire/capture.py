@@ -159,16 +159,15 @@ class _Flow:
                 return self._open_by(keys, packet, sender), sender, None
             except (ciphers.NotAuthentic, PacketError) as fault:
                 why = fault.reason if isinstance(fault, PacketError) else str(fault)
-        dcid = bytes(packet.dcid)
         expected, self.ends[sender].expected = self.ends[sender].expected, [0, 0, 0]
         try:
-            opened = self._open_by(ciphers.initial_keys(packet.version, dcid)[Side.CLIENT], packet, sender)
+            opened = self._open_by(ciphers.initial_keys(packet.version, packet.dcid)[Side.CLIENT], packet, sender)
         except (ciphers.NotAuthentic, PacketError):
             self.ends[sender].expected = expected
             return None, sender, why
         self.ends = [self.ends[sender], self.ends[1 - sender]]
         self.ends[Side.SERVER].expected = [0, 0, 0]
-        self.initial_id = dcid
+        self.initial_id = packet.dcid
         return opened, Side.CLIENT, None
 
     def _open_by_keylog(self, packet: Packet, kind: PacketType, sender: Side) -> tuple[Optional[Opened], Optional[str]]:
@@ -212,7 +211,7 @@ class _Flow:
                 self.version = packet.version
         if packet.kind == PacketType.INITIAL:
             if sender == Side.CLIENT and self.initial_id is None:
-                self.initial_id = bytes(packet.dcid)
+                self.initial_id = packet.dcid
             for frame in frames:
                 if isinstance(frame, Crypto):
                     self.ends[sender].tls.take(frame)
@@ -277,7 +276,7 @@ def _packets(flow: _Flow, datagram: Datagram, sender: Side) -> Iterator[Captured
         sender = captured.sender
         yield captured
         flow.learn(packet, sender, captured.frames or ())
-        first_id, cid_len, at = bytes(packet.dcid), len(packet.dcid), packet.end
+        first_id, cid_len, at = packet.dcid, len(packet.dcid), packet.end
 
 
 def packets(

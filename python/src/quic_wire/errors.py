@@ -8,7 +8,8 @@ from . import _parameters
 from ._fields import (
     FRAME_TYPE_FIELD, Field, Place, Raw, Read, in_entry, in_frame, in_header, of_entry, of_frame, of_header,
 )  # fmt: skip
-from ._formats import FRAMES, Code as Code
+from ._enums import direct
+from ._formats import FRAMES, REASONS, Code as Code, ErrorKind as ErrorKind
 from ._wire import (
     FRAME_LIMIT, FRAME_LONG_TYPE, FRAME_MALFORMED, FRAME_PACKET, FRAME_SENDER, FRAME_STREAM, FRAME_TYPE,
     PACKET_FIXED_BIT, PACKET_RETRY, PAYLOAD_EMPTY, type_name,
@@ -19,6 +20,9 @@ if TYPE_CHECKING:
     from ._types import Buffer
     from ._wire import Frame, Packet
 
+direct(ErrorKind)
+direct(Code)
+
 _OF_TYPES = (FRAME_TYPE, FRAME_LONG_TYPE)  # results for a type that was read
 _LONG_FORM = 0x80  # of a first byte
 _PERMISSIONS = (FRAME_PACKET, FRAME_SENDER, FRAME_STREAM)
@@ -27,7 +31,8 @@ _PERMISSIONS = (FRAME_PACKET, FRAME_SENDER, FRAME_STREAM)
 class Error(ValueError):
     """Bytes that a peer must not send.
 
-    - reason: the library's text for why they are rejected.
+    - kind: why they are rejected, to compare with; None if a variable-length integer is cut off.
+    - reason: the library's text for that.
     - why: what is wrong with them, or None if no more is known.
     - offset: where what is rejected begins in the bytes that were read.
     - field, field_offset: the RFC's name of the field at fault, and where it begins; None if it isn't known.
@@ -36,6 +41,7 @@ class Error(ValueError):
     - section: the document and section that say so.
     """
 
+    kind: Optional[ErrorKind] = None
     reason: str
     why: Optional[str] = None
     offset: Optional[int]
@@ -76,10 +82,11 @@ class FrameError(Error):
 
     - frame_type: the type of the invalid frame, as its attribute type; None if it couldn't be read.
     - frames: the frames before it; None if they were read one by one.
-    - reason, why, offset, field, field_offset, fields, code, section: as in Error. offset is None if the frame wasn't
+    - kind, reason, why, offset, field, field_offset, fields, code, section: as in Error. offset is None if the frame wasn't
       read.
     """
 
+    kind: ErrorKind
     code: Code
     frame_type: Optional[int] = None
     frames: Optional[list[Frame]] = None
@@ -99,9 +106,10 @@ class PacketError(Error):
 
     - packets: the packets before it; None if they were read one by one.
     - packet: what was read from a packet that is cut off, or None.
-    - reason, offset, field, field_offset, fields, section: as in Error. code is None.
+    - kind, reason, offset, field, field_offset, fields, section: as in Error. code is None.
     """
 
+    kind: ErrorKind
     packets: Optional[list[Packet]] = None
     packet: Optional[Packet] = None
 
@@ -112,9 +120,10 @@ class ParameterError(Error):
     - id, name, value: those of the parameter at fault; each is None if it isn't known.
     - why: what is wrong with it.
     - wanted: what its value must be; None if that isn't what is wrong.
-    - reason, offset, code, section: as in Error. Only parameter_fields sets field, field_offset and fields.
+    - kind, reason, offset, code, section: as in Error. Only parameter_fields sets field, field_offset and fields.
     """
 
+    kind: ErrorKind
     id: Optional[int] = None
     name: Optional[str] = None
     value: Optional[bytes] = None
@@ -162,6 +171,7 @@ def _frame_error(
     found = Read(*read)
     place, why = (None, None) if result == PAYLOAD_EMPTY else in_frame(found)
     error = FrameError(reason, begin, place, Code(code), _frame_section(result, frame_type))
+    error.kind = ErrorKind(result)
     is_cut_off = result not in _OF_TYPES and place == Place(FRAME_TYPE_FIELD, begin)
     error.frame_type = None if is_cut_off else frame_type
     error._last_type, error.why, error.frames = frame_type, why or _why_unknown(result, frame_type), before
@@ -172,6 +182,7 @@ def _frame_error(
 def _rule_error(result: int, reason: str, code: int, frame_type: int, begin: Optional[int]) -> FrameError:
     """For a frame that isn't permitted, or isn't written."""
     error = FrameError(reason, begin, None, Code(code), _frame_section(result, frame_type))
+    error.kind = ErrorKind(result)
     error.frame_type, error._is_permission = frame_type, result in _PERMISSIONS
     error.why = _why_unknown(result, frame_type)
     if result == FRAME_MALFORMED:
@@ -207,27 +218,42 @@ def _packet_error(
     found = Read(*read)
     place = in_header(found, begin)
     error = PacketError(reason, begin, place, None, _header_section(result, place, first, end))
+    error.kind = ErrorKind(result)
     error.packets, error.packet, error.fields = before, packet, of_header(found)
     return error
 
 
 def _parameter_error(
-    reason: str, code: int, side: int, flags: int, data: Buffer, begin: int, number: Optional[int]
+    result: int, reason: str, code: int, side: int, flags: int, data: Buffer, begin: int, number: Optional[int]
 ) -> ParameterError:
     found = _parameters.fault_of(side, Checks(flags), memoryview(bytes(data)), begin, number)
-    return _parameter_fault(reason, Code(code), found)
+    return _parameter_fault(ErrorKind(result), reason, Code(code), found)
 
 
-def _parameter_fault(reason: str, code: Code, found: _parameters.Fault) -> ParameterError:
+def _parameter_fault(kind: ErrorKind, reason: str, code: Code, found: _parameters.Fault) -> ParameterError:
     error = ParameterError(reason, found.offset, None, code, found.section)
+    error.kind = kind
     error.id, error.name, error.value = found.id, found.name, found.value
     error.why, error.wanted = found.why, found.wanted
     return error
 
 
-def _parameter_cut_off(reason: str, begin: int, number: Optional[int], read: Read) -> ParameterError:
-    error = _parameter_fault(reason, Code.TRANSPORT_PARAMETER_ERROR, _parameters.cut_off(begin, number))
+def _parameter_cut_off(begin: int, number: Optional[int]) -> ParameterError:
+    kind, found = ErrorKind.PARAMS_MALFORMED, _parameters.cut_off(begin, number)
+    return _parameter_fault(kind, REASONS[kind].text, Code.TRANSPORT_PARAMETER_ERROR, found)
+
+
+def _entry_cut_off(begin: int, number: Optional[int], read: Read) -> ParameterError:
+    error = _parameter_cut_off(begin, number)
     (error.field, error.field_offset), error.fields = in_entry(read), of_entry(read)
+    return error
+
+
+def _packet_small(begin: int) -> PacketError:
+    """For a packet that has no sample (RFC 9001, section 5.4.2)."""
+    kind = ErrorKind.PACKET_SMALL
+    error = PacketError(REASONS[kind].text, begin, None, None, "RFC 9001, section 5.4.2")
+    error.kind = kind
     return error
 
 

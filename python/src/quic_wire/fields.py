@@ -11,7 +11,7 @@ from ._formats import REASONS
 from ._types import Buffer
 from ._wire import PACKET_VERSION, _frame_fields, _packet_fields, _parameter_fields, varint_at
 from .checks import Checks
-from .errors import _frame_error, _packet_error, _parameter_cut_off
+from .errors import _entry_cut_off, _frame_error, _packet_error
 
 __all__ = ["Field", "frame_fields", "packet_fields", "parameter_fields"]
 
@@ -62,4 +62,4 @@ def parameter_fields(data: Buffer, at: int = 0) -> list[Field]:
     if read.result >= 0:
         return _fields.of_entry(read)
     number = varint_at(data, at)
-    raise _parameter_cut_off(REASONS[read.result].text, at, number[0] if number else None, read)
+    raise _entry_cut_off(at, number[0] if number else None, read)

@@ -8,8 +8,9 @@ from collections.abc import Iterable, Iterator
 from dataclasses import dataclass
 from typing import Any, NamedTuple, Optional
 
+from ._enums import direct
 from ._formats import PARAMETERS
-from ._parameters import KNOWN, cut_off, entries
+from ._parameters import KNOWN, entries
 from ._types import Buffer
 from ._wire import (
     FAULT_DELAY,
@@ -21,7 +22,7 @@ from ._wire import (
     varint_at,
     write_parameter,
 )
-from .errors import Code, _parameter_fault
+from .errors import _parameter_cut_off
 
 __all__ = ["Parameter", "PreferredAddress", "Side", "TransportParameters", "parameters"]
 
@@ -32,6 +33,7 @@ _MAX_CID_LEN = 20
 _RESET_TOKEN_LEN = 16
 
 
+@direct
 class Side(enum.IntEnum):
     """A side of a connection.
 
@@ -56,10 +58,15 @@ class PreferredAddress:
 class TransportParameters(_Parameters):
     """Transport parameters, each named as in the RFC; those that aren't given have their defaults, or are absent.
 
-    Compare a stateless_reset_token with received bytes by hmac.compare_digest (RFC 9000, section 10.3.1).
+    They are equal if their values are, whether these were given or not. Compare a stateless_reset_token with received bytes by hmac.compare_digest (RFC 9000, section 10.3.1).
     """
 
     __slots__ = ()
+
+    @property
+    def present(self) -> frozenset[str]:
+        """The names of those that were in the list that was read, or were given."""
+        return frozenset(self.as_dict(present=True))
 
     def write(self, side: Side, further: Iterable[tuple[int, Buffer]] = (), order: Iterable[int] = ()) -> bytes:
         """The shortest list of these parameters, as `side` sends them.
@@ -168,15 +175,14 @@ def _of_entry(number: int, value: bytes, begin: int, end: int) -> Parameter:
 
 def parameters(data: Buffer) -> Iterator[Parameter]:
     """The entries of a list, one by one, whatever their values. Raises ParameterError at one that is cut off."""
-    view = memoryview(data).toreadonly()
+    view = memoryview(data).cast("B").toreadonly()
     end = 0
     for entry in entries(view):
         end = entry.end
         yield Parameter(entry.id, view[entry.value : end], entry.begin, end)
     if end != len(view):
         number = varint_at(view, end)
-        found = cut_off(end, number[0] if number else None)
-        raise _parameter_fault("malformed", Code.TRANSPORT_PARAMETER_ERROR, found)
+        raise _parameter_cut_off(end, number[0] if number else None)
 
 
 def _of_dict(values: dict[str, Any]) -> TransportParameters:

@@ -22,7 +22,7 @@ from typing import Protocol
 
 from ._types import Buffer
 from ._wire import Packet, protect, set_length, unprotect, write_header
-from .errors import PacketError
+from .errors import _packet_small
 from .packets import PacketType
 
 __all__ = ["Keys", "Opened", "open_packet", "seal_packet"]
@@ -55,16 +55,21 @@ class Keys(Protocol):
 class Opened:
     """A packet without its protection.
 
-    - packet: the packet with its protection.
+    - packet: the packet with its protection. Its offsets count from its datagram.
     - number: its packet number.
     - header: the header without its protection, up to the end of the packet number.
-    - payload: the plaintext.
+    - payload: the plaintext. Offsets of what is read from it count from it.
     """
 
     packet: Packet
     number: int
     header: bytes
     payload: bytes
+
+    @property
+    def payload_at(self) -> int:
+        """Where the protected payload begins in the datagram, behind the header."""
+        return self.packet.begin + len(self.header)
 
     @property
     def key_phase(self) -> bool:
@@ -92,7 +97,7 @@ def open_packet(packet: Packet, keys: Keys, expected: int = 0) -> Opened:
     """
     sample = packet.sample(_SAMPLE_LEN)
     if sample is None:
-        raise PacketError("packet too small", packet.begin, None, None, "RFC 9001, section 5.4.2")
+        raise _packet_small(packet.begin)
     number, header = open_header(packet, keys.mask(bytes(sample)), expected)
     payload = keys.open(number, header, bytes(packet.data[len(header) :]))
     return Opened(packet, number, header, payload)

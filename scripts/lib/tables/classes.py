@@ -5,7 +5,8 @@ from typing import NamedTuple
 from lib.tables.compared import c_structs
 from lib.tables.formats import bound_of, constants, enumeration, headers
 
-# What a field is: of numbers in the header's union one that is always there, or only in some types of a kind.
+# What a field is: of numbers in the header's union one that is always there, or only in some types of a kind. Of bytes
+# those of a stream or a datagram, which are lent as views, or others, which are copied.
 HOW = {
     "number": "number", "ranges": "ranges", "implied": "fin", "counted": "data", "rest": "data", "id": "data",
     "bytes": "token", "uint64": "path",
@@ -152,6 +153,8 @@ def fields_of(word, types, structs):
             how = "ecn"
         if how != "fin" or len({one.get(name) for one in listed}) > 1:
             called, slot = numbers.get(name, (NAMES.get(name, row["key"]), 0))
+            if how == "data" and called != "data":
+                how = "bytes"
             found.append(Field(called, how, doc_of(row), slot if how in ("number", "ecn") else 0, "bytes" in row))
     return found
 

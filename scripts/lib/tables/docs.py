@@ -10,7 +10,9 @@ STUB = "python/src/quic_wire/_wire.pyi.in"
 BEGIN = f"""/* SPDX-License-Identifier: MIT OR Apache-2.0 */
 /* Made by scripts/tables from {STUB}: change nothing here.
  * What Python says of each function of the module, DOC_name, and of each method, DOC_class_name: the signature, then
- * the documentation. NAMES_ has the names of its arguments, empty for those that aren't passed by name. */
+ * the documentation. WIRE_CALLS has a row for each that isn't called with one argument by position, or none: name,
+ * Python's name, how many arguments are needed, how many may be passed by position, and their names, empty for those
+ * that can't be passed by name. */
 """
 
 
@@ -40,26 +42,35 @@ def signature(function, source, is_method):
     return ", ".join(texts if "/" in texts else [texts[0], "/", *texts[1:]])
 
 
-def names(given, is_method):
-    """The names of arguments for C; nothing if none is passed by name."""
-    named = [one.arg for one in [*given.args, *given.kwonlyargs]]
-    words = [*([""] * len(given.posonlyargs)), *named][is_method:]
-    return ", ".join([*map(json.dumps, words), "NULL"]) if any(words) else ""
+def call(function, word, is_method):
+    """The row of a function; nothing if it has at most one argument, and that only by position."""
+    given = function.args
+    listed = [*given.posonlyargs, *given.args][is_method:]
+    if len(listed) < 2 and not given.kwonlyargs and not given.defaults:
+        return ""
+    names = ["" if one in given.posonlyargs else one.arg for one in listed] + [one.arg for one in given.kwonlyargs]
+    words = [json.dumps(function.name), len(listed) - len(given.defaults), len(listed), *map(json.dumps, names)]
+    return f"CALL({word}, {', '.join(map(str, words))})"
 
 
-def macros(nodes, source, of=""):
-    """Those of the functions among these nodes, and of their classes' methods."""
+def functions(nodes, of=""):
+    """Those among these nodes that are documented, and the methods of their classes, with the names that C has."""
     for node in nodes:
         if isinstance(node, ast.ClassDef):
-            yield from macros(node.body, source, f"{node.name.lstrip('_')}_")
+            yield from functions(node.body, f"{node.name.lstrip('_')}_")
         elif isinstance(node, ast.FunctionDef) and ast.get_docstring(node):
-            text = f"{node.name}({signature(node, source, bool(of))})\n--\n\n{ast.get_docstring(node)}"
-            lines = (f" \\\n  {json.dumps(line)}" for line in re.findall(r".+\n--\n\n|.+\n?", text))
-            yield f"#define DOC_{of}{node.name} PyDoc_STR({''.join(lines)})\n"
-            words = names(node.args, bool(of))
-            yield f"#define NAMES_{of}{node.name} {{{words}}}\n" * bool(words)
+            yield node, f"{of}{node.name}", bool(of)
+
+
+def doc(node, word, is_method, source):
+    text = f"{node.name}({signature(node, source, is_method)})\n--\n\n{ast.get_docstring(node)}"
+    lines = (f" \\\n  {json.dumps(line)}" for line in re.findall(r".+\n--\n\n|.+\n?", text))
+    return f"#define DOC_{word} PyDoc_STR({''.join(lines)})\n"
 
 
 def made(_):
     source = re.sub(r"^(@\w+@)$", r"# \1", read(STUB), flags=re.M)
-    return BEGIN + "".join(macros(ast.parse(source).body, source))
+    found = list(functions(ast.parse(source).body))
+    rows = filter(None, (call(*one) for one in found))
+    docs = (doc(*one, source) for one in found)
+    return f"{BEGIN}{''.join(docs)}#define WIRE_CALLS" + "".join(f" \\\n  {row}" for row in rows) + "\n"

@@ -135,6 +135,9 @@ class Reason(NamedTuple):
 PACKETS = {"0RTT": "ZERO_RTT", "1RTT": "ONE_RTT"}
 # The enumerations of other modules, with what they are.
 PACKET_TYPES = ("PacketType", "packets", "The types of packets in Packet.kind.")
+KINDS = (
+    "ErrorKind", "errors",
+    "Why something is rejected: the results of the library for C, by their names and numbers.")
 CODES = (
     "Code", "errors", "The codes of a CONNECTION_CLOSE (RFC 9000, section 20.1). A TLS alert is added to CRYPTO_ERROR.")
 
@@ -212,6 +215,7 @@ def enumeration(name, module, doc, members):
 def made(formats):
     packets = ((PACKETS.get(name, name), number) for name, number in proved.packet_kinds().items())
     codes = ((one["name"], f"{one['code']:#04x}") for one in formats["error_codes"])
+    kinds = ((one["name"], one["number"]) for one in formats["reasons"] if one["about"] != "call")
     tables = {
         "FRAMES: dict[int, Frame] = {": map(frame, formats["frames"]),
         "# By their versions and kinds of packets; those without a version of their own have version 0.\n"
@@ -223,5 +227,6 @@ def made(formats):
     address = "".join(field(one, "    ", index) for index, one in enumerate(formats["preferred_address"]))
     parts = [f"{begin}\n{''.join(some)}}}\n" for begin, some in tables.items()]
     return (
-        f"{BEGIN}{enumeration(*CODES, codes)}{enumeration(*PACKET_TYPES, packets)}{''.join(parts)}"
+        f"{BEGIN}{enumeration(*CODES, codes)}{enumeration(*KINDS, kinds)}{enumeration(*PACKET_TYPES, packets)}"
+        f"{''.join(parts)}"
         f"PREFERRED_ADDRESS: tuple[Field, ...] = (\n{address})\n")

@@ -7,18 +7,19 @@ BEGIN = f"# Made by scripts/tables from {PATH.rsplit('/', 1)[1]}.in and {FILE}: 
 # What a field is given as, and what it is.
 TYPES = {
     "number": ("int = 0", "int"), "count": ("int = 1", "int"), "ecn": ("Optional[int] = None", "Optional[int]"),
-    "ranges": ("_Ranges = ...", "tuple[range, ...]"), "fin": ("bool = False", "bool"),
-    "data": ('Buffer = b""', "memoryview"), "token": ("Buffer = ...", "memoryview"), "path": ("Buffer = ...", "bytes"),
+    "ranges": ("Optional[_Ranges] = None", "tuple[range, ...]"), "fin": ("bool = False", "bool"),
+    "data": ('Buffer = b""', "memoryview"), "bytes": ('Buffer = b""', "bytes"), "token": ("Buffer = ...", "bytes"),
+    "path": ("Buffer = ...", "bytes"),
 }
 PACKET_TYPES = {
-    "token": "memoryview", "retry_token": "memoryview", "retry_tag": "Optional[memoryview]", "length": "int",
+    "token": "bytes", "retry_token": "bytes", "retry_tag": "Optional[bytes]", "length": "int",
     "token_at": "int", "spin": "bool", "versions": "tuple[int, ...]",
 }
 # What is in every frame or packet.
 COMMON_TYPES = {
     "begin": "int", "end": "int", "type": "int", "kind": "int", "name": "str", "rule": "bool", "rule_not": "bool",
-    "first": "int", "number_at": "Optional[int]", "data": "memoryview", "version": "int", "dcid": "memoryview",
-    "scid": "memoryview",
+    "first": "int", "number_at": "Optional[int]", "data": "memoryview", "version": "int", "dcid": "bytes",
+    "scid": "bytes",
 }
 PARAMETER_TYPES = {
     "id": "Optional[Buffer] = None", "bytes": "Optional[Buffer] = None", "flag": "bool = False",
@@ -48,11 +49,16 @@ def names(some):
     return f"    __match_args__ = ({listed})\n" if some else ""
 
 
+def given(field):
+    """What a field of a frame is given as."""
+    kind = TYPES[field.how][0]
+    return kind.replace('b""', "...") if field.is_needed else kind
+
+
 def frame(one):
-    given = [(it, TYPES[it.how][0].replace('b""', "...") if it.is_needed else TYPES[it.how][0]) for it in one.fields]
     return (
         f"@final\nclass {one.name}(Frame):\n    KIND: ClassVar[int]\n{names(one.fields)}"
-        f"{init(['self', *(f'{it.name}: {kind}' for it, kind in given)])}"
+        f"{init(['self', *(f'{it.name}: {given(it)}' for it in one.fields)])}"
         f"{properties({it.name: TYPES[it.how][1] for it in one.fields})}")
 
 
@@ -61,11 +67,20 @@ def packet(one):
     return f"@final\nclass {one.name}(Packet):\n{names(one.fields)}{properties(own)}"
 
 
-def parameters(formats):
-    types = {}
+def given_parameters(formats):
+    """What transport parameters are given as, by name."""
     for one in classes.parameters(formats):
         number = f"int = {one['default']}" if "default" in one else "Optional[int] = None"
-        types[one["name"]] = PARAMETER_TYPES.get(one["kind"], number)
+        yield one["name"], PARAMETER_TYPES.get(one["kind"], number)
+
+
+def signature(given):
+    """How a class is called, by what is given by each name."""
+    return ", ".join(f"{name}={kind.split(' = ')[1]}" for name, kind in given).replace('"', "'")
+
+
+def parameters(formats):
+    types = dict(given_parameters(formats))
     results = {name: kind.split(" = ")[0].replace("Buffer", "bytes") for name, kind in types.items()}
     return init(["self", "*", *(f"{name}: {kind}" for name, kind in types.items())]) + properties(results)
 

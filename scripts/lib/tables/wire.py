@@ -1,14 +1,14 @@
 """python/wire/formats.h."""
 import json
 
-from lib.tables import classes, proved
+from lib.tables import classes, proved, stub
 from lib.tables.formats import MADE
 
 PATH = "python/wire/formats.h"
 MACROS = {
     "FRAME_FIELD": "name, how, bit, doc", "PACKET_FIELD": "name, how, bit, doc",
     "FRAME_KIND": "word, name, doc, fields", "PACKET_KIND": "name, doc, fields",
-    "PARAMETER": "name, kind, at, len_at, present, doc", "RESULT": "word", "READ_FLAG": "word",
+    "PARAMETER": "name, kind, id, at, len_at, present, doc", "RESULT": "word", "READ_FLAG": "word",
 }
 BEGIN = f"""/* SPDX-License-Identifier: MIT OR Apache-2.0 */
 /* {MADE}
@@ -33,7 +33,9 @@ def common(macro, some):
 
 
 def kind(one):
-    return f"FRAME_KIND({one.word}, {json.dumps(one.name)},\n     {json.dumps(one.doc)},{fields(one.fields)})\n"
+    how = stub.signature((it.name, stub.given(it)) for it in one.fields)
+    doc = json.dumps(f"{one.name}({how})\n--\n\n{one.doc}")
+    return f"FRAME_KIND({one.word}, {json.dumps(one.name)},\n     {doc},{fields(one.fields)})\n"
 
 
 def packet(one):
@@ -47,7 +49,7 @@ def parameter(one):
     length = f"AT({word}len)" if what == "ID" else 0
     present = 0 if what == "INTEGER" else f"QUIC_WIRE_HAS_{word.upper()}"
     doc = json.dumps(classes.parameter_doc(one))
-    return f"PARAMETER({one['name']}, {what}, {at}, {length},\n     {present}, {doc})\n"
+    return f"PARAMETER({one['name']}, {what}, {one['id']:#x}, {at}, {length},\n     {present}, {doc})\n"
 
 
 def made(formats):
@@ -62,4 +64,6 @@ def made(formats):
     defined = (f"#ifndef {name}\n#define {name}({words})\n#endif\n" for name, words in MACROS.items())
     parts = (f"\n{''.join(some)}" for some in rows.values())
     undefined = (f"#undef {name}\n" for name in [*MACROS, "FIELD"])
-    return BEGIN + "".join([*defined, *parts, "\n", *undefined])
+    how = json.dumps(f"*, {stub.signature(stub.given_parameters(formats))}")
+    called = f"/* How the class of transport parameters is called. */\n#define PARAMETERS_SIGNATURE {how}\n"
+    return BEGIN + "".join([called, *defined, *parts, "\n", *undefined])

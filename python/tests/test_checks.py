@@ -263,14 +263,6 @@ class Flags(unittest.TestCase):
             with self.assertRaisesRegex(TypeError, "^a payload is expected"):
                 read()
 
-    def test_members_are_attributes(self):
-        # Then CPython 3.11 finds them without a function in Python.
-        for kind in (q.Checks, q.Code, q.ErrorKind, q.PacketType, q.Side, q.Version):
-            for name, member in kind.__members__.items():
-                self.assertIs(vars(kind)[name], member)
-                self.assertIs(getattr(kind, name), member)
-        self.assertEqual(q.Checks.RFC & ~q.Checks.TOKENS | q.Checks.TOKENS, q.Checks.RFC)
-
     def test_what_is_no_flag_is_not_taken(self):
         for call in (
             lambda **how: q.read_frames(b"\x01", **how),

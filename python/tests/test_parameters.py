@@ -95,6 +95,27 @@ class Parameters(unittest.TestCase):
         # They are the same parameters.
         self.assertEqual(read, q.TransportParameters(initial_max_data=5, grease_quic_bit=True))
 
+    def test_a_value_is_found(self):
+        data = bytes.fromhex("040105" "110400000001" "1b00" "040106" "05")
+        for kind in (bytes, bytearray, memoryview):
+            found = [q.find_parameter(kind(data[:-1]), number) for number in (4, 0x11, 27, 5)]
+            self.assertEqual(found, [b"\x05", b"\0\0\0\1", b"", None])
+        self.assertIsNone(q.find_parameter(b"", 0))
+        self.assertEqual(q.find_parameter(data, 27), b"")
+        for wrong, number in ((data, 5), (data[:-1] + b"\x45", None)):
+            with self.assertRaises(q.ParameterError) as caught:
+                q.find_parameter(wrong, 9)
+            self.assertEqual((caught.exception.offset, caught.exception.id), (14, number))
+            self.assertEqual((caught.exception.kind, str(caught.exception)), self.rejected(wrong))
+        for kind, arguments in ((TypeError, (b"",)), (TypeError, ("", 4)), (ValueError, (b"", 1 << 62))):
+            with self.assertRaises(kind):
+                q.find_parameter(*arguments)
+
+    def rejected(self, data):
+        with self.assertRaises(q.ParameterError) as caught:
+            list(q.parameters(data))
+        return caught.exception.kind, str(caught.exception)
+
     def test_a_list_of_nothing_has_the_defaults(self):
         read = q.TransportParameters.read(q.Side.SERVER, b"")
         self.assertEqual(read, q.TransportParameters())

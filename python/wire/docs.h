@@ -135,6 +135,10 @@
 #define DOC_write_parameter PyDoc_STR( \
   "write_parameter($module, id, value, /)\n--\n\n" \
   "An entry of a list of transport parameters.")
+#define DOC_find_parameter PyDoc_STR( \
+  "find_parameter($module, data, id, /)\n--\n\n" \
+  "The value of the first entry of this id in a list of transport parameters, or None.\n" \
+  "Raises ParameterError at one before it that is cut off.")
 #define DOC_is_known_parameter PyDoc_STR( \
   "is_known_parameter($module, id, /)\n--\n\n" \
   "Whether TransportParameters has the parameter of this id.")
@@ -180,5 +184,6 @@
   CALL(Parameters_read, "read", 2, 2, "", "", "checks") \
   CALL(Parameters_as_dict, "as_dict", 0, 0, "present") \
   CALL(write_parameter, "write_parameter", 2, 2, "", "") \
+  CALL(find_parameter, "find_parameter", 2, 2, "", "") \
   CALL(RangeSet_insert, "insert", 1, 2, "", "") \
   CALL(RangeSet_remove, "remove", 1, 2, "", "")

@@ -44,6 +44,49 @@ static PyObject *write_entry(PyObject *module, PyObject *const *args,
   return wire_written(out, result, len);
 }
 
+/* ParameterError for an entry that is cut off, with its id if that is there. */
+static PyObject *cut_off(const wire_bytes *list, size_t at) {
+  uint64_t id = 0;
+  const size_t len =
+      quic_wire_varint_read(list->at + at, list->len - at, &id);
+  PyObject *number = len ? PyLong_FromUnsignedLongLong(id) : Py_NewRef(Py_None);
+  return wire_call("quic_wire.errors", "_raise_cut_off",
+                   Py_BuildValue("(nN)", (Py_ssize_t)at, number));
+}
+
+static PyObject *value_of(const wire_bytes *list, uint64_t id) {
+  quic_wire_param entry;
+  size_t at = 0;
+  while (at < list->len) {
+    const int64_t end =
+        quic_wire_param_read(list->at + at, list->len - at, &entry);
+    if (end <= 0)
+      return cut_off(list, at);
+    if (entry.id == id)
+      return PyBytes_FromStringAndSize(
+          (const char *)list->at + at + entry.value,
+          (Py_ssize_t)entry.valuelen);
+    at += (size_t)end;
+  }
+  return Py_NewRef(Py_None);
+}
+
+static PyObject *find_entry(PyObject *module, PyObject *const *args,
+                            Py_ssize_t nargs) {
+  enum { DATA, ID, COUNT };
+  PyObject *given[COUNT], *out;
+  uint64_t id;
+  wire_bytes bytes;
+  if (wire_arguments(PyModule_GetState(module), CALL_find_parameter, args,
+                     nargs, NULL, given) < 0 ||
+      wire_varint(given[ID], "id", &id) < 0 ||
+      wire_acquire(given[DATA], &bytes) < 0)
+    return NULL;
+  out = value_of(&bytes, id);
+  wire_release(&bytes);
+  return out;
+}
+
 static PyObject *is_known(PyObject *Py_UNUSED(module), PyObject *number) {
   uint64_t id;
   if (wire_number(number, "id", &id) < 0)
@@ -54,5 +97,6 @@ static PyObject *is_known(PyObject *Py_UNUSED(module), PyObject *number) {
 PyMethodDef wire_parameter_functions[] = {
     {"_entry_at", entry_at, METH_VARARGS, NULL},
     WIRE_FUNCTION(write_parameter, write_entry, METH_FASTCALL),
+    WIRE_FUNCTION(find_parameter, find_entry, METH_FASTCALL),
     WIRE_FUNCTION(is_known_parameter, is_known, METH_O),
     {NULL, NULL, 0, NULL}};

@@ -3,26 +3,18 @@
 import ipaddress
 
 from quic_wire import (
-    Ack,
     Checks,
     ErrorKind,
-    FrameError,
-    PacketError,
-    ParameterError,
     PreferredAddress,
-    RangeSet,
     Side,
     TransportParameters,
-    frames,
-    parameters,
-    read_frame_body,
-    read_packet,
+    find_parameter,
     read_version_information,
     write_version_information,
 )
 
 RFC = Checks.RFC
-VERSION_INFORMATION = 0x11
+VERSION_INFORMATION, QUANTUM_READINESS = 0x11, 0x0C37
 # aioquic's own texts, which its users may know.
 PACKET_TEXTS = {
     ErrorKind.PACKET_FIXED_BIT: "Packet fixed bit is zero",
@@ -47,10 +39,16 @@ def frame_text(error):
 
 def read_parameters(data):
     """Transport parameters by the names of aioquic's class, those that are there."""
-    values = TransportParameters.read(Side.CLIENT, data, checks=RFC).as_dict(present=True)
-    for entry in parameters(data):
-        if entry.id == VERSION_INFORMATION:
-            values["version_information"] = read_version_information(entry.value)
+    read = TransportParameters.read(Side.CLIENT, data, checks=RFC)
+    values = read.as_dict(present=True)
+    for name in ("grease_quic_bit", "min_ack_delay"):
+        values.pop(name, None)
+    versions = find_parameter(data, VERSION_INFORMATION)
+    if versions is not None:
+        values["version_information"] = read_version_information(versions)
+    quantum_readiness = find_parameter(data, QUANTUM_READINESS)
+    if quantum_readiness is not None:
+        values["quantum_readiness"] = quantum_readiness
     return values
 
 
@@ -65,10 +63,15 @@ def address_of(preferred):
     )
 
 
-def write_parameters(values):
-    """A list of transport parameters, of those that aren't None."""
-    given = {name: value for name, value in values.items() if value is not None}
+def write_parameters(params):
+    """A list of transport parameters, of those of aioquic's class that aren't None."""
+    given = {name: value for name, value in vars(params).items() if value is not None}
     further = []
     if (versions := given.pop("version_information", None)) is not None:
-        further.append((VERSION_INFORMATION, write_version_information(*versions)))
+        listed = write_version_information(versions.chosen_version, versions.available_versions)
+        further.append((VERSION_INFORMATION, listed))
+    if (quantum_readiness := given.pop("quantum_readiness", None)) is not None:
+        further.append((QUANTUM_READINESS, quantum_readiness))
+    if "preferred_address" in given:
+        given["preferred_address"] = address_of(given["preferred_address"])
     return TransportParameters(**given).write(Side.SERVER, further)

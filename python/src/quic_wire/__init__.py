@@ -24,8 +24,8 @@ from ._wire import (
     MaxStreamsUni, NewConnectionId, NewToken, OneRtt, Packet, Padding, PathChallenge, PathResponse, Ping, RangeSet,
     ResetStream, RetireConnectionId, Retry, StopSending, Stream, StreamDataBlocked, StreamsBlockedBidi,
     StreamsBlockedUni, UnknownVersion, VersionNegotiation, ZeroRtt, answer_version, canonical, check_type,
-    expand_packet_number, frames, is_known_parameter, is_stateless_reset, nonce, packet_number_len, protect,
-    read_frames, read_packet, read_packet_number, read_packets, read_varint, read_version_information,
+    expand_packet_number, find_parameter, frames, is_known_parameter, is_stateless_reset, nonce, packet_number_len,
+    protect, read_frames, read_packet, read_packet_number, read_packets, read_varint, read_version_information,
     retry_pseudo_packet, set_length, type_name, unprotect, varint_len, write_header, write_packet_number,
     write_parameter, write_stateless_reset, write_varint, write_version_information, write_version_negotiation,
 )  # fmt: skip
@@ -53,11 +53,11 @@ __all__ = [
     "PreferredAddress", "RangeSet", "ResetStream", "RetireConnectionId", "Retry", "Side", "StopSending", "Stream",
     "StreamDataBlocked", "StreamsBlockedBidi", "StreamsBlockedUni", "TransportParameters", "UnknownVersion",
     "Version", "VersionNegotiation", "ZeroRtt", "acknowledged", "answer_version", "canonical", "check_type",
-    "constants", "expand_packet_number", "frame_fields", "frames", "is_known_parameter", "is_stateless_reset",
-    "nonce", "packet_fields", "packet_number_len", "packets", "parameter_fields", "parameters", "protect",
-    "read_frame_body", "read_frames", "read_packet", "read_packet_number", "read_packets", "read_varint",
-    "read_version_information", "retry_pseudo_packet", "set_length", "type_name", "unprotect", "varint_len",
-    "write_frame_body", "write_frames", "write_header", "write_packet_number", "write_parameter",
+    "constants", "expand_packet_number", "find_parameter", "frame_fields", "frames", "is_known_parameter",
+    "is_stateless_reset", "nonce", "packet_fields", "packet_number_len", "packets", "parameter_fields",
+    "parameters", "protect", "read_frame_body", "read_frames", "read_packet", "read_packet_number", "read_packets",
+    "read_varint", "read_version_information", "retry_pseudo_packet", "set_length", "type_name", "unprotect",
+    "varint_len", "write_frame_body", "write_frames", "write_header", "write_packet_number", "write_parameter",
     "write_stateless_reset", "write_varint", "write_version_information", "write_version_negotiation",
 ]  # fmt: skip
 # End of what is made.

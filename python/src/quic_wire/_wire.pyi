@@ -600,6 +600,9 @@ class _Parameters:
 def _entry_at(data: Buffer, at: int, /) -> Optional[tuple[int, int, int]]: ...
 def write_parameter(id: int, value: Buffer, /) -> bytes:
     """An entry of a list of transport parameters."""
+def find_parameter(data: Buffer, id: int, /) -> Optional[bytes]:
+    """The value of the first entry of this id in a list of transport parameters, or None.
+    Raises ParameterError at one before it that is cut off."""
 def is_known_parameter(id: int, /) -> bool:
     """Whether TransportParameters has the parameter of this id."""
 

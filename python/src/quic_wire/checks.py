@@ -5,12 +5,10 @@ from __future__ import annotations
 import enum
 
 from . import _wire
-from ._enums import direct
 
 __all__ = ["Checks"]
 
 
-@direct
 class Checks(enum.IntFlag):
     """What is checked of frames, packets and transport parameters; the argument `checks` of what reads and writes them.
 

@@ -8,7 +8,6 @@ from . import _parameters
 from ._fields import (
     FRAME_TYPE_FIELD, Field, Place, Raw, Read, in_entry, in_frame, in_header, of_entry, of_frame, of_header,
 )  # fmt: skip
-from ._enums import direct
 from ._formats import FRAMES, REASONS, Code as Code, ErrorKind as ErrorKind
 from ._wire import (
     FRAME_LIMIT, FRAME_LONG_TYPE, FRAME_MALFORMED, FRAME_PACKET, FRAME_SENDER, FRAME_STREAM, FRAME_TYPE,
@@ -19,9 +18,6 @@ from .checks import Checks
 if TYPE_CHECKING:
     from ._types import Buffer
     from ._wire import Frame, Packet
-
-direct(ErrorKind)
-direct(Code)
 
 _OF_TYPES = (FRAME_TYPE, FRAME_LONG_TYPE)  # results for a type that was read
 _LONG_FORM = 0x80  # of a first byte
@@ -241,6 +237,10 @@ def _parameter_fault(kind: ErrorKind, reason: str, code: Code, found: _parameter
 def _parameter_cut_off(begin: int, number: Optional[int]) -> ParameterError:
     kind, found = ErrorKind.PARAMS_MALFORMED, _parameters.cut_off(begin, number)
     return _parameter_fault(kind, REASONS[kind].text, Code.TRANSPORT_PARAMETER_ERROR, found)
+
+
+def _raise_cut_off(begin: int, number: Optional[int]) -> NoReturn:
+    raise _parameter_cut_off(begin, number)
 
 
 def _entry_cut_off(begin: int, number: Optional[int], read: Read) -> ParameterError:

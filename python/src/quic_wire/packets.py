@@ -6,7 +6,6 @@ import enum
 from collections.abc import Iterator, Sequence
 from typing import Optional
 
-from ._enums import direct
 from ._formats import PacketType as PacketType
 from ._types import Buffer
 from ._wire import Packet, read_packet
@@ -15,10 +14,6 @@ from .checks import Checks
 __all__ = ["PacketType", "Version", "packets"]
 
 
-direct(PacketType)
-
-
-@direct
 class Version(enum.IntEnum):
     """Versions of QUIC that are read: RFC 9000, RFC 9369."""
 

@@ -8,7 +8,6 @@ from collections.abc import Iterable, Iterator
 from dataclasses import dataclass
 from typing import Any, NamedTuple, Optional
 
-from ._enums import direct
 from ._formats import PARAMETERS
 from ._parameters import KNOWN, entries
 from ._types import Buffer
@@ -33,7 +32,6 @@ _MAX_CID_LEN = 20
 _RESET_TOKEN_LEN = 16
 
 
-@direct
 class Side(enum.IntEnum):
     """A side of a connection.
 

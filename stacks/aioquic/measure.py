@@ -1,7 +1,7 @@
 """measure.py TREE [BYTES]: what aioquic's wire layer takes in a tree, in microseconds of processor time.
 
 Prints a line for each piece of work, a name, a tab and the least of several rounds: headers, payloads and transport
-parameters read, ACKs written, and a datagram of a transfer of BYTES with both ends in this process, of all that it
+parameters read, ACKs written, and a datagram of a transfer of BYTES with both ends in this process, with all that it
 takes, the ciphers too.
 """
 
@@ -20,7 +20,7 @@ from aioquic.quic import events, packet  # noqa: E402
 from aioquic.quic.rangeset import RangeSet  # noqa: E402
 from tests.test_connection import client_and_server, client_receive_context  # noqa: E402
 
-ROUNDS, SECONDS = 5, 0.02
+ROUNDS, SECONDS, TRANSFERS = 5, 0.02, 4
 SHORT = bytes([0x41]) + bytes(8) + bytes(1191)
 INITIAL = bytes.fromhex("c100000001088394c8f03e51570808010203040506070800449e") + bytes(1182)
 PAYLOADS = {
@@ -105,6 +105,17 @@ def transfer(client, server):
     return count
 
 
+def datagram_of_transfer():
+    """The least time of one, of several transfers."""
+    best = float("inf")
+    for _ in range(TRANSFERS):
+        with client_and_server() as (client, server):
+            begin = time.process_time()
+            count = transfer(client, server)
+            best = min(best, (time.process_time() - begin) / count)
+    return best
+
+
 def main():
     show("a 1-RTT header read", least(read_header(SHORT)))
     show("an Initial header read", least(read_header(INITIAL)))
@@ -117,10 +128,7 @@ def main():
     listed = write_parameters()
     show("transport parameters read", least(lambda: packet.pull_quic_transport_parameters(Buffer(data=listed))))
     show("transport parameters written", least(write_parameters))
-    with client_and_server() as (client, server):
-        begin = time.process_time()
-        count = transfer(client, server)
-        show("a datagram of a transfer, both ends", (time.process_time() - begin) / count)
+    show("a datagram of a transfer, both ends", datagram_of_transfer())
 
 
 main()

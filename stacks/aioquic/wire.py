@@ -20,6 +20,7 @@ PACKET_TEXTS = {
     ErrorKind.PACKET_FIXED_BIT: "Packet fixed bit is zero",
     ErrorKind.PACKET_CUT: "Packet payload is truncated",
 }
+OF_STREAMS = (0x12, 0x13, 0x16, 0x17)  # MAX_STREAMS and STREAMS_BLOCKED
 FRAME_TEXTS = {
     ErrorKind.PAYLOAD_EMPTY: "Packet contains no frames",
     ErrorKind.FRAME_END: "Failed to parse frame",
@@ -34,6 +35,12 @@ def packet_text(error):
 
 def frame_text(error):
     """Why a frame is rejected."""
+    if error.kind == ErrorKind.FRAME_END and error.frame_type is None:
+        return "Malformed frame type"
+    if error.kind == ErrorKind.FRAME_LIMIT and error.frame_type in OF_STREAMS:
+        return "Maximum Streams cannot exceed 2^60"
+    if error.kind == ErrorKind.FRAME_LIMIT:
+        return "offset + length cannot exceed 2^62 - 1"
     return FRAME_TEXTS.get(error.kind) or error.why or error.reason
 
 

@@ -89,6 +89,6 @@ class Sets(unittest.TestCase):
                 seconds(lambda: read_frames(payload)[0].encode()),
             ]
 
-        for i, (few, many) in enumerate(zip(times(10_000), times(40_000))):
-            # 16 times as long if it were quadratic.
-            self.assertLess(many, 9 * few, f"call {i}")
+        for i, (few, many) in enumerate(zip(times(5_000), times(80_000))):
+            # 256 times as long if it were quadratic.
+            self.assertLess(many, 64 * few, f"call {i}")

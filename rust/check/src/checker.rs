@@ -167,8 +167,19 @@ impl Checker {
 
     /// Takes the next datagram of the capture.
     pub fn take(&mut self, datagram: &Datagram<'_>, follower: &mut Follower) {
-        self.facts.take(datagram);
+        self.note(datagram);
         follower.take(datagram, self);
+    }
+
+    /// Notes the next datagram of the capture, for a sink that passes on to this one what a follower finds in it:
+    /// [`Checker::take`] does both.
+    pub fn note(&mut self, datagram: &Datagram<'_>) {
+        self.facts.take(datagram);
+    }
+
+    /// What is found in a connection so far, in the order of the records: all of it once the connection ended.
+    pub fn findings(&self, connection: usize) -> Vec<&Finding> {
+        self.groups.of(connection)
     }
 
     /// Ends the capture, and returns what was found in it.

@@ -107,6 +107,7 @@ impl Facts {
             Need::PeerPackets if matches!(claim, Claim::Bytes(_)) && history.lacks_handshake() => true,
             Need::PeerPackets => !history.is_whole(!sender, spaces),
             Need::OwnPackets => !history.is_whole(sender, spaces),
+            Need::OwnNumbers => !history.has_all(sender, spaces),
             Need::NoEarlyData => history.has_early,
             Need::Order => self.is_disordered,
             Need::Proof => !is_proven,
@@ -297,7 +298,7 @@ impl Checker {
                 number.is_some_and(|number| ack.iter().any(|range| range.contains(&number)));
         }
         if held.permitted.is_ok() {
-            self.history(connection).take_frame(connection, opened, held.frame);
+            self.history(connection).take_frame(connection, datagram, opened, held.frame);
         }
     }
 
@@ -312,6 +313,7 @@ impl Checker {
                 Some(check(about, opened, &Faulty { error, offset: *offset, fault: fault.as_ref(), ty }))
             }
             (Check::Parameters(check), Event::Parameters { read: Ok(read), .. }) => Some(check(about, read)),
+            (Check::List(check), Event::Parameters { opened, list, read: Ok(_) }) => Some(check(about, opened, list)),
             (Check::Refusal(check), Event::Parameters { list, read: Err(refusal), .. }) => {
                 Some(check(about, list, refusal))
             }
@@ -370,6 +372,7 @@ impl Sink for Checker {
                 Check::Retry(check) => Some(check(about, packet)),
                 _ => None,
             });
+            self.history(connection).take_retry(packet);
         }
     }
 

@@ -40,6 +40,10 @@ pub(crate) enum Claim {
     Answer(u64),
     /// It retired an id that its peer didn't issue.
     Retired(u64),
+    /// It issued an id, and none with the sequence number before.
+    Gap(u64),
+    /// It answered a challenge again.
+    AnswerAgain,
     /// The server sent so many bytes.
     Bytes(u64),
     /// It sent a long header to an id that its peer didn't choose and didn't issue.
@@ -62,7 +66,13 @@ impl Claim {
     fn is_timed(&self) -> bool {
         !matches!(
             self,
-            Claim::Unsent { .. } | Claim::Unused(_) | Claim::Answer(_) | Claim::Retired(_) | Claim::Destination(_)
+            Claim::Unsent { .. }
+                | Claim::Unused(_)
+                | Claim::Answer(_)
+                | Claim::AnswerAgain
+                | Claim::Retired(_)
+                | Claim::Gap(_)
+                | Claim::Destination(_)
         )
     }
 
@@ -81,6 +91,9 @@ impl Claim {
             Claim::Streams(id) => limits.is_some_and(|limits| id.index() >= count_limit(limits, history, sender, id)),
             // An ACK refutes it.
             Claim::Number { .. } => true,
+            // A challenge with the same data that isn't in the capture would explain it.
+            Claim::AnswerAgain => true,
+            Claim::Gap(sequence) => !is_given(connection, history, sender, sequence - 1),
             Claim::Ids => limits.is_some_and(|limits| {
                 active_ids(connection, history, sender, None) > limits.active_connection_id_limit.into_inner()
             }),
@@ -126,10 +139,22 @@ pub(crate) fn distance(connection: &Connection, sender: Side, space: SpaceId, nu
 pub(crate) fn active_ids(connection: &Connection, history: &History, sender: Side, new: Option<(u64, u64)>) -> u64 {
     let own = history.half(sender);
     let prior = own.prior.max(new.map_or(0, |(_, prior)| prior));
-    let is_active = |sequence: u64| sequence >= prior && !own.retired.contains(&sequence);
+    let is_active = |sequence: u64| sequence >= prior && !own.retired.contains_key(&sequence);
     let known = connection.end(sender).ids().map(|(sequence, ..)| sequence);
     let others = known.filter(|sequence| new.is_none_or(|(new, _)| new != *sequence));
     others.chain(new.map(|(sequence, _)| sequence)).filter(|sequence| is_active(*sequence)).count() as u64
+}
+
+/// Whether a side gave an id with a sequence number, or may have done so with a preferred_address (RFC 9000, section
+/// 5.1.1).
+pub(crate) fn is_given(connection: &Connection, history: &History, side: Side, sequence: u64) -> bool {
+    let parameters = connection.end(side).parameters();
+    let may_prefer = side == Side::Server && parameters.is_none_or(|list| list.preferred_address.is_some());
+    match sequence {
+        0 => true,
+        1 if may_prefer => true,
+        _ => history.half(side).issued.contains(sequence),
+    }
 }
 
 /// The greatest sequence number of a side's ids.

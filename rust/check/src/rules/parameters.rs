@@ -3,7 +3,11 @@
 use crate::about::{About, id_text};
 use crate::rule::{Broken, Check, Checked, History, Need, Rule};
 use quic_wire::transport_parameters::{Error, Refusal, TransportParameterId, TransportParameters, known};
-use quic_wire::{ConnectionId, Side};
+use quic_wire::{ConnectionId, Side, versions};
+use quic_wire_capture::opened::Opened;
+
+// RFC 9368, section 3.
+const VERSION_INFORMATION: u64 = 0x11;
 
 pub(super) static RULES: &[Rule] = &[
     Rule::must(
@@ -33,6 +37,21 @@ pub(super) static RULES: &[Rule] = &[
         Check::Parameters(retry_source),
     )
     .with(History::Before, &[Need::Begin, Need::NoToken]),
+    Rule::must(
+        "version-information",
+        "3",
+        "version_information has a chosen version and available ones, none of them 0.",
+        Check::List(version_information),
+    )
+    .of(9368),
+    Rule::must(
+        "chosen-version",
+        "4",
+        "The chosen version is that of the client's first packets, or the one that the server negotiated.",
+        Check::List(chosen_version),
+    )
+    .of(9368)
+    .with(History::Before, &[Need::Begin]),
 ];
 
 fn refused(_: &About<'_>, list: &[u8], refusal: &Refusal) -> Checked {
@@ -49,6 +68,31 @@ fn refused(_: &About<'_>, list: &[u8], refusal: &Refusal) -> Checked {
     let section = if refusal.error == Error::Malformed { "7.4" } else { "18.2" };
     let seen = format!("{} in {name}, byte {} of the {} of the list", refusal.error, refusal.offset, list.len());
     Broken::new(seen, "a list that can be read").by(section).found()
+}
+
+// The value of version_information, if it is there.
+fn versions_of(list: &[u8]) -> Option<&[u8]> {
+    entries(list).flatten().find(|entry| entry.id == VERSION_INFORMATION).map(|entry| entry.value)
+}
+
+fn version_information(_: &About<'_>, _: &Opened<'_>, list: &[u8]) -> Checked {
+    match versions_of(list) {
+        Some(value) if versions::read(value).is_none() => {
+            let seen = format!("version_information of {} bytes", value.len());
+            Broken::new(seen, "one or more versions of 4 bytes each, none of them 0").found()
+        }
+        _ => Ok(None),
+    }
+}
+
+// A client's message may be whole only with a packet of the version that the server has chosen.
+fn chosen_version(about: &About<'_>, opened: &Opened<'_>, list: &[u8]) -> Checked {
+    let Some((chosen, _)) = versions_of(list).and_then(versions::read) else { return Ok(None) };
+    let version = opened.packet().header().version();
+    if chosen == version || chosen == about.connection.version() {
+        return Ok(None);
+    }
+    Broken::new(format!("the chosen version {chosen:#x}"), format!("{version:#x}, the packet's")).found()
 }
 
 fn compared(name: &str, given: Option<&ConnectionId>, used: Option<&ConnectionId>) -> Checked {

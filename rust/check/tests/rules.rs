@@ -438,7 +438,7 @@ fn ids() {
     with(&[&one, &one, &two]).finds_nothing();
     with(&[&one, &new_id(1, 0, b"other", 7)]).finds("id-changed", "RFC 9000, section 19.15", index + 1);
     with(&[&one, &new_id(1, 0, b"first", 8)]).finds("id-changed", "RFC 9000, section 19.15", index + 1);
-    with(&[&one, &new_id(2, 1, b"first", 7)]).finds("id-twice", "RFC 9000, section 19.15", index + 1);
+    with(&[&one, &new_id(2, 1, b"first", 8)]).finds("id-twice", "RFC 9000, section 19.15", index + 1);
     with(&[&one, &new_id(2, 0, b"second", 8)]).finds("id-count", "RFC 9000, section 5.1.1", index + 1);
     with(&[&one, &two, &[0x19, 0]]).finds("retire-own", "RFC 9000, section 19.16", index + 2);
     with(&[&[0x19, 5]]).finds("retire-unknown", "RFC 9000, section 19.16", index);

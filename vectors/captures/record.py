@@ -73,22 +73,26 @@ def play(scene: Scene):
     make_site()
     for name, text in scene.files.items():
         Path(name).write_text(text)
-    dumpcap = begin(["dumpcap", "-q", *scene.capture, "-f", "udp", "-w", "capture"], "dumpcap.log")
+    for name, size in scene.sizes.items():
+        Path("www", name).write_bytes(b"a" * size)
+    dumpcap = begin(["dumpcap", "-q", *scene.capture, "-f", scene.only, "-w", "capture"], "dumpcap.log")
     wait_for("File:", "dumpcap.log")
+    helpers = [begin(helper, "helpers.log") for helper in scene.helpers]
     # Both sides' secrets are in the client's log.
     server = begin(scene.server, "server.log", env=dict(os.environ, XDG_DATA_HOME=".", XDG_CONFIG_HOME="."))
     time.sleep(scene.patience)
     for client in scene.clients:
         program = begin(client, "client.log", env=dict(os.environ, SSLKEYLOGFILE="keys"))
         try:
-            status = program.wait(timeout=30)
+            status = program.wait(timeout=scene.limit)
         except subprocess.TimeoutExpired:
             program.kill()
             raise Failed(f"{client[0]} doesn't end") from None
         if (status == 0) != scene.succeeds:
             raise Failed(f"{client[0]} ended with status {status}: {Path('client.log').read_text(errors='replace')}")
         time.sleep(0.3)
-    end(server)
+    for program in (server, *helpers):
+        end(program)
     time.sleep(0.5)
     end(dumpcap)
 

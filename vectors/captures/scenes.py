@@ -74,6 +74,14 @@ class Scene:
     patience: float = 0.7
     # The server's stack, if its command doesn't say so.
     behind: str = ""
+    # Files that the server has beside `small` and `large`, by their sizes.
+    sizes: dict = field(default_factory=dict)
+    # Programs that run before the server and as long as it does.
+    helpers: tuple = ()
+    # Which datagrams are captured.
+    only: str = "udp"
+    # How long a client takes at most, in seconds.
+    limit: float = 30
 
     def stacks(self):
         """The client and the server, or the only one."""
@@ -82,7 +90,7 @@ class Scene:
 
     def programs(self):
         """What must be installed."""
-        stacks = {command[0] for command in (self.server, *self.clients)}
+        stacks = {command[0] for command in (self.server, *self.clients, *self.helpers)}
         return sorted(stacks | {"unshare", "ip", "dumpcap", "editcap", "tshark", "openssl"})
 
 

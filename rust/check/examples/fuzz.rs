@@ -6,8 +6,8 @@
 //! - a changed file: nothing may panic
 //! - changed datagrams: nothing may panic, and what is found is the same with a second connection between them, from
 //!   IPv6 addresses, an hour later, and from a pcapng file
-//! - a recorded capture of which records are missing, doubled, late, or out of order by 8 ms: nothing more is found than
-//!   in the whole one
+//! - a recorded capture of which records are missing, doubled, late, or out of order by 8 ms: nothing more is found
+//!   than in the whole one
 //!
 //! Build it with overflow checks:
 //!
@@ -33,6 +33,9 @@ use std::time::Instant;
 
 /// How far apart records may be whose order is wrong, in nanoseconds.
 const LATE: usize = 8_000_000;
+
+/// In nanoseconds.
+const HOUR: u64 = 3_600_000_000_000;
 
 /// What is counted.
 #[derive(Default)]
@@ -93,9 +96,8 @@ fn with_datagrams(random: &mut Random, [seed, other, third]: [&Seed; 3], sum: &m
     sum.datagrams += 1;
     let says = |what: &str| format!("{}, {what}", seed.name);
 
-    let later: Vec<_> = all.iter().map(|one| Kept { time: one.time.wrapping_add(3_600 << 30), ..one.clone() }).collect();
-    let is_in_range = all.iter().all(|one| one.time < u64::MAX / 2);
-    if is_in_range {
+    if all.iter().all(|one| one.time < u64::MAX - HOUR) {
+        let later: Vec<_> = all.iter().map(|one| Kept { time: one.time + HOUR, ..one.clone() }).collect();
         assert_eq!(found_in(&checked(&later, &[&keys]).0, &later, |_| true), expected, "{}", says("an hour later"));
     }
     let six: Vec<_> = all.iter().map(|one| Kept { from: to_v6(one.from), to: to_v6(one.to), ..one.clone() }).collect();
@@ -205,12 +207,10 @@ fn damaged(random: &mut Random, seed: &Seed) -> Vec<Kept> {
 }
 
 fn with_damage(random: &mut Random, seed: &Seed, sum: &mut Sum) {
-    let kinds = |report: &Report| -> BTreeSet<_> {
-        report.findings.iter().map(|one| (one.rule.name, one.sender as usize)).collect()
-    };
-    let whole = kinds(&checked(&seed.datagrams, &[&seed.keys]).0);
+    let kind = |one: &Finding| (one.rule.name, one.sender as usize);
+    let whole: BTreeSet<_> = checked(&seed.datagrams, &[&seed.keys]).0.findings.iter().map(kind).collect();
     let report = checked(&damaged(random, seed), &[&seed.keys]).0;
-    let more: Vec<_> = report.findings.iter().filter(|one| !whole.contains(&(one.rule.name, one.sender as usize))).collect();
+    let more: Vec<_> = report.findings.iter().filter(|one| !whole.contains(&kind(one))).collect();
     assert!(more.is_empty(), "{}: {more:#?}", seed.name);
     sum.damaged += 1;
 }
@@ -239,8 +239,8 @@ fn main() -> Result<(), Box<dyn Error>> {
     });
     let total = |count: fn(&Sum) -> u64| sums.iter().map(count).sum::<u64>();
     println!(
-        "{} files, {} captures with changed datagrams ({} opened otherwise with other secrets), {} with damage, of {count} \
-         captures in {:.0?}; {} findings; the slowest took {slowest:.1?}",
+        "{} changed files, {} times changed datagrams ({} opened otherwise with other secrets), {} times damage, of \
+         {count} captures in {:.0?}; {} findings; the slowest took {slowest:.1?}",
         total(|sum| sum.files),
         total(|sum| sum.datagrams),
         total(|sum| sum.opened_otherwise),

@@ -11,8 +11,9 @@ use quic_wire::packet::VERSION_2;
 use quic_wire::{ConnectionId, Side};
 use quic_wire_capture::capture::Datagram;
 use quic_wire_capture::ciphers::Suite;
+use quic_wire_capture::connection::Connection;
 use quic_wire_capture::follow::Follower;
-use quic_wire_capture::sink::{Ended, Rest, Unopened};
+use quic_wire_capture::sink::{Ended, Event, Rest, Sink, Unopened};
 
 const PING: &[u8] = &[1];
 
@@ -133,6 +134,23 @@ fn key_updates() {
         }
     }
     all_opened(&made, &all, 17);
+    let mut counts = Counts(Vec::new());
+    let mut follower = Follower::default();
+    follower.keylog.add(made.key_log().as_bytes());
+    all.iter().for_each(|kept| follower.take(&kept.datagram(), &mut counts));
+    assert_eq!(counts.0, [1, 1, 1, 1, 0, 2, 2, 2, 2, 3, 3, 3, 3]);
+}
+
+/// How often the keys of each 1-RTT packet had been updated.
+struct Counts(Vec<u64>);
+
+impl Sink for Counts {
+    fn opened(&mut self, _: &Connection, _: &Datagram<'_>, _: u64, event: &Event<'_>) {
+        match event {
+            Event::Packet(opened) if opened.kind() == Short => self.0.push(opened.updates()),
+            _ => {}
+        }
+    }
 }
 
 #[test]

@@ -69,6 +69,26 @@ fn retry() {
     assert_eq!(follower.connections().next().unwrap().retry_id().unwrap()[..], *b"retried");
 }
 
+// Another ClientHello, of which the key log has the secrets; one that anyone has sent doesn't matter.
+#[test]
+fn another_hello_after_a_retry() {
+    let (mut made, other) = (Made::new(1), Made { salt: 1, ..Made::new(1) });
+    let [first, second] = [&made, &other].map(|made| crypto(0, &made.client_hello()));
+    let mut all = vec![made.send(Client, Initial, &first), made.retry(b"retried")];
+    let rest = |mut made: Made, all: &[Kept]| {
+        let mut all = all.to_vec();
+        all.push(made.send(Client, Initial, &second));
+        all.extend(made.handshake_of_server());
+        all.extend([made.send(Server, Short, PING), made.send(Client, Short, PING)]);
+        rows_of(&[&made], &all).1
+    };
+    let rows = rest(Made { salt: 1, ..made.clone() }, &all);
+    assert_eq!((rows.opened(0), &rows.unopened[..]), (7, &[Unopened::Retry][..]), "{:#?}", rows.rows);
+    all.push(made.send(Client, Initial, &first));
+    let rows = rest(made, &all);
+    assert_eq!((rows.opened(0), &rows.unopened[..]), (8, &[Unopened::Retry][..]), "{:#?}", rows.rows);
+}
+
 // A server may answer in version 2 (RFC 9369, section 4.1).
 #[test]
 fn another_version_after_the_first_packet() {

@@ -195,6 +195,11 @@ AIOQUIC = {
         "first=1",
         server=["version=2"],
     ),
+    "aioquic-version-2-retry": aioquic(
+        "version 2 and a Retry, after which the client sends another ClientHello",
+        "version=2",
+        server=["version=2", "retry=1"],
+    ),
     "aioquic-0-rtt": aioquic("two connections, of which the second sends 0-RTT packets", "again=1"),
     "aioquic-key-update": aioquic("the client updates the keys", "update=1", "file=large"),
     "aioquic-ids": aioquic("both sides change their ids", "ids=1"),

@@ -7,6 +7,7 @@ use quic_wire::transport_parameters::TransportParameters;
 use quic_wire::{ConnectionId, Dir, Side, StreamId};
 use quic_wire_capture::connection::Connection;
 use std::collections::VecDeque;
+use std::net::SocketAddr;
 
 /// How far apart two records may be whose order is wrong, in nanoseconds: a capture takes what comes and what goes from
 /// two queues.
@@ -46,6 +47,8 @@ pub(crate) enum Claim {
     AnswerAgain,
     /// The server sent so many bytes.
     Bytes(u64),
+    /// The server sent so many bytes to an address of the client.
+    BytesTo(SocketAddr, u64),
     /// It sent a long header to an id that its peer didn't choose and didn't issue.
     Destination(ConnectionId),
 }
@@ -56,7 +59,7 @@ impl Claim {
         match self {
             Claim::Unsent { space, .. } | Claim::Number { space, .. } => std::slice::from_ref(space),
             // A datagram at the end of a space leaves no gap; those of the other spaces show whether any are missing.
-            Claim::Bytes(_) => ALL,
+            Claim::Bytes(_) | Claim::BytesTo(..) => ALL,
             Claim::Destination(_) => ALL,
             _ => DATA,
         }
@@ -101,6 +104,9 @@ impl Claim {
             Claim::Answer(data) => !peer.challenges.contains(&data),
             Claim::Retired(sequence) => last_id(connection, !sender).is_none_or(|last| last < sequence),
             Claim::Bytes(bytes) => bytes > peer.bytes.saturating_mul(3),
+            Claim::BytesTo(address, bytes) => {
+                history.peer(address).is_some_and(|peer| !peer.is_valid && bytes > peer.received.saturating_mul(3))
+            }
             Claim::Destination(id) => !peer.sources.contains(&id) && !is_issued(connection, !sender, &id),
         }
     }

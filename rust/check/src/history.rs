@@ -21,6 +21,9 @@ const HARMLESS: [u64; 4] = [0x11, 0x3127, 0x3128, 0x4752];
 // How many source ids of a side are remembered.
 const MOST_SOURCES: usize = 8;
 
+// How many addresses of a client are remembered.
+const MOST_PEERS: usize = 16;
+
 // How many bytes of CRYPTO data are remembered from before a Retry.
 const MOST_HELLO: usize = 1 << 12;
 
@@ -55,6 +58,16 @@ impl Moment {
 pub(crate) struct Path {
     pub(crate) from: SocketAddr,
     pub(crate) to: SocketAddr,
+}
+
+/// An address of the client, and the bytes of the datagrams that came from there and went there.
+#[derive(Clone, Copy, Debug)]
+pub(crate) struct Peer {
+    address: SocketAddr,
+    pub(crate) received: u64,
+    pub(crate) sent: u64,
+    /// Whether the server may know that the client is there (RFC 9000, sections 8.1 and 8.2).
+    pub(crate) is_valid: bool,
 }
 
 /// The keys after an update, and the least number of a packet with them.
@@ -201,6 +214,8 @@ pub(crate) struct History {
     pub(crate) is_validated: bool,
     /// Whether the handshake is confirmed, as the server has said.
     pub(crate) is_confirmed: bool,
+    /// The client's addresses.
+    peers: Vec<Peer>,
     /// A Retry whose tag is right.
     pub(crate) retry: Option<Box<Retry>>,
     /// The CRYPTO data that the client sent to its first id, with their offsets, as long as a Retry may come.
@@ -260,9 +275,27 @@ impl History {
     /// Takes a datagram of a side.
     pub(crate) fn take_datagram(&mut self, datagram: &Datagram<'_>, sender: Side) {
         let half = &mut self.halves[sender as usize];
-        half.bytes = half.bytes.saturating_add((datagram.bytes.len() + datagram.missing) as u64);
+        let bytes = (datagram.bytes.len() + datagram.missing) as u64;
+        half.bytes = half.bytes.saturating_add(bytes);
         half.is_sent |= datagram.outgoing == Some(true);
         half.is_received |= datagram.outgoing == Some(false);
+        self.take_bytes(datagram, sender, bytes);
+    }
+
+    // Until the handshake is confirmed, the limit of the first address counts.
+    fn take_bytes(&mut self, datagram: &Datagram<'_>, sender: Side, bytes: u64) {
+        let address = if sender == Side::Client { datagram.from } else { datagram.to };
+        if self.peer(address).is_none() && self.peers.len() < MOST_PEERS {
+            self.peers.push(Peer { address, received: 0, sent: 0, is_valid: !self.is_confirmed });
+        }
+        let Some(peer) = self.peers.iter_mut().find(|peer| peer.address == address) else { return };
+        let count = if sender == Side::Client { &mut peer.received } else { &mut peer.sent };
+        *count = count.saturating_add(bytes);
+    }
+
+    /// What is known of an address of the client, if it is remembered.
+    pub(crate) fn peer(&self, address: SocketAddr) -> Option<&Peer> {
+        self.peers.iter().find(|peer| peer.address == address)
     }
 
     /// Where the capture was taken, as far as its records say so: at a side if its host sent all that this side sent,
@@ -387,6 +420,10 @@ impl History {
             }
             Frame::PathResponse(data) => {
                 own.responses.insert(*data);
+                // Section 8.2.3: the path of the challenge is valid, wherever the response comes from.
+                let path = peer.challenges.get(data).filter(|_| sender == Side::Client);
+                let valid = self.peers.iter_mut().find(|peer| path.is_some_and(|path| path.to == peer.address));
+                valid.into_iter().for_each(|peer| peer.is_valid = true);
             }
             Frame::ResetStream(reset) => {
                 let by = &mut own.stream(reset.id).reset;

@@ -168,8 +168,8 @@ fn token_twice(about: &About<'_>, _: &Opened<'_>, held: &Held<'_>) -> Checked {
 // The sequence number of the id to which a 1-RTT packet goes.
 fn sequence_to(about: &About<'_>, opened: &Opened<'_>) -> Option<u64> {
     let id = opened.packet().dst_cid();
-    let mut ids = about.peer().ids().filter(|(_, one, _)| !one.is_empty() && ***one == *id);
-    ids.next().map(|(sequence, ..)| sequence).filter(|_| opened.packet().header().is_short())
+    let mut ids = about.peer().ids().filter(|_| opened.packet().header().is_short());
+    ids.find(|(_, one, _)| !one.is_empty() && ***one == *id).map(|(sequence, ..)| sequence)
 }
 
 fn retire_prior(about: &About<'_>, opened: &Opened<'_>) -> Checked {

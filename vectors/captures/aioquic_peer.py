@@ -3,9 +3,10 @@
 aioquic_peer.py serve|ask HOST PORT [NAME=VALUE ..]
 
 A client asks for a file as HTTP/0.9 does, unless `alpn` is h3: then it asks for `file` by HTTP/3, or only sends PING if
-there is none. It writes its secrets to the file that SSLKEYLOGFILE names. Names of both: alpn, version (1 or 2, the preferred one), suite, datagram; of a server: retry; of a client: first
-(the version of its first packet), file, update (of keys), move (to another port), ids (changed), datagram (sent), again
-(another connection, with 0-RTT), late (a PING after so many seconds), code and reason (of the close).
+there is none. It writes its secrets to the file that SSLKEYLOGFILE names. Names of both: alpn, version (1 or 2, the
+preferred one), suite, datagram; of a server: retry; of a client: first (the version of its first packet), file, update
+(of keys), move (to another port), ids (changed), datagram (sent), again (another connection, with 0-RTT), late (a PING
+after so many seconds), code and reason (of the close).
 """
 
 import asyncio

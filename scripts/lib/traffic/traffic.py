@@ -5,7 +5,7 @@ from dataclasses import replace
 from pathlib import Path
 
 import scenes
-from scenes import KEPT, LATE, MOVE, PORT, PYTHON, Scene
+from scenes import KEPT, LATE, MOVE, PORT, Scene
 
 HERE = Path(__file__).resolve().parent
 # Where clients send if there is a relay before the server.
@@ -46,21 +46,19 @@ def openssl(request="GET /big\\r\\n"):
     return ["sh", "-c", f"(printf '{request}'; sleep 4) | {' '.join(command)} >/dev/null"]
 
 
-def server(name, also="", in_frontend=""):
-    """The command of a server, its files, and the programs that it needs."""
+def server(name, also=""):
+    """The command of a server with more options, its files, and the programs that it needs."""
     if name == "ngtcp2":
         return scenes.ngtcp2_server(*also.split()), {}, ()
     if name == "aioquic":
         return scenes.aioquic_server("alpn=h3", *also.split()), {}, ()
     file, text = scenes.SERVERS[name]
-    text = text.replace("root www", also + "root www")
-    helpers = ()
-    if name == "haproxy":
-        answer = text[text.index("  http-request return") :]
-        backend = f"  {in_frontend}\n  default_backend files\nbackend files\n  server one 127.0.0.1:{BEHIND}\n"
-        text = text.replace(answer, backend).replace("defaults\n", "global\n  tune.quic.retry-threshold 0\ndefaults\n")
-        helpers = ([PYTHON, "-m", "http.server", "-b", "127.0.0.1", "-d", "www", BEHIND],)
-    return scenes.server_of(name), {file: text}, helpers
+    if name != "haproxy":
+        return scenes.server_of(name), {file: text.replace("root www", also + "root www")}, ()
+    front = text[: text.index("  http-request return")].replace("alpn h3", f"alpn h3 {also}")
+    back = f"  default_backend files\nbackend files\n  server one 127.0.0.1:{BEHIND}\n"
+    files = [sys.executable, "-m", "http.server", "-b", "127.0.0.1", "-d", "www", BEHIND]
+    return scenes.server_of(name), {file: f"global\n  cluster-secret traffic\n{front}{back}"}, (files,)
 
 
 SERVERS = ("ngtcp2", "aioquic", "caddy", "nginx", "haproxy")
@@ -71,9 +69,9 @@ CLIENTS = {
 }
 
 
-def scene(says, name, clients, also="", in_frontend="", **others):
-    command, files, helpers = server(name, also, in_frontend)
-    patience = 1 if name == "ngtcp2" else 3
+def scene(says, name, clients, also="", **others):
+    command, files, helpers = server(name, also)
+    patience = 1 if name == "ngtcp2" else 2
     fields = {"capture": CAPTURE, "sizes": BIG, "only": f"udp port {PORT}", "limit": 120, "patience": patience}
     return Scene(says, command, clients, files=files, helpers=helpers, **{**fields, **others})
 
@@ -100,7 +98,6 @@ def plain():
 
 def special():
     """What happens in a connection."""
-    of = scenes
     for name, client in {"migration": (MOVE, LATE), "rebinding": (MOVE, "--nat-rebinding", LATE)}.items():
         yield f"ngtcp2-ngtcp2-{name}", scene(name, "ngtcp2", [ngtcp2(*client)])
     yield "ngtcp2-ngtcp2-update", scene("a key update", "ngtcp2", [ngtcp2("--key-update=30ms", LATE)])
@@ -109,7 +106,7 @@ def special():
     yield "ngtcp2-ngtcp2-close", scene("the server closes", "ngtcp2", [ngtcp2()], "--verify-client")
     yield "curl-nginx-retry", scene("a Retry", "nginx", [curl()], "quic_retry on; ")
     yield "aioquic-nginx-retry", scene("a Retry", "nginx", [aioquic("file=middle")], "quic_retry on; ")
-    yield "curl-haproxy-retry", scene("a Retry", "haproxy", [curl()], in_frontend="quic-initial send-retry")
+    yield "curl-haproxy-retry", scene("a Retry", "haproxy", [curl()], "quic-force-retry")
     for name in ("aioquic", "caddy", "nginx", "ngtcp2"):
         for option in ("update", "ids", "move"):
             client = aioquic("file=middle", f"{option}=1")
@@ -122,7 +119,7 @@ def special():
         ("close", ["code=42", "reason=enough"], ""),
         ("datagram", ["datagram=1"], "datagram=1"),
     ):
-        yield f"aioquic-aioquic-{name}", scene(name, "aioquic", [of.aioquic_client(*own, *client)], also)
+        yield f"aioquic-aioquic-{name}", scene(name, "aioquic", [scenes.aioquic_client(*own, *client)], also)
 
 
 def lossy():

@@ -4,9 +4,9 @@ aioquic_peer.py serve|ask HOST PORT [NAME=VALUE ..]
 
 A client asks for a file as HTTP/0.9 does, unless `alpn` is h3: then it asks for `file` by HTTP/3, or only sends PING if
 there is none. It writes its secrets to the file that SSLKEYLOGFILE names. Names of both: alpn, version (1 or 2, the
-preferred one), suite, datagram; of a server: retry; of a client: first (the version of its first packet), file, update
-(of keys), move (to another port), ids (changed), datagram (sent), again (another connection, with 0-RTT), late (a PING
-after so many seconds), code and reason (of the close).
+preferred one), suite, datagram; of a server: retry; of a client: first (the version of its first packet), name (of the
+server), file, update (of keys), move (to another port), ids (changed), datagram (sent), again (another connection, with
+0-RTT), late (a PING after so many seconds), code and reason (of the close).
 """
 
 import asyncio
@@ -29,6 +29,7 @@ VERSIONS = {"1": QuicProtocolVersion.VERSION_1, "2": QuicProtocolVersion.VERSION
 def configuration(options, is_client):
     made = QuicConfiguration(
         is_client=is_client,
+        server_name=options.get("name"),
         alpn_protocols=[options.get("alpn", "hq-interop")],
         max_datagram_frame_size=65535 if "datagram" in options else None,
         cipher_suites=[CipherSuite[options["suite"]]] if "suite" in options else None,

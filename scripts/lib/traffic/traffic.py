@@ -36,8 +36,8 @@ def ngtcp2(*options, files=("big",)):
 
 
 def aioquic(*options):
-    # Debian's resolver may name IPv6 first, on which the servers don't listen.
-    return scenes.aioquic_client("alpn=h3", *options)
+    # The name could stand for an address of IPv6, on which not all servers listen.
+    return scenes.aioquic_client("alpn=h3", "name=localhost", *options)
 
 
 def openssl(request="GET /big\\r\\n"):

@@ -6,6 +6,7 @@ from pathlib import Path
 
 PORT = "4433"
 PYTHON = os.environ.get("AIOQUIC", "python3")
+QUINN = os.environ.get("QUINN", "quinn-peer")
 PEER = str(Path(__file__).resolve().parent / "aioquic_peer.py")
 
 LOOPBACK = ("-P", "-i", "lo")
@@ -107,7 +108,7 @@ STACKS = {
 
 def name_of(command):
     """The stack of a command."""
-    return STACKS.get(command[0], "aioquic")
+    return "quinn" if command[0] == QUINN else STACKS.get(command[0], "aioquic")
 
 
 def suite(name):
@@ -210,6 +211,30 @@ AIOQUIC = {
 }
 
 
+def quinn_server(*options):
+    return [QUINN, "serve", f"127.0.0.1:{PORT}", *options]
+
+
+def quinn_client(*options):
+    return [QUINN, "ask", f"127.0.0.1:{PORT}", *options]
+
+
+def quinn(says, *client, server=()):
+    """quinn's client and server with options."""
+    return Scene(says, quinn_server(*server), [quinn_client(*client)])
+
+
+QUINNS = {
+    "quinn-handshake": quinn("a file of 6 bytes by HTTP/0.9"),
+    "quinn-retry": quinn("the server validates the client's address by a Retry", server=["retry=1"]),
+    "quinn-key-update": quinn("the client updates the keys", "update=1", "file=large"),
+    "quinn-migration": quinn("the client's port changes", "move=1", "file=large"),
+    "quinn-datagram": quinn("a DATAGRAM frame (RFC 9221)", "datagram=1"),
+    "quinn-aioquic": Scene("quinn's client, and aioquic's server", aioquic_server(), [quinn_client()], patience=2),
+    "aioquic-quinn": Scene("aioquic's client, and quinn's server", quinn_server(), [aioquic_client()]),
+}
+
+
 def server_of(name):
     """The command of a server that reads a file of SERVERS."""
     return {
@@ -259,4 +284,4 @@ OTHERS = {
     "aioquic-haproxy": served("aioquic's client, and HAProxy", "haproxy", aioquic_client("alpn=h3")),
 }
 
-SCENES = {**NGTCP2, **AIOQUIC, **OTHERS}
+SCENES = {**NGTCP2, **AIOQUIC, **QUINNS, **OTHERS}

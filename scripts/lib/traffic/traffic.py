@@ -137,4 +137,19 @@ def lossy():
         yield f"ngtcp2-ngtcp2-migration-{leg}-{lost}", relayed(move, leg, lost, late, seed)
 
 
-TRAFFIC = dict([*plain(), *special(), *lossy()])
+def quinn():
+    """quinn's client and server, which speak HTTP/0.9, as aioquic's do."""
+    fields = {"capture": CAPTURE, "sizes": BIG, "only": f"udp port {PORT}", "limit": 120}
+    big, middle = scenes.quinn_client("file=big"), scenes.quinn_client("file=middle")
+    own = Scene("a download", scenes.quinn_server(), [big], **fields)
+    yield "quinn-quinn", own
+    yield "quinn-aioquic", Scene("a download", scenes.aioquic_server(), [big], patience=2, **fields)
+    yield "aioquic-quinn", Scene("a download", scenes.quinn_server(), [scenes.aioquic_client("file=big")], **fields)
+    yield "quinn-quinn-retry", replace(own, server=scenes.quinn_server("retry=1"))
+    for option in ("update", "move", "datagram"):
+        yield f"quinn-quinn-{option}", replace(own, says=option, clients=[[*middle, f"{option}=1"]])
+    for seed, (leg, lost, late) in enumerate((("client", 1, 2), ("server", 1, 2), ("client", 5, 5), ("server", 5, 5))):
+        yield f"quinn-quinn-{leg}-{lost}", relayed(replace(own, says="losses"), leg, lost, late, seed)
+
+
+TRAFFIC = dict([*plain(), *special(), *lossy(), *quinn()])

@@ -26,7 +26,7 @@ type Options = HashMap<String, String>;
 const PROTOCOL: &[u8] = b"hq-interop";
 const PAUSE: Duration = Duration::from_millis(50);
 
-/// Accepts the certificate that record.py has made, whoever signed it.
+/// Accepts any certificate: that of record.py is signed by itself.
 #[derive(Debug)]
 struct Anyone(Arc<CryptoProvider>);
 

@@ -18,10 +18,13 @@ mod changed;
 mod common;
 #[path = "../../capture/tests/common/files.rs"]
 mod files;
+#[path = "../tests/common/kinds.rs"]
+mod kinds;
 
 use changed::{Seed, captures, change, feed, run};
 use common::{Kept, Random};
 use files::{Order, interface, ip_datagram, packet, section};
+use kinds::{checked, kind, kinds, report};
 use quic_wire_capture::capture::Item;
 use quic_wire_capture::follow::Follower;
 use quic_wire_check::checker::Checker;
@@ -54,17 +57,6 @@ type Found = (&'static str, String, usize, Option<u64>, usize, Option<usize>, u6
 fn found(one: &Finding) -> Found {
     let Finding { rule, section, sender, number, offset, payload_offset, count, .. } = one;
     (rule.name, section.to_string(), *sender as usize, *number, *offset, *payload_offset, *count)
-}
-
-// What is found in datagrams, and how many packets are opened.
-fn checked(all: &[Kept], keys: &[&[u8]]) -> (Report, u64) {
-    let (mut follower, mut checker) = (Follower::default(), Checker::default());
-    keys.iter().for_each(|keys| follower.keylog.add(keys));
-    for (kept, record) in all.iter().zip(1..) {
-        checker.take(&Kept { record, ..kept.clone() }.datagram(), &mut follower);
-    }
-    let report = checker.finish(&mut follower);
-    (report, follower.counts().opened)
 }
 
 // What is found in the connections of some addresses.
@@ -207,9 +199,8 @@ fn damaged(random: &mut Random, seed: &Seed) -> Vec<Kept> {
 }
 
 fn with_damage(random: &mut Random, seed: &Seed, sum: &mut Sum) {
-    let kind = |one: &Finding| (one.rule.name, one.sender as usize);
-    let whole: BTreeSet<_> = checked(&seed.datagrams, &[&seed.keys]).0.findings.iter().map(kind).collect();
-    let report = checked(&damaged(random, seed), &[&seed.keys]).0;
+    let whole = kinds(&report(&seed.datagrams, &[&seed.keys]));
+    let report = report(&damaged(random, seed), &[&seed.keys]);
     let more: Vec<_> = report.findings.iter().filter(|one| !whole.contains(&kind(one))).collect();
     assert!(more.is_empty(), "{}: {more:#?}", seed.name);
     sum.damaged += 1;

@@ -64,7 +64,7 @@ pub(super) static RULES: &[Rule] = &[
     Rule::must(
         "response-twice",
         "8.2.2",
-        "A PATH_CHALLENGE is answered by one PATH_RESPONSE.",
+        "A PATH_CHALLENGE is answered by at most one PATH_RESPONSE.",
         Check::Frame(response_twice),
     )
     .with(History::Whole, &[Need::Begin, Need::PeerPackets, Need::OwnPackets]),

@@ -97,14 +97,14 @@ pub(super) static RULES: &[Rule] = &[
     Rule::must(
         "initial-token",
         "8.1.2",
-        "After a Retry all Initial packets of the client have its token.",
+        "After a Retry all Initial packets of the client have the Retry's token.",
         Check::Packet(initial_token),
     )
     .with(History::Before, &[Need::Begin]),
     Rule::must(
         "retry-version",
         "4.1",
-        "After a Retry the client goes on with its version.",
+        "After a Retry the client goes on with the Retry's version.",
         Check::Packet(retry_version),
     )
     .of(9369)

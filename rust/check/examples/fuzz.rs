@@ -225,7 +225,10 @@ fn main() -> Result<(), Box<dyn Error>> {
             1 if numbers[2] != numbers[0] && numbers[2] != numbers[1] => {
                 with_datagrams(random, [one, other, third], sum);
             }
-            _ => with_damage(random, &recorded[random.below(recorded.len())], sum),
+            _ => {
+                let one = &recorded[random.below(recorded.len())];
+                with_damage(random, one, sum);
+            }
         }
     });
     let total = |count: fn(&Sum) -> u64| sums.iter().map(count).sum::<u64>();

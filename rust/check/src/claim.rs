@@ -101,7 +101,7 @@ impl Claim {
                 active_ids(connection, history, sender, None) > limits.active_connection_id_limit.into_inner()
             }),
             Claim::Unused(id) => peer.used[crate::history::type_of(id)].is_none_or(|used| used < id.index()),
-            Claim::Answer(data) => !peer.challenges.contains(&data),
+            Claim::Answer(data) => !peer.challenges.contains_key(&data),
             Claim::Retired(sequence) => last_id(connection, !sender).is_none_or(|last| last < sequence),
             Claim::Bytes(bytes) => bytes > peer.bytes.saturating_mul(3),
             Claim::BytesTo(address, bytes) => {

@@ -2,7 +2,7 @@
 
 use crate::about::{About, id_text};
 use crate::rule::{Broken, Check, Checked, History, Need, Rule};
-use quic_wire::transport_parameters::{Error, Refusal, TransportParameterId, TransportParameters, known};
+use quic_wire::transport_parameters::{Error, Refusal, TransportParameterId, TransportParameters, entries, known};
 use quic_wire::{ConnectionId, Side, versions};
 use quic_wire_capture::opened::Opened;
 

@@ -39,16 +39,14 @@ fn tokens() -> Vec<Case> {
     vec![
         broken(("initial-token", "none", "8.1.2"), "After a Retry the client's Initial packet has no token.", |talk| {
             let hello = begin(talk);
-            talk.made.token = Vec::new();
-            end(talk, &hello, At::Datagram(TOKEN))
+            with_token(talk, &hello, b"")
         }),
         broken(
             ("initial-token", "other", "8.1.2"),
             "After a Retry the client's Initial packet has another token, as one of NEW_TOKEN.",
             |talk| {
                 let hello = begin(talk);
-                talk.made.token = b"other".to_vec();
-                end(talk, &hello, At::Datagram(TOKEN))
+                with_token(talk, &hello, b"other")
             },
         ),
         lawful(
@@ -143,6 +141,15 @@ fn begin(talk: &mut Talk) -> Vec<u8> {
     talk.send(Client, Initial, &hello);
     retry(talk);
     hello
+}
+
+// The same with a token, which later packets have not.
+fn with_token(talk: &mut Talk, payload: &[u8], token: &[u8]) -> Spot {
+    let retried = std::mem::replace(&mut talk.made.token, token.to_vec());
+    let spot = send(talk, Client, Initial, payload, At::Datagram(TOKEN));
+    talk.made.token = retried;
+    talk.answer().later();
+    spot
 }
 
 // The Initial packet that is meant, and the rest of the connection.

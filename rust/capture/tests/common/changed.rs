@@ -119,11 +119,7 @@ pub fn captures(folder: &str) -> Result<Vec<PathBuf>, std::io::Error> {
 
 /// Runs something so often, on all processors. Each has numbers and sums of its own. Returns the sums, and how long the
 /// slowest run took.
-pub fn run<S: Default + Send>(
-    runs: u64,
-    seed: u64,
-    once: impl Fn(&mut Random, &mut S) + Sync,
-) -> (Vec<S>, Duration) {
+pub fn run<S: Default + Send>(runs: u64, seed: u64, once: impl Fn(&mut Random, &mut S) + Sync) -> (Vec<S>, Duration) {
     let begun = AtomicU64::new(0);
     let work = |thread: u64| {
         let (mut random, mut sum) = (Random(seed.wrapping_mul(1 << 20).wrapping_add(thread)), S::default());

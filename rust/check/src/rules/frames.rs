@@ -75,13 +75,8 @@ pub(super) static RULES: &[Rule] = &[
         Check::Frame(response_path),
     )
     .with(History::Before, &[]),
-    Rule::must(
-        "challenge-data",
-        "8.2.1",
-        "Each PATH_CHALLENGE has data of its own.",
-        Check::Frame(challenge_data),
-    )
-    .with(History::Before, &[]),
+    Rule::must("challenge-data", "8.2.1", "Each PATH_CHALLENGE has data of its own.", Check::Frame(challenge_data))
+        .with(History::Before, &[]),
     Rule::must(
         "update-answer",
         "6.2",

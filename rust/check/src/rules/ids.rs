@@ -50,14 +50,9 @@ pub(super) static RULES: &[Rule] = &[
         Check::Packet(retire_prior),
     )
     .with(History::Before, &[Need::Begin]),
-    Rule::must(
-        "retired-id",
-        "5.1.2",
-        "An id isn't used again after RETIRE_CONNECTION_ID.",
-        Check::Packet(retired_id),
-    )
-    .should()
-    .with(History::Before, &[Need::Begin]),
+    Rule::must("retired-id", "5.1.2", "An id isn't used again after RETIRE_CONNECTION_ID.", Check::Packet(retired_id))
+        .should()
+        .with(History::Before, &[Need::Begin]),
     Rule::must(
         "retire-without-bytes",
         "19.16",

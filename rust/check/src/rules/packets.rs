@@ -222,10 +222,7 @@ fn discarded_keys(about: &About<'_>, opened: &Opened<'_>) -> Checked {
         (_, Side::Client) => ("4.9.2", "a Handshake packet after the ACK of HANDSHAKE_DONE in record"),
         (_, _) => ("4.9.2", "a Handshake packet after the HANDSHAKE_DONE of record"),
     };
-    Broken::new(format!("{seen} {record}"), "none")
-        .by_section(Section { rfc: 9001, number })
-        .at(begin(opened))
-        .found()
+    Broken::new(format!("{seen} {record}"), "none").by_section(Section { rfc: 9001, number }).at(begin(opened)).found()
 }
 
 fn zero_rtt_late(about: &About<'_>, opened: &Opened<'_>) -> Checked {

@@ -215,14 +215,10 @@ fn paths() -> Vec<Case> {
                 plant(talk, Client, &padded(RESPONSE, FULL), 0..9)
             },
         ),
-        broken(
-            ("response-twice", "packets", "8.2.2"),
-            "The client answers a PATH_CHALLENGE in two packets.",
-            |talk| {
-                talk.handshake().short(Server, &padded(CHALLENGE, 1200)).short(Client, &padded(RESPONSE, FULL));
-                plant(talk, Client, &padded(RESPONSE, FULL), 0..9)
-            },
-        ),
+        broken(("response-twice", "packets", "8.2.2"), "The client answers a PATH_CHALLENGE in two packets.", |talk| {
+            talk.handshake().short(Server, &padded(CHALLENGE, 1200)).short(Client, &padded(RESPONSE, FULL));
+            plant(talk, Client, &padded(RESPONSE, FULL), 0..9)
+        }),
         lawful(
             ("response-twice", "copy", "8.2.2"),
             "The network delivers a packet with a PATH_RESPONSE twice.",

@@ -69,11 +69,9 @@ fn sequences() -> Vec<Case> {
             "The ids with sequence numbers 1 and 2 have one reset token.",
             |talk| issue_and_retire(talk, &[new_id(1, 0, b"first", 7), new_id(2, 1, b"second", 7)]),
         ),
-        lawful(
-            ("token-twice", "again", "10.3"),
-            "NEW_CONNECTION_ID is sent again, with its reset token.",
-            |talk| issue(talk, &[new_id(1, 0, b"first", 7), new_id(1, 0, b"first", 7)]),
-        ),
+        lawful(("token-twice", "again", "10.3"), "NEW_CONNECTION_ID is sent again, with its reset token.", |talk| {
+            issue(talk, &[new_id(1, 0, b"first", 7), new_id(1, 0, b"first", 7)])
+        }),
     ]
 }
 

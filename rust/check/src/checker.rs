@@ -106,9 +106,11 @@ impl Facts {
         finding.rule.needs.iter().copied().find(|need| match need {
             Need::PeerPackets if matches!(claim, Claim::Bytes(_)) && history.lacks_handshake() => true,
             Need::PeerPackets => !history.is_whole(!sender, spaces),
+            Need::OwnPackets if matches!(claim, Claim::Retry) && !history.half(sender).has_initial() => true,
             Need::OwnPackets => !history.is_whole(sender, spaces),
             Need::OwnNumbers => !history.has_all(sender, spaces),
             Need::NoEarlyData => history.has_early,
+            Need::NoToken => history.has_token && connection.retry_id().is_none(),
             Need::Order => self.is_disordered,
             Need::Proof => !is_proven,
             Need::End => due.is_some_and(|due| due > connection.times().1) && !is_closed,

@@ -45,6 +45,8 @@ pub(crate) enum Claim {
     Gap(u64),
     /// It answered a challenge again.
     AnswerAgain,
+    /// Its parameters say whether there was a Retry, whose record, or one that shows it, may come late.
+    Retry,
     /// The server sent so many bytes.
     Bytes(u64),
     /// The server sent so many bytes to an address of the client.
@@ -61,6 +63,8 @@ impl Claim {
             // A datagram at the end of a space leaves no gap; those of the other spaces show whether any are missing.
             Claim::Bytes(_) | Claim::BytesTo(..) => ALL,
             Claim::Destination(_) => ALL,
+            // Keys of Initial packets follow from the id of a Retry.
+            Claim::Retry => &[SpaceId::Initial],
             _ => DATA,
         }
     }
@@ -73,6 +77,7 @@ impl Claim {
                 | Claim::Unused(_)
                 | Claim::Answer(_)
                 | Claim::AnswerAgain
+                | Claim::Retry
                 | Claim::Retired(_)
                 | Claim::Gap(_)
                 | Claim::Destination(_)
@@ -96,6 +101,8 @@ impl Claim {
             Claim::Number { .. } => true,
             // A challenge with the same data that isn't in the capture would explain it.
             Claim::AnswerAgain => true,
+            // A token that comes late makes the rule silent.
+            Claim::Retry => true,
             Claim::Gap(sequence) => !is_given(connection, history, sender, sequence - 1),
             Claim::Ids => limits.is_some_and(|limits| {
                 active_ids(connection, history, sender, None) > limits.active_connection_id_limit.into_inner()

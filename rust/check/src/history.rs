@@ -147,6 +147,11 @@ impl Half {
         self.discarded.get(space as usize).copied().flatten()
     }
 
+    /// Whether an Initial packet of it was opened.
+    pub(crate) fn has_initial(&self) -> bool {
+        !self.seen[SpaceId::Initial as usize].is_empty()
+    }
+
     // Whether all of its packets are known, up to the last one.
     fn has_all(&self, space: SpaceId) -> bool {
         let seen = &self.seen[space as usize];
@@ -223,6 +228,11 @@ pub(crate) struct History {
     /// Whether more would have to be remembered than is.
     pub(crate) is_full: bool,
     pub(crate) waiting: Waiting,
+}
+
+// Notes that an address of the client is valid.
+fn validate(peers: &mut [Peer], address: SocketAddr) {
+    peers.iter_mut().filter(|peer| peer.address == address).for_each(|peer| peer.is_valid = true);
 }
 
 /// The two low bits of a stream's id.
@@ -417,13 +427,17 @@ impl History {
             }
             Frame::PathChallenge(data) => {
                 own.challenges.entry(*data).or_insert(Path { from: datagram.from, to: datagram.to });
+                // Its answer may be in the file before it.
+                if sender == Side::Server && peer.responses.contains(data) {
+                    validate(&mut self.peers, datagram.to);
+                }
             }
             Frame::PathResponse(data) => {
                 own.responses.insert(*data);
                 // Section 8.2.3: the path of the challenge is valid, wherever the response comes from.
-                let path = peer.challenges.get(data).filter(|_| sender == Side::Client);
-                let valid = self.peers.iter_mut().find(|peer| path.is_some_and(|path| path.to == peer.address));
-                valid.into_iter().for_each(|peer| peer.is_valid = true);
+                if let Some(path) = peer.challenges.get(data).filter(|_| sender == Side::Client) {
+                    validate(&mut self.peers, path.to);
+                }
             }
             Frame::ResetStream(reset) => {
                 let by = &mut own.stream(reset.id).reset;

@@ -86,6 +86,32 @@ fn challenges_that_are_missing() {
     talk.is_silent("response-twice", Need::PeerPackets);
 }
 
+// Records of both directions come from two queues: an answer may be in the file before its challenge, and the packets
+// around a Retry after those that show it.
+#[test]
+fn records_that_are_late() {
+    let mut talk = Talk::open();
+    talk.made.addresses[0].set_port(5);
+    talk.short(Client, &padded(PING, 400)).short(Server, &padded(b"\x1a12345678", 1178));
+    talk.short(Client, &padded(b"\x1b12345678", 1200));
+    let last = talk.next() - 1;
+    talk.all.swap(last - 1, last);
+    for _ in 0..8 {
+        talk.short(Server, &padded(PING, 1178));
+    }
+    talk.later().finds_nothing();
+
+    let mut talk = Talk::new();
+    let hello = talk.client_hello();
+    talk.send(Client, Initial, &hello);
+    let retry = talk.made.retry(b"retried");
+    talk.all.push(retry);
+    talk.parameters[Server as usize].retry_src_cid = Some(ConnectionId::new(b"retried"));
+    talk.send(Client, Initial, &hello).server_flight();
+    talk.all[1..].rotate_left(2);
+    talk.client_flight().confirm().later().is_silent("retry-source-id", Need::OwnPackets);
+}
+
 // Section 5.1.2: without the packet that acknowledges it, nothing shows that a Retire Prior To came.
 #[test]
 fn acknowledgments_that_are_missing() {

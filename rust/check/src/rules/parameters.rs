@@ -1,6 +1,7 @@
 //! Transport parameters.
 
 use crate::about::{About, id_text};
+use crate::claim::Claim;
 use crate::rule::{Broken, Check, Checked, History, Need, Rule};
 use quic_wire::transport_parameters::{Error, Refusal, TransportParameterId, TransportParameters, entries, known};
 use quic_wire::{ConnectionId, Side, versions};
@@ -29,14 +30,14 @@ pub(super) static RULES: &[Rule] = &[
         "original_destination_connection_id is the id to which the client sent its first Initial packet.",
         Check::Parameters(original_destination),
     )
-    .with(History::Before, &[Need::Begin, Need::NoToken]),
+    .with(History::Whole, &[Need::Begin, Need::OwnPackets, Need::NoToken]),
     Rule::must(
         "retry-source-id",
         "7.3",
         "retry_source_connection_id is the Source Connection ID of the server's Retry, and there only after one.",
         Check::Parameters(retry_source),
     )
-    .with(History::Before, &[Need::Begin, Need::NoToken]),
+    .with(History::Whole, &[Need::Begin, Need::OwnPackets, Need::NoToken]),
     Rule::must(
         "version-information",
         "3",
@@ -95,37 +96,31 @@ fn chosen_version(about: &About<'_>, opened: &Opened<'_>, list: &[u8]) -> Checke
     Broken::new(format!("the chosen version {chosen:#x}"), format!("{version:#x}, the packet's")).found()
 }
 
-fn compared(name: &str, given: Option<&ConnectionId>, used: Option<&ConnectionId>) -> Checked {
-    if given == used {
-        return Ok(None);
-    }
+fn compared(name: &str, given: Option<&ConnectionId>, used: Option<&ConnectionId>) -> Option<Broken> {
     let text = |id: Option<&ConnectionId>| id.map_or("none".into(), id_text);
-    Broken::new(format!("{name}: {}", text(given)), text(used)).found()
+    (given != used).then(|| Broken::new(format!("{name}: {}", text(given)), text(used)))
 }
 
 fn initial_source(about: &About<'_>, given: &TransportParameters) -> Checked {
-    compared("initial_source_connection_id", given.initial_src_cid.as_ref(), about.end().first_scid())
+    Ok(compared("initial_source_connection_id", given.initial_src_cid.as_ref(), about.end().first_scid()))
 }
 
 // Without its Retry a connection seems to begin with the packet after that, which has a token.
-fn retry_is_known(about: &About<'_>) -> Result<(), Need> {
-    let may_follow_retry = about.history.has_token && about.connection.retry_id().is_none();
-    if may_follow_retry { Err(Need::NoToken) } else { Ok(()) }
+fn unless_retried(broken: Option<Broken>) -> Checked {
+    Ok(broken.map(|broken| broken.if_still(Claim::Retry)))
 }
 
 fn original_destination(about: &About<'_>, given: &TransportParameters) -> Checked {
     if about.sender == Side::Client {
         return Ok(None);
     }
-    retry_is_known(about)?;
     let used = about.connection.first_dcid();
-    compared("original_destination_connection_id", given.original_dst_cid.as_ref(), Some(used))
+    unless_retried(compared("original_destination_connection_id", given.original_dst_cid.as_ref(), Some(used)))
 }
 
 fn retry_source(about: &About<'_>, given: &TransportParameters) -> Checked {
     if about.sender == Side::Client {
         return Ok(None);
     }
-    retry_is_known(about)?;
-    compared("retry_source_connection_id", given.retry_src_cid.as_ref(), about.connection.retry_id())
+    unless_retried(compared("retry_source_connection_id", given.retry_src_cid.as_ref(), about.connection.retry_id()))
 }

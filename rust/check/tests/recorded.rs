@@ -19,6 +19,7 @@ const LATE: u64 = 8_000_000;
 /// What is found, with the number of the first record: docs/REPORTS.md of the repository has these faults.
 const KNOWN: &[(&str, &str, u64)] = &[
     ("aioquic-migration.pcap", "path-size", 17),
+    ("aioquic-version-2-retry.pcap", "retry-hello", 3),
     ("ngtcp2-migration.pcap", "path-size", 23),
     ("ngtcp2-rebinding.pcap", "path-size", 18),
     ("openssl-nginx.pcap", "after-close", 12),

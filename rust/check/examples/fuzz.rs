@@ -218,7 +218,8 @@ fn main() -> Result<(), Box<dyn Error>> {
     let seed = |number: usize| recorded.get(number).unwrap_or_else(|| &broken[number - recorded.len()]);
     let clock = Instant::now();
     let (sums, slowest) = run(runs, first, |random, sum: &mut Sum| {
-        let numbers = [(); 3].map(|()| random.below(count));
+        // Those of `broken` share some ids, so the third one is another.
+        let numbers = [count, count, recorded.len()].map(|count| random.below(count));
         let [one, other, third] = numbers.map(seed);
         match random.below(3) {
             0 => with_file(random, one, other, sum),

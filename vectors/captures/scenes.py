@@ -75,6 +75,8 @@ class Scene:
     patience: float = 0.7
     # The server's stack, if its command doesn't say so.
     behind: str = ""
+    # Whether the client sends another ClientHello after a Retry.
+    anew: bool = False
     # Files that the server has beside `small` and `large`, by their sizes.
     sizes: dict = field(default_factory=dict)
     # Programs that run before the server and as long as it does.
@@ -200,6 +202,7 @@ AIOQUIC = {
         "version 2 and a Retry, after which the client sends another ClientHello",
         "version=2",
         server=["version=2", "retry=1"],
+        anew=True,
     ),
     "aioquic-0-rtt": aioquic("two connections, of which the second sends 0-RTT packets", "again=1"),
     "aioquic-key-update": aioquic("the client updates the keys", "update=1", "file=large"),

@@ -6,7 +6,7 @@
 //! Names of a server: retry; of a client: file, update (of keys), move (to another port), datagram (sent).
 
 use quinn::crypto::rustls::{QuicClientConfig, QuicServerConfig};
-use quinn::{ClientConfig, Connection, Endpoint, RecvStream, SendStream, ServerConfig};
+use quinn::{ClientConfig, Connection, Endpoint, RecvStream, SendStream, ServerConfig, TransportConfig};
 use rustls::client::danger::{HandshakeSignatureValid, ServerCertVerified, ServerCertVerifier};
 use rustls::crypto::{CryptoProvider, ring, verify_tls12_signature, verify_tls13_signature};
 use rustls::pki_types::pem::PemObject;
@@ -65,6 +65,13 @@ impl ServerCertVerifier for Anyone {
     }
 }
 
+// Segments aren't left to the kernel, so that a record has one datagram.
+fn transport() -> Arc<TransportConfig> {
+    let mut transport = TransportConfig::default();
+    transport.enable_segmentation_offload(false);
+    Arc::new(transport)
+}
+
 fn server_config(provider: Arc<CryptoProvider>) -> Result<ServerConfig, Failure> {
     let certificates = CertificateDer::pem_file_iter("cert.pem")?.collect::<Result<Vec<_>, _>>()?;
     let key = PrivateKeyDer::from_pem_file("key.pem")?;
@@ -73,7 +80,9 @@ fn server_config(provider: Arc<CryptoProvider>) -> Result<ServerConfig, Failure>
         .with_no_client_auth()
         .with_single_cert(certificates, key)?;
     tls.alpn_protocols = vec![PROTOCOL.to_vec()];
-    Ok(ServerConfig::with_crypto(Arc::new(QuicServerConfig::try_from(tls)?)))
+    let mut config = ServerConfig::with_crypto(Arc::new(QuicServerConfig::try_from(tls)?));
+    config.transport_config(transport());
+    Ok(config)
 }
 
 fn client_config(provider: Arc<CryptoProvider>) -> Result<ClientConfig, Failure> {
@@ -84,7 +93,9 @@ fn client_config(provider: Arc<CryptoProvider>) -> Result<ClientConfig, Failure>
         .with_no_client_auth();
     tls.alpn_protocols = vec![PROTOCOL.to_vec()];
     tls.key_log = Arc::new(KeyLogFile::new());
-    Ok(ClientConfig::new(Arc::new(QuicClientConfig::try_from(tls)?)))
+    let mut config = ClientConfig::new(Arc::new(QuicClientConfig::try_from(tls)?));
+    config.transport_config(transport());
+    Ok(config)
 }
 
 // Sends the file that a stream asks for.

@@ -7,7 +7,8 @@ FOLDER gets NAME.pcap or NAME.pcapng, NAME.keys and NAME.json of each scene; of 
 scene run in a network of their own (unshare), so it needs no root, and nothing leaves that network. A scene whose
 programs aren't installed is skipped, with a word. Of Debian 12: wireshark-common, tshark, iproute2, ngtcp2-client,
 ngtcp2-server, caddy; of later ones openssl 3.5, curl, nginx and HAProxy with HTTP/3, python3-aioquic. AIOQUIC names the
-Python that has aioquic, python3 without it; QUINN the program of stacks/quinn/peer, quinn-peer without it.
+Python that has aioquic, python3 without it. QUINN names the program that cargo builds in stacks/quinn/peer with the
+crates of `scripts/lib/cargo-source DIR quinn rustls tokio`, quinn-peer without it.
 Exit status: 0 each scene was recorded or skipped, 1 one failed, 2 usage error.
 """
 
